@@ -140,7 +140,7 @@ def started(words: list, **more) -> Iterator[subprocess.Popen]:
 
 def text_named(name: str) -> str:
     """The text of a constant of the stored session."""
-    session = text_of(CRATES / 'bay_tests' / 'src' / 'session.rt')
+    session = text_of(CRATES / 'bayctl_tests' / 'src' / 'session.rt')
     found = re.search(rf'const {name}: &str =\s*"(.*)";', session)
     return found[1].encode().decode('unicode_escape')
 

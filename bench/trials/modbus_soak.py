@@ -10,9 +10,13 @@ from dataclasses import dataclass
 from modbus_rig import LIMIT, Rig, now
 
 KINDS = ('stop module', 'kill module', 'exception', 'delay', 'late', 'stall', 'kill driver',
-         'stop driver', 'end driver', 'kill server', 'stop server', 'master', 'hand', 'key')
+         'stop driver', 'end driver', 'kill server', 'stop server', 'master', 'hand', 'key',
+         'release')
 LENGTHS = (0.1, 0.3, 0.7, 1.5, 3)
 WAYS = {'open': 'off', 'close': 'on'}
+RELEASE = re.compile(r'< (\w+)=([01])([01])')
+BREAKER = 'QA1'
+UNMOVED = ('hand', 'key', 'release')  # faults in which module and driver act at once
 COIL = re.compile(r'(io\d) coil \d \((\w+) (open|close)\) (on|off)( after (\d+) ms)?(.*)')
 SLACK, STALE = 150, 900  # ms: from a command's age to its coil; of an end that is no longer so
 UNSEEN = 100  # ms: for so long a driver can't have seen the coil of another master
@@ -68,9 +72,10 @@ class Soak:
             'delay': (f'delay {pick((0.1, 0.3, 2))}', 'delay 0'),
             'late': (f'late {length}', ''), 'stall': ('stall 1', 'stall 0'),
             'master': (f'put {pick((0, 1))} 1', ''), 'hand': ('QC1 close', 'QC1 open'),
+            'release': ('M1 AA 7', 'M1 AA 0'),
             'key': ('QA1 local' if module == 'io1' else 'QB1 local',
                     'QA1 remote' if module == 'io1' else 'QB1 remote')}[kind]
-        module = 'io2' if kind == 'hand' else module
+        module = 'io2' if kind in ('hand', 'release') else module
         types(module, before)
         if after:
             time.sleep(length)
@@ -167,6 +172,44 @@ def causes(faults: list[Fault], lates: list[Fault], one: Edge, asked: int) -> li
     return found
 
 
+def gone(rig: Rig) -> list[tuple[int, str, str, bool]]:
+    """When the driver was told that a way of a switch is released, or no longer. What it was told
+    is void where its connection has ended."""
+    found, known = [], set()
+    for moment, text in rig.lines('driver'):
+        if released := RELEASE.fullmatch(text):
+            for way, is_free in zip(WAYS, released.groups()[1:]):
+                found.append((moment, released[1], way, is_free == '0'))
+                known.add((released[1], way))
+        elif 'the server has taken the process' in text or text.startswith('process port'):
+            found += [(moment, switch, way, False) for switch, way in known]
+    return found
+
+
+def unreleased(soak: Soak) -> list[str]:
+    """Pulses that began UNSEEN after the driver was told that their release had gone, and those of
+    a disconnector that went on so long after it. Where the module acted late, or a driver or module
+    had a fault of its own meanwhile, that is no wrong of the driver."""
+    changes, found, begun = gone(soak.rig), [], {}
+    lates = [it for it in soak.faults if it.kind == 'late']
+    for one in edges(soak.rig):
+        key = one.module, one.switch, one.way
+        told = [(moment, is_gone) for moment, switch, way, is_gone in changes
+                if (switch, way) == key[1:] and moment <= one.moment]
+        if one.is_on:
+            begun[key] = one.moment
+        since = told[-1][0] if told and told[-1][1] else one.moment
+        if 'another master' in one.by or one.moment - since <= UNSEEN or not (
+                one.is_on or one.switch != BREAKER and since >= begun.get(key, since + 1)):
+            continue
+        others = [it for it in soak.faults if it.kind not in UNMOVED
+                  and it.begun <= one.moment and it.ended >= since]
+        if not others and not causes(soak.faults, lates, one, since):
+            found.append(f'{one.switch} {one.way} {"began" if one.is_on else "went on till"} '
+                         f'{one.moment - since} ms after its release had gone, at {one.moment}')
+    return found
+
+
 def truth(rig: Rig) -> list[tuple[int, str, str]]:
     """Where the switches were, by what the plants say."""
     found = []
@@ -247,6 +290,7 @@ def told(soak: Soak) -> tuple[list[str], bool]:
     without, twice, late, unused = matched(soak)
     on = [text for name in ('io1', 'io2') for _, text in rig.lines(name)
           if 'coils that are on' in text and not text.endswith('none')]
+    unfree = unreleased(soak)
     unexplained = [one for one in late if 'acted late' not in one]
     old = stale(soak)
     kinds = {kind: sum(it.kind == kind for it in soak.faults) for kind in KINDS}
@@ -262,10 +306,13 @@ def told(soak: Soak) -> tuple[list[str], bool]:
         f'{twice or ""}; commands without a pulse: {unused}',
         f'late pulses: {len(late)}, {len(unexplained)} of them where the module did not act late '
         f'{late or ""}',
+        f'pulses that their release did not stop: {len(unfree)} {unfree or ""}; ended by it: '
+        f'{sum("so its pulse ends" in text for _, text in rig.lines("driver"))}, not begun for it: '
+        f'{sum(text.endswith("its release has gone") for _, text in rig.lines("driver"))}',
         f'coils of another master: {foreign}; coils that are on at the end: {len(on)}; ends '
         f'that a client was told over {STALE} ms after they were left: {len(old)} '
         f'{list(old) or ""}']
     for moment in [*both, *old.values()]:
         lines += around(soak, moment)
-    is_good = not (both or without or twice or unexplained or on or old)
+    is_good = not (both or without or twice or unexplained or unfree or on or old)
     return lines, is_good

@@ -57,6 +57,7 @@ closed = 5
 [[input]]
 name = "SPRING"
 contact = 6
+fault = false
 '''
 
 
@@ -154,7 +155,7 @@ class Simulated(Gear):
     def __init__(self, folder: pathlib.Path, process: int) -> None:
         super().__init__()
         words = [sys.executable, '-B', TOP / 'tools' / 'simulate', folder / 'bay.toml',
-                 '--process', process, '--key', folder / 'key', '--set', 'SPRING=1']
+                 '--process', process, '--process-key', folder / 'key', '--set', 'SPRING=1']
         self.part = Part('driver', folder, lambda: [*words, *(
             f'--at={name}={place}' for name, place in self.positions.items())])
         self.parts = [self.part]
@@ -213,7 +214,8 @@ class Wired(Played):
     def __init__(self, folder: pathlib.Path, process: int) -> None:
         super().__init__(folder)
         driver = Part('driver', folder, lambda: [
-            *self.words, '--wiring', self.wiring, '--process', process, '--key', folder / 'key'])
+            *self.words, '--wiring', self.wiring, '--process', process, '--process-key',
+            folder / 'key'])
         self.parts = [driver, self.module]
 
 

@@ -4,7 +4,7 @@ VAR_EXTERNAL
     QA1_OPEN : BOOL;
     QB9_POS : INT;
     QB9_OPEN, QC9_OPEN : BOOL;
-    U_DEAD, VT_FAIL, TRIP, RESET : BOOL;
+    U_DEAD, VT_OK, NO_TRIP, RESET : BOOL;
     M1_HZ : DINT;
     QA1_ENA_OPN, QA1_ENA_CLS : BOOL;
     QB9_ENA_OPN, QB9_ENA_CLS : BOOL;
@@ -15,30 +15,32 @@ VAR
     dead : BOOL;                (* relay and meter both say that the cable is dead *)
     dead_time : TON;            (* Q: it has been dead for so long *)
     after_trip : TOF;           (* Q: there is a trip, or there was one not long ago *)
-    was_trip : BOOL;            (* TRIP at the last scan *)
+    trip : BOOL;                (* the protection trips, or nobody knows *)
+    was_trip : BOOL := TRUE;    (* so it was at the last scan; the program's start is no trip *)
     trips : INT;                (* trips since the last reset *)
 END_VAR
 
     (* The cable counts as dead where the relay says so, its transformers are sound, and no frequency is measured. *)
     LD U_DEAD
-    ANDN VT_FAIL
+    AND VT_OK
     AND( M1_HZ
         EQ 0
     )
     ST dead
     CAL dead_time(IN := dead, PT := T#10s)
 
-    (* Count the trips: each change of TRIP from FALSE to TRUE. *)
-    LD TRIP
+    (* Count the trips: each change of NO_TRIP from TRUE to FALSE. *)
+    LDN NO_TRIP
+    ST trip
     ANDN was_trip
     JMPCN counted
     LD trips
     ADD 1
     ST trips
 counted:
-    LD TRIP
+    LD trip
     ST was_trip
-    CAL after_trip(IN := TRIP, PT := T#3s)
+    CAL after_trip(IN := trip, PT := T#3s)
 
     LD RESET
     JMPCN kept

@@ -6,7 +6,7 @@ VAR_EXTERNAL
     QB2_OPEN, QB2_CLOSED : BOOL;
     QB9_OPEN, QB9_CLOSED : BOOL;
     QC1_OPEN, QC2_OPEN, QC9_OPEN : BOOL;
-    COUPLED, VT_DEAD, MEASURES_OK, TRIP : BOOL;
+    COUPLED, VT_DEAD, MEASURES_OK, NO_TRIP : BOOL;
     M1_AA : DINT;
     QA1_ENA_OPN, QA1_ENA_CLS : BOOL;
     QB1_ENA_OPN, QB1_ENA_CLS : BOOL;
@@ -21,6 +21,7 @@ VAR
     off_load : BOOL;        (* the breaker is open, and no current is measured *)
     moves : BOOL;           (* a disconnector is in no end position *)
     stuck : TON;            (* Q: one of them has been in none for so long *)
+    trip : BOOL;            (* the protection trips, or nobody knows *)
     tripped : TOF;          (* Q: there is a trip, or there was one not long ago *)
 END_VAR
 
@@ -40,7 +41,9 @@ END_VAR
     )
     STN moves
     CAL stuck(IN := moves, PT := T#15s)
-    CAL tripped(IN := TRIP, PT := T#3s)
+    LDN NO_TRIP
+    ST trip
+    CAL tripped(IN := trip, PT := T#3s)
 
     (* The breaker may be opened at any time. *)
     LD TRUE

@@ -5,7 +5,7 @@ VAR_EXTERNAL
     QB1_OPEN, QB1_CLOSED : BOOL;
     QB9_OPEN, QB9_CLOSED : BOOL;
     QC1_OPEN, QC1_CLOSED : BOOL;
-    SPRING, TRIP, RESET : BOOL;
+    SPRING, NO_TRIP, RESET : BOOL;
     M1_AA, M1_AB, M1_AC : DINT;
     QA1_ENA_OPN, QA1_ENA_CLS : BOOL;
     QB1_ENA_OPN, QB1_ENA_CLS : BOOL;
@@ -20,11 +20,11 @@ VAR
     earth_apart : BOOL;     (* no earth can be reached through the breaker *)
 END_VAR
 
-    (* The lockout: a trip sets it, the button resets it once the trip is gone. *)
-    LD TRIP
+    (* The lockout: a trip sets it, and so does an unknown one; the button resets it once the trip is gone. *)
+    LDN NO_TRIP
     S lockout
     LD RESET
-    ANDN TRIP
+    AND NO_TRIP
     R lockout
 
     LD M1_AA

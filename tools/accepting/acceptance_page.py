@@ -1,9 +1,7 @@
 """The page of an acceptance test: one page of HTML that needs no other file, to be printed and
 signed."""
-import time
-
-from common import moments
-from common.html_page import A4, code, escaped, page, signatures, sum_of, table
+from common import page_head
+from common.html_page import A4, code, escaped, page, signatures, table
 from common.texts import counted
 
 from .bench import Finding
@@ -44,25 +42,23 @@ def rows_of(section: Section, findings: dict[int, Finding]) -> list[tuple[str, .
 
 
 def page_of(file: dict, files: dict, how: str, sections: list[Section],
-            findings: list[Finding]) -> str:
+            findings: list[Finding], begun: int) -> str:
     """The page. `files` are what was read, by what it is: name and octets; `how` says at what bay
-    the steps were done."""
-    bay, now = file['bay'], int(time.time()) * 1000
-    day = f'{moments.date_of(now):%Y-%m-%d %H:%M:%S} {moments.zone_told(now)}'
-    read = [(what, code(name), f'{len(octets):,}', code(sum_of(octets)))
-            for what, (name, octets) in files.items()]
-    about = [('Bay', escaped(bay['domain'])),
-             ('Device', escaped(f'{bay["vendor"]} {bay["model"]}, {bay["revision"]}')),
-             ('Date', day), ('Done', escaped(how))]
+    the steps were done, and `begun` when they began."""
+    bay = file['bay']
+    read = [page_head.source_of(what, *it) for what, it in files.items()]
+    about = [('Bay', bay['domain']),
+             ('Device', f'{bay["vendor"]} {bay["model"]}, {bay["revision"]}'), ('Done', how)]
     by_line = {it.step.line: it for it in findings}
     heads = ['#Line', 'Step', 'Expected', 'Found', 'Result']
     title = f'Acceptance test of bay {bay["domain"]}'
     kind = 'good' if is_passed(findings) else 'bad'
     parts = [f'<h1>{escaped(title)}</h1>',
              f'<div class="verdict {kind}"><p>{escaped(verdict(findings))}</p></div>',
-             table(['', ''], about), '<h2>What was read</h2>',
-             table(['', 'File', '#Octets', 'SHA-256'], read), signatures(), '<h2>Steps</h2>']
+             *page_head.head('acceptance', page_head.span_told(begun, page_head.now()), about,
+                             read),
+             signatures(), '<h2>Steps</h2>']
     for section in sections:
         parts += [f'<h3>{escaped(section.title)}</h3>'] * bool(section.title)
         parts.append(table(heads, rows_of(section, by_line), ' class="steps"'))
-    return page(title, A4 % f'Bay {bay["domain"]}, {day}' + STYLE, parts)
+    return page(title, A4 % f'Bay {bay["domain"]}, {page_head.moment_told(begun)}' + STYLE, parts)

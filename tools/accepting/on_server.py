@@ -62,7 +62,8 @@ class Process:
         if greeting:
             same_bay(greeting, self.port, *self.named)
             self.clock, self.life = ServerClock(greeting.moment), Life(greeting.limit)
-            self.send(found, greeting.answer(self.clock.now(), self.key or NO_KEY))
+            first = greeting.answer(self.clock.stamp(), self.key or NO_KEY)
+            found.sendall(f'{first}\n'.encode())
         elif self.key:
             raise ungreeted(self.port)
         threading.Thread(target=self.run, args=(found, lines), daemon=True).start()
@@ -87,7 +88,7 @@ class Process:
             while connection is self.socket:
                 self.hear(self.lines(connection, LOOK))
                 if self.life and self.clock and self.life.is_due():
-                    self.send(connection, f'{self.clock.now()} alive')
+                    self.tells(connection, 'alive')
         except OSError as error:
             if connection is self.socket:
                 self.trouble = f'port {self.port}: the process is lost: {error.strerror or error}'
@@ -103,15 +104,18 @@ class Process:
                 case [_, 'refused', code]:
                     self.trouble = f'port {self.port}: the server refuses a line ({code})'
 
-    def send(self, connection: socket.socket, line: str) -> None:
+    def tells(self, connection: socket.socket, line: str) -> None:
+        """Sends a line with the server's time, or 0 where nobody looks at it. The thread tells too,
+        and the times of the lines must not go back."""
         with self.lock:
-            connection.sendall(f'{line}\n'.encode())
+            stamp = self.clock.stamp() if self.clock else 0
+            connection.sendall(f'{stamp} {line}\n'.encode())
 
     def tell(self, line: str) -> None:
-        """Tells a line with the server's time, or 0 where nobody looks at it."""
+        """Tells the server a line."""
         connection = self.socket or self.connect()
         try:
-            self.send(connection, f'{self.clock.now() if self.clock else 0} {line}')
+            self.tells(connection, line)
         except OSError as error:
             self.trouble = self.trouble or f'port {self.port}: {error.strerror}'
         time.sleep(SETTLE)

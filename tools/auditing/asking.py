@@ -20,6 +20,7 @@ from .things import keys_of
 
 WAYS = ('opened', 'closed')
 DONE, FOUND = 0, 4  # statuses with an answer
+REFUSED = re.compile(r'(?m)^rules refused (\d+) line (\d+)$')
 
 
 def can_prove(bayctl) -> bool:
@@ -35,7 +36,7 @@ def asked(bayctl, bay, logic, rules, keys: set) -> Answer:
     the bay, as rules know them."""
     done = run(bayctl, 'audit', '--bay', bay, '--logic', logic, '--rules', rules)
     printed = done.stdout.decode('utf-8', 'backslashreplace')
-    refused = re.search(r'(?m)^rules refused (\d+) line (\d+)$', printed)
+    refused = REFUSED.search(printed)
     if refused:
         fault = faults().get(int(refused[1]))
         why = f': {fault.meaning} {fault.mend}' if fault else ''
@@ -49,6 +50,13 @@ def asked(bayctl, bay, logic, rules, keys: set) -> Answer:
         return read(printed, keys)
     except Bad as error:
         raise Failed(f'bayctl audit printed what this tool can\'t read: {error}') from None
+
+
+def refusal_of_rules(bayctl, bay, logic, rules) -> tuple[int, int] | None:
+    """The number and the line of bayctl's refusal of rules; None where it refuses none."""
+    done = run(bayctl, 'audit', '--bay', bay, '--logic', logic, '--rules', rules)
+    found = REFUSED.search(done.stdout.decode('utf-8', 'backslashreplace'))
+    return (int(found[1]), int(found[2])) if found else None
 
 
 def answer_of(bayctl, bay, logic, rules, keys: set) -> Answer | None:

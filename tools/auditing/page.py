@@ -1,12 +1,9 @@
 """The report of an audit: one page of HTML that needs no other file, to be printed and signed."""
-import pathlib
-import re
-
 from bay.names import UNIT
 from bay.rules import MEASURE
-from common import moments
+from common import page_head
 from common.ending import DONE
-from common.html_page import A4, code, escaped, page, signatures, sum_of, table
+from common.html_page import A4, code, escaped, page, signatures, table
 from common.texts import counted
 from diagram.drawing import draw
 from report.bayctl import is_tried
@@ -17,24 +14,10 @@ from .matrix import draw_parts
 from .states import drawn_states
 from .things import WAYS
 
-TOOLS = pathlib.Path(__file__).resolve().parent.parent
-CHANGES = TOOLS.parent / 'CHANGELOG.md'
-# What the audit is made of.
-FOLDERS = ('auditing', 'bay', 'common', 'diagnosis', 'diagram', 'live', 'picture', 'report',
-           'wire')
 WIDTH = 672  # of the matrix, in pixels: that of a page of A4
 PROVED = ('<b>Proved</b>: bayctl runs the verified program with values that stand for all. What is '
            'proved of a rule holds in every scan, from every state that the program can reach and '
            'with every value of the bay, whatever its clients do.')
-
-
-def version() -> str:
-    """The tool's version: the newest of CHANGELOG.md, and a sum of its files."""
-    day = re.search(r'^## (\d\S*)', CHANGES.read_text(encoding='utf-8'), re.M)
-    paths = [TOOLS / 'audit', *sorted(path for name in FOLDERS
-                                      for path in (TOOLS / name).glob('*.py'))]
-    found = sum_of(b''.join(path.read_bytes() for path in paths))
-    return f'{day[1] if day else "of no day"}, SHA-256 of its files {found[:16]}'
 
 
 def product_list(condition) -> str:
@@ -46,20 +29,20 @@ def product_list(condition) -> str:
 
 
 class Report:
-    """An audit as a page. `files` are what was read, by what it is: name and octets; `moment` is in
-    seconds since 1970; `network` is the single line diagram, where there is one."""
+    """An audit as a page. `files` are what was read, by what it is: name and octets; `begun` is
+    when the audit began, in milliseconds since 1970; `network` is the single line diagram, where
+    there is one."""
 
-    def __init__(self, audit, files, bayctl, moment, network=None) -> None:
+    def __init__(self, audit, files, bayctl, begun, network=None) -> None:
         self.network = network
         self.audit, self.bay, self.files, self.bayctl = audit, audit.bay, files, bayctl
-        told = int(moment) * 1000
-        self.day = f'{moments.date_of(told):%Y-%m-%d %H:%M:%S} {moments.zone_told(told)}'
+        self.begun = begun
 
     def page(self) -> str:
         bay = self.bay.file['bay']
         title = f'Audit of the interlocking of bay {bay["domain"]}'
-        style = A4 % f'Bay {bay["domain"]}, {self.day}'
-        parts = [f'<h1>{escaped(title)}</h1>', self.verdict(), self.what_was_read(),
+        style = A4 % f'Bay {bay["domain"]}, {page_head.moment_told(self.begun)}'
+        parts = [f'<h1>{escaped(title)}</h1>', self.verdict(), *self.head(),
                  signatures(), self.how(), self.rules(), self.diagram(), self.conditions(),
                  self.lost(), self.uncovered(), self.matrix()]
         return page(title, style, parts)
@@ -76,19 +59,13 @@ class Report:
         return (f'<div class="verdict {kind}"><p>{escaped(verdicts.verdict(self.audit))}</p>'
                 + ''.join(f'<p class="plain">{escaped(it)}</p>' for it in more) + '</div>')
 
-    def what_was_read(self) -> str:
+    def head(self) -> list[str]:
         bay = self.bay.file['bay']
-        rows = [(what, code(name), f'{len(octets):,}', code(sum_of(octets)))
-                for what, (name, octets) in self.files.items()]
-        program = pathlib.Path(self.bayctl).read_bytes()
-        rows.append(('bayctl', code(pathlib.Path(self.bayctl).name), f'{len(program):,}',
-                     code(sum_of(program))))
-        about = [('Bay', escaped(bay['domain'])),
-                 ('Device', escaped(f'{bay["vendor"]} {bay["model"]}, {bay["revision"]}')),
-                 ('Date', self.day),
-                 ('Tool', f'tools/audit of {escaped(version())}')]
-        return ('<h2>What was audited</h2>' + table(['', ''], about) + '<p></p>'
-                + table(['', '!File', '#Bytes', 'SHA-256'], rows))
+        read = [page_head.source_of(what, *it) for what, it in self.files.items()]
+        about = [('Bay', bay['domain']),
+                 ('Device', f'{bay["vendor"]} {bay["model"]}, {bay["revision"]}')]
+        return page_head.head('audit', page_head.span_told(self.begun, page_head.now()), about,
+                             [*read, page_head.source_at('bayctl', self.bayctl)])
 
     def how(self) -> str:
         """What proved and tried mean, and what was tried."""

@@ -78,6 +78,19 @@ def bay_at(path: Path) -> tuple[str, dict[str, Any]]:
         raise BadFile(f'{path}: {error}') from None
 
 
+def may_replace(path: Path) -> None:
+    """Ends the tool where a page can't be written to a file, or where that has something else: it
+    might be the file that another option reads."""
+    may_be_written(path)
+    path = pathlib.Path(path)
+    if path.is_file() and path.stat().st_size:
+        with open(path, 'rb') as file:
+            start = file.read(200).lstrip(MARK.encode()).lstrip().lower()
+        if not start.startswith((b'<!doctype html', b'<html')):
+            raise BadFile(f'{path}: it is no page, so no page replaces it: give another name, or '
+                          'remove it')
+
+
 def may_be_written(path: Path) -> None:
     """Ends the tool where a file can't be written, before it has worked for it."""
     path = pathlib.Path(path)

@@ -30,6 +30,9 @@ from dataclasses import dataclass, field
 from common import positions
 from common.ending import CalledWrong, Failed
 from common.texts import raised
+from diagnosis.place import near, shown
+
+from .rule_words import name_meant, rest_meant, time_meant, value_meant, word_meant
 
 POSITIONS = {raised(word): value for value, word in enumerate(positions.POSITIONS)}
 POSITIONS |= {raised(old): POSITIONS[raised(word)] for old, word in positions.OLDER.items()}
@@ -47,8 +50,32 @@ RELATIONS = {'<': operator.lt, '<=': operator.le, '>': operator.gt, '>=': operat
 UNITS = {'D': 86_400_000, 'H': 3_600_000, 'M': 60_000, 'S': 1000, 'MS': 1}
 
 
+# The words of a rule; the signs of other languages and numbers with a fraction are words too, so
+# that it can be said what is meant.
+WORD = re.compile(r'-?[0-9]+[.,][0-9]+[A-Za-z]*|[A-Za-z0-9_\-]+|<=|>=|<>|==|=<|=>|!=|/=|:=|&&|'
+                  r'\|\||\S')
+
+
 class BadRule(Failed):
-    """A rule that can't be read."""
+    """A rule that can't be read: why, in which columns of its line from 0, and what is meant."""
+
+    def __init__(self, told: str, start: int | None = None, end: int | None = None,
+                 meant: str = '') -> None:
+        super().__init__(told + (f'; {meant}' if meant else ''))
+        self.start, self.end, self.line = start, end, 0
+
+    def within(self, where: str) -> 'BadRule':
+        """The same in a file or a line."""
+        found = BadRule(f'{where}: {self}', self.start, self.end)
+        found.more, found.line = self.more, self.line
+        return found
+
+    def at_line(self, number: int, line: str) -> 'BadRule':
+        """The same with the number of its line, its column, and the line with a mark."""
+        column = '' if self.start is None else f', column {self.start + 1}'
+        found = self.within(f'line {number}{column}')
+        found.more, found.line = tuple(shown(line, number, self.start, self.end)), number
+        return found
 
 
 class BadOption(CalledWrong):
@@ -123,7 +150,23 @@ class Reader:
 
     def __init__(self, text: str, known: set) -> None:
         self.known, self.names, self.constants, self.depth = known, set(), {}, 0
-        self.words = re.findall(r'[A-Za-z0-9_\-]+|<=|>=|<>|\S', text)
+        said, _, self.comment = text.partition('#')
+        self.places = [(it.start(), it.end()) for it in WORD.finditer(said)]
+        self.words = WORD.findall(said)
+
+    def bad(self, told: str, meant: str = '', back: int = 0) -> BadRule:
+        """What is wrong at the next word, or so many words before it."""
+        at = len(self.places) - len(self.words) - back
+        end = self.places[-1][1] if self.places else 0
+        start, end = self.places[at] if at < len(self.places) else (end, end + 1)
+        return BadRule(told, start, end, meant)
+
+    def next_told(self) -> str:
+        return self.words[0] if self.words else 'the end'
+
+    def names_of(self, *kinds: str) -> list[str]:
+        """The names of the bay of some kinds."""
+        return [name for kind, name in self.known if kind in kinds]
 
     def peek(self) -> str:
         return raised(self.words[0]) if self.words else ''
@@ -132,8 +175,8 @@ class Reader:
         """The next word, where it is one of these, or any if none are given."""
         if not self.words or (wanted and self.peek() not in wanted):
             told = ' or '.join(wanted).lower() or 'a word'
-            raise BadRule(f'there must be {told} here, not '
-                          f'{self.words[0] if self.words else "the end"}')
+            raise self.bad(f'there must be {told} here, not {self.next_told()}',
+                           word_meant(self.words, wanted))
         return raised(self.words.pop(0))
 
     def may_take(self, word) -> bool:
@@ -143,24 +186,32 @@ class Reader:
         wanted = self.take('NEVER', 'ALWAYS') == 'ALWAYS'
         switch = self.take()
         if (SWITCH, switch) not in self.known:
-            raise BadRule(f'{switch} is not a switch of the bay')
+            raise self.bad(f'{switch} is not a switch of the bay',
+                           name_meant(switch, self.names_of(SWITCH)), 1)
         ways = self.several(lambda: WAYS[self.take(*WAYS)])
         since = self.since('AFTER' if wanted else 'UNTIL')
         condition = self.any_of() if self.words and self.take('WHEN') else lambda state: True
         if self.words:
-            raise BadRule(f'{self.words[0]} can\'t be here')
+            raise self.bad(f'{self.words[0]} can\'t be here',
+                           rest_meant(self.words, self.names_of(*WANTED), POSITIONS))
         return Rule(line, text, wanted, switch, ways, condition, since, self.names,
                     self.constants)
 
     def since(self, word) -> 'Since | None':
         """The condition of `until C for T` or `after C for T`, or None."""
         if self.peek() in ('UNTIL', 'AFTER') and self.peek() != word:
-            raise BadRule('`until` belongs to `never`, and `after` to `always`')
+            raise self.bad('`until` belongs to `never`, and `after` to `always`',
+                           f'is {word.lower()} meant?')
         if not self.may_take(word):
             return None
         condition, names = self.any_of(), set(self.names)
         self.take('FOR')
-        return Since(condition, names, time_of(self.take()))
+        written = self.next_told()
+        self.take()
+        try:
+            return Since(condition, names, time_of(raised(written)))
+        except BadRule as error:
+            raise self.bad(str(error), time_meant(written, self.comment), 1) from None
 
     def several(self, one) -> list:
         found = [one()]
@@ -183,7 +234,7 @@ class Reader:
     def one(self) -> Callable:
         self.depth += 1
         if self.depth > DEEPEST:
-            raise BadRule(f'more than {DEEPEST} `not` and parentheses are within each other')
+            raise self.bad(f'more than {DEEPEST} `not` and parentheses are within each other')
         if self.may_take('NOT'):
             part = negated(self.one())
         elif self.may_take('('):
@@ -199,7 +250,8 @@ class Reader:
         name = self.take()
         kinds = [kind for kind in WANTED if (kind, name) in self.known]
         if not kinds:
-            raise BadRule(f'{name} is not a switch, input or measure of the bay')
+            raise self.bad(f'{name} is not a switch, input or measure of the bay',
+                           name_meant(name, self.names_of(*WANTED)), 1)
         if MEASURE in kinds and self.peek() in RELATIONS:
             return self.compared((MEASURE, name))
         told = self.may_take('IS')
@@ -223,10 +275,14 @@ class Reader:
         return lambda state: holds(state[key])
 
     def value(self, key) -> int:
-        word = self.words[0] if self.words else 'the end'
         value = value_of(key[0], self.peek())
         if value is None:
-            raise BadRule(value_told(word, *key))
+            told = value_told(self.next_told(), *key)
+            if self.words and not re.search('[A-Za-z0-9]', self.words[0]):
+                told = (f'{self.words[0]} can\'t be here: the value of the {key[0]} {key[1]} '
+                        f'follows it ({WANTED[key[0]]})')
+            raise self.bad(told, value_meant(self.words, key[1], key[0],
+                                             POSITIONS if key[0] == SWITCH else TRUTHS))
         self.take()
         if key[0] == MEASURE:
             self.constants.setdefault(key, set()).add(value)
@@ -265,34 +321,41 @@ def lines_of(text: str) -> Iterator[tuple[int, str]]:
 @dataclass
 class Look:
     """The values that a name is to go through, as they are written; `where` is the line or the
-    option that says so, and `kinds` are those that may be meant."""
+    option that says so, `kinds` are those that may be meant, and `written` is that line."""
     name: str
     words: list
     where: str
     kinds: tuple = tuple(WANTED)
+    written: str = ''
 
     def told(self, known: set) -> tuple[tuple, list]:
         """The thing that is meant, and its values."""
         kinds = [kind for kind in self.kinds if (kind, self.name) in known]
         if not kinds:
             others = [kind for kind in WANTED if (kind, self.name) in known]
+            meant = near(self.name, sorted(name for kind, name in known if kind in self.kinds))
             raise self.wrong(f'{self.name} is a {others[0]}' if others else
-                             f'{self.name} is not in the bay')
+                             f'{self.name} is not in the bay{meant}', self.name)
         for kind in kinds:
             values = [value_of(kind, word) for word in self.words]
             if None not in values:
                 break
         else:
             word = self.words[values.index(None)] or 'nothing'
-            raise self.wrong(value_told(word, kind, self.name))
+            raise self.wrong(value_told(word, kind, self.name), word)
         twice = next((word for at, word in enumerate(self.words) if values[at] in values[:at]), '')
         if twice:
             raise self.wrong(f'{twice} is given twice')
         return (kind, self.name), values
 
-    def wrong(self, told: str) -> Failed:
-        kind = BadOption if self.where.startswith('--') else BadRule
-        return kind(f'{self.where}: {told}')
+    def wrong(self, told: str, word: str = '') -> Failed:
+        """What is wrong, at a word of the line."""
+        if not self.written:
+            kind = BadOption if self.where.startswith('--') else BadRule
+            return kind(f'{self.where}: {told}')
+        at = raised(self.written).rfind(raised(word)) if word else -1
+        found = BadRule(told) if at < 0 else BadRule(told, at, at + len(word))
+        return found.at_line(int(self.where.removeprefix('line ')), self.written)
 
 
 def looked_at(looks: list[Look], known: set) -> dict:
@@ -308,13 +371,15 @@ def looked_at(looks: list[Look], known: set) -> dict:
 
 def read_looks(text: str) -> list[Look]:
     """What a text tells to look at."""
-    looks = []
+    looks, written = [], text.split('\n')
     for number, line in lines_of(text):
         verb, *rest = re.sub(r' ?\| ?', '|', line).split(' ')
         if raised(verb) == 'LOOK':
             if len(rest) != 2:
-                raise BadRule(f'line {number}: the form is look NAME VALUE|VALUE')
-            looks.append(Look(raised(rest[0]), rest[1].split('|'), f'line {number}'))
+                told = BadRule('the form is look NAME VALUE|VALUE', 0, len(verb))
+                raise told.at_line(number, line)
+            looks.append(Look(raised(rest[0]), rest[1].split('|'), f'line {number}',
+                              written=written[number - 1].partition('#')[0]))
     return looks
 
 
@@ -331,15 +396,29 @@ def held(option: str, text: str | None, kind: str) -> list[Look]:
 
 def read_rules(text: str, known: set) -> list[Rule]:
     """The rules of a text, for the things of a bay, each as its kind and its name in upper case."""
-    rules, above = [], remarks_above(text)
+    rules, above, written = [], remarks_above(text), text.split('\n')
     for number, line in lines_of(text):
         if raised(line.split(' ')[0]) != 'LOOK':
             try:
-                rules.append(Reader(line, known).rule(number, line))
+                rules.append(Reader(written[number - 1], known).rule(number, line))
             except BadRule as error:
-                raise BadRule(f'line {number}: {error}') from None
+                raise error.at_line(number, written[number - 1]) from None
             rules[-1].remarks = above[number]
     return rules
+
+
+def faults_of(text: str, known: set) -> list[BadRule]:
+    """What is wrong with each line of rules that can't be read."""
+    found, written = [], text.split('\n')
+    for number, line in lines_of(text):
+        try:
+            if raised(line.split(' ')[0]) == 'LOOK':
+                looked_at(read_looks('\n' * (number - 1) + written[number - 1]), known)
+            else:
+                Reader(written[number - 1], known).rule(number, line)
+        except BadRule as error:
+            found.append(error if error.line else error.at_line(number, written[number - 1]))
+    return found
 
 
 def remarks_above(text: str) -> dict[int, tuple[str, ...]]:

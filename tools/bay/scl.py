@@ -28,8 +28,6 @@ LACKING = """\
  BlkCls; units and floating values of MMXU. Beyond the standard's data attributes stands d of NamPlt
  of LLN0 as the model. There are no data sets and no reports, so dchg and qchg trigger nothing; what
  has valKind RO can't be written. Its rows are fixed. Inputs of a bay file have no rows. """
-UNPORTED = """\
- The server listens on port {}: edition 1 has no MMS-Port, so clients must be told. """
 ENDINGS = {'DOType': '_DO', 'DAType': '_DA', 'EnumType': '_Enum'}  # ids are unique over all kinds
 CHANGES = {'stVal': 'dchg', 'stSeld': 'dchg', 'mag': 'dchg', 'cVal': 'dchg', 'q': 'qchg'}
 FIXED = ('CF', 'DC')  # constraints of what can't be written
@@ -51,23 +49,23 @@ MODEL = ('ctlModel', 'CF', 'Enum CtlModel')
 CONTROLS = {'status': (), 'direct': ('Oper',), 'sbo': ('SBO', 'Oper', 'Cancel'),
             'sbo-enhanced': ('SBOw', 'Oper', 'Cancel')}
 MODELS = {'status': 0, 'direct': 1, 'sbo': 2, 'sbo-enhanced': 4}
-DATA = {  # the class of a data object, by edition 2 and 1, and its attributes
-    'Mod': ('ENC', 'INC', status('Enum Mod', MODEL)),
-    'Beh': ('ENS', 'INS', status('Enum Mod')),
-    'Health': ('ENS', 'INS', status('Enum Health')),
-    'NamPlt': ('LPL', 'LPL', [(name, 'DC', 'VisString255') for name in ('vendor', 'swRev', 'd')]),
-    'PhyNam': ('DPL', 'DPL', [('vendor', 'DC', 'VisString255')]),
-    'PhyHealth': ('ENS', 'INS', status('Enum Health')),
-    'Proxy': ('SPS', 'SPS', status('BOOLEAN')),
-    'Pos': ('DPC', 'DPC', status('Dbpos', MODEL)),
-    'Blk': ('SPC', 'SPC', status('BOOLEAN')),
-    'OpCnt': ('INS', 'INS', status('INT32')),
-    'SwTyp': ('ENS', 'INS', status('Enum SwTyp')),
-    'Ena': ('SPS', 'SPS', status('BOOLEAN')),
-    'MV': ('MV', 'MV', [('mag', 'MX', 'Struct Analogue'), ('q', 'MX', 'Quality'),
-                        ('t', 'MX', 'Timestamp')]),
-    'CMV': ('CMV', 'CMV', [('cVal', 'MX', 'Struct Vector'), ('q', 'MX', 'Quality'),
-                           ('t', 'MX', 'Timestamp')])}
+DATA = {  # the class of a data object, and its attributes
+    'Mod': ('ENC', status('Enum Mod', MODEL)),
+    'Beh': ('ENS', status('Enum Mod')),
+    'Health': ('ENS', status('Enum Health')),
+    'NamPlt': ('LPL', [(name, 'DC', 'VisString255') for name in ('vendor', 'swRev', 'd')]),
+    'PhyNam': ('DPL', [('vendor', 'DC', 'VisString255')]),
+    'PhyHealth': ('ENS', status('Enum Health')),
+    'Proxy': ('SPS', status('BOOLEAN')),
+    'Pos': ('DPC', status('Dbpos', MODEL)),
+    'Blk': ('SPC', status('BOOLEAN')),
+    'OpCnt': ('INS', status('INT32')),
+    'SwTyp': ('ENS', status('Enum SwTyp')),
+    'Ena': ('SPS', status('BOOLEAN')),
+    'MV': ('MV', [('mag', 'MX', 'Struct Analogue'), ('q', 'MX', 'Quality'),
+                  ('t', 'MX', 'Timestamp')]),
+    'CMV': ('CMV', [('cVal', 'MX', 'Struct Vector'), ('q', 'MX', 'Quality'),
+                    ('t', 'MX', 'Timestamp')])}
 SWITCH = [('Pos', 'Pos'), ('BlkOpn', 'Blk'), ('BlkCls', 'Blk'), ('OpCnt', 'OpCnt')]
 NODES = {  # the data objects of a node, with their types
     'LLN0': [(name, name) for name in ('Mod', 'Beh', 'Health', 'NamPlt')],
@@ -81,8 +79,8 @@ def control_type(control) -> tuple:
     """The type of a controllable position, by the kind of its control."""
     parts = [(name, 'CO', 'ObjRef' if name == 'SBO' else 'Struct Cancel' if name == 'Cancel'
               else 'Struct Oper') for name in CONTROLS[control]]
-    return ('DPC', 'DPC', status('Dbpos', ('stSeld', 'ST', 'BOOLEAN'), *parts, MODEL,
-                                 ('sboTimeout', 'CF', 'INT32U')))
+    return 'DPC', status('Dbpos', ('stSeld', 'ST', 'BOOLEAN'), *parts, MODEL,
+                         ('sboTimeout', 'CF', 'INT32U'))
 
 
 def nodes_of(file) -> list[tuple]:
@@ -104,19 +102,16 @@ def nodes_of(file) -> list[tuple]:
 
 
 class Writer:
-    """An SCL file of a bay, in one edition."""
+    """An SCL file of a bay, of edition 2."""
 
-    def __init__(self, file, edition) -> None:
-        self.file, self.edition = file, edition
+    def __init__(self, file) -> None:
+        self.file = file
 
     def root(self, ied, instance, domain, address, port) -> ET.Element:
-        more = {'version': '2007', 'revision': 'B'} if self.edition == 2 else {}
-        root = ET.Element('SCL', xmlns=NAMESPACE, **more)
+        root = ET.Element('SCL', xmlns=NAMESPACE, version='2007', revision='B')
         ET.SubElement(root, 'Header', id=domain, version='1', revision='',
                       nameStructure='IEDName')
         root.append(ET.Comment(LACKING))
-        if port and self.edition == 1:
-            root.append(ET.Comment(UNPORTED.format(port)))
         self.communication(root, ied, address, port)
         self.device(root, ied, instance, domain)
         self.types(root)
@@ -130,7 +125,7 @@ class Writer:
         found = ET.SubElement(point, 'Address')
         kind = 'IPv6' if ':' in address else 'IP'
         words = {kind: address, 'OSI-TSEL': '0001', 'OSI-SSEL': '0001', 'OSI-PSEL': '00000001'}
-        if port and self.edition == 2:
+        if port:
             words['MMS-Port'] = str(port)
         for kind, word in words.items():
             ET.SubElement(found, 'P', type=kind).text = word
@@ -141,7 +136,7 @@ class Writer:
                               configVersion=bay['revision'])
         services = ET.SubElement(found, 'Services')
         for name in ('DynAssociation', 'GetDirectory', 'GetDataObjectDefinition', 'ReadWrite'):
-            limit = {'max': '8'} if (name, self.edition) == ('DynAssociation', 2) else {}
+            limit = {'max': '8'} if name == 'DynAssociation' else {}
             ET.SubElement(services, name, **limit)
         server = ET.SubElement(ET.SubElement(found, 'AccessPoint', name='AP1'), 'Server')
         ET.SubElement(server, 'Authentication', none='true')
@@ -192,13 +187,13 @@ class Writer:
         """The types of data objects, and the types that their attributes need."""
         needed = []
         for name, of in objects.items():
-            cdc = 'WYE' if name == 'WYE' else of[0 if self.edition == 2 else 1]
+            cdc = 'WYE' if name == 'WYE' else of[0]
             found = ET.SubElement(templates, 'DOType', id=name + ENDINGS['DOType'], cdc=cdc)
             if name == 'WYE':
                 for phase in ('phsA', 'phsB', 'phsC'):
                     ET.SubElement(found, 'SDO', name=phase, type='CMV' + ENDINGS['DOType'])
                 continue
-            for part, constraint, kind in of[2]:
+            for part, constraint, kind in of[1]:
                 more = {CHANGES[part]: 'true'} if part in CHANGES else {}
                 more |= {'valKind': 'RO'} if constraint in FIXED else {}
                 ET.SubElement(found, 'DA', name=part, fc=constraint, **self.kind(kind), **more)
@@ -223,8 +218,6 @@ class Writer:
 
     def kind(self, kind) -> dict:
         basic, _, of = kind.partition(' ')
-        if basic == 'ObjRef' and self.edition == 1:
-            basic = 'VisString129'
         ending = ENDINGS['EnumType' if basic == 'Enum' else 'DAType']
         return {'bType': basic, **({'type': of + ending} if of else {})}
 

@@ -13,7 +13,7 @@ def acceptance(checks) -> None:
     """At a replay, whose scenario is told by tools/explain, and with another program."""
     scenario, page = checks.folder / 'accepted.scenario', checks.folder / 'accepted.html'
     words = [STEPS, '--bay', BAY, '--bayctl', checks.bayctl, '--logic']
-    found, status = checks.run('acceptance', *words, LOGIC, '--scenario', scenario, '--report',
+    found, status = checks.run('acceptance', *words, LOGIC, '--scenario', scenario, '--html',
                                page)
     checks.wants('an acceptance test', found + page.read_text(), status,
                  [PASSED, 'Signatures', 'refused: blocked by process (9)'], 0)

@@ -2,7 +2,6 @@
 no octet of anybody else reaches the bay. Each check has the name of the wrong behaviour that it
 refuses."""
 import contextlib
-import pathlib
 import re
 import socket
 import ssl
@@ -17,8 +16,9 @@ from certifying.authority import LIST, SETTINGS, Authority
 from wire import stream
 from wire.client import Client
 from wire.guarded import Door, authority_in, missing, tls_of, words_of
-from wire.served import PATIENCE, Running, Server, until, value
+from wire.served import PATIENCE, Running, Server, free_port, until, value
 
+from .cables import pulled
 from .panels import SERVED, TOOLS, Page, gear
 from .reachable import packets
 
@@ -124,6 +124,7 @@ def let_in(checks) -> None:
         in_its_words(checks, it)
         logged(checks, it)
         shown(checks, it)
+        gone_through(checks, it)
 
 
 def alert(answer: bytes) -> bytes:
@@ -158,6 +159,19 @@ def in_its_words(checks, it: Guarded) -> None:
     checks.wants('a client of another station', *checks.run(
         'client', *wrong, str(it.door.port), 'browse'), ['the server\'s certificate is not taken'],
         3)
+
+
+def gone_through(checks, it: Guarded) -> None:
+    """The checklist, as on another machine."""
+    words = ['from', '127.0.0.1', '--port', str(it.door.port), '--closed']
+    checks.wants('the checklist', *checks.run(
+        'checklist', *words, str(free_port()), *words_of(it.authority, 'old')),
+        ['1. good: ', '2. good: ', 'a client without a certificate is refused: ',
+         *['3. good: '] * ssl.HAS_TLSv1_1, '4. good: ', 'certificate is revoked'],
+        0 if ssl.HAS_TLSv1_1 else 4)
+    checks.wants('the checklist of a bay that is open', *checks.run(
+        'checklist', *words, str(it.server.port), *words_of(it.authority, 'operator')),
+        ['1. WRONG: ', 'IT IS REACHED', '4. WRONG: ', 'CN=operator IS SERVED'], 1)
 
 
 def logged(checks, it: Guarded) -> None:
@@ -236,5 +250,5 @@ def all_of(checks) -> None:
         are = 'is' if len(absent) == 1 else 'are'
         print(f'left out, since {" and ".join(absent)} {are} not installed: a bay behind stunnel')
         return
-    for part in (let_in, revoked):
+    for part in (let_in, revoked, pulled):
         checks.goes(part)

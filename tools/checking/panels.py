@@ -11,18 +11,20 @@ from wire.served import PATIENCE, Running, Server, Simulator
 
 TOOLS = pathlib.Path(__file__).resolve().parent.parent
 SERVED = TOOLS.parent / 'examples' / 'served'
+LOST = 'every position is bad: the process is lost'
 
 
 class Page:
     """A page of a panel: what it has, the states that it is sent, and what it asks."""
 
     def __init__(self, port) -> None:
-        self.port, self.name = port, secrets.token_hex(8)
+        self.port, self.name, self.number, self.moment = port, secrets.token_hex(8), 0, 0
         self.text = self.ask('GET', '/')
         self.token = re.search(r'data-token="([^"]+)"', self.text)[1]
         self.connection = http.client.HTTPConnection('127.0.0.1', port, timeout=PATIENCE)
         self.connection.request('GET', f'/events?{self.name}')
         self.answer = self.connection.getresponse()
+        self.until(lambda it: True)
 
     def __enter__(self) -> 'Page':
         return self
@@ -37,21 +39,25 @@ class Page:
         connection.close()
         return text
 
-    def asks(self, verb, switch, way) -> str:
-        """What a control is answered, in words."""
-        body = json.dumps({'switch': switch, 'way': way, 'page': self.name})
+    def asks(self, verb, switch, way, age=0) -> str:
+        """What a control is answered, in words, that was asked some milliseconds ago."""
+        self.number += 1
+        made = self.moment + int((time.monotonic() - self.heard) * 1000) - age
+        body = json.dumps({'switch': switch, 'way': way, 'page': self.name, 'made': made,
+                           'number': self.number})
         found = json.loads(self.ask('POST', f'/{verb}', body, {'X-Panel': self.token}))
         return f'{"good" if found["good"] else "refused"}: {found["told"]}'
 
     def until(self, test) -> dict:
         """The first state that it is sent from now on of which something is so."""
-        end = time.monotonic() + PATIENCE
+        end, kind = time.monotonic() + PATIENCE, ''
         while time.monotonic() < end:
-            line = self.answer.readline().decode()
-            if line.startswith('data: '):
-                state = json.loads(line.removeprefix('data: '))
-                if test(state):
-                    return state
+            word, _, told = self.answer.readline().decode().rstrip('\n').partition(': ')
+            if word == 'data' and kind == 'life':
+                self.moment, self.heard = json.loads(told)['moment'], time.monotonic()
+            elif word == 'data' and not kind and test(state := json.loads(told)):
+                return state
+            kind = told if word == 'event' else kind if word else ''
         raise TimeoutError('the panel does not tell it')
 
 
@@ -84,7 +90,7 @@ def panel(checks) -> None:
             with Page(int(found[1])) as page:
                 shown(checks, page)
                 simulator.kill()
-                gone(checks, page)
+                gone(checks, page, server)
             with gear(server), Page(int(found[1])) as page:
                 page.until(lambda it: positions(it).get('QC1') == 'open')
                 checks.wants('the panel, with the process again', operated(page, 'QA1', 'open'), 0,
@@ -106,6 +112,11 @@ def shown(checks, page) -> None:
     checks.wants('a select that is given up', page.asks('select', 'QA1', 'open')
                  + page.asks('cancel', 'QA1', 'open'), 0, ['select QA1: done', 'cancel QA1: done'],
                  0)
+    checks.wants('an operate that was asked long ago', page.asks('select', 'QA1', 'open')
+                 + page.asks('operate', 'QA1', 'open', 2500)
+                 + page.asks('operate', 'QA1', 'open'), 0,
+                 ['select QA1: done', 'operate QA1 open is not done: it is 2.5 s old',
+                  'QA1 is not selected by this page'], 0)
     checks.wants('the breaker, by the panel', operated(page, 'QA1', 'open'), 0,
                  ['good: select QA1: done', 'the command is given',
                   'operate QA1 open has ended: done'], 0)
@@ -113,10 +124,16 @@ def shown(checks, page) -> None:
                  ['good: select QB1: done', 'operate QB1 open has ended: done'], 0)
 
 
-def gone(checks, page) -> None:
-    """The process is gone: all is bad, and an operate is refused."""
-    page.until(lambda it: set(positions(it).values()) == {'bad'})
+def gone(checks, page, server) -> None:
+    """The process is gone: all is bad, nothing counts as released, and an operate is refused."""
+    state = page.until(lambda it: set(positions(it).values()) == {'bad'})
+    checks.wants('a panel without a process', state['process'], 0, [LOST], 0)
+    checks.holds('something is released without a process', not any(
+        it[way]['free'] for it in state['switches'] for way in ('open', 'close')),
+        json.dumps(state['switches']))
+    words = ['--bay', SERVED / 'bay.toml', str(server.port), 'operate', 'QA1', 'open']
+    checks.wants('a client without a process', *checks.run('client', *words), [LOST], 1)
     said = page.asks('select', 'QB1', 'close') + page.asks('operate', 'QB1', 'close')
     checks.wants('an operate by the panel without a process', said, 0,
                  ['refused: operate QB1 is refused: blocked by process (9): the process is lost',
-                  'QB1 is bad'], 0)
+                  LOST], 0)

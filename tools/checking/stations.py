@@ -12,7 +12,7 @@ from wire.served import PATIENCE, Running, Server, Simulator
 TOOLS = pathlib.Path(__file__).resolve().parent.parent
 EXAMPLES = TOOLS.parent / 'examples'
 OTHER, SERVED = EXAMPLES / 'single_busbar', EXAMPLES / 'served'
-GONE = 'every position is bad: its process is lost'
+GONE = 'every position is bad: the process is lost, since '
 
 
 def state(port: int) -> dict[str, dict]:
@@ -65,7 +65,7 @@ def station(checks) -> None:
             checks.holds('a release is shown that is none', free.get('QA1') is True
                          and free.get('QB1') is False, json.dumps(found[first]))
             gear.kill()
-            is_told, found = comes(page, lambda it: it[first]['process'] == GONE)
+            is_told, found = comes(page, lambda it: it[first]['process'].startswith(GONE))
             checks.holds('a lost process is not told', is_told and not found[second]['process'],
                          json.dumps(found))
             one.kill()

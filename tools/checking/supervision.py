@@ -1,6 +1,7 @@
 """A process that the server supervises: one that freezes, that waits, that is another's, whose
-lines are of another time; what it is told; and steps of the system's clock. Each check has the name
-of the wrong behaviour that it refuses."""
+lines are of another time or go back in time; a server that is held up; what a process is told; and
+steps of the system's clock. Each check has the name of the wrong behaviour that it refuses."""
+import concurrent.futures
 import contextlib
 import glob
 import os
@@ -8,6 +9,7 @@ import pathlib
 import select
 import signal
 import subprocess
+import sys
 import threading
 import time
 from collections.abc import Iterator
@@ -63,6 +65,8 @@ KEY = '0123456789abcdef' * 3
 FAKETIME = [f'{place}/faketime/libfaketime.so.1'
             for place in ('/usr/lib/*', '/usr/lib', '/usr/lib64', '/usr/local/lib')]
 STEPS = '+3600', '-3600', '+315360000'  # seconds
+STALLS = 0.3, 0.7, 0.9, 2, 8  # seconds for which a server is held up
+BUSY = 6  # busy loops beside a server
 
 
 class Process:
@@ -96,12 +100,13 @@ class Process:
             elif self.clock and moment_of(line) is not None:
                 self.clock.hears(moment_of(line))
 
-    def sends(self, *lines: str, ahead: int = 0) -> None:
-        """Sends lines with a time so many milliseconds ahead."""
+    def sends(self, *lines: str, ahead: int = 0) -> int:
+        """Sends lines with a time so many milliseconds ahead, and returns this time."""
         with self.lock:
-            moment = self.clock.now() + ahead
+            moment = self.clock.now() + ahead if ahead else self.clock.stamp()
             with contextlib.suppress(ConnectionError):
                 self.socket.sendall(''.join(f'{moment} {line}\n' for line in lines).encode())
+            return moment
 
     @contextlib.contextmanager
     def lives(self) -> Iterator:
@@ -264,10 +269,97 @@ def untimely(checks) -> None:
                          news(server)[before:] == ['process open', 'process closed 133']
                          and counts(client) == (0, 0), f'{ahead}: {server.printed()}')
             process.socket.close()
-        with Process(server).lives() as process:
-            process.sends('contact QA1 1', ahead=-LIMIT // 3)
+        process = Process(server, None)
+        process.sends(f'bay - {NAMED}', 'contact QA1 1', ahead=-LIMIT // 3)
+        with process.lives():
             checks.holds('a line of this time is not taken',
                          becomes(lambda: positions(client)[0] == OPEN), server.printed())
+
+
+# Shows P-117.
+def backward(checks) -> None:
+    """Lines of one time, and then one whose time is a millisecond before theirs."""
+    with supervised(checks, '--log') as (server, client):
+        process = Process(server)
+        moment = process.sends('contact QA1 1', 'contact QB1 1')
+        checks.holds('a line of the same time is not taken',
+                     becomes(lambda: positions(client) == (OPEN, OPEN)), server.printed())
+        with contextlib.suppress(ConnectionError):
+            process.socket.sendall(f'{moment - 1} contact QA1 2\n'.encode())
+        checks.holds('a line that goes back in time is taken',
+                     becomes(lambda: positions(client) == (BAD, BAD)) and counts(client) == (1, 1)
+                     and news(server) == ['process open', 'process closed 133']
+                     and 'its time is before that of the line before' in server.printed(),
+                     f'{counts(client)} {server.printed()}')
+        process.socket.close()
+
+
+def stalled(checks, limit: int, age: int, stall: float) -> tuple[bool, list[int], str]:
+    """A process says that it lives. Then the server is held up for so many seconds, while an
+    operate waits in its socket. Returns whether the operate was accepted, how many milliseconds
+    before each command the process had said it, and what the server printed."""
+    bay = checks.folder / f'stalled-{limit}-{age}-{stall}.toml'
+    bay.write_text(BAY.replace('control = "sbo"\nsbo_timeout_ms = 60000\n', 'control = "direct"\n')
+                   .replace('scan_max_age_ms = 1000', f'scan_max_age_ms = {age}'))
+    with Server(checks.bayctl, bay, files_of(checks)[1], '--supervise', limit,
+                with_process=True) as server, contextlib.ExitStack() as kept:
+        server.client().close()
+        client = kept.enter_context(contextlib.closing(
+            Client('127.0.0.1', server.port, Names(BAY), on_report=lambda told: None)))
+        process = Process(server)
+        kept.callback(process.socket.close)
+        last = process.sends('contact QA1 1', 'contact QB1 1')
+        end = time.monotonic() + GREETED
+        while positions(client) != (OPEN, OPEN) and time.monotonic() < end:
+            last = process.sends('alive')
+        control, answers = Control(client, 'QA1'), []
+        last = process.sends('alive')
+        time.sleep(min(0.05, limit / 4000))
+        server.run.send_signal(signal.SIGSTOP)
+        asking = threading.Thread(target=lambda: answers.append(control.operate(True)), daemon=True)
+        asking.start()
+        time.sleep(stall)
+        server.run.send_signal(signal.SIGCONT)
+        asking.join(GREETED)
+        becomes(lambda: len(news(server)) == 2)
+        commands = [int(line.split()[0]) - last for line in server.printed().splitlines()
+                    if ' command ' in line]
+        return bool(answers) and answers[0].is_good, commands, server.printed()
+
+
+# Shows P-117, P-133.
+def stalls(checks) -> None:
+    """Servers that are held up, each for another time."""
+    cases = [(limit, age, stall) for limit in (100, 500) for age in (1_000, 600_000)
+             for stall in STALLS]
+    with concurrent.futures.ThreadPoolExecutor(len(cases)) as pool:
+        found = list(pool.map(lambda case: stalled(checks, *case), cases))
+    for case, (is_given, commands, printed) in zip(cases, found):
+        limit, _, stall = case
+        checks.holds('a command on a word that is too old', all(age <= limit for age in commands),
+                     f'{case}: {commands} {printed}')
+        checks.holds('a process is commanded that was silent while the server was held up',
+                     stall * 1000 <= limit or not is_given and not commands,
+                     f'{case}: {is_given} {printed}')
+        checks.holds('a process stays that was silent while the server was held up',
+                     'process closed 134' in printed, f'{case}: {printed}')
+
+
+# Shows P-117.
+def loaded(checks) -> None:
+    """A process that lives on a machine on which six programs work without a pause."""
+    loops = [subprocess.Popen([sys.executable, '-c', 'while True: pass']) for _ in range(BUSY)]
+    try:
+        with supervised(checks) as (server, client), Process(server).lives() as process:
+            process.sends('contact QA1 1')
+            time.sleep(6)
+            checks.holds('a process that lives is lost on a machine under load',
+                         news(server) == ['process open'] and positions(client)[0] == OPEN,
+                         server.printed())
+    finally:
+        for loop in loops:
+            loop.kill()
+            loop.wait()
 
 
 # Shows P-117.
@@ -347,9 +439,10 @@ def refused_words(checks) -> None:
                      and done.stderr.startswith('error: '), f'{more}: {done}')
 
 
-# Shows P-121.
+# Shows P-117, P-121.
 def steps(checks) -> None:
-    """The system's clock steps while a switch is selected: no moment does, and nothing ends."""
+    """The system's clock steps while a switch is selected: no moment does, and no selection ends. A
+    step forward, which looks like a machine that slept, ends the process; a step back does not."""
     library = next((it for way in FAKETIME for it in sorted(glob.glob(way))), None)
     if library is None:
         print('left out, since libfaketime is not installed: steps of the system\'s clock')
@@ -357,31 +450,43 @@ def steps(checks) -> None:
     step = checks.file('step', '+0')
     env = {**os.environ, 'LD_PRELOAD': library, 'FAKETIME_TIMESTAMP_FILE': str(step),
            'FAKETIME_NO_CACHE': '1', 'FAKETIME_DONT_FAKE_MONOTONIC': '1'}
-    with supervised(checks, '--log', env=env) as (server, client), \
-            Process(server).lives() as process:
+    with supervised(checks, '--log', env=env) as (server, client):
         maps = pathlib.Path(f'/proc/{server.run.pid}/maps').read_text(encoding='utf-8')
         if 'faketime' not in maps:
             print('left out, since bayctl does not load libfaketime: steps of the system\'s clock')
             return
-        process.sends('contact QA1 1', 'contact QB1 1')
-        until(lambda: positions(client) == (OPEN, OPEN), 'the process has told all')
         control = Control(client, 'QA1')
-        control.select()
         for word in STEPS:
-            before, printed = value(client, 'XSWI1$ST$Pos$t'), server.printed()
-            stepped(step, word)
-            time.sleep(0.5)
-            checks.holds('a step of the clock is not logged',
-                         word != STEPS[0] or server.printed() != printed, printed)
-            there = value(client, POSITIONS[1])
-            process.sends(f'contact QB1 {2 if there == OPEN else 1}')
-            becomes(lambda: value(client, POSITIONS[1]) != there)
-            passed = value(client, 'XSWI1$ST$Pos$t') - before
-            checks.holds('a step of the clock steps moments', 400 < passed < 5000,
-                         f'{word}: {passed} ms')
-            checks.holds('a step of the clock ends a selection', control.is_selected(), word)
-            checks.holds('a step of the clock ends a process',
-                         set(news(server)) == {'process open'}, f'{word}: {server.printed()}')
+            with Process(server).lives() as process:
+                process.sends('contact QA1 1', 'contact QB1 1')
+                until(lambda: positions(client) == (OPEN, OPEN), 'the process has told all')
+                if word == STEPS[0]:
+                    control.select()
+                one_step(checks, server, client, process, step, word)
+                checks.holds('a step of the clock ends a selection', control.is_selected(), word)
+            until(lambda: positions(client) == (BAD, BAD), 'the process has gone')
+
+
+def one_step(checks, server, client, process, step: pathlib.Path, word: str) -> None:
+    """The system's clock makes one step, beside a process whose switches are open."""
+    before, printed, ends = value(client, 'XSWI1$ST$Pos$t'), server.printed(), len(news(server))
+    stepped(step, word)
+    time.sleep(0.5)
+    if word.startswith('+'):
+        becomes(lambda: positions(client) == (BAD, BAD))
+        checks.holds('a process is believed after the clock has jumped',
+                     news(server)[ends:] == ['process closed 134']
+                     and 'the clock has jumped' in server.printed()[len(printed):],
+                     f'{word}: {server.printed()}')
+    else:
+        process.sends('contact QB1 2')
+        becomes(lambda: value(client, POSITIONS[1]) == CLOSED)
+        checks.holds('a step back of the clock ends a process', len(news(server)) == ends,
+                     f'{word}: {server.printed()}')
+    checks.holds('a step of the clock is not logged',
+                 word != STEPS[0] or server.printed() != printed, printed)
+    passed = value(client, 'XSWI1$ST$Pos$t') - before
+    checks.holds('a step of the clock steps moments', 400 < passed < 10_000, f'{word}: {passed} ms')
 
 
 def stepped(path: pathlib.Path, word: str) -> None:
@@ -397,6 +502,9 @@ def all_of(checks) -> None:
         checks.file(path.name, text)
     living = threading.Thread(target=checks.goes, args=(idle,))
     living.start()
-    for part in (refused_words, keys, frozen, waited, strangers, untimely, silent, overdue, steps):
+    for part in (refused_words, keys, frozen, waited, strangers, untimely, backward, silent,
+                 overdue, steps):
         checks.goes(part)
     living.join()
+    for part in (stalls, loaded):
+        checks.goes(part)

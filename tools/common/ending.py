@@ -8,6 +8,7 @@ import sys
 from collections.abc import Callable, Iterator
 from typing import Any, NoReturn, TextIO
 
+from .places import as_called
 from .texts import escaped
 
 DONE, FOUND, CALLED_WRONG, UNREACHED, PARTLY, INTERRUPTED = 0, 1, 2, 3, 4, 130
@@ -20,17 +21,20 @@ STATUSES = {
     INTERRUPTED: 'it was interrupted'}
 # The statuses that each tool ends with, beside 130.
 OF_TOOLS = {'acceptance': (0, 1, 2, 3), 'asn1': (0, 2, 3), 'audit': (0, 1, 2, 3, 4),
-            'certify': (0, 1, 2, 3), 'client': (0, 1, 2, 3), 'diagnose': (0, 1, 2, 3),
-            'explain': (0, 1, 2, 3), 'figures': (0, 1, 2, 3), 'gpio': (0, 1, 2, 3),
-            'join': (0, 2, 3), 'log': (0, 2, 3), 'modbus': (0, 1, 2, 3), 'panel': (0, 2, 3),
-            'release': (0, 1, 2, 3), 'rules': (0, 1, 2, 3), 'scl': (0, 1, 2, 3),
-            'simulate': (0, 1, 2, 3), 'station': (0, 2, 3), 'timeline': (0, 1, 2, 3),
-            'trace': (0, 2, 3), 'trusted': (0, 1, 2, 3), 'wrong_definitions': (0, 1, 2, 3, 4)}
+            'certify': (0, 1, 2, 3), 'checklist': (0, 1, 2, 3, 4), 'client': (0, 1, 2, 3),
+            'diagnose': (0, 1, 2, 3), 'explain': (0, 1, 2, 3), 'figures': (0, 1, 2, 3),
+            'gpio': (0, 1, 2, 3), 'join': (0, 2, 3), 'log': (0, 2, 3), 'modbus': (0, 1, 2, 3),
+            'panel': (0, 1, 2, 3), 'release': (0, 1, 2, 3), 'rules': (0, 1, 2, 3),
+            'scl': (0, 1, 2, 3), 'simulate': (0, 1, 2, 3), 'station': (0, 2, 3),
+            'timeline': (0, 1, 2, 3), 'trace': (0, 2, 3), 'trusted': (0, 1, 2, 3),
+            'wrong_definitions': (0, 1, 2, 3, 4)}
 
 
 class Failed(Exception):
-    """What ends a tool, as `what: why`."""
+    """What ends a tool, as `what: why`; `more` are lines that follow, such as a line of a file with
+    a mark under the part that is wrong."""
     status = UNREACHED
+    more: tuple[str, ...] = ()
 
 
 class CalledWrong(Failed):
@@ -42,8 +46,23 @@ class Parser(argparse.ArgumentParser):
     """The options of a tool. Its help is the tool's own description."""
 
     def __init__(self, description: str | None = None, **more: Any) -> None:
-        super().__init__(description=description, allow_abbrev=False,
+        self.new_words: dict[str, str] = {}
+        super().__init__(description=as_called(description or ''), allow_abbrev=False,
                          formatter_class=argparse.RawDescriptionHelpFormatter, **more)
+
+    def renamed(self, old: str, new: str) -> None:
+        """An option had another word, which is still taken, with a warning."""
+        self.new_words[old] = new
+
+    def parse_known_args(self, args: Any = None, namespace: Any = None) -> Any:
+        words = list(sys.argv[1:] if args is None else args)
+        end = words.index('--') if '--' in words else len(words)
+        for at, word in enumerate(words[:end]):
+            old, sign, value = word.partition('=')
+            if old in self.new_words:
+                complain(f'{old} is called {self.new_words[old]} now; the old word is still taken')
+                words[at] = self.new_words[old] + sign + value
+        return super().parse_known_args(words, namespace)
 
     def print_help(self, file: Any = None) -> None:
         """Prints the help; where that can't be written the tool says so."""
@@ -94,7 +113,14 @@ class Shown:
 def complain(told: str) -> None:
     """One line on standard error, where that can be written."""
     with contextlib.suppress(Unwritten, OSError):
-        print(f'{pathlib.Path(sys.argv[0]).name}: {told}', file=sys.stderr, flush=True)
+        print(f'{pathlib.Path(sys.argv[0]).name}: {as_called(told)}', file=sys.stderr, flush=True)
+
+
+def show_more(lines: tuple[str, ...]) -> None:
+    """Lines on standard error that belong to the one before."""
+    with contextlib.suppress(Unwritten, OSError):
+        for line in lines:
+            print(line, file=sys.stderr, flush=True)
 
 
 def show_plainly() -> None:
@@ -123,6 +149,7 @@ def status_of(main: Callable[[], int | None]) -> int:
         return status
     except Failed as error:
         complain(str(error))
+        show_more(error.more)
         return flushed(error.status)
     except KeyboardInterrupt:
         return flushed(INTERRUPTED)

@@ -1,11 +1,29 @@
 """Moments of traces, in milliseconds: those of a server and of a capture count from 1970, those
 that are written by hand mostly from 0."""
+import argparse
 import datetime
 
 from common.texts import counted
 
 EPOCH = 100_000_000_000  # a moment from here on, in 1973, is one of our days
 LAST = 253_402_300_800_000  # 10000-01-01, from which on no calendar of Python counts
+
+
+FORMS = ('%Y-%m-%d', '%Y-%m-%d %H:%M', '%Y-%m-%d %H:%M:%S', '%Y-%m-%d %H:%M:%S.%f')
+
+
+def moment_of(text: str) -> int:
+    """A time for an option: milliseconds as a trace has them, or a date, with a time of day here
+    or without."""
+    if text.isascii() and text.isdigit() and len(text) < 16:
+        return int(text)
+    for form in FORMS:
+        try:
+            return round(datetime.datetime.strptime(text, form).timestamp() * 1000)
+        except (ValueError, OverflowError):
+            continue
+    raise argparse.ArgumentTypeError(f'{text[:40]} is no time such as 2026-11-28 10:30, and no '
+                                     'number of milliseconds as a trace has it')
 
 
 def is_clock(moment: int) -> bool:

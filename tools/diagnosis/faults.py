@@ -1,9 +1,8 @@
 """The faults by number, read from docs/FAULTS.md, which is the one place of their wording."""
-import pathlib
 import re
 from dataclasses import dataclass
 
-PAGE = pathlib.Path(__file__).resolve().parent.parent.parent / 'docs' / 'FAULTS.md'
+from common.places import FAULTS as PAGE
 
 
 @dataclass

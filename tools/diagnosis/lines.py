@@ -179,6 +179,8 @@ class Reader:
             initial, at = rest[3], 4
         if initial and self.block[0] == 'VAR_EXTERNAL':
             raise Misplaced('a point of the bay can\'t have an initial value', rest[2])
+        if initial and (mend := grouped(rest[at - 1:])):
+            raise Misplaced('a number has no comma', rest[at], (), mend)
         if at >= len(rest) or rest[at].text != ';':
             raise Misplaced('the ; is missing' if at >= len(rest) else 'there must be a ; here',
                             rest[min(at, len(rest) - 1)])
@@ -288,9 +290,12 @@ class Reader:
             raise Misplaced(f'{tokens[0].text} can\'t be an operand{reserved_told(tokens[0])}',
                             tokens[0])
         size = 1
+        if mend := grouped(tokens):
+            raise Misplaced('a number has no comma', tokens[1], (), mend)
         if len(tokens) > 1 and tokens[1].text == '.':
             if tokens[0].kind == 'literal':
-                raise Misplaced('a number can\'t have a fraction', tokens[1])
+                raise Misplaced('a number can\'t have a fraction', tokens[1], (),
+                                'write a whole number')
             if len(tokens) > 2 and tokens[2].upper in ('IN', 'PT'):
                 name = tokens[0].text
                 raise Misplaced(f'{name}.{tokens[2].text} is an input of a timer', tokens[2], (),
@@ -328,6 +333,16 @@ class Reader:
             raise Misplaced(f':= must follow {part[0].text}',
                             part[1] if len(part) > 1 else part[0])
         return part[0], self.operand(part[2:], part[1])
+
+
+def grouped(tokens) -> str:
+    """How a number is written whose digits go on after a comma; nothing where they don't."""
+    first, *rest = tokens
+    if first.kind != 'literal' or len(rest) < 2 or rest[0].text != ',' or (
+            not rest[1].text.isdigit()):
+        return ''
+    return (f'write {first.text}_{rest[1].text}' if len(rest[1].text) == 3
+            else 'write a whole number')
 
 
 def reserved_told(token) -> str:

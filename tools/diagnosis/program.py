@@ -16,20 +16,24 @@ SLOTS, MOST_TIMERS, LABELS, LARGEST = 512, 64, 256, 65_535
 
 @dataclass
 class Named:
-    """What a name means: its type, whether it may be written, and the line of its declaration."""
+    """What a name means: its type, whether it may be written, the line of its declaration, and the
+    name as it is written there."""
     kind: str
     writable: bool
     line: int
+    text: str = ''
 
 
 @dataclass
 class Result:
     """The current result: its type, or none with the reason; whether it can be reached, or from
-    where not."""
+    where not; whether its type is not known for a fault that is told already, so that nothing more
+    is told of it."""
     kind: str | None
     since: str
     reached: bool = True
     gone: int = 0
+    is_lost: bool = False
 
 
 @dataclass
@@ -67,8 +71,12 @@ class Checker:
         elif other := truth_told(token.text):
             self.note(70, line, other[0], token, (), other[1])
         else:
-            told = f'{token.text} is not declared{meant(token.upper, self.names, self.points)}'
+            told = f'{token.text} is not declared{meant(token.upper, self.written(), self.points)}'
             self.note(70, line, told, token)
+
+    def written(self) -> list[str]:
+        """The declared names, as they are written."""
+        return [it.text for it in self.names.values()]
 
     def all(self) -> list[Fault]:
         for declaration in self.program.declarations:
@@ -88,7 +96,7 @@ class Checker:
         writable = self.external(it) if it.scope == 'VAR_EXTERNAL' else True
         if it.initial and not fits(it.kind, it.initial.literal):
             self.note(72, line, f'{it.initial.text} is not a value of type {it.kind}', it.initial)
-        self.names.setdefault(name, Named(it.kind, writable, line))
+        self.names.setdefault(name, Named(it.kind, writable, line, it.name.text))
         self.count(it)
 
     def external(self, it) -> bool:
@@ -146,7 +154,7 @@ class Checker:
 
     def unset(self, item) -> bool:
         """Notes the use of a result that is not set."""
-        if self.result.kind is None and self.result.reached:
+        if self.result.kind is None and self.result.reached and not self.result.is_lost:
             told = f'{item.token.text} uses the current result, which is not set'
             self.note(73, item.line, f'{told}: {self.result.since}', item.token)
         return self.result.kind is None
@@ -191,7 +199,7 @@ class Checker:
             self.wrong(item, f'only a BOOL can be negated{but(text_of(item.operand), kind)}',
                        item.operand[0])
         since = f'{item.token.text} at line {item.line} loads something unknown'
-        self.result = Result(kind, since, self.result.reached, self.result.gone)
+        self.result = Result(kind, since, self.result.reached, self.result.gone, kind is None)
 
     def store(self, item) -> None:
         target, named = item.operand[0], self.names.get(item.operand[0].upper)
@@ -236,7 +244,9 @@ class Checker:
         elif kind and self.result.kind and kind != self.result.kind:
             self.wrong(item, self.differs(told, kind), token)
         self.unset(item)
-        if self.result.kind and verb not in BOOLEAN | ARITHMETIC:
+        is_lost = self.result.is_lost and verb in BOOLEAN  # it gives a BOOL all the same
+        if is_lost or (self.result.kind or self.result.is_lost) and (
+                verb not in BOOLEAN | ARITHMETIC):
             self.result = Result('BOOL', '', self.result.reached, self.result.gone)
 
     def invert(self, item) -> None:
@@ -258,7 +268,7 @@ class Checker:
             self.note(74, item.line, f'the label {name.text} is above this line', name,
                       [(label, 'here')])
         elif self.result.reached:
-            self.arrivals.setdefault(name.upper, []).append((item.line, self.result.kind))
+            self.arrivals.setdefault(name.upper, []).append((item.line, self.result))
         self.go(item)
 
     def leave(self, item) -> None:
@@ -303,7 +313,7 @@ class Checker:
         """What the parenthesis gives is the operand; 72 and 73 are told at its )."""
         inner, (outer, opened) = self.result, self.outer.pop()
         self.result = outer
-        if inner.kind is None and inner.reached:
+        if inner.kind is None and inner.reached and not inner.is_lost:
             self.note(73, item.line, f'the result of the parenthesis of line {opened.line} is not '
                       f'set: {inner.since}', item.token)
         began = type(item)(')', item.line, opened.token)
@@ -317,15 +327,17 @@ class Checker:
         """What falls in and what jumps bring meet."""
         name = item.token.upper
         ways = self.arrivals.get(name, []) if self.labels[name] == item.line else []
-        kinds = [(f'from line {line}', kind) for line, kind in ways]
-        kinds += [('from above', self.result.kind)] if self.result.reached else []
-        if not kinds:
+        came = [(f'from line {line}', result) for line, result in ways]
+        came += [('from above', self.result)] if self.result.reached else []
+        if not came:
             return
+        is_lost = any(it.is_lost for _, it in came)
+        kinds = [(way, it.kind) for way, it in came if not it.is_lost]
         told = ', '.join(f'{kind or "nothing"} {way}' for way, kind in kinds)
         one = {kind for _, kind in kinds}
         kind = one.pop() if len(one) == 1 else None
         self.result = Result(kind, f'at the label {item.token.text} of line {item.line} paths with '
-                             f'different results meet, {told}')
+                             f'different results meet, {told}', is_lost=is_lost and len(one) < 2)
 
 
 def wanted_by(verb) -> str:

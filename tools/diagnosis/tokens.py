@@ -11,6 +11,8 @@ TOKEN = re.compile(
     r'[ \t]+|(?P<word>[A-Za-z0-9_](?:[A-Za-z0-9_#]|(?<=#)[+-])*'
     r'|[+-][0-9](?:[A-Za-z0-9_#]|(?<=#)[+-])*|#[\w#]*)'
     r'|(?P<mark>:=|&N(?![A-Za-z0-9_])|[:,;.()&])|(?P<odd>.)', re.IGNORECASE | re.DOTALL | re.ASCII)
+# A duration with a fraction: no token of the language.
+FRACTION = re.compile(r'(?:T|TIME)#([0-9]+)[.,]([0-9]+)(D|H|M|S|MS)(?![A-Za-z0-9_])', re.IGNORECASE)
 DIGITS = {2: '01', 8: '01234567', 10: '0123456789', 16: '0123456789ABCDEF'}
 UNITS = [('D', 86_400_000), ('H', 3_600_000), ('M', 60_000), ('S', 1000), ('MS', 1)]
 LONGEST = 2_147_483_647
@@ -88,13 +90,26 @@ def lines_of(text) -> list:
 
 def tokens_of(line) -> Iterator:
     for found in TOKEN.finditer(line):
-        if found['word'] is not None:
+        fraction = FRACTION.match(line, found.start())
+        if fraction:
+            yield Token('bad', fraction[0], found.start(), 'a duration has no fraction',
+                        mend=whole_told(fraction))
+        elif found['word'] is not None:
             yield word_token(found['word'], found.start())
         elif found['mark'] is not None:
             yield Token('mark', found['mark'], found.start())
         elif found['odd'] is not None:
             told, mend = odd_told(found['odd'])
             yield Token('bad', found['odd'], found.start(), told, mend=mend)
+
+
+def whole_told(found) -> str:
+    """How a duration with a fraction is written without one."""
+    whole, part, unit = found[1], found[2], dict(UNITS)[raised(found[3])]
+    if len(whole + part) > LONG:
+        return 'write whole numbers, as T#1s500ms'
+    millis, rest = divmod(int(whole + part) * unit, 10 ** len(part))
+    return f'write T#{millis}ms' if not rest else 'write whole numbers, as T#1s500ms'
 
 
 def odd_told(character) -> tuple[str, str]:

@@ -8,6 +8,7 @@ from . import lines
 from .depends import Flow
 from .language import JUMPS, STORES, TIMERS
 from .place import Place
+from .releases import release_warnings
 from .tokens import nested_comments
 
 POSITIONS = ('_POS', '_OPEN', '_CLOSED')
@@ -62,6 +63,7 @@ def warnings(text: str, points: dict | None, file: dict, proved: Proved | None =
         if told:
             found.append(Place(told, line=it.line, start=it.name.start, end=it.name.end))
     found += never_asked(program, uses, file)
+    found += release_warnings(program, file)
     flow = Flow(program)
     found += of_no_use(program, uses, flow, proved)
     return found + list(never_released(program, uses, file['switch'], flow, proved))

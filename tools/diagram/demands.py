@@ -117,6 +117,16 @@ class Demands:
                                       or terminals.index(start) < terminals.index(last)):
                     yield path
 
+    def feeding(self) -> Iterator[Path]:
+        """The paths on which a source feeds a terminal that is none; no other source lies on
+        them."""
+        net = self.network
+        for source in net.sources():
+            yield from (path for path in paths(
+                net, source.name, lambda name: net.kind(name) in TERMINALS
+                and not net.nodes[name].is_source, lambda name: net.nodes[name].is_source)
+                if path.switches)
+
     def beside(self, switch: Switch) -> list[Path]:
         """The paths beside a disconnector."""
         net = self.network
@@ -187,19 +197,26 @@ class Demands:
                       [f'no breaker is in the path: {path.told()}'])
 
     def meeting(self) -> Iterator[Demand]:
-        """A breaker that closes, and a disconnector on a path of its current."""
+        """A breaker that closes, and a disconnector on a path of its current: of one from a
+        terminal to the next, or of one that it feeds through terminals that may be dead."""
         for path in self.currents:
-            if self.network.is_earth(path.nodes[-1]):
-                continue
-            for switch in path.switches:
-                if switch.kind != DISCONNECTOR:
-                    continue
-                for breaker in path.switches:
-                    if breaker.is_own and breaker.kind == BREAKER:
-                        rest = both(it for it in path.others(breaker) if it.kind == BREAKER)
-                        yield Demand(MEETS, breaker.name, CLOSE, switch.not_at_rest() + rest,
-                                     self.unless(switch, breaker), [
-                            f'{switch.name} would make the current: {path.told()}'])
+            if not self.network.is_earth(path.nodes[-1]):
+                yield from self.meets(path, path.switches, path.switches)
+        for path in self.feeding():
+            last = max(n for n, name in enumerate(path.nodes[:-1])
+                       if self.network.kind(name) in TERMINALS)
+            yield from self.meets(path, path.switches[:last], path.switches[last:])
+
+    def meets(self, path: Path, closing: tuple[Switch, ...], moving: tuple[Switch, ...]
+              ) -> Iterator[Demand]:
+        """For each breaker of the bay among those that close, and each disconnector among those
+        that may be moving."""
+        for switch, breaker in itertools.product(moving, closing):
+            if switch.kind == DISCONNECTOR and breaker.is_own and breaker.kind == BREAKER:
+                rest = both(it for it in path.others(breaker) if it.kind == BREAKER)
+                yield Demand(MEETS, breaker.name, CLOSE, switch.not_at_rest() + rest,
+                             self.unless(switch, breaker),
+                             [f'{switch.name} would make the current: {path.told()}'])
 
     def staying(self) -> Iterator[Demand]:
         """A switch that opens, and a disconnector beside which it closes a path; while a current
@@ -211,9 +228,11 @@ class Demands:
                         yield from self.stays(switch, path, mine)
 
     def stays(self, switch: Switch, beside: Path, mine: Switch) -> Iterator[Demand]:
-        """While the rest of that path, and of one of a current, is not known to be open."""
+        """While the rest of that path, and of one of a current, is not known to be open. A current
+        that flows through the switch which opens is taken off the disconnector."""
         for path in self.currents:
-            if switch not in path.switches or self.network.is_earth(path.nodes[-1]):
+            if (switch not in path.switches or mine in path.switches
+                    or self.network.is_earth(path.nodes[-1])):
                 continue
             others = path.others(switch)
             breakers = [it for it in others if it.kind == BREAKER] or others

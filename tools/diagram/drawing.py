@@ -5,7 +5,7 @@ from collections.abc import Mapping
 from dataclasses import dataclass, field
 
 from common.positions import POSITIONS
-from live.boxes import query
+from live.boxes import LETTER, query
 from live.single_line import dot, earth, line, text
 
 from .network import BUSBAR, EARTH, EARTHING, JUNCTION, TRANSFORMER, Network, Node, Switch
@@ -14,8 +14,10 @@ from .symbols import REACH, STYLE, blade, ending, windings
 TOP, BUS, APART = 40, 34, 112  # above the first busbar, between two, between two levels
 LEFT, RIGHT, BRANCH = 46, 150, 250  # room beside a node, and of an earthing switch
 FITS = 560  # how narrow a picture of a page may be shown
+HIGH, WIDE, LYING = 56, 150, 200  # of the box of a switch, which covers no other: one that lies
 STACK, TAIL = 56, 82  # between two earthing switches of a node, and below the last level
 ROUND = 25  # from the middle of a transformer to its wires
+OTHER_BAY = 'another bay'
 WORDS = {True: '✓', False: '✕', None: '?'}  # of a release: given, not given, or it depends
 
 
@@ -298,21 +300,25 @@ class Drawing:
         """A switch at a place, with its words; those that lie have them behind or below."""
         name = html.escape(switch.name, quote=True)
         turn = '' if words == 30 else ' rotate(90)'
-        left, size = (x - 38, 76) if turn else (x - 24, 150)
+        left, width = (x - 24, WIDE) if not turn else (x - 38, 76 if below else LYING)
         is_shown = self.is_live and switch.is_own
         state = 'unknown' if self.is_live else self.positions.get(switch.name, 'unknown')
         kind = 'switch' if switch.is_own else 'other'
         acts = (f' data-switch="{name}" role="button" tabindex="0" aria-label="{name}"'
                 if is_shown else '')
-        told = state if state in POSITIONS else '' if self.is_live and not is_shown else 'not known'
-        drawn = blade(switch) + (query(bool(turn)) if is_shown else '')
+        told = state if state in POSITIONS else 'not known'
+        drawn = blade(switch) + (query(bool(turn)) if self.is_live else '')
         frees = told_releases(self.releases.get(switch.name))
-        lines = [(switch.name, 'id'), (told, 'told'), (frees, 'frees'), ('', 'more')]
+        if self.is_live and not switch.is_own:
+            frees = OTHER_BAY
+        beside = LETTER * len(switch.name) + 8
+        lines = [(switch.name, 'id', 0, 0), (told, 'told', 0, 17), (frees, 'frees', 0, 34),
+                 ('', 'more', beside, 0)]
         return (f'<g class="{kind} {state}"{acts}><rect class="hit" x="{left:.0f}" '
-                f'y="{y - 38:.0f}" width="{size if below else max(size, 150)}" height="76" rx="8"/>'
+                f'y="{y - HIGH / 2:.0f}" width="{width}" height="{HIGH}" rx="8"/>'
                 f'<g transform="translate({x:.0f} {y:.0f}){turn}">{drawn}</g>'
-                + ''.join(text(round(x + words), round(y - 12 + below + 17 * at), word, its)
-                          for at, (word, its) in enumerate(lines)) + '</g>')
+                + ''.join(text(round(x + words + right), round(y - 12 + below + down), word, its)
+                          for word, its, right, down in lines) + '</g>')
 
 
 def usual_positions(network: Network) -> dict[str, str]:

@@ -10,7 +10,7 @@ from .bus import CLOSED as CONNECTION_CLOSED
 from .bus import ModuleFault, ModuleRefused
 from .process_link import Command, ProcessLink
 from .pulses import WAYS, Pulse
-from .samples import CLOSED, OPEN, Point, Value, line_of, rank
+from .samples import CLOSED, OPEN, Point, Value, line_of, lost_inputs, rank
 from .units import Unit
 from .wiring import Module, Switch
 
@@ -27,6 +27,7 @@ class Driver:
         self.units = {one.name: Unit(one, say) for one in modules}
         self.switches = {one.id: one for module in modules for one in module.switches}
         self.alive = {one.alive for one in modules if one.alive}
+        self.true_blocks = {one.name for module in modules for one in module.inputs if one.fault}
         self.process, self.say = process, say
         self.known: dict[Point, Value] = {}
         self.owner: dict[Point, Unit] = {}
@@ -36,6 +37,7 @@ class Driver:
         self.broken = asyncio.Event()
         process.taken, process.hear = self.taken, self.hear
         process.lives, process.lost = self.lives, self.lost
+        process.oldest = self.oldest
         for unit in self.units.values():
             found = unit.sampled.forget()
             self.known |= found
@@ -43,19 +45,43 @@ class Driver:
 
     # What the server is told.
 
-    def publish(self) -> None:
-        """Tells what has changed since it was told. What was read longer ago than the server would
-        take waits for its next sample."""
-        now = time.monotonic()
-        news = [(point, value) for point, value in self.known.items()
-                if point not in self.told or self.told[point] != value]
-        news.sort(key=lambda one: rank(one[0], one[1], self.alive))
-        stamped = []
-        for point, value in news:
+    def longest(self, module: Module) -> float:
+        """The seconds that a reading of a module may take. One that takes longer is refused."""
+        limit = self.process.limit / 2 if self.process.clock else module.timeout
+        return min(module.every + module.timeout, limit)
+
+    def reading_since(self, now: float) -> float:
+        """The moment at which the oldest reading began that goes on and may still be sent, or now.
+        A line that is sent meanwhile has no later time, or that reading would go back."""
+        return min([now, *(unit.asked_at for unit in self.units.values()
+                           if unit.asked_at is not None
+                           and now - unit.asked_at <= self.longest(unit.module))])
+
+    def news(self, now: float) -> list[tuple[float, Point, Value]]:
+        """What has changed since it was told, with the moment of its reading. What was read longer
+        ago than the server would take waits for its next sample."""
+        found = []
+        for point, value in self.known.items():
             unit = self.owner[point]
             then = unit.heard_at if unit.is_ready else now
-            if now - then <= self.process.limit / 2:
-                stamped.append((then, point, value))
+            is_new = point not in self.told or self.told[point] != value
+            if is_new and now - then <= self.process.limit / 2:
+                found.append((then, point, value))
+        return found
+
+    def oldest(self) -> float:
+        """The moment of the oldest reading that is still to be told."""
+        now = time.monotonic()
+        return min([self.reading_since(now), *(then for then, _, _ in self.news(now))])
+
+    def publish(self) -> None:
+        """Tells what has changed, in the order of time; of one moment what blocks comes before what
+        frees."""
+        now = time.monotonic()
+        since = self.reading_since(now)
+        stamped = [(min(then, since), point, value) for then, point, value in self.news(now)]
+        stamped.sort(key=lambda one: (
+            one[0], rank(one[1], one[2], self.alive, self.true_blocks)))
         if stamped and self.process.send(
                 [(then, line_of(point, value)) for then, point, value in stamped]):
             self.told |= {point: value for _, point, value in stamped}
@@ -117,13 +143,16 @@ class Driver:
             case [word] if word[-3:-2] == '=' and set(word[-2:]) <= {'0', '1'}:
                 self.releases[raised(word[:-3])] = word[-2] == '1', word[-1] == '1'
                 self.wake()
+                for pulse, _ in self.pulses.values():
+                    pulse.unit.news.set()
 
     def command(self, command: Command) -> None:
         """Begins a pulse, or says why there is none."""
         one = self.switches.get(command.switch)
         why, pulse = 'the wiring has no coils for it', None
         if one is not None and one.coils:
-            pulse = Pulse(command, self.units[one.module], one, self.process, self.known)
+            pulse = Pulse(command, self.units[one.module], one, self.process, self.known,
+                          self.releases)
             is_busy = one.id in self.pulses and not self.pulses[one.id][1].done()
             why = 'another command of it has not ended' if is_busy else pulse.refusal()
         if why or pulse is None:
@@ -152,7 +181,7 @@ class Driver:
     def fail(self, unit: Unit, fault: ModuleFault) -> None:
         """What is wired to a module is bad."""
         if str(fault) not in (unit.fault, CONNECTION_CLOSED):
-            self.say(f'module {unit.module.name}: {fault}')
+            self.say(f'module {unit.module.name}: {fault}{lost_inputs(unit.module)}')
             unit.fault = str(fault)
         unit.is_ready = False
         self.known |= unit.sampled.forget()
@@ -160,13 +189,21 @@ class Driver:
         self.publish()
 
     async def one_sample(self, unit: Unit) -> None:
+        """Reads a module, tells what it comes to, and sets its magnets."""
+        unit.asked_at = time.monotonic()
+        try:
+            await self.read(unit, unit.asked_at)
+        finally:
+            unit.asked_at = None
+        await self.set_magnets(unit)
+
+    async def read(self, unit: Unit, asked: float) -> None:
         """Reads a module, and tells what it comes to."""
-        asked, module = time.monotonic(), unit.module
+        module = unit.module
         await unit.check_coils()
         bits, registers = await unit.sample()
         now = time.monotonic()
-        limit = self.process.limit / 2 if self.process.clock else module.timeout
-        if now - asked > min(module.every + module.timeout, limit):
+        if now - asked > self.longest(module):
             raise ModuleFault(f'reading it takes {1000 * (now - asked):.0f} ms')
         if unit.sampled.stands(registers, now):
             raise ModuleRefused(f'its counter {module.counter} stands still, so its data are old')
@@ -178,7 +215,6 @@ class Driver:
         self.known |= unit.sampled.take(bits, registers, asked)
         unit.news.set()
         self.publish()
-        await self.set_magnets(unit)
 
     def is_freed(self, one: Switch) -> bool:
         """Whether a switch that is worked by hand may leave its position."""

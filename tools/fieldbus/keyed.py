@@ -1,5 +1,6 @@
 """Tables of a TOML file of which each key is taken once, and none is left. What is wrong is told
 with its line and what to write in its place."""
+import difflib
 import re
 import tomllib
 from collections.abc import Callable, Collection
@@ -35,7 +36,10 @@ class Table:
     def shown(self, key: str) -> str:
         """What a key has, in a few characters."""
         found = in_line(repr(self.keys.get(key)))
-        return f'{key} is {found[:40]}' if key in self.keys else f'{key} is missing'
+        if key in self.keys:
+            return f'{key} is {found[:40]}'
+        other = difflib.get_close_matches(key, self.keys, 1, 0.8)
+        return f'{key} is missing' + (f': is {other[0]} misspelt?' if other else '')
 
     def text(self, key: str) -> str:
         found = self.keys.get(key)
@@ -62,10 +66,11 @@ class Table:
         self.keys.pop(key, None)
         return float(found)
 
-    def truth(self, key: str) -> bool:
-        found = self.keys.get(key, False)
+    def truth(self, key: str, default: bool | None = False, why: str = '') -> bool:
+        """A truth. `why` says what it is for, where there is no default."""
+        found = self.keys.get(key, default)
         if not isinstance(found, bool):
-            raise self.wrong(f'{self.shown(key)}: write true or false', key)
+            raise self.wrong(f'{self.shown(key)}: write true or false{why}', key)
         self.keys.pop(key, None)
         return found
 

@@ -27,7 +27,10 @@ class Command:
 class ProcessLink:
     """A connection that comes again. `taken` is called when the server has greeted, `hear` with
     each line but of its life, `lives` before each word of the process' own life, and `lost` when
-    the connection has ended. `number` counts those that were greeted."""
+    the connection has ended. `oldest` is the moment of the oldest reading that is still to be sent:
+    the times of the lines of a connection must not go back, and no line may look newer than its
+    reading, so no line that comes before it may have a later time. `number` counts the connections
+    that were greeted."""
 
     def __init__(self, port: int, named: tuple[str, str], key: str, say: Callable[[str], None],
                  ) -> None:
@@ -40,6 +43,7 @@ class ProcessLink:
         self.hear: Callable[[str], None] = lambda line: None
         self.lives: Callable[[], None] = lambda: None
         self.lost: Callable[[], None] = lambda: None
+        self.oldest: Callable[[], float] = time.monotonic
 
     # What is asked of it.
 
@@ -49,11 +53,11 @@ class ProcessLink:
         return self.life.limit
 
     def send(self, lines: list[tuple[float, str]]) -> bool:
-        """Sends lines, each with the moment of the monotonic clock at which it was so; whether a
-        server is there."""
+        """Sends lines, each with the moment of the monotonic clock at which it was so, in the order
+        of these; whether a server is there."""
         if self.clock is None or self.writer is None:
             return False
-        stamped = [f'{self.clock.at(then)} {line}' for then, line in lines]
+        stamped = [f'{self.clock.stamp(then)} {line}' for then, line in lines]
         for line in stamped:
             self.say(f'> {line}')
         self.writer.write(''.join(line + '\n' for line in stamped).encode())
@@ -141,7 +145,7 @@ class ProcessLink:
         assert self.writer
         self.clock, self.life = ServerClock(greeting.moment), Life(greeting.limit)
         self.number += 1
-        first = greeting.answer(self.clock.now(), self.key or NO_KEY)
+        first = greeting.answer(self.clock.stamp(self.oldest()), self.key or NO_KEY)
         self.writer.write(f'{first}\n'.encode())
         self.say(f'the server has taken the process: it must hear of it each {greeting.limit} ms')
         self.taken()
@@ -174,7 +178,7 @@ class ProcessLink:
                 raise self.life.silence()
             if self.life.is_due() and self.clock and self.writer:
                 self.lives()
-                self.writer.write(f'{self.clock.now()} alive\n'.encode())
+                self.writer.write(f'{self.clock.stamp(self.oldest())} alive\n'.encode())
 
 
 def told(error: Exception) -> str:

@@ -11,6 +11,7 @@ from .wiring import Switch
 
 WAYS = {'on': ('close', CLOSED), 'off': ('open', OPEN)}  # as the server tells them
 OTHER = {'open': 'close', 'close': 'open'}
+GONE = 'its release has gone'
 
 
 class Untimely(ModuleFault):
@@ -18,12 +19,14 @@ class Untimely(ModuleFault):
 
 
 class Pulse:
-    """A command that is carried out. `known` is what the contacts came to."""
+    """A command that is carried out. `known` is what the contacts came to, `releases` what the
+    server tells of releases: whether each switch may be opened, and closed. It is empty where the
+    server tells of none."""
 
     def __init__(self, command: Command, unit: Unit, one: Switch, process: ProcessLink,
-                 known: dict[Point, Value]) -> None:
+                 known: dict[Point, Value], releases: dict[str, tuple[bool, bool]]) -> None:
         self.command, self.unit, self.one, self.process = command, unit, one, process
-        self.known = known
+        self.known, self.releases = known, releases
         self.way, self.there = WAYS[command.way]
         self.is_over = False
         self.say = unit.say
@@ -43,7 +46,14 @@ class Pulse:
             return f'module {unit.module.name} is not heard: {unit.fault or "no data yet"}'
         if not unit.sampled.is_remote(self.one):
             return 'its key is not at remote'
-        return ''
+        return '' if self.is_released() else GONE
+
+    def is_released(self) -> bool:
+        """Whether the server releases the operation, as far as it tells."""
+        if not self.releases:
+            return True
+        opens, closes = self.releases.get(self.one.id, (False, False))
+        return closes if self.way == 'close' else opens
 
     def is_there(self) -> bool:
         return self.known['contact', self.one.id] == self.there
@@ -106,10 +116,14 @@ class Pulse:
                               f'{after[other]:d} within a pulse of the first')
 
     async def hold(self, on_at: float, number: int) -> None:
-        """Waits until the coil is to be off."""
+        """Waits until the coil is to be off. Where the release goes meanwhile, a pulse of a breaker
+        goes on."""
         unit, end = self.unit, on_at + self.one.pulse
         while time.monotonic() < end and unit.link.number == number and unit.link.is_open:
             if self.is_over or not unit.is_ready or not unit.sampled.is_remote(self.one):
+                return
+            if self.one.kind != 'breaker' and not self.is_released():
+                self.say(f'{self.one.id} {self.way}: {GONE}, so its pulse ends')
                 return
             if self.one.until_there and self.is_there():
                 return

@@ -7,9 +7,12 @@ import signal
 import time
 from typing import Any
 
+from auditing.blocking import needed_of
 from bay.accepted import accepted_bay_at
 from bay.files import bay_at, may_be_written, octets_of
-from common.ending import DONE, UNREACHED, Parser
+from common.ending import DONE, UNREACHED, Failed, Parser
+from common.texts import raised
+from report.bayctl import usual
 from wire.process import key_of
 from wire.sockets import port_of
 
@@ -32,11 +35,16 @@ def options(description: str | None) -> Parser:
     found.add_argument('--bay', required=True, metavar='F', help='the bay file')
     found.add_argument('--wiring', metavar='F', help='what is wired to which module')
     found.add_argument('--process', type=port_of, metavar='P', help='the port of the process')
-    found.add_argument('--key', metavar='F', help='the key of the server')
+    found.renamed('--key', '--process-key')
+    found.add_argument('--process-key', dest='key', metavar='F', help='the key of the server')
     found.add_argument('--check', action='store_true',
                        help='compares the files, and prints the table of terminals')
     found.add_argument('--html', metavar='F',
                        help='with --check: writes the table as a page, too')
+    found.add_argument('--logic', metavar='F',
+                       help='with --check: the program; it warns of inputs that block while TRUE')
+    found.add_argument('--bayctl', default=usual(), metavar='PATH',
+                       help='with --logic: the program to ask')
     found.add_argument('--off', action='store_true', help='switches each coil off, and ends')
     return found
 
@@ -66,12 +74,37 @@ async def all_off(modules: list[Module]) -> bool:
     return all(await asyncio.gather(*(ended(Unit(one, say)) for one in modules)))
 
 
+def warnings(modules: Modules, chosen: argparse.Namespace, bay: dict[str, Any]) -> list[str]:
+    """What is to be warned of: inputs that block while they are TRUE, and what is told of those of
+    a lost module."""
+    if not chosen.logic:
+        return []
+    found = needed_of(chosen.bayctl, chosen.bay, chosen.logic, bay)
+    if found is None:
+        raise Failed(f'{chosen.bayctl}: it has no command `audit`, so it can\'t say which inputs '
+                     'block while they are TRUE')
+    faults = {one.name: one.fault for module in modules for one in module.inputs}
+    told = [one.warning() for one in found if one.false]
+    for one in found:
+        fault = faults.get(raised(one.name))
+        released = () if fault is None else one.true if fault else one.false
+        if released:
+            told.append(f'{one.name} has fault = {str(fault).lower()}, and so a lost module '
+                        f'releases {", ".join(released)}: write fault = {str(not fault).lower()}.')
+    return told
+
+
 def check(modules: Modules, bus: Bus, chosen: argparse.Namespace,
           bay: dict[str, Any]) -> None:
     """Prints the table of terminals, and writes it as a page."""
     for line in sheet(modules, bus)[1:]:
         print(line)
     print(f'\n{summary(modules)}')
+    if not chosen.logic:
+        print('Inputs that block while they are TRUE are not looked for: name the program by '
+              '--logic.')
+    for told in warnings(modules, chosen, bay):
+        print(f'WARNING: {told}')
     if chosen.html:
         files = [(pathlib.Path(path).name, hashlib.sha256(octets_of(path)).hexdigest())
                  for path in (chosen.bay, chosen.wiring)]
@@ -85,6 +118,8 @@ def run(parser: Parser, chosen: argparse.Namespace, bus: Bus) -> int:
         parser.error('--wiring is missing')
     if chosen.html and not chosen.check:
         parser.error('--html is of --check')
+    if chosen.logic and not chosen.check:
+        parser.error('--logic is of --check')
     if chosen.html:
         may_be_written(chosen.html)
     # Coils are switched off whatever else is wrong with the bay file.

@@ -1,11 +1,11 @@
 """What the contacts and registers of a module come to. What frees something counts only once it has
-stood for a while, and what blocks counts at once: a switch that leaves its end, an input that is
-FALSE, a module that is not heard."""
+stood for a while, and what blocks counts at once: a switch that leaves its end, an input that has
+the value that its wiring names for a fault, a module that is not heard."""
 from collections.abc import Collection
 
 from common.positions import POSITIONS
 
-from .wiring import TYPES, WHOLE, Contact, Measure, Module, Switch
+from .wiring import TYPES, WHOLE, Contact, Input, Measure, Module, Switch
 
 INTERMEDIATE, OPEN, CLOSED, BAD = range(len(POSITIONS))
 ENDS = (OPEN, CLOSED)
@@ -55,6 +55,11 @@ def measured(one: Measure, registers: dict[int, int]) -> Value:
     return value if is_valid else None
 
 
+def held_input(one: Input) -> Held:
+    """An input. Till its other value has stood it has that of a fault."""
+    return Held(one.hold, int(one.fault), int(one.fault), (int(not one.fault),))
+
+
 class Sampled:
     """What was last read of a module, and what is to be told of it."""
 
@@ -63,7 +68,7 @@ class Sampled:
         self.bits: dict[int, bool] = {}
         self.positions = {one.id: Held(one.hold, BAD, INTERMEDIATE, ENDS)
                           for one in module.switches}
-        self.inputs = {one.name: Held(one.hold, 0, 0, (1,)) for one in module.inputs}
+        self.inputs = {one.name: held_input(one) for one in module.inputs}
         holds = [held.hold for held in [*self.positions.values(), *self.inputs.values()]]
         self.alive = Held(max(holds, default=0), 0, 0, (1,))
         self.measures: dict[Point, Value] = {}
@@ -121,12 +126,19 @@ class Sampled:
         return found | self.measures
 
 
-def rank(point: Point, value: Value, alive: Collection[str]) -> int:
-    """The order in which values are told, since the server takes a line a turn and scans behind
-    each: what blocks before what frees, and outside both whether a module is heard."""
+def lost_inputs(module: Module) -> str:
+    """What is told of the inputs of a module that is not heard, to be added to why it is not."""
+    told = [f'{one.name} {"TRUE" if one.fault else "FALSE"}' for one in module.inputs]
+    return f'; till it is heard the server is told {", ".join(told)}' if told else ''
+
+
+def rank(point: Point, value: Value, alive: Collection[str], true_blocks: Collection[str]) -> int:
+    """The order in which values of one moment are told, since the server takes a line a turn and
+    scans behind each: what blocks before what frees, and outside both whether a module is heard.
+    `true_blocks` are the inputs that block while they are TRUE."""
     if point[0] == 'measure':
         return 2
-    is_free = value in ENDS if point[0] == 'contact' else bool(value)
+    is_free = value in ENDS if point[0] == 'contact' else bool(value) != (point[1] in true_blocks)
     is_alive = point[0] == 'input' and point[1] in alive
     return (4 if is_alive else 3) if is_free else (0 if is_alive else 1)
 

@@ -79,9 +79,11 @@ def rows_of(module: Module) -> list[Row]:
     """The terminals of a module: contacts, coils, registers, by their numbers."""
     found = [row for one in module.switches for row in rows_of_switch(one)]
     for it in module.inputs:
-        stands = f', counts once it has stood for {millis(it.hold)}' if it.hold else ''
+        frees, lost = ('FALSE', 'TRUE') if it.fault else ('TRUE', 'FALSE')
+        stands = f', {frees} counts once it has stood for {millis(it.hold)}' if it.hold else ''
         found.append(Row('contact', it.contact.at, it.name,
-                         f'input {it.name}: {reads(it.contact)}{stands}'))
+                         f'input {it.name}: {reads(it.contact)}{stands}; {lost} while the module '
+                         'is not heard'))
     for one in module.measures:
         order = f', {"low" if one.low_first else "high"} word first' if one.words() == 2 else ''
         offset = f' {one.offset:+g}' if one.offset else ''

@@ -17,6 +17,7 @@ class Unit:
         self.lines = module.lines()
         self.link: Link = module.address.link(module.timeout, self.lines)
         self.heard_at, self.is_ready, self.fault = 0.0, False, ''
+        self.asked_at: float | None = None  # when a reading began that has not ended
         self.magnets: set[int] = set()  # coils of magnets that are switched on
         self.pulsed: set[int] = set()  # coils that a command has switched on
         self.doubted_until = 0.0

@@ -18,6 +18,7 @@ LONGEST_POLL, LONGEST_ANSWER, LONGEST_DOUBT, LONGEST_HOLD = 60_000, 10_000, 600_
 SHORTEST_PULSE = 10  # ms
 MOST = 2 ** 31 - 1  # of a measured value
 WHOLE = (-MOST - 1, MOST)
+FAULT = ', the value that blocks: the server is told it while the module is not heard'
 
 
 @dataclass(frozen=True)
@@ -30,6 +31,7 @@ class Contact:
 @dataclass(frozen=True)
 class Switch:
     id: str
+    kind: str  # breaker, disconnector, earthing
     module: str
     open: Contact
     closed: Contact
@@ -48,6 +50,7 @@ class Input:
     module: str
     contact: Contact
     hold: float
+    fault: bool  # what is told of it while its module is not heard: the value that blocks
 
 
 @dataclass(frozen=True)
@@ -201,7 +204,8 @@ class Reading:
                   if is_operated and 'remote' in table.keys else None)
         magnet = (table.whole('magnet_coil', 0, self.bus.highest)
                   if 'magnet_coil' in table.keys else None)
-        return Switch(name, module, self.contact(table, 'open', inverted),
+        return Switch(name, str(one.get('kind')), module,
+                      self.contact(table, 'open', inverted),
                       self.contact(table, 'closed', inverted), coils, pulse, until_there, remote,
                       magnet, self.hold(table), travel / 1000)
 
@@ -210,7 +214,8 @@ class Reading:
         module = self.module_of(table)
         self.once(table, 'input', name)
         contact = Contact(table.whole('contact', 0, self.bus.highest), table.truth('invert'))
-        module.inputs.append(Input(name, module.name, contact, self.hold(table)))
+        module.inputs.append(Input(name, module.name, contact, self.hold(table),
+                                   table.truth('fault', None, FAULT)))
         table.ends()
 
     def take_measure(self, table: Table) -> None:

@@ -17,7 +17,7 @@ UNIVERSAL = {'int_tag': 'INTEGER', 'oid_tag': 'OBJECT IDENTIFIER', 'visible_tag'
              'sequence': 'SEQUENCE', 'set_tag': 'SET', 'external_tag': 'EXTERNAL'}
 PLAIN = ('int_tag', 'oid_tag', 'visible_tag')
 WIDTH = 96
-INITIATE = 'bay_initiate', ('Initiate',)
+INITIATE = 'bay_mms_initiate', ('Initiate',)
 MODULES = {'initiate': (INITIATE[0], 'Initiate', INITIATE[1]),
            'association': ('bay_assoc', 'Association', ('Presentation', 'Acse')),
            'mms': ('bay_mms', 'Requests', ('Grammar',))}
@@ -90,7 +90,7 @@ class Module:
             return type_name(form.name)
         if form:
             return self.value(self.opened(term))
-        if term.head in ('made', 'such'):
+        if term.head in ('map_form', 'such'):
             return constrained(self.value(term.args[1]), term)
         if term.head in self.others:
             return type_name(term.head)
@@ -126,7 +126,7 @@ class Module:
     def inner(self, term: Term) -> Term:
         """A content without what is made of it."""
         while True:
-            if term.head in ('made', 'such'):
+            if term.head in ('map_form', 'such'):
                 term = term.args[1]
             elif self.form(term) and self.forms[term.head].parameters:
                 term = self.opened(term)
@@ -142,9 +142,9 @@ class Module:
             return type_name(form.name)
         if form:
             return self.content(self.opened(term), word)
-        if term.head in ('made', 'such'):
+        if term.head in ('map_form', 'such'):
             return constrained(self.content(term.args[1], word), term)
-        if term.head in ('one', 'front'):
+        if term.head in ('one', 'first_form'):
             return self.value(term.args[0])
         if term.head in self.others:
             return type_name(term.head)
@@ -162,7 +162,7 @@ class Module:
         """The components of a row."""
         if self.form(term):
             return self.row(self.opened(term))
-        if term.head in ('made', 'such'):
+        if term.head in ('map_form', 'such'):
             return self.row(term.args[1])
         if term.head == 'next':
             first, others = term.args
@@ -177,7 +177,7 @@ class Module:
 
     def named(self, term: Term, tag: Term | None = None) -> str:
         """The name of a component: of the form that it is, or of its tag."""
-        inner = self.inner(term) if term.head in ('made', 'such') else term
+        inner = self.inner(term) if term.head in ('map_form', 'such') else term
         if self.form(inner):
             return field_name(inner.head)
         if inner.head in ('one', 'each') and self.form(inner.args[0]):

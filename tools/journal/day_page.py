@@ -1,10 +1,11 @@
 """The digest of a span as a page of HTML that needs no other file."""
 from collections.abc import Sequence
 
+from common import page_head
 from common.html_page import escaped, page, table
 from common.texts import counted
 
-from .digest import BAD, GOOD, Digest
+from .digest import BAD, GOOD, Digest, stamped
 
 MARKS = {GOOD: '<span class="good" title="done">✓</span>',
          BAD: '<span class="bad" title="refused, closed or lost">✕</span>'}
@@ -19,7 +20,7 @@ table { border-collapse: collapse; width: 100% }
 th, td { text-align: left; vertical-align: top; padding: 3px 12px 3px 0;
   border-bottom: 1px solid #e3e9ed; overflow-wrap: break-word }
 td.name { white-space: nowrap; font-variant-numeric: tabular-nums }
-td.number, th.number { text-align: right }
+td.number, th.number { text-align: right } code { overflow-wrap: anywhere }
 .good { color: #1b6b2f } .bad { color: #b3261e }
 @media (max-width: 600px) { body { padding: 8px } th, td { padding-right: 6px }
   td.name { white-space: normal } }
@@ -27,10 +28,17 @@ td.number, th.number { text-align: right }
 '''
 
 
-def page_of(digest: Digest) -> str:
-    """The page of a digest."""
+NOT_NAMED = 'not named: a log does not say of which bay it is; --bay FILE names it'
+
+
+def page_of(digest: Digest, bay: str = NOT_NAMED, files: Sequence[page_head.Source] = ()) -> str:
+    """The page of a digest. `bay` is of which it is, `files` are those that were read beside the
+    logs."""
     title = 'Who asked, what was refused, which links came and went'
-    parts = [f'<h1>{title}</h1>', f'<p class="quiet">{escaped(digest.span.told())}</p>',
+    parts = [f'<h1>{title}</h1>',
+             *page_head.head('log', digest.time_told(),
+                            [('Bay', bay), ('Logged by', digest.programs())],
+                            [*digest.files, *files]),
              *(f'<p class="warning">{escaped(it)}</p>' for it in digest.warnings()),
              *asked(digest), *kept_out(digest), '<h2>The process</h2>',
              f'<p>{escaped(digest.process())}</p>', *happened(digest)]
@@ -62,8 +70,7 @@ def kept_out(digest: Digest) -> list[str]:
 def happened(digest: Digest) -> list[str]:
     """All events."""
     rows = digest.rows()
-    told = digest.times(rows)
-    cells = [[escaped(told(it.moment)), MARKS.get(it.kind, '·'), escaped(it.told),
+    cells = [[escaped(stamped(it.moment)), MARKS.get(it.kind, '·'), escaped(it.told),
               escaped(it.who)] for it in rows]
     return [f'<h2>What happened <span class="quiet">({counted(len(rows), "line")})</span></h2>',
             table(['!Time', '', 'What', 'Who'], cells) if rows else '<p>Nothing.</p>']

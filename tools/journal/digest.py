@@ -71,6 +71,7 @@ class Digest:
         self.span, self.others = span, read.others
         self.story: Story = read.story()
         self.also: list[Entry] = read.also
+        self.files = read.files
         self.notes: list[Note] = read.door.notes
 
     def links(self) -> list[Link]:
@@ -155,6 +156,19 @@ class Digest:
         if self.others:
             found.append(f'{counted(self.others, "line")} of other programs left out')
         return found
+
+    def programs(self) -> str:
+        """By which programs of a journal the lines of bayctl are."""
+        found = dict.fromkeys(event.source.partition('[')[0] for event, _ in self.story.events)
+        return ', '.join(filter(None, found)) or 'not told'
+
+    def time_told(self) -> str:
+        """The span that was asked for, and the first and the last line that lie in it."""
+        found = [it.moment for it in self.rows() if moments.is_clock(it.moment)]
+        if not found:
+            return f'{self.span.told()}; no line in it has a date'
+        first, last = moments.stamp_told(found[0]), moments.stamp_told(found[-1])
+        return f'{self.span.told()}; its first line is of {first}, its last of {last}'
 
     def times(self, rows: list[Row]) -> Callable[[int], str]:
         """How the moments of rows are told: with the date where there are several days."""

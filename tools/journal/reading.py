@@ -1,10 +1,14 @@
 """Reads logs: files or standard input, each line by whom it is of, in the order of their times."""
+import hashlib
 import io
+import pathlib
 import sys
 from collections.abc import Iterator
 from dataclasses import dataclass, field, replace
+from typing import BinaryIO
 
 from common.ending import Failed
+from common.page_head import Source
 
 from .entries import Entry, entries_of
 from .links import Joining, Story
@@ -15,11 +19,12 @@ from .stunnel_lines import Door
 @dataclass
 class Read:
     """What was read: the events of bayctl, the connections of stunnel, the lines of programs that
-    are shown as they are, and how many lines are of others."""
+    are shown as they are, how many lines are of others, and the files with their sums."""
     events: list[Event] = field(default_factory=list)
     door: Door = field(default_factory=Door)
     also: list[Entry] = field(default_factory=list)
     others: int = 0
+    files: list[Source] = field(default_factory=list)
 
     def story(self) -> Story:
         """What all of it tells."""
@@ -29,22 +34,44 @@ class Read:
         return joining.story
 
 
-def lines_of(path: str) -> Iterator[str]:
-    """The lines of a file, or of standard input for -."""
-    if path == '-':
-        text = io.TextIOWrapper(sys.stdin.buffer, 'utf-8', 'backslashreplace')
-        yield from text
-        text.detach()
-        return
-    with open(path, encoding='utf-8', errors='backslashreplace') as file:
-        yield from file
+class Summing(io.RawIOBase):
+    """A file whose octets are counted and summed while they are read."""
+
+    def __init__(self, file: BinaryIO) -> None:
+        self.file, self.size, self.sum = file, 0, hashlib.sha256()
+
+    def readable(self) -> bool:
+        return True
+
+    def readinto(self, room) -> int:
+        octets = self.file.read(len(room))
+        room[:len(octets)] = octets
+        self.size += len(octets)
+        self.sum.update(octets)
+        return len(octets)
+
+    def lines(self) -> Iterator[str]:
+        """Its lines as text."""
+        yield from io.TextIOWrapper(io.BufferedReader(self), 'utf-8', 'backslashreplace')
+
+    def source(self, path: str) -> Source:
+        """What was read of it so far."""
+        name = 'standard input' if path == '-' else pathlib.Path(path).name
+        return Source('Log', name, self.size, self.sum.hexdigest())
 
 
 def read(paths: list[str], also: list[str]) -> Read:
-    """Reads all files."""
+    """Reads all files, or standard input for -."""
     found = Read()
     for path in paths:
-        take(found, entries_of(lines_of(path)), set(also))
+        file = sys.stdin.buffer if path == '-' else open(path, 'rb')
+        summing = Summing(file)
+        try:
+            take(found, entries_of(summing.lines()), set(also))
+        finally:
+            if path != '-':
+                file.close()
+        found.files.append(summing.source(path))
     if not found.events and not found.door.connections and not found.also:
         raise Failed(f'{" ".join(paths)}: no line of bayctl or stunnel')
     return found

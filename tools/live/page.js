@@ -3,31 +3,70 @@
 
 const operates = document.body.dataset.operates === 'true';
 const ENDS = {open: 'open', close: 'closed'};
+const LIMIT = 2000;   // ms that a request may take, from the click on
+const PAUSE = 700;    // ms for which what is to be confirmed is shown before it can be
+const SILENT = 4000;  // ms without a sign of life, until the panel counts as gone
+const AGAIN = 5000;   // ms until a page that is one too many tries again
 let state = {switches: [], measures: [], events: [], control: null};
 let shown = null;     // the id of the switch of the dialog
-let waits = false;    // whether the panel has yet to answer what this page asked
+let pending = null;   // what ends the request whose answer is waited for
+let asked = false;    // whether this page may have selected something
+let number = 0;       // of the last request of this page
 let last = null;      // the number of the last end that was told here, or before this page
 let lastTold = '';    // the events that were shown
 let isGone = true;    // whether the panel itself is gone
 let goneAt = '';      // when it went
+let surplus = '';     // why the panel serves this page no events, where it doesn't
+let silent = '';      // since when the server has not answered, while it is connected
+let panelMoment = 0;  // the panel's own clock at its last sign of life
+let heard = 0;        // when that came, by the clock of this page
+let heardAt = null;   // and by the clock of the day
+let offered = '';     // the control whose confirmation is offered
+let confirmFrom = Infinity;  // from when on it can be confirmed
 const page = Array.from(crypto.getRandomValues(new Uint32Array(4)), (n) => n.toString(16)).join('');
 
-function mark(way) {
-  if (lastKnown()) return '?';
-  return way.free ? '✓' : '✕';
+// What is released of a switch, as far as it is known now.
+function ways(it, way) {
+  return lastKnown() ? {free: false, told: '? not known', why: ''} : may(it, way);
+}
+
+function mark(it, way) {
+  return ways(it, way).told.charAt(0);
 }
 
 // When what is shown was last known, or nothing where it is known now.
 function lastKnown() {
   if (!state.switches.length) return '';
-  return state.connected ? goneAt : state.read;
+  return isGone ? goneAt : state.connected ? silent : state.read;
+}
+
+// What keeps everything from being operated, in few words and in a sentence; or nothing.
+function trouble() {
+  if (surplus) return ['not served', `${surplus}. This page shows nothing, and tries again.`];
+  if (isGone) {
+    return goneAt
+      ? ['panel gone', `The panel is gone since ${goneAt}: what is shown is old.`] : null;
+  }
+  if (!state.connected && state.read) {
+    return ['server lost', `The server is lost since ${state.read}: ${state.told}.`];
+  }
+  if (!state.connected && state.told !== 'connecting') {
+    return ['no server', `There is no connection to the server: ${state.told}.`];
+  }
+  if (silent) return ['server lost', `The server has not answered since ${silent}.`];
+  if (state.lost) return ['process lost', `${raised(state.process)}. Every operate is refused.`];
+  return null;
+}
+
+function raised(told) {
+  return told.charAt(0).toUpperCase() + told.slice(1);
 }
 
 function described(it) {
-  const ways = ['open', 'close'].map((way) => may(it, way)).map((m) => m.told.replace(/^. /, ''));
+  const told = ['open', 'close'].map((way) => ways(it, way).told.replace(/^. /, ''));
   const past = lastKnown() ? 'last known ' : '';
   const notes = notesOf(it).filter(Boolean);
-  return [it.id, it.kind, `${past}${placeOf(it)}`, ...notes, ...ways].join(', ');
+  return [it.id, it.kind, `${past}${placeOf(it)}`, ...notes, ...told].join(', ');
 }
 
 function showPicture() {
@@ -42,13 +81,32 @@ function showPicture() {
     const more = [isPlain ? '' : it.quality, it.selected ? 'selected' : ''];
     drawn.querySelector('.more').textContent = more.filter(Boolean).join(', ');
     const frees = drawn.querySelector('.frees');
-    if (frees) frees.textContent = `open ${mark(it.open)} close ${mark(it.close)}`;
+    if (frees) frees.textContent = `open ${mark(it, 'open')} close ${mark(it, 'close')}`;
   }
+}
+
+// In a window that is too narrow for the whole diagram it is drawn so large that the bay's own
+// switches fit, and moved to them.
+function showOwn() {
+  const frame = document.querySelector('.frame');
+  const drawn = frame.querySelector('svg.diagram.wide');
+  if (!drawn) return;
+  drawn.removeAttribute('style');
+  const room = frame.clientWidth;
+  if (drawn.getBoundingClientRect().width <= room + 1) return;
+  const own = Array.from(drawn.querySelectorAll('g[data-switch]'), (it) => it.getBBox());
+  const left = Math.min(...own.map((it) => it.x));
+  const right = Math.max(...own.map((it) => it.x + it.width));
+  const scale = Math.min(1, room / (right - left));
+  drawn.style.minWidth = '0';
+  drawn.style.maxWidth = 'none';
+  drawn.style.width = `${Math.max(room, drawn.viewBox.baseVal.width * scale)}px`;
+  frame.scrollLeft = ((left + right) * scale - room) / 2;
 }
 
 function wayCell(it, way) {
   const cell = element('td', 'releases');
-  const found = may(it, way);
+  const found = ways(it, way);
   cell.append(element('span', found.free ? 'way free' : 'way', found.told));
   if (found.why) cell.append(element('span', 'why', found.why));
   return cell;
@@ -99,11 +157,19 @@ function showEvents() {
   }));
 }
 
-function showConnection(told, isGood) {
-  byId('connection').textContent = told;
-  byId('connection').className = isGood ? '' : 'lost';
-  document.querySelector('main').classList.toggle('stale', !isGood);
+// At the head a few words, and above all else what is wrong.
+function showConnection() {
+  const wrong = trouble();
+  const [short, long] = wrong || [state.told, state.process ? `${raised(state.process)}.` : ''];
+  const head = byId('connection');
+  head.textContent = isGone && !wrong ? 'connecting' : short;
+  head.className = wrong ? 'lost' : isGone || state.process || !state.connected ? 'waiting' : '';
+  const above = byId('trouble');
+  above.hidden = !long || (isGone && !wrong);
+  above.className = wrong ? 'lost' : 'waits';
+  if (above.textContent !== long) above.textContent = long;
   const since = lastKnown();
+  document.querySelector('main').classList.toggle('stale', Boolean(since) || isGone);
   for (const it of document.querySelectorAll('.last')) {
     it.hidden = !since;
     it.textContent = since ? `no connection: this was last known at ${since}` : '';
@@ -122,17 +188,29 @@ function control(isOurs) {
 }
 
 function isLive() {
-  return operates && !isGone && state.connected && !state.barred && !waits;
+  return operates && !trouble() && !isGone && state.connected && !state.barred && !pending;
 }
 
 function showWay(it, way) {
-  const found = may(it, way);
+  const found = ways(it, way);
   byId(`dialog-${way}`).textContent = found.why ? `${found.told}: ${found.why}` : found.told;
   const button = byId(`button-${way}`);
-  const can = operates && !state.barred && it.control !== 'status' && !control()
+  const can = operates && !trouble() && !state.barred && it.control !== 'status' && !control()
     && it.position !== ENDS[way];
   button.hidden = !can;
   button.disabled = !isLive() || !found.free;
+  button.textContent = `${raised(way)} ${it.id}`;
+}
+
+// What is known of the switch of the dialog.
+function dialogState(it) {
+  const wrong = trouble();
+  if (lastKnown()) {
+    return `${wrong[1]} ${it.id} was ${placeOf(it)}, last known at ${lastKnown()}.`;
+  }
+  const since = it.time ? ` since ${it.time}` : '';
+  const barred = operates && state.barred ? ` But ${state.barred}.` : '';
+  return `It is ${placeOf(it)}${since}.${barred}${wrong ? ` ${wrong[1]}` : ''}`;
 }
 
 // What is offered: to confirm only what this page has selected and the interlocking releases, to
@@ -140,23 +218,39 @@ function showWay(it, way) {
 function showDialog() {
   const it = state.switches.find((one) => one.id === shown);
   if (!byId('dialog').open || !it) return;
-  const since = it.time ? ` since ${it.time}` : '';
   byId('dialog-title').textContent = `${it.id}, ${it.kind}`;
-  const barred = operates && state.barred ? ` But ${state.barred}.` : '';
-  byId('dialog-state').textContent = isGone || !state.connected
-    ? `There is no connection. It was ${placeOf(it)}, last known at ${lastKnown()}.` : `It is ${placeOf(it)}${since}.${barred}`;
+  byId('dialog-state').textContent = dialogState(it);
   showWay(it, 'open');
   showWay(it, 'close');
   const ours = control(true);
   const any = control();
   const confirm = byId('button-confirm');
-  confirm.hidden = !ours || ours.stage !== 'selected' || !it[ours.way].free;
+  confirm.hidden = !ours || ours.stage !== 'selected' || !ways(it, ours.way).free;
   confirm.disabled = !isLive();
   if (ours) confirm.textContent = `Confirm: ${ours.way} ${ours.switch}`;
   const cancel = byId('button-cancel');
   cancel.hidden = !operates || !any || any.stage !== 'selected';
   cancel.disabled = !isLive();
   if (any) cancel.textContent = `Give up: ${any.way} ${any.switch}`;
+  offer(confirm.hidden || confirm.disabled ? '' : `${ours.way} ${ours.switch}`);
+  if (document.activeElement === document.body) byId('button-back').focus();
+}
+
+// A click on Confirm counts from 0.7 s after Confirm is seen, and the keyboard is on another
+// button: so no click and no key that was meant for something else operates.
+function offer(told) {
+  if (told === offered) return;
+  offered = told;
+  confirmFrom = Infinity;
+  byId('button-confirm').classList.add('soon');
+  if (!told) return;
+  byId('button-cancel').focus();
+  const counts = () => {
+    if (offered !== told) return;
+    confirmFrom = performance.now() + PAUSE;
+    setTimeout(() => byId('button-confirm').classList.toggle('soon', offered !== told), PAUSE);
+  };
+  requestAnimationFrame(() => requestAnimationFrame(counts));
 }
 
 function followControl() {
@@ -167,74 +261,111 @@ function followControl() {
   last = number;
 }
 
-async function post(verb, id, way, keepalive) {
+// The panel's moment of an event here: that of its last sign of life, and what has passed since.
+function momentOf(event) {
+  return Math.floor(panelMoment + Math.min(event.timeStamp, performance.now()) - heard);
+}
+
+async function post(verb, id, way, made, more) {
+  number += 1;
   try {
     const answer = await fetch(verb, {
       method: 'POST',
       headers: {'X-Panel': document.body.dataset.token, 'Content-Type': 'application/json'},
-      body: JSON.stringify({switch: id, way, page}),
-      keepalive: Boolean(keepalive),
+      body: JSON.stringify({switch: id, way, page, number, made}),
+      ...more,
     });
     return answer.ok ? await answer.json() : {good: false, told: await answer.text()};
   } catch (error) {
-    return {good: false, told: 'the panel does not answer'};
+    const isLate = more.signal && more.signal.aborted;
+    return {good: false, isLate, told: isLate
+      ? `the panel gave no answer within ${LIMIT / 1000} s, so this was given up: see the events`
+      : 'the panel does not answer'};
   }
 }
 
-// Asks the panel, and shows what it answers; its state comes by itself.
-async function ask(verb, id, way, more) {
-  waits = true;
+// Asks the panel, and shows what it answers; its state comes by itself. A click that was made long
+// ago, while the page stood still, is not asked at all.
+async function ask(verb, id, way, event, more) {
+  const left = LIMIT - (performance.now() - event.timeStamp);
+  if (left <= 0) return tell('this page stood still, so that click was dropped', 'wrong');
+  const mine = new AbortController();
+  const before = last;
+  pending = mine;
+  asked = true;
+  const timer = setTimeout(() => mine.abort(), left);
+  tell('');
   showDialog();
-  const found = await post(verb, id, way);
-  waits = false;
-  tell(found.good && more ? `${found.told}. ${more}` : found.told, found.good ? '' : 'wrong');
+  const found = await post(verb, id, way, momentOf(event), {signal: mine.signal});
+  clearTimeout(timer);
+  if (pending !== mine) return;
+  pending = null;
+  if (found.isLate) leave(false);
+  // An end that was told meanwhile is the later news.
+  if (!found.good || last === before) {
+    tell(found.good && more ? `${found.told}. ${more}` : found.told, found.good ? '' : 'wrong');
+  }
   showDialog();
-  return found.good;
 }
 
-async function select(way) {
-  if (await ask('select', shown, way, 'Confirm, or give up.')) {
-    await refresh();
-    byId('button-confirm').focus();
+// The second click of a double click asks for nothing.
+function select(way, event) {
+  if (event.detail < 2 && !pending) {
+    ask('select', shown, way, event, 'Confirm, or give up.');
   }
 }
 
-async function refresh() {
-  try {
-    show(await (await fetch('state')).text());
-  } catch (error) {
-    gone();
-  }
-}
-
-function confirmIt() {
+function confirmIt(event) {
   const found = control(true);
-  if (found) ask('operate', found.switch, found.way);
+  if (found && event.detail < 2 && !pending && event.timeStamp >= confirmFrom) {
+    ask('operate', found.switch, found.way, event);
+  }
 }
 
-function giveUp() {
+function giveUp(event) {
   const found = control();
-  if (found) ask('cancel', found.switch, found.way);
+  if (found && event.detail < 2 && !pending) ask('cancel', found.switch, found.way, event);
 }
 
 function openDialog(id) {
   shown = id;
+  offered = '';
   tell('');
   byId('dialog').showModal();
   showDialog();
+  byId('button-back').focus();
 }
 
-// What this page has selected is given up where its dialog closes or the page goes.
+// If its dialog closes, the page goes or an answer is late, this page gives up what it asked for:
+// it ends the request that is under way, and tells the panel.
 function leave(isGoing) {
-  const found = control(true);
-  if (found && found.stage === 'selected') post('cancel', found.switch, found.way, isGoing);
+  const mine = pending;
+  pending = null;
+  offered = '';
+  confirmFrom = Infinity;
+  if (mine) mine.abort();
+  if (asked) {
+    post('leave', '', '', 0, {keepalive: isGoing, signal: AbortSignal.timeout(LIMIT)});
+  }
+  asked = false;
+}
+
+// The panel was started anew, so this page is of no use to it.
+function loadAgain() {
+  byId('trouble').hidden = false;
+  byId('trouble').textContent = 'The panel was started anew: this page loads itself again.';
+  try {
+    sessionStorage.setItem('anew', new Date().toLocaleString('sv'));
+  } finally {
+    location.reload();
+  }
 }
 
 function show(told) {
   state = JSON.parse(told);
   isGone = false;
   goneAt = '';
-  showConnection(state.told, state.connected);
+  showConnection();
   showPicture();
   showSwitches();
   showMeasures();
@@ -243,33 +374,82 @@ function show(told) {
   showDialog();
 }
 
+function showAgain() {
+  showConnection();
+  showPicture();
+  showSwitches();
+  showDialog();
+}
+
+// A sign of life, and since when the server has not answered.
+function lives(told) {
+  const found = JSON.parse(told);
+  panelMoment = found.moment;
+  heard = performance.now();
+  heardAt = new Date();
+  const isNews = silent !== found.silent || (isGone && state.switches.length);
+  silent = found.silent;
+  if (state.switches.length) isGone = false;
+  if (!isGone) goneAt = '';
+  if (isNews) showAgain();
+}
+
 function gone() {
   isGone = true;
-  if (!goneAt) goneAt = new Date().toLocaleString('sv');
-  showConnection('the panel is gone', false);
-  showPicture();
-  showDialog();
+  if (!goneAt && heardAt) goneAt = heardAt.toLocaleString('sv');
+  showAgain();
+}
+
+// The events of the panel, of which this page may be one page too many.
+function listen() {
+  const source = new EventSource(`events?${page}`);
+  source.onmessage = (event) => show(event.data);
+  source.onerror = () => { if (!surplus) gone(); };
+  source.addEventListener('life', (event) => lives(event.data));
+  source.addEventListener('start', (event) => {
+    surplus = '';
+    if (event.data !== document.body.dataset.start) loadAgain();
+  });
+  source.addEventListener('full', (event) => {
+    surplus = event.data;
+    source.close();
+    gone();
+    setTimeout(listen, AGAIN);
+  });
 }
 
 document.addEventListener('click', (event) => {
   const found = event.target.closest('[data-switch]');
   if (found) openDialog(found.dataset.switch);
 });
+// A key that is held down neither opens a dialog nor presses a button.
+document.addEventListener('keydown', (event) => {
+  if (event.repeat && (event.key === 'Enter' || event.key === ' ')) event.preventDefault();
+}, true);
 document.addEventListener('keydown', (event) => {
   const found = event.target.closest && event.target.closest('g[data-switch]');
-  if (found && (event.key === 'Enter' || event.key === ' ')) {
+  if (found && !event.repeat && (event.key === 'Enter' || event.key === ' ')) {
     event.preventDefault();
     openDialog(found.dataset.switch);
   }
 });
-byId('button-open').addEventListener('click', () => select('open'));
-byId('button-close').addEventListener('click', () => select('close'));
+byId('button-open').addEventListener('click', (event) => select('open', event));
+byId('button-close').addEventListener('click', (event) => select('close', event));
 byId('button-confirm').addEventListener('click', confirmIt);
 byId('button-cancel').addEventListener('click', giveUp);
 byId('button-back').addEventListener('click', () => byId('dialog').close());
 byId('dialog').addEventListener('close', () => leave(false));
 window.addEventListener('pagehide', () => leave(true));
+window.addEventListener('resize', showOwn);
+setInterval(() => {
+  if (!isGone && performance.now() - heard > SILENT) gone();
+}, 500);
 
-const source = new EventSource(`events?${page}`);
-source.onmessage = (event) => show(event.data);
-source.onerror = gone;
+showOwn();
+listen();
+const anew = sessionStorage.getItem('anew');
+if (anew) {
+  sessionStorage.removeItem('anew');
+  byId('anew').hidden = false;
+  byId('anew').textContent = `The panel was started anew: this page loaded itself at ${anew}.`;
+}

@@ -48,9 +48,15 @@ def input_told(variable, allowed) -> str:
     return f'input {variable.name} must be {" or ".join(allowed)}'
 
 
-def unseen_told(unseen) -> str:
-    """Inputs that are wanted too."""
-    return f' (not seen here: {", ".join(unseen)})' if unseen else ''
+def product_told(broken: list[str], unseen: list[str], kept: tuple) -> str:
+    """A product as a whole: what of it does not hold, what nobody sees here, and the timers and
+    variables of the program on which it depends besides."""
+    further = [f'then it depends on {", ".join(kept)}'] if kept else []
+    if not broken:
+        return f'{"; ".join(unseen)} ({"; ".join(["not seen here", *further])})'
+    hidden = [f'not seen here: {", ".join(unseen)}'] if unseen else []
+    more = '; '.join(hidden + further)
+    return '; '.join(broken) + (f' ({more})' if more else '')
 
 
 def products_of(condition: Condition | Derived) -> list[tuple]:
@@ -63,7 +69,8 @@ def products_of(condition: Condition | Derived) -> list[tuple]:
 
 def why_not(condition: Condition | Derived | None, seen: Seen) -> str:
     """Why something is not released: of the products the one of which the least is missing, as far
-    as it is seen, and one of which only inputs can be missing, which clients do not see."""
+    as it is seen, and one of which only inputs can be missing, which clients do not see. Each is
+    told whole, so that it is enough."""
     if condition is None:
         return STILL
     products = products_of(condition)
@@ -74,11 +81,6 @@ def why_not(condition: Condition | Derived | None, seen: Seen) -> str:
         if kept and not broken and not unseen:
             return f'{STILL} yet: it depends on {", ".join(kept)}'
     visible, hidden = [it for it in found if it[0]], [it for it in found if not it[0] and it[1]]
-    told = []
-    if visible:
-        broken, unseen, _ = min(visible, key=lambda it: (len(it[0]), len(it[1])))
-        told.append('; '.join(broken) + ('' if hidden else unseen_told(unseen)))
-    if hidden:
-        unseen = min(hidden, key=lambda it: len(it[1]))[1]
-        told.append('; '.join(unseen) + ' (not seen here)')
+    told = [product_told(*min(some, key=lambda it: (len(it[0]), len(it[1]), len(it[2]))))
+            for some in (visible, hidden) if some]
     return ', or '.join(told) if told else f'{STILL} yet: a timer may still run'

@@ -17,6 +17,10 @@ class Telling:
         """The state, as JSON."""
         raise NotImplementedError
 
+    def silent_since(self) -> str:
+        """Since when what is followed has not answered, or nothing."""
+        return ''
+
     def run(self) -> None:
         """Follows what is told, until it is over."""
         raise NotImplementedError

@@ -17,6 +17,7 @@ from wire.same_bay import compared
 from wire.sockets import unconnected
 from wire.tls import server_of
 
+from .losses import REFUSED, is_process_lost, process_told
 from .reasons import Seen, why_not
 from .telling import Telling
 
@@ -25,6 +26,7 @@ OTHER = 'the server has another bay than the bay file'
 EVERY, AGAIN, KEPT = 0.25, 1.0, 200  # seconds between two reads, and two attempts; events kept
 LOST = (Failed, OSError, ValueError, LookupError, TypeError, AttributeError)
 PARTING = 1  # seconds for the end of the association
+OLD = 2000  # ms since the last read of a server that counts as answering
 UNREPORTED = '00', 'invalid'  # a position and its quality before the first report
 # The values that are read, with the types of their parts.
 POSITION = {'stVal': mms.BITS, 'q': mms.BITS, 't': mms.TIME}
@@ -43,7 +45,9 @@ class Watcher(Telling):
     """Reads a bay. `lock` is held by whoever uses the association; `conditions` are those of the
     audit by switch and way, once they are known. Where the server has another bay than the file,
     `state['barred']` says that nothing is operated, unless it is to be operated anyway. Where the
-    connection is lost, `state['read']` says when all was last read."""
+    connection is lost, `state['read']` says when all was last read. `state['process']` has what is
+    told of the process where it reports nothing, and `state['lost']` whether it is lost: then
+    nothing counts as released, since the server refuses every operate."""
     every = EVERY
 
     def __init__(self, file, text, host, port, anyway=False, tls=None) -> None:
@@ -55,7 +59,8 @@ class Watcher(Telling):
         self.events = collections.deque(maxlen=KEPT)
         self.on_said, self.on_read = [], []
         self.state = {'bay': file['bay']['domain'], 'connected': False, 'told': 'connecting',
-                      'switches': [], 'measures': [], 'control': None, 'barred': '', 'read': ''}
+                      'switches': [], 'measures': [], 'control': None, 'barred': '', 'read': '',
+                      'process': '', 'lost': False}
 
     # ---- those who look
 
@@ -64,6 +69,12 @@ class Watcher(Telling):
         with self.lock:
             events = sorted(self.events, key=lambda it: it['moment'])
             return json.dumps({**self.state, 'events': events})
+
+    def silent_since(self) -> str:
+        """Since when a server has not answered that is still connected, or nothing. It waits for
+        nobody who uses the association."""
+        last = self.last_read
+        return stamp(last) if self.client and last and now() - last > OLD else ''
 
     def event(self, told: str, kind: str = 'quiet', moment: int | None = None) -> None:
         """Notes what happened: kind is position, control, refused or quiet."""
@@ -151,7 +162,9 @@ class Watcher(Telling):
                      for at, switch in enumerate(switches)]
             self.explain(found, measures)
             self.compare(found)
-            self.state.update(switches=found, measures=measures)
+            self.state.update(switches=found, measures=measures,
+                              process=process_told(found, measures),
+                              lost=is_process_lost(found, measures))
             self.last_read = now()
             for act in self.on_read:
                 act(found)
@@ -162,10 +175,15 @@ class Watcher(Telling):
         """Says why something may not be done."""
         seen = Seen({raised(it['id']): it['position'] for it in found},
                     {raised(it['name']): it['value'] for it in measures})
+        is_lost = is_process_lost(found, measures)
         for it in found:
             for way, name in enumerate(('open', 'close')):
-                if it[name]['free']:
+                if is_lost:
+                    it[name].update(free=False, why=REFUSED)
+                elif it[name]['free']:
                     it[name]['why'] = ''
+                elif self.differs:
+                    it[name]['why'] = 'why is not known: another bay is served'
                 elif self.conditions is None:
                     it[name]['why'] = 'the interlocking does not release it'
                 else:

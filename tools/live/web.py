@@ -7,16 +7,24 @@ import pathlib
 import queue
 import re
 import secrets
+import socket
 import threading
 import time
 from collections.abc import Iterable
 
 from common.moments import zone_told
 
+from .late import Request, Turns, is_closed, moment, request_of
+from .operating import answer
 from .telling import Telling
 
 FOLDER = pathlib.Path(__file__).resolve().parent
-BEAT, LARGEST = 2, 4096  # seconds between two signs of life, and octets of a request
+BEAT, LARGEST = 1, 4096  # seconds between two signs of life, and octets of a request
+LOOK, AGAIN = 0.2, 1000  # seconds between two looks for a page's end; ms until it connects again
+STREAMS = 4  # pages with events: a browser has six connections to a site, and requests need some
+FULL = f'{STREAMS} pages of this site are open, and more are not served: close one of them'
+FOREIGN = 'this page did not send that'
+EARLIER = 'the panel was started anew since this page was loaded: load it again'
 LIMIT = 10  # seconds that a connection may be silent, or not take what it is sent
 PARTING = 2  # seconds for the end of those who read
 TYPES = {'.css': 'text/css', '.js': 'text/javascript'}
@@ -26,8 +34,10 @@ POLICY = "default-src 'self'; img-src data:; base-uri 'none'; frame-ancestors 'n
 class Site(http.server.ThreadingHTTPServer):
     """Serves a page with its files, and what is told as it changes, on 127.0.0.1 alone. A request
     that names another host is refused, and one that controls needs the token of a page, so no page
-    of another site can operate a switch."""
+    of another site can operate a switch. `start` is another one each time, so that a page knows
+    whether it is of an earlier start."""
     daemon_threads, operator = True, None
+    request_queue_size = 64  # connections that wait; one too many is tried again after a second
     refusal = 'this page only shows'
 
     def __init__(self, port: int, watcher: Telling, page: pathlib.Path,
@@ -35,7 +45,8 @@ class Site(http.server.ThreadingHTTPServer):
         super().__init__(('127.0.0.1', port), Handler)
         self.watcher, self.template = watcher, page
         self.files = {path.name: path for path in files}
-        self.token = secrets.token_urlsafe(16)
+        self.token, self.start = secrets.token_urlsafe(16), secrets.token_hex(8)
+        self.streams, self.turns = threading.BoundedSemaphore(STREAMS), Turns()
 
     def hosts(self) -> set[str]:
         return {f'{name}:{self.server_address[1]}' for name in ('127.0.0.1', 'localhost')}
@@ -45,7 +56,7 @@ class Site(http.server.ThreadingHTTPServer):
 
     def parts(self) -> dict[str, str]:
         """What stands in the page in the place of each @NAME@, as text."""
-        return {'ZONE': zone_told(time.time_ns() // 1_000_000)}
+        return {'ZONE': zone_told(time.time_ns() // 1_000_000), 'START': self.start}
 
     def drawn(self) -> dict[str, str]:
         """The same, as HTML."""
@@ -142,36 +153,72 @@ class Handler(http.server.BaseHTTPRequestHandler):
         self.send_header('Content-Type', 'text/event-stream')
         self.send_header('Cache-Control', 'no-store')
         self.end_headers()
-        watcher = self.server.watcher
-        found = watcher.subscribe()
+        if not self.server.streams.acquire(blocking=False):
+            return self.tell('full', FULL)
+        operator = self.server.operator
         try:
-            while not watcher.is_over.is_set():
-                try:
-                    line = f'data: {found.get(timeout=BEAT)}\n\n'
-                except queue.Empty:
-                    line = ': still here\n\n'
-                self.wfile.write(line.encode())
-                self.wfile.flush()
+            if operator:
+                operator.page_comes(page)
+            self.tell('start', self.server.start, f'retry: {AGAIN}\n')
+            self.follow()
         except OSError:
             pass
         finally:
-            watcher.unsubscribe(found)
-            if self.server.operator:
-                self.server.operator.page_gone(page)
+            self.server.streams.release()
+            if operator:
+                operator.page_gone(page)
+
+    def follow(self) -> None:
+        """Writes the states, and between them signs of life, until the page goes."""
+        watcher = self.server.watcher
+        states, beat = watcher.subscribe(), 0.0
+        try:
+            while not watcher.is_over.is_set() and not is_closed(self.connection):
+                try:
+                    state = states.get(timeout=LOOK)
+                except queue.Empty:
+                    state = ''
+                if state or time.monotonic() > beat:
+                    life = {'moment': moment(), 'silent': watcher.silent_since()}
+                    self.tell('life', json.dumps(life))
+                    beat = time.monotonic() + BEAT
+                if state:
+                    self.tell('', state)
+        finally:
+            watcher.unsubscribe(states)
+
+    def tell(self, kind: str, data: str, before: str = '') -> None:
+        """Writes an event, whose kind is empty for a state."""
+        named = f'event: {kind}\n' if kind else ''
+        self.wfile.write(f'{before}{named}data: {data}\n\n'.encode())
+        self.wfile.flush()
 
     def do_POST(self) -> None:
         size = self.headers.get('Content-Length', '')
         if not re.fullmatch('[0-9]{1,5}', size) or int(size) > LARGEST:
             return self.refuse(400, 'the request is too long')
-        body = self.rfile.read(int(size))
-        if not self.is_ours() or self.headers.get('X-Panel') != self.server.token:
-            return self.refuse(403, 'this page did not send that')
+        body, token = self.rfile.read(int(size)), self.headers.get('X-Panel')
+        if not self.is_ours() or token is None:
+            return self.refuse(403, FOREIGN)
+        if not secrets.compare_digest(token.encode(), self.server.token.encode()):
+            return self.refuse(403, EARLIER)
         if not self.server.operator:
             return self.refuse(403, self.server.refusal)
+        connection: socket.socket = self.connection
         try:
-            asked = json.loads(body)
-            switch, way, page = str(asked['switch']), str(asked['way']), str(asked.get('page', ''))
+            request = request_of(self.path.lstrip('/'), json.loads(body),
+                                 lambda: is_closed(connection))
         except (ValueError, LookupError, TypeError, AttributeError, RecursionError):
             return self.refuse(400, 'the request can\'t be read')
-        found = self.server.operator.act(self.path.lstrip('/'), switch, way, page)
-        self.send(200, 'application/json', json.dumps(found).encode())
+        self.send(200, 'application/json', json.dumps(self.acted(request)).encode())
+
+    def acted(self, request: Request) -> dict:
+        """What became of a request. That a page gives up is noted before anything may wait."""
+        operator, turns = self.server.operator, self.server.turns
+        if not turns.takes(request.page, request.number):
+            return answer(False, 'it was given up')
+        if request.verb == 'leave':
+            operator.give_up(request.page)
+            return answer(True, 'given up')
+        return operator.act(request.verb, request.switch, request.way, request.page,
+                            lambda: request.late(turns))

@@ -4,6 +4,7 @@ import threading
 import time
 from dataclasses import dataclass
 
+from live.losses import process_told
 from live.telling import Telling
 from live.watch import PARTING, Watcher, now
 
@@ -49,17 +50,9 @@ class BayWatcher(Watcher):
         moves = sorted((it for it in self.events if it['kind'] == 'position'),
                        key=lambda it: it['moment'])
         return {'connected': is_there, 'told': self.state['told'], 'barred': bool(self.differs),
-                'switches': switches, 'process': process_told(switches),
+                'switches': switches,
+                'process': process_told(switches, self.state['measures'] if switches else []),
                 'moves': [{'time': it['time'], 'told': it['told']} for it in moves[-MOVES:]]}
-
-
-def process_told(switches: list[dict]) -> str:
-    """What positions say of the process that should tell them, or nothing."""
-    if switches and all(it['position'] == 'bad' for it in switches):
-        return 'every position is bad: its process is lost'
-    if switches and all(it['quality'] != 'good' for it in switches):
-        return 'no position is known yet'
-    return ''
 
 
 @dataclass

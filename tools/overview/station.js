@@ -3,6 +3,7 @@
 
 const OLD = 2;         // seconds since the last read of a bay that is shown as answering
 const SILENT = 4000;   // ms since the tool told anything
+const AGAIN = 5000;    // ms until a page that is one too many tries again
 let heard = 0;
 let shownText = '';
 
@@ -110,7 +111,20 @@ function gone() {
   document.querySelector('main').classList.add('stale');
 }
 
-const source = new EventSource('events');
-source.onmessage = (event) => show(event.data);
-source.onerror = gone;
+// What the tool tells, but where this page is one page too many.
+function listen() {
+  const source = new EventSource('events');
+  let isFull = false;
+  source.onmessage = (event) => show(event.data);
+  source.onerror = () => { if (!isFull) gone(); };
+  source.addEventListener('full', (event) => {
+    isFull = true;
+    source.close();
+    gone();
+    connection(`not served: ${event.data}`, false);
+    setTimeout(listen, AGAIN);
+  });
+}
+
+listen();
 setInterval(() => { if (heard && Date.now() - heard > SILENT) gone(); }, 1000);

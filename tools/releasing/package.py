@@ -1,21 +1,29 @@
-"""The Debian package of a release: bayctl, the tools, the unit files and the documents."""
+"""The Debian package of a release: bayctl, the tools of its users, the unit files and the
+documents."""
+import ast
 import datetime
 import email.utils
 import gzip
 import os
 import pathlib
+import re
 import shutil
 import subprocess
 import textwrap
 
 from common.ending import Failed
+from common.places import TOOLS, TOP
 
-TOP = pathlib.Path(__file__).resolve().parent.parent.parent
 STATION = TOP / 'examples' / 'station'
 # Where the README of the station installs by hand, and where a package does.
 PLACES = {'/usr/local/bin/bayctl': '/usr/bin/bayctl',
           '/usr/local/lib/bayctl/tools': '/usr/share/bayctl/tools'}
-UNITS = ('bayctl@.service', 'driver@.service', 'tls@.service', 'station.service', 'bays.target')
+UNITS = ('bayctl@.service', 'bayctl-driver@.service', 'bayctl-tls@.service',
+         'bayctl-station.service', 'bays.target')
+# The tools of those who use bayctl: on the path as bayctl-NAME. All others are for its developers.
+COMMANDS = ('acceptance', 'audit', 'certify', 'checklist', 'client', 'diagnose', 'explain', 'gpio',
+            'join', 'log', 'modbus', 'panel', 'rules', 'scl', 'simulate', 'station', 'timeline')
+READ = ('docs/FAULTS.md', 'CHANGELOG.md')  # what the tools read beside themselves
 CONTROL = '''Package: bayctl
 Version: {version}
 Section: misc
@@ -61,11 +69,15 @@ serves clients of IEC 61850 MMS, or proves rules of the program.
 .B bayctl COMMAND \\-\\-help
 lists the options of a command.
 .SH SEE ALSO
-/usr/share/doc/bayctl/README.md, /usr/share/doc/bayctl/docs/USER.md
+/usr/share/doc/bayctl/README.md, /usr/share/doc/bayctl/docs/USER.md.
+Tools that are not proved stand beside it, as bayctl\\-client and bayctl\\-audit;
+\\-\\-help explains each.
 '''
 # What lintian finds, and why it stays.
 OVERRIDES = '''# All services of the bays are started and stopped as one.
 bayctl: systemd-service-file-refers-to-unusual-wantedby-target bays.target *
+# Each of the tools explains itself by --help.
+bayctl: no-manual-page *
 # The repository names no licence yet.
 bayctl: copyright-without-copyright-notice
 '''
@@ -93,11 +105,33 @@ def put_folder(root: pathlib.Path, name: str, files: list[str]) -> None:
         put(root, f'{name}/{it}', (TOP / it).read_bytes(), mode)
 
 
+def imported(path: pathlib.Path) -> set[str]:
+    """The packages of tools/ that a file imports."""
+    found: set[str] = set()
+    for node in ast.walk(ast.parse(path.read_text(encoding='utf-8'))):
+        names = ([it.name for it in node.names] if isinstance(node, ast.Import) else
+                 [node.module or ''] if isinstance(node, ast.ImportFrom) and not node.level else [])
+        found |= {name.partition('.')[0] for name in names}
+    return {name for name in found if (TOOLS / name).is_dir()}
+
+
+def needed() -> list[str]:
+    """The packages that the commands need, by their names."""
+    found: set[str] = set()
+    left = [TOOLS / name for name in COMMANDS]
+    while left:
+        new = imported(left.pop()) - found
+        found |= new
+        left += [path for name in new for path in (TOOLS / name).glob('*.py')]
+    return sorted(found)
+
+
 def listed(*places: str) -> list[str]:
-    """The files of the repository below places, without tests."""
+    """The files of the repository below places, without tests and what checks the examples."""
     done = subprocess.run(('git', 'ls-files', '-z', *places), cwd=TOP, capture_output=True,
                           text=True, check=True)
-    return [it for it in done.stdout.split('\0') if it and '/tests/' not in it]
+    return [it for it in done.stdout.split('\0') if it and '/tests/' not in it
+            and not re.fullmatch(r'examples/(check|\w+/run)', it)]
 
 
 def packed(text: str) -> bytes:
@@ -108,7 +142,10 @@ def packed(text: str) -> bytes:
 def laid_out(root: pathlib.Path, program: pathlib.Path) -> None:
     """Lays out what the package installs."""
     put(root, 'usr/bin/bayctl', program.read_bytes(), 0o755)
-    put_folder(root, 'usr/share/bayctl', listed('tools'))
+    tools = [f'tools/{name}' for name in (*COMMANDS, *needed())]
+    put_folder(root, 'usr/share/bayctl', [*listed(*tools), *READ])
+    for name in COMMANDS:
+        (root / 'usr' / 'bin' / f'bayctl-{name}').symlink_to(f'../share/bayctl/tools/{name}')
     put_folder(root, 'usr/share/doc/bayctl', listed('README.md', 'docs', 'examples'))
     put(root, 'usr/share/doc/bayctl/copyright', COPYRIGHT.encode())
     changes = (TOP / 'CHANGELOG.md').read_text(encoding='utf-8')

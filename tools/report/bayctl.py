@@ -1,5 +1,6 @@
-"""bayctl as the tools ask it: the program that `rt run` builds, or, where none is built, its
-sources by `rt try`, which proves nothing and takes a minute or more, for many asks as for one."""
+"""bayctl as the tools ask it: the program that `rt run` builds, or the one on the path, or, where
+there is none, its sources by `rt try`, which proves nothing and takes a minute or more, for many
+asks as for one."""
 import os
 import pathlib
 import re
@@ -9,11 +10,10 @@ import tempfile
 from collections.abc import Sequence
 from dataclasses import dataclass
 
+from common import places
 from common.ending import Failed, complain
+from common.places import CRATE, TRY
 
-TOP = pathlib.Path(__file__).resolve().parent.parent.parent
-CRATE = TOP / 'crates' / 'bayctl'
-BUILT, TRY = CRATE / 'out' / 'bayctl', TOP / 'tools' / 'bayctl_try'
 FILES = ('--bay', '--logic', '--image', '--rules', '--trace', '--key')  # options that name one
 NEVER = ('serve', 'compile')  # whose clients or files would not be reached
 SECONDS, SHOWN = 600, 300  # of a run; characters that are told of one that failed
@@ -48,7 +48,7 @@ USUAL = Usual()
 
 def usual() -> pathlib.Path:
     """The program that is asked where none is named."""
-    return TRY if not BUILT.exists() and shutil.which('rt') else BUILT
+    return places.bayctl()
 
 
 def is_tried(bayctl: str | pathlib.Path | None) -> bool:
@@ -58,8 +58,8 @@ def is_tried(bayctl: str | pathlib.Path | None) -> bool:
 
 def not_run(error: OSError) -> Failed:
     """Why a program was not run, and where bayctl comes from."""
-    return Failed(f'{error.filename}: {error.strerror}; `rt run` in crates/bayctl builds bayctl, '
-                  'and --bayctl names another')
+    return Failed(f'{error.filename}: {error.strerror}; put bayctl on the path, build it by '
+                  '`rt run` in crates/bayctl, or name it by --bayctl')
 
 
 def run(bayctl: str | pathlib.Path, *words: object, given: bytes = b'') -> Answer:

@@ -9,15 +9,18 @@ from wire.conversation import Conversation, got_of
 from wire.words import cause_told
 
 from .clients import Client, Mark, Track
+from .picked import Picked
 from .replay import CODES, REASONS
 
 
 class History:
     """What became of a scenario, or of a captured session: see `of_replay` and `of_capture`.
     `doubts` tell when a measure is bad, `losses` are the moments at which the process was lost, and
-    `falling` counts the lines that were refused because times go back."""
+    `falling` counts the lines that were refused because times go back. Of clients and moments only
+    what is picked is kept; what went before the first of these moments is the state at it."""
 
-    def __init__(self, bay, report='') -> None:
+    def __init__(self, bay, report='', picked=Picked()) -> None:
+        self.picked, self.is_begun = picked, picked.first is None
         self.bay, self.report, self.ending, self.falling = bay, report, '', 0
         self.switches = {raised(s['id']): Track(s['id'], s['kind']) for s in bay['switch']}
         self.inputs = {raised(i['name']): Track(i['name'], 'input') for i in bay.get('input', [])}
@@ -31,22 +34,57 @@ class History:
         self.refusals, self.events = [], []
 
     @classmethod
-    def of_replay(cls, replay) -> 'History':
+    def of_replay(cls, replay, picked=Picked()) -> 'History':
         """What became of a scenario."""
-        history = cls(replay.file, replay.report)
+        history = cls(replay.file, replay.report, picked)
         for step in replay.steps():
-            history.step(step, replay.bay)
+            if history.begins(step.moment):
+                history.step(step, replay.bay)
         history.ending = replay.ending_told()
-        return history
+        return history.of_picked()
+
+    def begins(self, moment) -> bool:
+        """Whether a moment is taken: those before the span make the state at its begin."""
+        if not self.is_begun and moment >= self.picked.first:
+            self.is_begun = True
+            self.forget(self.picked.first)
+        return self.picked.behind is None or moment < self.picked.behind
+
+    def forget(self, moment) -> None:
+        """Keeps of what went before a moment what holds at it."""
+        for it in (*self.switches.values(), *self.inputs.values(), *self.opens.values(),
+                   *self.closes.values(), *self.measures.values(), *self.doubts.values(),
+                   *(client.open for client in self.clients.values())):
+            it.changes = [(moment, value) for _, value in it.changes[-1:]]
+        for client in self.clients.values():
+            client.others, client.marks, client.repeats, client.last = {}, [], [], {}
+        for commands in self.commands.values():
+            commands.clear()
+        self.losses, self.scans, self.moments = [], [], [moment]
+        self.refusals, self.events, self.falling = [], [], 0
+
+    def of_picked(self) -> 'History':
+        """The lanes of the switches that are picked alone."""
+        if not self.is_begun:
+            self.forget(self.picked.first)
+        for name in ('switches', 'opens', 'closes', 'commands'):
+            lanes = getattr(self, name)
+            setattr(self, name, {key: it for key, it in lanes.items()
+                                 if self.picked.has_switch(key)})
+        return self
 
     @classmethod
-    def of_capture(cls, file, bay, events) -> 'History':
+    def of_capture(cls, file, bay, events, picked=Picked()) -> 'History':
         """What was said in a captured session. Of the process nothing is known. A client is an
         association, with the number that a server gives it: the lowest that is free."""
-        history, servers = cls(file), {}
+        history, servers = cls(file, picked=picked), {}
         history.switches, history.inputs = {}, {}
         for event in events:
-            history.captured(event, bay, servers)
+            if history.begins(event.moment):
+                history.captured(event, bay, servers)
+        history = history.of_picked()
+        history.clients = {place: it for place, it in history.clients.items()
+                           if picked.has_client(place)}
         return history
 
     def warnings(self) -> list[str]:
@@ -95,6 +133,8 @@ class History:
     def step(self, step, bay) -> None:
         """A line of the trace, and what was printed for it."""
         verb, *rest = step.words
+        if verb in ('open', 'recv', 'close') and not self.picked.has_client(rest[0]):
+            return self.printed(step)
         if step.refused is not None:
             self.falling += step.refused == 110
             line = step.line if len(step.line) < 60 else step.line[:57] + '...'
@@ -152,6 +192,8 @@ class History:
         """What was printed for an event: answers, a command, a scan, an association that was
         closed."""
         for place, octets in step.sent:
+            if not self.picked.has_client(place):
+                continue
             said = self.conversations[place].answers(got_of(octets))
             self.clients[place].is_told(step.moment, said)
             self.control(step.moment, place, said, place)
@@ -160,7 +202,7 @@ class History:
             self.commands[raised(name)].append((step.moment, WAYS[way]))
         if step.scan:
             self.scan(step.moment, step.scan)
-        if step.closed:
+        if step.closed and self.picked.has_client(step.closed[0]):
             place, code = step.closed
             self.clients[place].connect(step.moment, False)
             if code != '0':

@@ -4,7 +4,7 @@ import dataclasses
 from sources.lexer import Token, end_of_group, place_of, running_tokens
 
 # What stands for want of memory in an answer or in what is printed.
-WORDS = ("AllocError", "AllocFailed", "OutOfMemory", "NO_MEMORY", "tell_memory")
+WORDS = ("AllocError", "AllocFailed", "OutOfMemory", "NO_MEMORY", "write_out_of_memory")
 TEXTS = ('b"fault memory\\n"', 'b"load refused memory\\n"')
 KEYWORDS = ("if", "while")
 
@@ -28,15 +28,15 @@ PLACES = (
     Place("bay_files/src/files.rt",
           "if error.kind() == ErrorKind::OutOfMemory { FileFault::OutOfMemory }", SYSTEM),
     Place("bay_main/src/program.rt",
-          "if error.kind() == ErrorKind::OutOfMemory { Unheard::OutOfMemory }", SYSTEM),
-    Place("bay_words/src/words.rt",
+          "if error.kind() == ErrorKind::OutOfMemory { ArgumentFault::OutOfMemory }", SYSTEM),
+    Place("bay_cli/src/parse.rt",
           "if error.kind() == ErrorKind::OutOfMemory { return WordsFault::OutOfMemory; }",
           "the reader of command lines says so"),
     Place("bay_report/src/output.rt",
           'pub const NO_MEMORY: &[u8] = b"fault memory\\n";', "the name of the line"),
     Place("bay_report/src/log.rt", "{ write_text(writer, NO_MEMORY, Status::Fault) }",
-          "the body of `tell_memory`, whose calls are held as the line is"),
-    Place("bay_serving/src/turns.rt",
+          "the body of `write_out_of_memory`, whose calls are held as the line is"),
+    Place("bay_server/src/turns.rt",
           "for association in memory"
           " { put_closing_line(writer, moment, *association, Why::Memory); }",
           "the turn tells that these were closed for it"),

@@ -65,6 +65,7 @@ debounce_ms = 0
 [[input]]
 name = "ES"
 contact = 2
+fault = false
 debounce_ms = 0
 [[measure]]
 meter = "M1"
@@ -110,6 +111,7 @@ def tried(test):
 class Driven(unittest.TestCase):
     """A driver whose server and module are the test's. QA1 and QC1 are open at first."""
     changes: list[tuple[str, str]] = []  # of the wiring
+    kind = 'breaker'  # of QA1
 
     def __init_subclass__(cls):
         for name, test in list(vars(cls).items()):
@@ -125,12 +127,13 @@ class Driven(unittest.TestCase):
         folder = tempfile.TemporaryDirectory()
         self.addCleanup(folder.cleanup)
         self.bay, self.wiring = (pathlib.Path(folder.name) / name for name in ('bay', 'wiring'))
-        self.bay.write_text(BAY)
+        self.bay.write_text(BAY.replace('"breaker"', f'"{self.kind}"'))
         text = WIRING
         for old, new in [('port = 502', f'port = {self.port}'), *self.changes]:
             text = text.replace(old, new)
         self.wiring.write_text(text)
         self.server = FakeServer()
+        self.addCleanup(lambda: self.assertEqual(self.server.went_back, [], 'a time goes back'))
         self.addCleanup(self.server.ends)
         self.out = tempfile.NamedTemporaryFile('a+')
         self.addCleanup(self.out.close)

@@ -87,12 +87,14 @@ class Peer(socketserver.StreamRequestHandler):
 
 class FakeServer:
     """The process port of a server that supervises. `told` are the lines of the driver without
-    their times, `moments` these times; both of the last connection."""
+    their times, `moments` these times; both of the last connection. It ends a connection on which a
+    time goes back, and keeps that line and the one before it in `went_back`."""
 
     def __init__(self, named='E1 2 b') -> None:
         self.socket = socket.create_server(('127.0.0.1', 0))
         self.port, self.named = self.socket.getsockname()[1], named
         self.told, self.moments, self.count = [], [], 0
+        self.last_line, self.went_back = '', []
         self.is_frozen = self.is_over = False
         self.connection, self.lock = None, threading.Lock()
         threading.Thread(target=self.serve, daemon=True).start()
@@ -104,7 +106,7 @@ class FakeServer:
         with contextlib.suppress(OSError):
             while not self.is_over:
                 connection, _ = self.socket.accept()
-                self.told, self.moments = [], []
+                self.told, self.moments, self.last_line = [], [], ''
                 connection.sendall(f'{self.now()} process {MS} {self.named}\n'.encode())
                 with self.lock:
                     self.connection, self.count = connection, self.count + 1
@@ -112,10 +114,15 @@ class FakeServer:
                 with contextlib.suppress(OSError), connection.makefile() as file:
                     for line in file:
                         self.takes(line.rstrip('\n'))
+                        if self.went_back:
+                            break
                 self.drop(connection)
 
     def takes(self, line):
         moment, _, rest = line.partition(' ')
+        if self.last_line and int(moment) < int(self.last_line.split(' ')[0]):
+            self.went_back.append((self.last_line, line))
+        self.last_line = line
         if rest != 'alive':
             self.moments.append((int(moment), self.now()))
             self.told.append(rest)

@@ -15,7 +15,7 @@ from tests.loopback import needs_loopback
 from tests.test_client import Bay, respond, served
 from tests.test_same_bay import Model
 from tests.tool import Tools
-from wire import mms, stream
+from wire import mms
 from wire.ber import element, number
 from wire.mms import BITS, BOOLEAN, INTEGER, OCTETS, STRUCTURE, TEXT, UNSIGNED, Data
 
@@ -198,7 +198,7 @@ class Replays(Tools):
                          ('FAILED: 1 step, 0 expectations: nothing is expected\n', 1))
 
     def test_the_page(self):
-        self.accept(STEPS.replace('refused 10', 'refused 9'), '--report', 'page.html')
+        self.accept(STEPS.replace('refused 10', 'refused 9'), '--html', 'page.html')
         text = (self.folder / 'page.html').read_text()
         for told in ('Acceptance test of bay E1', 'FAILED: 16 steps', '<h3>Off load</h3>',
                      '<code>contact qa1 open</code>', '<code>refused 9</code>',
@@ -218,12 +218,12 @@ class Replays(Tools):
         steps = self.file('steps', 'expect accepted\n')
         base = [steps, '--bay', self.bay]
         for words, status in (
-                ([*base], 2), ([*base, '--port', 1], 2), ([*base, '--logic', self.logic, '--key',
-                                                           'k'], 2),
+                ([*base], 2), ([*base, '--port', 1], 2),
+                ([*base, '--logic', self.logic, '--process-key', 'k'], 2),
                 ([*base, '--port', 1, '--process', 2, '--scenario', 's'], 2),
                 (['none', '--bay', self.bay, '--logic', self.logic], 3),
                 ([*base, '--logic', self.logic], 3),
-                ([*base, '--logic', self.logic, '--report', 'none/page'], 3)):
+                ([*base, '--logic', self.logic, '--html', 'none/page'], 3)):
             found = self.call_tool('acceptance', *words)
             self.assertEqual((found.status, found.out, found.error.count('\n')), (status, '', 1))
         refused = self.bayctl('load refused 72 line 7\n', 1)
@@ -296,14 +296,14 @@ class ServedBays(Tools):
         self.assertIn('expect command QB1 open: FAILED: command: close QB1', found.out)
 
     def test_a_supervised_bay(self):
-        found, heard = self.accept(STEPS, '5000 process 400 E1 1\n', '--key', self.file(
+        found, heard = self.accept(STEPS, '5000 process 400 E1 1\n', '--process-key', self.file(
             'key', '0123456789abcdef0123456789abcdef'))
         self.assertEqual(found.status, 0, found)
         self.assertEqual(heard[0], 'bay 0123456789abcdef0123456789abcdef E1 1')
         self.assertIn('alive', heard)
         found, _ = self.accept(STEPS, '5000 process 400 E2 1\n')
         self.assertEqual((found.status, found.error.count('\n')), (1, 1))
-        found, _ = self.accept(STEPS, '', '--key', self.folder / 'key')
+        found, _ = self.accept(STEPS, '', '--process-key', self.folder / 'key')
         self.assertEqual(found.status, 1)
         self.assertIn('the server does not greet: it is no supervised port', found.error)
 

@@ -13,8 +13,8 @@ from tracing.definitions import Definition
 
 DEFINED = (
     'unfoldable pub scope : Form Part Place\nscope =\n'
-    '    choice (context 0) (made (λ x. whole_vmd) empty)\n'
-    '    (under (context 1) (made in_domain octets))',
+    '    choice (context 0) (map_form (λ x. whole_vmd) empty)\n'
+    '    (under (context 1) (map_form in_domain octets))',
     'unfoldable pub row : Form (List Part) X\n'
     'row = next (under int_tag (such id_of integer)) (maybe (context 2) octets done)',
     'unfoldable pub pair : {A : Type 0} → Form Part A → Form (List Part) A\n'

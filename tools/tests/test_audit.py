@@ -162,7 +162,8 @@ class Values(unittest.TestCase):
                                                            'open')], [-5, 7, None, None, None])
 
     def test_an_input_has_no_position(self):
-        with self.assertRaisesRegex(BadRule, 'line 1: open is not a value of the input SPARE'):
+        told = 'line 1, column 12: open is not a value of the input SPARE'
+        with self.assertRaisesRegex(BadRule, told):
             self.looks('look SPARE open')
         with self.assertRaisesRegex(BadOption, 'SPARE=open: open is not a value of the input'):
             looked_at(held('--inputs', 'SPARE=open', INPUT), self.KNOWN)
@@ -423,7 +424,7 @@ class Asked(Tools):
                 self.file('rules', rules)]
 
     def test_what_can_not_be_written_is_told_first(self):
-        for option in ('--report', '--table', '--scenarios'):
+        for option in ('--html', '--table', '--scenarios'):
             found = self.call_tool('audit', *self.words(), option, 'none/it', '--bayctl', 'none')
             self.assertIn('none/it', found.error)
             self.assertIn('there is no folder none', found.error)
@@ -437,7 +438,7 @@ class Asked(Tools):
 
     def test_rules_that_can_not_be_read(self):
         found = self.call_tool('audit', *self.words('never QX open\n'))
-        self.assertIn('rules: line 1: QX is not a switch of the bay', found.error)
+        self.assertIn('rules: line 1, column 7: QX is not a switch of the bay', found.error)
         self.assertEqual((found.out, found.status), ('', 3))
         marked = self.call_tool('audit', *self.words('\ufeffnever QX open\n'))
         self.assertEqual(marked.error, found.error)

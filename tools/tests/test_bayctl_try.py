@@ -45,7 +45,7 @@ class Tried(Tools):
         self.asks = self.folder / 'asks'
         self.rt()
         for patched in (mock.patch.dict(os.environ, PATH=str(self.folder)),
-                        mock.patch('report.bayctl.BUILT', self.folder / 'none'),
+                        mock.patch('common.places.BUILT', self.folder / 'none'),
                         mock.patch('report.bayctl.USUAL', bayctl.Usual())):
             patched.start()
             self.addCleanup(patched.stop)
@@ -103,7 +103,7 @@ class Tried(Tools):
         self.assertEqual((found.error, found.status), (f'explain: {bayctl.SAID}\n', 0))
         self.assertEqual(bayctl.usual(), bayctl.TRY)
         built = self.bayctl(REPORT)
-        with mock.patch('report.bayctl.BUILT', built):
+        with mock.patch('common.places.BUILT', built):
             self.assertEqual(bayctl.usual(), built)
             self.assertEqual(self.call_tool('explain', path).error, '')
 

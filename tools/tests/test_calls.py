@@ -5,7 +5,7 @@ import unittest
 from tests.test_crates import CRATES, crates
 
 # What runs cases and tests.
-TESTING = {'bay_tests', 'bayctl_cases', 'layer_cases', 'cases'}
+TESTING = {'bayctl_tests', 'bayctl_cases', 'layer_cases', 'cases'}
 # Public calls for whoever uses the layer by itself; the product makes others of the same bodies.
 FOR_USERS = {
     'bits',  # a bit string, written; the product's are constants

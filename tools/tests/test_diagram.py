@@ -14,7 +14,8 @@ from bay.files import bay_at
 from bay.rules import read_rules
 from checking import diagrams
 from checking.planted import read_faults
-from diagram.demands import ALONE, CURRENT, JOINS, STAYS, SYSTEMS, demands_of, text_of
+from diagram.demands import (ALONE, CURRENT, JOINS, MEETS, STAYS, SYSTEMS, demands_of,
+                             text_of)
 from diagram.diagram_file import read_diagram, written
 from diagram.network import BadDiagram
 from diagram.paths import paths_between
@@ -159,6 +160,32 @@ class Rules(unittest.TestCase):
             ' and (not F2_OPEN or F2_CLOSED)': STAYS,
             'never QA1 open when (F2_CLOSED and F2_OPEN or not F2_CLOSED and not F2_OPEN)'
             ' and (not F1_OPEN or F1_CLOSED)': STAYS})
+
+    def test_a_breaker_in_series_may_open(self):
+        """It takes the current off the disconnectors beside which another bay has a path."""
+        own = bay('QA1', 'QB1', 'QB2', inputs=('X_CLOSED', 'X_OPEN'))
+        rows = ('BB1 busbar source=true', 'BB2 busbar source=true', 'N1 junction', 'N2 junction',
+                'QB1: BB1 N1', 'QA1: N1 N2', 'QB2: N2 BB2',
+                'X breaker closed="X_CLOSED" open="X_OPEN": BB1 BB2')
+        self.assertFalse([it for it in asked(own, *rows) if it.startswith('never QA1 open')])
+        beside = asked(bay('QA1', 'QB1', 'QB2', 'QA2', inputs=('X_CLOSED',)),
+                       *rows[:-1], 'QA2: BB1 BB2')
+        self.assertIn('never QA2 open when QB1 not open|closed and QA1 not open and QB2 not open',
+                      {it for it in beside if it.startswith('never QA2 open')})
+
+    def test_a_breaker_that_energises_what_is_dead(self):
+        """A disconnector after a transformer, whose other side nothing feeds but this breaker."""
+        own = bay('QA1', 'QA2', 'QB1', 'QB2')
+        rows = ('BB1 busbar source=true', 'N1 junction', 'T1 transformer', 'N2 junction',
+                'C {}', 'QB1: BB1 N1', 'QA1: N1 T1', 'QA2: T1 N2', 'QB2: N2 C')
+        dead = [row.format('cable') for row in rows]
+        found = {it.text(): it for it in demands_of(read_diagram(diagram(*dead), 'd', own))}
+        rule = found['never QA1 close when QB2 not open|closed and QA2 not open']
+        self.assertEqual((rule.head, rule.why), (MEETS, [
+            'QB2 would make the current: BB1 - QB1 - N1 - QA1 - T1 - QA2 - N2 - QB2 - C']))
+        live = [row.format('cable source=true') for row in rows]
+        self.assertFalse([it for it in asked(own, *live)
+                          if it.startswith('never QA1 close when QB2 not open|closed')])
 
     def test_unlike_systems(self):
         own = bay('QB1', 'QB2', inputs=('A',))
@@ -344,7 +371,7 @@ class Checked(Tools):
             return asked_of
         told = self.run_parts(*AUDITED, changed=same(HOLDS))
         self.assertIn('diagrams/line without a line', told)
-        self.assertIn("diagrams/line: 'nothing' in line 95", told)
+        self.assertIn("diagrams/line: 'nothing' in line 94", told)
         told = self.run_parts(diagrams.diagrams_are_kept, changed=same(BROKEN))
         self.assertEqual(len(told), 8)
 

@@ -15,15 +15,16 @@ from diagram.network import (BREAKER, BUSBAR, DISCONNECTOR, EARTH, EARTHING, JUN
                              Network, Node, Switch)
 from tests.test_diagram import bay
 
-NETWORKS, STATES = 150, 20
+NETWORKS, STATES = 250, 20
 IS_OPEN, IS_CLOSED = 1, 2
 
 
 def network_of(chance: random.Random) -> tuple[Network, dict]:
     """A network with some terminals and junctions, some of its switches of another bay."""
-    ends = [f'B{n}' for n in range(chance.randint(2, 3))]
+    ends = [f'B{n}' for n in range(chance.randint(2, 4))]
     inner = [f'N{n}' for n in range(chance.randint(1, 3))]
-    nodes = {name: Node(name, BUSBAR, chance.random() < 0.8 or name == 'B0',
+    share = chance.choice((0.3, 0.8))  # of the terminals that are sources
+    nodes = {name: Node(name, BUSBAR, chance.random() < share or name == 'B0',
                         '') for name in ends}
     nodes |= {name: Node(name, JUNCTION) for name in inner} | {'E': Node('E', EARTH)}
     nodes = {name: Node(it.name, it.kind, it.is_source, chance.choice('xy') if it.is_source else '')
@@ -93,10 +94,12 @@ class State:
     def lives(self, nodes: set[str]) -> set[str]:
         return {it.system for it in self.network.sources() if it.name in nodes}
 
-    def carries(self, closed: list[Switch], switch: Switch) -> bool:
-        """Whether a current flows or would flow through a switch: it alone joins two terminals."""
+    def carries(self, closed: list[Switch], switch: Switch, is_fed: bool = False) -> bool:
+        """Whether a current flows or would flow through a switch: it alone joins two terminals; of
+        one that is fed, a source is on one side."""
         one, other = (reached(closed, name) for name in switch.nodes)
-        return other != one and self.feeds(one) and self.feeds(other)
+        return other != one and self.feeds(one) and self.feeds(other) and (
+            not is_fed or bool(self.lives(one | other)))
 
     def dangers(self, switch: Switch, way: int) -> set[str]:
         """What would happen if a switch were opened (0) or closed (1)."""
@@ -122,13 +125,15 @@ class State:
         return found
 
     def arcs(self, closed: list[Switch], switch: Switch, way: int) -> bool:
-        """Whether a disconnector that is on its way carries a current only afterwards."""
+        """Whether a disconnector that is on its way carries a current only afterwards, or one that
+        is fed only afterwards."""
         for it in self.network.switches:
             if it.kind == DISCONNECTOR and it is not switch and (
                     self.known[it.name] not in (IS_OPEN, IS_CLOSED)):
                 rest = [one for one in closed if one is not it]
                 before, after = (rest, [*rest, switch]) if way else ([*rest, switch], rest)
-                if self.carries(after, it) and not self.carries(before, it):
+                if any(self.carries(after, it, is_fed) and not self.carries(before, it, is_fed)
+                       for is_fed in (False, True)):
                     return True
         return False
 

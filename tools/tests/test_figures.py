@@ -41,7 +41,7 @@ one
 three
 ```
 '''
-CRATES = ['bayctl', 'bay_serving', 'bay_tests', 'layer_cases']
+CRATES = ['bayctl', 'bay_server', 'bayctl_tests', 'layer_cases']
 
 
 def rows_of(text: str) -> list[list[str]]:
@@ -87,7 +87,7 @@ class Stamps(unittest.TestCase):
     def test_what_a_command_measures(self):
         paths = stamps.measured_by('bench/speed/serve 3')
         self.assertIn('crates/il_scan/src', paths)
-        self.assertNotIn('crates/bay_tests/src', paths)
+        self.assertNotIn('crates/bayctl_tests/src', paths)
         self.assertEqual(paths[-1], 'bench/speed/serve')
 
     def test_each_table_has_a_stamp_of_a_script_that_is_there(self):
@@ -128,17 +128,17 @@ class Gate(unittest.TestCase):
         run = '/tmp/rt-run-7-abc'
         for words, folder, kind in (
                 (f'{run}/bin/bayctl replay', f'{run}/data', ('bayctl', 'runs')),
-                (f'/kit/rattle-test --seconds 60 {run}/bin/bay_tests_tests', f'{run}/data',
-                 ('bay_tests', 'tests')),
+                (f'/kit/rattle-test --seconds 60 {run}/bin/bayctl_tests_tests', f'{run}/data',
+                 ('bayctl_tests', 'tests')),
                 (f'{run}/bin/other', f'{run}/data', ('', '')),
-                ('rattle --crate-name bay_serving x', '/x/crates/bay_serving',
-                 ('bay_serving', 'proof')),
-                ('rattle x', '/x/crates/bay_serving/out/a', ('bay_serving', 'proof')),
-                ('rattle --test --crate-name bay_tests', '/x', ('bay_tests', 'tests')),
+                ('rattle --crate-name bay_server x', '/x/crates/bay_server',
+                 ('bay_server', 'proof')),
+                ('rattle x', '/x/crates/bay_server/out/a', ('bay_server', 'proof')),
+                ('rattle --test --crate-name bayctl_tests', '/x', ('bayctl_tests', 'tests')),
                 ('clang x', '/x/crates/bayctl/out', ('bayctl', 'builds')),
                 ('rattle --crate-name bayctl', '/tmp/rt-edits-7-abc/bayctl', ('bayctl', 'edits')),
                 ('rattle x', '/tmp/rt-edit-7-abc/crates/bayctl', ('bayctl', 'edits')),
-                ('/x/bay_serving', '/x/elsewhere', ('', '')),
+                ('/x/bay_server', '/x/elsewhere', ('', '')),
                 ('sh x', '/x/crates/bayctl', ('', '')),
                 ('', '', ('', ''))):
             self.assertEqual(kind_of(words.split(' '), folder, CRATES), kind, words)

@@ -47,6 +47,7 @@ debounce_ms = 0
 name = "ES"
 contact = 27
 invert = true
+fault = false
 debounce_ms = 0
 '''
 

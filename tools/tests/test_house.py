@@ -20,6 +20,31 @@ def tools() -> list[pathlib.Path]:
             and path.read_bytes().startswith(b'#!/usr/bin/env python3')]
 
 
+def unused(path: pathlib.Path) -> list[str]:
+    """The names that a file imports and does not use; a comment beside an import says why one is
+    there all the same."""
+    text = path.read_text(encoding='utf-8')
+    tree, lines, found = ast.parse(text), text.split('\n'), {}
+    for node in ast.walk(tree):
+        if isinstance(node, (ast.Import, ast.ImportFrom)) and '#' not in lines[node.lineno - 1]:
+            found |= {(it.asname or it.name).partition('.')[0]: node.lineno for it in node.names}
+    used = {node.id for node in ast.walk(tree) if isinstance(node, ast.Name)}
+    return [f'{path.name}:{line}: {name}' for name, line in found.items() if name not in used]
+
+
+class Imports(unittest.TestCase):
+    def test_each_is_used(self):
+        scripts = [it for it in BENCH.rglob('*') if it.is_file() and (
+            it.suffix == '.py' or it.read_bytes().startswith(b'#!/usr/bin/env python3'))]
+        found = [told for path in [*modules(), *tools(), *scripts] for told in unused(path)]
+        self.assertEqual(found, [])
+
+    def test_each_tool_ends_in_the_common_way(self):
+        for path in tools():
+            self.assertTrue(path.read_text(encoding='utf-8').endswith('    ends(main)\n'),
+                            f'{path.name}: end it by common.ending')
+
+
 class Names(unittest.TestCase):
     def test_no_module_has_the_name_of_another(self):
         names = [path.stem for path in modules()] + [

@@ -94,7 +94,8 @@ class Limits(unittest.TestCase):
         page = (TOP / 'docs' / 'LIMITS.md').read_text(encoding='utf-8')
         words = {count: word for count, word in enumerate('four five six seven eight'.split(), 4)}
         count = sum(not definition for _, _, definition, _ in rows())
-        self.assertIn(f'in {words[count]} rows in the code alone', ' '.join(page.split()))
+        self.assertIn(f'{words[count].capitalize()} rows have no definition',
+                      ' '.join(page.split()))
 
     def test_a_bay_at_all_its_limits(self):
         """Its file has as many bytes as DECISIONS says, and its rows are those of RESULTS."""

@@ -313,7 +313,7 @@ class Logs(Tools):
         found = self.told(odd, status=3)
         self.assertTrue(found.error.endswith('no line of bayctl or stunnel\n'), found.error)
         found = self.told(*self.both(), '--html', self.folder / 'no' / 'x.html', status=3)
-        self.assertIn('No such file or directory', found.error)
+        self.assertIn('there is no folder', found.error)
 
     def test_what_is_missing(self):
         server, out, gate = self.both()

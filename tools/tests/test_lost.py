@@ -84,7 +84,7 @@ class Lost(Tools):
 1400 process closed 0
 1500 process gone
 ''')
-        found = self.call_tool('explain', '--report', report)
+        found = self.call_tool('explain', '--printed', report)
         self.assertEqual([line.strip() for line in found.out.splitlines()[1:]], [
             '1000      the process connects',
             '1000      the process is greeted by bay B 1 of two: it is to be heard within 500 ms',

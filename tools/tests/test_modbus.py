@@ -11,7 +11,7 @@ import unittest
 
 TOOLS = pathlib.Path(__file__).resolve().parent.parent
 sys.path.insert(0, str(TOOLS))
-from tests.driven import (CLOSE, DOUBT, LOST, OPEN, PULSE, TIMEOUT, TRAVEL, Counting,
+from tests.driven import (CLOSE, DOUBT, GOOD, LOST, OPEN, PULSE, TIMEOUT, TRAVEL, Counting,
                           Driven)
 from tests.fake_module import MS, FakeServer
 from tests.loopback import needs_loopback
@@ -51,6 +51,15 @@ class Telling(Driven):
         self.is_told({'contact QA1': '0'})
         then, here = self.server.moments[self.server.told.index('contact QA1 0')]
         self.assertGreater(here - then, 90)
+
+    def test_no_time_goes_back(self):
+        """The driver says that it lives while a slow module is read."""
+        self.good()
+        self.module.asked = lambda function: time.sleep(0.25 if function == 4 else 0)
+        for at in range(8):
+            self.module.contacts[0] = bool(at % 2)
+            self.is_told({'contact QA1': str(at % 2)})
+        self.assertEqual((self.server.went_back, self.server.count), ([], 1))
 
     def test_a_measure_out_of_its_range(self):
         self.good()
@@ -190,6 +199,78 @@ class Commands(Driven):
         self.module.exception_of_writes = 0
         self.all_off()
         self.assertEqual((self.pulses(CLOSE), self.module.both), ([], False))
+
+
+@needs_loopback
+class TrueBlocks(Driven):
+    """An input that blocks while it is TRUE, as a trip."""
+    changes = [('fault = false', 'fault = true')]
+
+    def test_a_module_that_is_lost(self):
+        self.module.contacts[2] = False
+        self.is_told({**GOOD, 'input ES': '0'})
+        self.module.stops()
+        self.is_told({**LOST, 'input ES': '1'})
+        self.says('; till it is heard the server is told ES TRUE')
+
+
+@needs_loopback
+class ReleasesOfDisconnector(Driven):
+    """A server that tells of releases, and a disconnector."""
+    kind = 'disconnector'
+
+    def test_a_release_that_has_gone(self):
+        self.good()
+        self.server.tell_releases('QA1=10', 'QC1=00')
+        self.server.tell('command QA1 on')
+        self.says('QA1 close is not carried out: its release has gone')
+        self.server.tell('command QA1 off')
+        self.waits(lambda: self.pulses(OPEN))
+        self.all_off()
+        self.assertEqual(self.pulses(CLOSE), [])
+
+    def test_a_release_that_goes_before_the_coil_is_on(self):
+        self.good()
+        self.server.tell_releases('QA1=11', 'QC1=00')
+        self.module.asked = lambda function: time.sleep(0.1 if function == 1 else 0)
+        self.server.tell('command QA1 on')
+        self.server.tell_releases('QA1=10')
+        self.says('QA1 close is not carried out: its release has gone')
+        self.assertEqual(self.pulses(CLOSE), [])
+
+    def test_a_release_that_goes_within_a_pulse(self):
+        self.good()
+        self.server.tell_releases('QA1=11', 'QC1=00')
+        self.begins()
+        self.server.tell_releases('QA1=10')
+        self.assertLess(self.lasted(), PULSE / 2)
+        self.says('QA1 close: its release has gone, so its pulse ends', 'not done after')
+
+    def test_a_release_of_the_other_way_goes(self):
+        self.good()
+        self.server.tell_releases('QA1=11', 'QC1=00')
+        self.begins()
+        self.server.tell_releases('QA1=01', 'QC1=11')
+        self.assertGreater(self.lasted(), PULSE - 50)
+
+
+@needs_loopback
+class ReleasesOfBreaker(Driven):
+    """A server that tells of releases, and a breaker."""
+
+    def test_a_release_that_has_gone(self):
+        self.good()
+        self.server.tell_releases('QA1=10', 'QC1=00')
+        self.server.tell('command QA1 on')
+        self.says('QA1 close is not carried out: its release has gone')
+        self.assertEqual(self.pulses(CLOSE), [])
+
+    def test_a_release_that_goes_within_a_pulse(self):
+        self.good()
+        self.server.tell_releases('QA1=11', 'QC1=00')
+        self.begins()
+        self.server.tell_releases('QA1=00')
+        self.assertGreater(self.lasted(), PULSE - 50)
 
 
 @needs_loopback

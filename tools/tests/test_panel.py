@@ -1,9 +1,9 @@
 """The panel without a server: reasons, the picture, the pages and who may control."""
+import contextlib
 import http.client
 import json
 import pathlib
 import queue
-import re
 import shutil
 import signal
 import socket
@@ -17,8 +17,12 @@ from unittest import mock
 
 TOOLS = pathlib.Path(__file__).resolve().parent.parent
 sys.path.insert(0, str(TOOLS))
+from auditing.proving import Derived
 from bay.conditions import Condition, Variable
+from bay.names import Names
 from live.boxes import draw
+from live.late import KNOWN, Turns, is_closed, moment, request_of
+from live.losses import is_process_lost, process_told
 from live.operating import Operator
 from live.reasons import Seen, why_not
 from live.watch import Watcher, may_told, measures_of, place_told, switch_of
@@ -26,10 +30,11 @@ from live.web import Pages
 from tests.loopback import needs_loopback
 from tests.test_audit import FILE
 from tests.test_client import Bay, served
+from tests.test_same_bay import FILE as BAY, Model
 from tests.tool import Tools, interruptible, zone
 from wire.ber import element
-from wire.client import Lost
-from wire.control import Outcome
+from wire.client import Client, Lost
+from wire.control import Control, Outcome
 from wire.conversation import Said
 from wire.mms import BITS, BOOLEAN, INTEGER, STRUCTURE, TIME, Data, octets_of
 from wire.served import until
@@ -68,6 +73,24 @@ class Reasons(unittest.TestCase):
                          'input KEY must be 0 (not seen here)')
         self.assertEqual(reason([(QA1, ['open']), (KEY, ['0'])], QA1='closed'),
                          'QA1 is closed and must be open (not seen here: input KEY must be 0)')
+
+    def test_only_what_is_enough_is_offered(self):
+        qb2, ca1, key = (Variable('QB2', QA1.values), Variable('CA1_CLOSED', ('0', '1'), True),
+                         Variable('KEY_REMOTE', ('0', '1'), True))
+        self.assertEqual(
+            reason([(qb2, ['closed']), (ca1, ['1'])], [(key, ['1'])], QB2='open'),
+            'QB2 is open and must be closed (not seen here: input CA1_CLOSED must be 1), or input '
+            'KEY_REMOTE must be 1 (not seen here)')
+
+    def test_what_it_depends_on_besides(self):
+        for product, told in (
+                ([(KEY, ['1'])], 'input KEY must be 1 (not seen here; then it depends on T1)'),
+                ([(QA1, ['open'])], 'QA1 is closed and must be open (then it depends on T1)'),
+                ([(QA1, ['open']), (KEY, ['1'])], 'QA1 is closed and must be open (not seen here: '
+                 'input KEY must be 1; then it depends on T1)'),
+                ([(QA1, ['closed'])], 'the program does not release it yet: it depends on T1')):
+            found = Derived(Condition([]), [(('T1',), Condition([[]], facts=[product]))])
+            self.assertEqual(why_not(found, Seen({'QA1': 'closed'}, {})), told)
 
     def test_measures(self):
         current = Variable('M1_AA', ('0', '5'))
@@ -179,6 +202,9 @@ class Switch:
     def cancel(self, on):
         return self.answer('cancel')
 
+    def position_bits(self):
+        return '01'
+
     def state(self, on):
         return f'{self.name} is there'
 
@@ -191,10 +217,22 @@ class Operating(unittest.TestCase):
         self.addCleanup(patched.stop)
         self.kind, self.watcher = kind, Watcher(FILE, '', '127.0.0.1', 1)
         self.watcher.client, self.operator = object(), Operator(self.watcher)
+        for page in ('one', 'other'):
+            self.operator.page_comes(page)
 
-    def act(self, verb, switch='QA1', way='open', page='one'):
-        found = self.operator.act(verb, switch, way, page)
+    def act(self, verb, switch='QA1', way='open', page='one', late=lambda: ''):
+        found = self.operator.act(verb, switch, way, page, late)
         return found['good'], found['told']
+
+    def said_to_server(self):
+        """What goes to the server from now on."""
+        said = []
+        for verb in ('select', 'operate', 'cancel', 'position_bits'):
+            def act(switch, *on, verb=verb, before=getattr(self.kind, verb)):
+                said.append(verb)
+                return before(switch, *on)
+            setattr(self.kind, verb, act)
+        return said
 
     def reads(self, position, selected=True):
         for act in self.watcher.on_read:
@@ -256,6 +294,50 @@ class Operating(unittest.TestCase):
             self.assertIsNotNone(self.watcher.state['control'])
             self.operator.page_gone('one')
             self.assertIsNone(self.watcher.state['control'])
+            for page in ('one', 'other'):
+                self.operator.page_comes(page)
+
+    def test_an_operate_that_is_too_late_is_not_sent(self):
+        """Whatever the server makes wait, waits before that is judged."""
+        said = self.said_to_server()
+        self.act('select')
+        found = self.act('operate', late=lambda: 'x' * ('position_bits' in said))
+        self.assertEqual(found, (False, 'operate QA1 open is not done: x'))
+        self.assertEqual(said, ['select', 'position_bits', 'cancel'])
+        self.assertIsNone(self.watcher.state['control'])
+        self.assertEqual(self.watcher.events[-1]['kind'], 'refused')
+
+    def test_a_select_that_is_given_up_while_it_waits(self):
+        said = self.said_to_server()
+        found = self.act('select', late=lambda: 'x' * ('select' in said))
+        self.assertEqual(found, (False, 'select QA1 open is not done: x'))
+        self.assertEqual(said, ['select', 'cancel'])
+        self.assertIsNone(self.watcher.state['control'])
+        self.assertEqual(self.act('select', late=lambda: 'x'),
+                         (False, 'select QA1 open is not done: x'))
+        self.assertEqual(said, ['select', 'cancel'])
+
+    def test_a_page_that_is_gone_selects_and_operates_nothing(self):
+        said = self.said_to_server()
+        self.act('select')
+        self.operator.pages.clear()
+        self.assertEqual(self.act('operate'),
+                         (False, 'operate QA1 open is not done: its page is gone'))
+        self.assertEqual(self.act('select'),
+                         (False, 'select QA1 open is not done: its page is gone'))
+        self.assertEqual(said, ['select', 'position_bits', 'cancel'])
+
+    def test_it_is_never_too_late_to_give_up(self):
+        self.act('select')
+        self.assertEqual(self.act('cancel', late=lambda: 'x'), (True, 'cancel QA1: said'))
+
+    def test_a_page_that_leaves_its_dialog_gives_up(self):
+        self.act('select')
+        self.operator.give_up('other')
+        self.assertIsNotNone(self.watcher.state['control'])
+        self.operator.give_up('one')
+        self.assertIsNone(self.watcher.state['control'])
+        self.assertTrue(self.act('select')[0])
 
     def test_a_page_that_goes_stops_no_switch_that_moves(self):
         self.act('select')
@@ -350,6 +432,128 @@ class Told(unittest.TestCase):
                 {'free': False, 'told': '\u2715 may not be closed', 'why': 'W'}, ['', note]])
 
 
+class Lateness(unittest.TestCase):
+    """Whether a request is still to be done."""
+
+    def late(self, made=0, number=1, is_left=False, last=None):
+        turns = Turns()
+        self.assertTrue(turns.takes('one', number))
+        if last:
+            self.assertTrue(turns.takes('one', last))
+        asked = {'page': 'one', 'number': number, 'made': moment() + made}
+        return request_of('operate', asked, lambda: is_left).late(turns)
+
+    def test_a_request_of_now(self):
+        for made in (0, -1500, 100):
+            self.assertEqual(self.late(made), '')
+
+    def test_an_old_one_and_one_of_a_clock_that_is_ahead(self):
+        self.assertEqual(self.late(-2300), 'it is 2.3 s old')
+        self.assertIn('ahead', self.late(500))
+
+    def test_one_that_was_given_up(self):
+        self.assertEqual(self.late(last=2), 'it was given up')
+        self.assertEqual(self.late(is_left=True), 'it was given up')
+
+    def test_the_turns_of_pages(self):
+        turns = Turns()
+        self.assertEqual([turns.takes('one', it) for it in (1, 3, 2, 3, 4)],
+                         [True, True, False, False, True])
+        self.assertTrue(turns.takes('other', 1))
+        self.assertEqual([turns.is_last('one', it) for it in (3, 4)], [False, True])
+        for number in range(KNOWN):
+            turns.takes(f'page {number}', 1)
+        self.assertEqual(len(turns.last), KNOWN)
+
+    def test_a_connection_whose_other_end_is_gone(self):
+        one, other = socket.socketpair()
+        with one:
+            self.assertFalse(is_closed(one))
+            other.sendall(b'x')
+            self.assertFalse(is_closed(one))
+            one.recv(1)
+            other.close()
+            self.assertTrue(is_closed(one))
+        self.assertTrue(is_closed(one))
+
+    def test_what_is_no_request(self):
+        good = {'page': 'one', 'number': 1, 'made': 5, 'switch': 'QA1', 'way': 'open'}
+        self.assertEqual(request_of('select', good, bool).switch, 'QA1')
+        for key, value in (('page', 1), ('number', True), ('number', '1'), ('made', 1.5),
+                           ('made', None)):
+            with self.assertRaises(ValueError):
+                request_of('select', good | {key: value}, bool)
+        for key in ('page', 'number', 'made'):
+            with self.assertRaises(LookupError):
+                request_of('select', {it: good[it] for it in good if it != key}, bool)
+
+
+class Losses(unittest.TestCase):
+    """What positions say of the process."""
+    BAD = {'position': 'bad', 'quality': 'invalid', 'moment': 5, 'time': 'T5'}
+    OPEN = {'position': 'open', 'quality': 'good', 'moment': 7, 'time': 'T7'}
+    UNKNOWN = {'position': 'intermediate', 'quality': 'invalid', 'moment': 0, 'time': ''}
+
+    def told(self, *switches, measures=()):
+        found = [{'quality': it} for it in measures]
+        return is_process_lost(switches, found), process_told(switches, found)
+
+    def test_a_process_that_is_lost(self):
+        later = {**self.BAD, 'moment': 9, 'time': 'T9'}
+        told = 'every position is bad: the process is lost, since T9'
+        self.assertEqual(self.told(self.BAD, later), (True, told))
+        self.assertEqual(self.told(later, measures=['invalid']), (True, told))
+        self.assertEqual(self.told(self.BAD, self.OPEN), (False, ''))
+
+    def test_where_nobody_knows(self):
+        self.assertEqual(self.told(self.BAD), (False, 'every position is bad'))
+        self.assertEqual(self.told(self.BAD, self.BAD, measures=['good', 'invalid']),
+                         (False, 'every position is bad'))
+        self.assertEqual(self.told(self.UNKNOWN, self.UNKNOWN),
+                         (False, 'no position is known yet'))
+        self.assertEqual(self.told(), (False, ''))
+
+    def test_nothing_counts_as_released(self):
+        watcher = Watcher(FILE, '', '127.0.0.1', 1)
+        for switches, free in (([self.BAD, self.BAD], False), ([self.BAD, self.OPEN], True)):
+            found = [{**it, 'id': name, 'open': {'free': True}, 'close': {'free': True}}
+                     for name, it in zip(('QA1', 'QC1'), switches)]
+            watcher.explain(found, [])
+            told = '' if free else 'the process is lost, so every operate is refused'
+            self.assertEqual([it['open'] for it in found], [{'free': free, 'why': told}] * 2)
+
+    def test_a_server_that_does_not_answer(self):
+        watcher = Watcher(FILE, '', '127.0.0.1', 1)
+        watcher.last_read = time.time_ns() // 1_000_000 - 5000
+        self.assertEqual(watcher.silent_since(), '')
+        watcher.client = object()
+        self.assertRegex(watcher.silent_since(), r'^\d{4}-\d\d-\d\d ')
+        watcher.last_read += 4500
+        self.assertEqual(watcher.silent_since(), '')
+
+
+@needs_loopback
+class States(unittest.TestCase):
+    """What a client and a panel tell of a refused operate."""
+
+    def told(self, *bits):
+        model = Model(BAY)
+        for place, it in enumerate(bits, 1):
+            model.rows[f'CSWI{place}$ST$Pos$stVal'] = Data(BITS, it)
+        nodes = [f'CSWI{place}' for place in range(1, len(bits) + 1)]
+        with served(Bay(model)) as server, mock.patch.object(Client, 'names', lambda it: nodes):
+            with contextlib.closing(Client(*server.getsockname(), Names(BAY))) as client:
+                return Control(client, 'QA1').state(False)
+
+    def test_a_process_that_is_lost(self):
+        self.assertEqual(self.told('11', '11', '11', '11'),
+                         'every position is bad: the process is lost')
+
+    def test_a_switch_that_is_bad(self):
+        for bits in (['11', '11', '10', '11'], ['11']):
+            self.assertEqual(self.told(*bits), 'QA1 is bad, may be opened and may be closed')
+
+
 @needs_loopback
 class Web(unittest.TestCase):
     def serve(self, operates, vendor='V'):
@@ -378,6 +582,25 @@ class Web(unittest.TestCase):
         answer = connection.getresponse()
         return answer.status, answer.read().decode()
 
+    def asked(self, **more):
+        """The body of a request of now."""
+        return json.dumps({'switch': 'QA1', 'way': 'open', 'page': 'one', 'number': 1,
+                           'made': moment(), **more})
+
+    def events(self, pages, name, count):
+        """The first events of a page, each with its kind."""
+        connection = http.client.HTTPConnection(*pages.server_address, timeout=5)
+        self.addCleanup(connection.close)
+        connection.request('GET', f'/events?{name}')
+        lines, found, kind = connection.getresponse(), [], ''
+        self.addCleanup(lines.close)
+        while len(found) < count and (line := lines.readline().decode()):
+            word, _, told = line.rstrip('\n').partition(': ')
+            if word == 'data':
+                found.append((kind, told))
+            kind = told if word == 'event' else kind if word else ''
+        return found
+
     def test_the_page(self):
         pages = self.serve(False)
         status, text = self.ask(pages, 'GET', '/')
@@ -398,7 +621,7 @@ class Web(unittest.TestCase):
 
     def test_another_origin(self):
         pages = self.serve(True)
-        port, body = pages.server_address[1], json.dumps({'switch': 'QA1', 'way': 'open'})
+        port, body = pages.server_address[1], self.asked()
         for origin, status in (('http://evil', 403), ('null', 403),
                                (f'http://127.0.0.1:{port}', 200)):
             self.assertEqual(self.ask(pages, 'POST', '/select', body, X_Panel=pages.token,
@@ -428,14 +651,15 @@ class Web(unittest.TestCase):
             self.assertEqual(self.ask(pages, verb, path, '', Host='evil:80')[0], 403)
 
     def test_who_may_control(self):
-        body = json.dumps({'switch': 'QA1', 'way': 'open'})
+        body = self.asked()
         pages = self.serve(True)
         self.assertEqual(self.ask(pages, 'POST', '/select', body)[0], 403)
-        self.assertEqual(self.ask(pages, 'POST', '/select', body, X_Panel='other')[0], 403)
+        self.assertEqual(self.ask(pages, 'POST', '/select', body, X_Panel='other'), (
+            403, 'the panel was started anew since this page was loaded: load it again'))
         status, text = self.ask(pages, 'POST', '/select', body, X_Panel=pages.token)
         self.assertEqual((status, json.loads(text)), (200, {
             'good': False, 'told': 'there is no connection to the server'}))
-        for bad in ('', '{}', '[]', '{"switch": 1}'):
+        for bad in ('', '{}', '[]', '{"switch": 1}', self.asked(made='5'), self.asked(number=1.5)):
             self.assertEqual(self.ask(pages, 'POST', '/select', bad, X_Panel=pages.token)[0], 400)
         watched = self.serve(False)
         status, text = self.ask(watched, 'POST', '/select', body, X_Panel=watched.token)
@@ -445,9 +669,50 @@ class Web(unittest.TestCase):
         pages = self.serve(True)
         for path, switch, way in (('/write', 'QA1', 'open'), ('/select', 'QX', 'open'),
                                   ('/select', 'QA1', 'up')):
-            body = json.dumps({'switch': switch, 'way': way})
+            body = self.asked(switch=switch, way=way, page=switch + way)
             _, text = self.ask(pages, 'POST', path, body, X_Panel=pages.token)
             self.assertEqual(json.loads(text)['told'], 'there is no such control')
+
+    def test_a_request_behind_a_later_one(self):
+        """As one that was given up, or that a browser sends twice."""
+        pages = self.serve(True)
+        told = [json.loads(self.ask(pages, 'POST', path, self.asked(number=number),
+                                    X_Panel=pages.token)[1])['told']
+                for path, number in (('/select', 2), ('/operate', 2), ('/operate', 1),
+                                     ('/leave', 5), ('/operate', 4))]
+        self.assertEqual(told, ['there is no connection to the server', 'it was given up',
+                                'it was given up', 'given up', 'it was given up'])
+
+    def test_signs_of_life_and_the_start_of_the_panel(self):
+        pages = self.serve(True)
+        with mock.patch('live.web.BEAT', 0):
+            found = self.events(pages, 'one', 5)
+        self.assertEqual([kind for kind, _ in found], ['start', 'life', '', 'life', 'life'])
+        self.assertEqual(found[0][1], pages.start)
+        self.assertIn(f'data-start="{pages.start}"', self.ask(pages, 'GET', '/')[1])
+        lives = [json.loads(told) for kind, told in found if kind == 'life']
+        self.assertTrue(all(it['silent'] == '' and 0 <= moment() - it['moment'] < 5000
+                            for it in lives), lives)
+        self.assertNotEqual(self.serve(True).start, pages.start)
+
+    def test_more_pages_than_a_browser_has_connections_for(self):
+        pages = self.serve(True)
+        for name in 'abcd':
+            self.assertEqual(self.events(pages, name, 1)[0][0], 'start')
+        (kind, told), = self.events(pages, 'e', 9)
+        self.assertEqual(kind, 'full')
+        self.assertIn('4 pages of this site are open', told)
+        self.assertEqual(self.ask(pages, 'GET', '/state')[0], 200)
+
+    def test_a_page_that_goes_makes_room(self):
+        pages = self.serve(True)
+        with contextlib.ExitStack() as open_ones:
+            host = f'127.0.0.1:{pages.server_address[1]}'
+            for name in range(4):
+                one = open_ones.enter_context(socket.create_connection(pages.server_address, 5))
+                one.sendall(f'GET /events?{name} HTTP/1.1\r\nHost: {host}\r\n\r\n'.encode())
+                self.assertIn(b'200', one.recv(100))
+        until(lambda: self.events(pages, 'e', 1)[0][0] == 'start', 'there is room')
 
     def test_the_events_of_a_page(self):
         watcher = Watcher(FILE, '', '127.0.0.1', 1)

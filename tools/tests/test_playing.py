@@ -47,6 +47,7 @@ magnet_coil = 2
 name = "ES"
 contact = 4
 invert = true
+fault = false
 [[measure]]
 meter = "M1"
 field = "TOTW"

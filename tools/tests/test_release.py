@@ -1,5 +1,6 @@
 """A release: the package and its places, counts of logs, sums; and what the promises rest on."""
 import pathlib
+import re
 import shutil
 import subprocess
 import sys
@@ -10,7 +11,7 @@ TOOLS = pathlib.Path(__file__).resolve().parent.parent
 sys.path.insert(0, str(TOOLS))
 from common.ending import Failed
 from releasing import evidence
-from releasing.package import laid_out, listed, moved, package
+from releasing.package import COMMANDS, laid_out, listed, moved, package
 from tests.tool import Tools
 from tracing.calls import CRATES
 from tracing.definitions import Definition
@@ -43,6 +44,42 @@ class Package(Tools):
         self.assertFalse((self.folder / 'root/usr/share/bayctl/tools/tests').exists())
         for path in (self.folder / 'root/usr/lib/systemd/system').iterdir():
             self.assertNotIn('/usr/local', path.read_text(encoding='utf-8'), path.name)
+
+    def unpacked(self):
+        """The package in a folder of its own."""
+        root = self.folder / 'unpacked'
+        program = self.file('bayctl', '#!/bin/sh\necho load refused 51\nexit 1\n')
+        laid_out(root, pathlib.Path(program))
+        return root / 'usr' / 'bin'
+
+    def test_each_command_runs_from_where_it_is_unpacked(self):
+        """With nothing else of the repository; tools/check has them do what they are for."""
+        commands = self.unpacked()
+        self.assertEqual(sorted(it.name for it in commands.iterdir()),
+                         sorted(['bayctl', *(f'bayctl-{name}' for name in COMMANDS)]))
+        for name in COMMANDS:
+            done = subprocess.run([sys.executable, commands / f'bayctl-{name}', '--help'],
+                                  cwd=self.folder, capture_output=True, text=True, timeout=60)
+            self.assertEqual((done.returncode, done.stderr), (0, ''), name)
+            self.assertIn(f'Usage: bayctl-{name} ', done.stdout)
+
+    def test_an_installed_command_finds_bayctl_on_the_path_and_its_faults(self):
+        commands = self.unpacked()
+        bay = self.file('bay.toml', '[bay]\n')
+        for path, told in ((commands, 'is refused with 51'), ('', 'put bayctl on the path')):
+            done = subprocess.run([sys.executable, commands / 'bayctl-diagnose', '--bay', bay],
+                                  cwd=self.folder, capture_output=True, text=True, timeout=60,
+                                  env={'PATH': str(path)})
+            self.assertIn(told, done.stdout + done.stderr)
+            self.assertNotIn('Traceback', done.stderr)
+
+    def test_the_commands_are_those_of_the_page(self):
+        part = (TOOLS.parent / 'README.md').read_text(encoding='utf-8').partition('## Tools')[2]
+        named = re.findall(r'`tools/(\w+)`', part.partition('| Exit status')[0])
+        self.assertEqual(sorted(named), list(COMMANDS))
+        page = (TOOLS.parent / 'examples/station/README.md').read_text(encoding='utf-8')
+        listed_there = page.partition('    for name in ')[2].partition('\n    do ')[0]
+        self.assertEqual(listed_there.replace('\\', ' ').split(), list(COMMANDS))
 
     def test_tests_are_left_out(self):
         self.assertIn('tools/client', listed('tools'))

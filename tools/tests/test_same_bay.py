@@ -241,11 +241,22 @@ class Panels(unittest.TestCase):
                       [event['told'] for event in watcher.events])
         self.assertTrue(watcher.state['connected'])
 
+    def test_another_bay_has_no_reasons(self):
+        watcher, _ = self.connected(FILE.replace('2000', '9'), True)
+        for differs, told in ((watcher.differs, 'why is not known: another bay is served'),
+                              ([], 'the program does not release it')):
+            watcher.differs, watcher.conditions = differs, {}
+            found = [{'id': 'QA1', 'position': 'closed', 'quality': 'good',
+                      'open': {'free': False}, 'close': {'free': False}}]
+            watcher.explain(found, [])
+            self.assertEqual(found[0]['open']['why'], told)
+
     def test_anyway_and_the_same_bay(self):
         for text, anyway in ((FILE.replace('2000', '9'), True), (FILE, False)):
             watcher, operator = self.connected(text, anyway)
             self.assertEqual(watcher.state['barred'], '')
-            self.assertTrue(operator.act('select', 'QA1', 'open')['good'])
+            operator.page_comes('one')
+            self.assertTrue(operator.act('select', 'QA1', 'open', 'one')['good'])
 
     def test_differences_are_told_once(self):
         watcher, _ = self.connected(FILE.replace('2000', '9'))

@@ -51,10 +51,10 @@ LEAVES = {  # the type that a client sees of a row, by the kind of its value in 
     'Utc': 'utc-time', 'Octets': 'octet-string -64', 'Reference': 'visible-string -129',
     'Text': 'visible-string -255'}
 
-def written(bay, edition=2):
+def written(bay):
     file = tomllib.loads(bay.read_text())
     domain = file['bay']['domain']
-    return text_of(Writer(file, edition).root('TEMPLATE', 'LD0', domain, '127.0.0.1', 10102))
+    return text_of(Writer(file).root('TEMPLATE', 'LD0', domain, '127.0.0.1', 10102))
 
 
 def names(shape):
@@ -92,7 +92,7 @@ class Scl(Tools):
         cases = list(worked())
         self.assertTrue(cases)
         for file, wanted in cases:
-            for words in ([], ['--edition', '1', '--ied', 'BAY']):
+            for words in ([], ['--ied', 'BAY']):
                 found = self.call_tool('scl', self.file('bay.toml', file), *words)
                 self.assertEqual(found.status, 0, found.error)
                 told = Reader(found.out)
@@ -117,22 +117,20 @@ class Scl(Tools):
 
     def test_attributes_are_those_of_the_schema(self):
         for bay in BAYS:
-            for edition in (1, 2):
-                for element in ET.fromstring(written(bay, edition)).iter():
-                    name = Reader.bare(element)
-                    for key, form in NEEDED.get(name, {}).items():
-                        self.assertRegex(element.get(key, 'none'), f'^(?:{form})$', f'{name} {key}')
+            for element in ET.fromstring(written(bay)).iter():
+                name = Reader.bare(element)
+                for key, form in NEEDED.get(name, {}).items():
+                    self.assertRegex(element.get(key, 'none'), f'^(?:{form})$', f'{name} {key}')
 
     def test_elements_stand_in_the_order_of_the_schema(self):
         for bay in BAYS:
-            for edition in (1, 2):
-                root = ET.fromstring(written(bay, edition))
-                self.assertEqual(root.tag, f'{{{NAMESPACE}}}SCL')
-                for element in root.iter():
-                    name = Reader.bare(element)
-                    found = [ORDER[name].index(Reader.bare(child)) for child in element
-                             if Reader.bare(child)]
-                    self.assertEqual(found, sorted(found), f'{bay}: {name}')
+            root = ET.fromstring(written(bay))
+            self.assertEqual(root.tag, f'{{{NAMESPACE}}}SCL')
+            for element in root.iter():
+                name = Reader.bare(element)
+                found = [ORDER[name].index(Reader.bare(child)) for child in element
+                         if Reader.bare(child)]
+                self.assertEqual(found, sorted(found), f'{bay}: {name}')
 
     def test_nodes_have_the_names_that_the_tools_know(self):
         for bay in BAYS:
@@ -157,13 +155,13 @@ class Scl(Tools):
                                                        for element in root.iter()}
             self.assertLessEqual(named - {None}, there)
 
-    def test_editions(self):
-        one, two = (ET.fromstring(written(BAYS[0], edition)) for edition in (1, 2))
-        self.assertIsNone(one.get('version'))
-        self.assertEqual((two.get('version'), two.get('revision')), ('2007', 'B'))
-        classes = [{element.get('cdc') for element in root.iter()} - {None} for root in (one, two)]
-        self.assertIn('INC', classes[0])
-        self.assertIn('ENC', classes[1])
+    def test_the_edition(self):
+        """There is no file for masters of edition 1, whose controls the server refuses."""
+        root = ET.fromstring(written(BAYS[0]))
+        self.assertEqual((root.get('version'), root.get('revision')), ('2007', 'B'))
+        self.assertIn('ENC', {element.get('cdc') for element in root.iter()})
+        found = self.call_tool('scl', BAYS[0], '--edition', '1', '--ied', 'E')
+        self.assertEqual((found.status, found.out), (2, ''))
 
     def test_the_device_keeps_its_name(self):
         bay = BAYS[0]
@@ -174,10 +172,8 @@ class Scl(Tools):
 
     def test_words_that_do_not_fit(self):
         self.assertEqual(self.call_tool('scl', BAYS[0], '--ied', 'OTHER').status, 2)
-        self.assertEqual(self.call_tool('scl', BAYS[0], '--edition', '1').status, 2)
         for words in (['--port', '0'], ['--port', '65536'], ['--address', '1.2.3'],
-                      ['--ied', '5A'], ['--ied', ''], ['--ied', 'E', '--edition', '1', '--address',
-                                                       '::1']):
+                      ['--ied', '5A'], ['--ied', '']):
             found = self.call_tool('scl', BAYS[0], *words)
             self.assertEqual((found.status, found.out, found.error.count('\n')),
                              (2, '', 1), words)
@@ -185,10 +181,8 @@ class Scl(Tools):
 
     def test_ids_are_unique_over_all_kinds(self):
         for bay in BAYS:
-            for edition in (1, 2):
-                templates = Reader(written(bay, edition)).templates
-                ids = [element.get('id') for element in templates]
-                self.assertEqual(len(ids), len(set(ids)))
+            ids = [element.get('id') for element in Reader(written(bay)).templates]
+            self.assertEqual(len(ids), len(set(ids)))
 
     def test_nodes_stand_as_the_device_lists_them(self):
         file = {'switch': [{'id': name, 'kind': kind, 'control': 'status'} for name, kind in (
@@ -209,11 +203,8 @@ class Scl(Tools):
                 self.assertEqual(element.get('valKind'), 'RO' if constraint in ('CF', 'DC')
                                  else None)
 
-    def test_the_port_by_edition(self):
-        one, two = (written(BAYS[0], edition) for edition in (1, 2))
-        self.assertNotIn('type="MMS-Port"', one)
-        self.assertIn('listens on port 10102: edition 1 has no MMS-Port', one)
-        self.assertIn('<P type="MMS-Port">10102</P>', two)
+    def test_the_port(self):
+        self.assertIn('<P type="MMS-Port">10102</P>', written(BAYS[0]))
 
     def test_the_nodes_are_all_of_the_shapes(self):
         self.assertEqual(len(CONTROL_NODES), 4)

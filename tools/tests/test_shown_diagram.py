@@ -1,5 +1,6 @@
 """A single line diagram where a panel and the report of an audit show it."""
 import http.client
+import itertools
 import sys
 import threading
 import unittest
@@ -13,7 +14,7 @@ from auditing.states import MOST, drawn_states, is_released, positions_of, state
 from bay.files import bay_at
 from bay.rules import INPUT, SWITCH
 from diagram.diagram_file import diagram_at
-from diagram.drawing import in_service, usual_positions
+from diagram.drawing import draw, in_service, usual_positions
 from live.web import Pages
 from tests import test_proving
 from tests.loopback import needs_loopback
@@ -65,7 +66,7 @@ class Reports(Tools):
         program.write_text(program.read_text().replace(
             'QA1=11 QC1=11', 'QA1=11 QB1=11 QB9=00 QC1=00 QC9=00').replace('* 40', '* 5000'))
         words = ['audit', bay, bay.with_name('logic.il'), rules, '--bayctl', program]
-        found = self.call_tool(*words, '--report', 'page.html', '--diagram',
+        found = self.call_tool(*words, '--html', 'page.html', '--diagram',
                                bay.with_name('diagram.toml'))
         self.assertEqual(found.status, 1, found)
         page = (self.folder / 'page.html').read_text(encoding='utf-8')
@@ -95,7 +96,7 @@ class Reports(Tools):
         words = ['audit', SINGLE, SINGLE.with_name('logic.il'), SINGLE.with_name('rules'),
                  '--bayctl', self.bayctl(test_proving.LOADED), '--diagram']
         self.assertEqual(self.call_tool(*words, SINGLE.with_name('diagram.toml')).status, 2)
-        found = self.call_tool(*words, LINE.with_name('diagram.toml'), '--report', 'page.html')
+        found = self.call_tool(*words, LINE.with_name('diagram.toml'), '--html', 'page.html')
         self.assertEqual((found.status, found.error.count('\n')), (1, 1))
         self.assertFalse((self.folder / 'page.html').exists())
 
@@ -113,12 +114,25 @@ class Panels(Tools):
         self.assertEqual(found['TA1'].get('class'), 'other unknown')
         for name, it in found.items():
             self.assertEqual([word.text for word in it.iter(f'{SVG}text')
-                              if word.get('class') in ('query', 'told') and word.text],
-                             ['?', 'not known'] if name in own else [], name)
+                              if word.get('class') != 'id' and word.text],
+                             ['?', 'not known'] + ['another bay'] * (name not in own), name)
         for it in found.values():
             self.assertEqual([word.get('class') for word in it.findall(f'{SVG}text')],
                              ['id', 'told', 'frees', 'more'])
         self.assertNotIn('frees', self.picture())
+
+    def test_no_box_of_a_switch_reaches_into_another(self):
+        """What a box is drawn over is hidden where its switch is selected, and can't be clicked."""
+        for path in EXAMPLES:
+            net = diagram_at(path.with_name('diagram.toml'), bay_at(path)[1])
+            found = groups(draw(net, '', is_live=True))
+            boxes = {name: [float(it.find(f'{SVG}rect').get(key))
+                            for key in ('x', 'y', 'width', 'height')]
+                     for name, it in found.items()}
+            for (one, (x, y, wide, high)), (other, (left, top, width, height)) in (
+                    itertools.combinations(boxes.items(), 2)):
+                self.assertFalse(x < left + width and left < x + wide and y < top + height
+                                 and top < y + high, f'{path.parent.name}: {one}, {other}')
 
     def test_words_that_do_not_fit(self):
         found = self.call_tool('panel', '--bay', LINE, 1, '--diagram',

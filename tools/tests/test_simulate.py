@@ -233,7 +233,7 @@ class Supervised(Simulations):
         with tempfile.NamedTemporaryFile('w') as key:
             key.write('0123456789abcdefABCDEF0123456789\n')
             key.flush()
-            file, _, first = self.greeted(60_000, '--key', key.name)
+            file, _, first = self.greeted(60_000, '--process-key', key.name)
         self.assertEqual(self.parted(first[0])[1], 'bay 0123456789abcdefABCDEF0123456789 E1 2 b')
         file.close()
         said = self.waits_for('contact QA1 1')
@@ -342,10 +342,10 @@ class Clocks(unittest.TestCase):
 class Waiting(Tools):
     """What it says while nobody takes it."""
 
-    def running(self, port):
+    def running(self, port, *words):
         with interruptible():
             run = Running(sys.executable, '-B', TOOLS / 'simulate', self.file('bay', BAY),
-                          '--process', port, stdin=subprocess.PIPE)
+                          '--process', port, *words, stdin=subprocess.PIPE)
         self.addCleanup(run.__exit__)
         return run
 
@@ -383,13 +383,37 @@ class Waiting(Tools):
                           f'{port} is not that of a process: is it that of the clients?\n')
             self.assertNotIn('connected', run.printed())
 
+    def test_a_server_with_another_key_or_with_one(self):
+        """It ends the connection without a word: the reason is told once, and no `connected`."""
+        key = self.file('key', '0123456789abcdef' * 2)
+        for words, told in ((['--key', key], 'no server there has the key of --process-key'),
+                            ([], 'no server there takes a process without --process-key')):
+            with socket.create_server(('127.0.0.1', 0)) as server:
+                run = self.running(server.getsockname()[1], *words)
+                for _ in range(3):
+                    connection, _ = server.accept()
+                    connection.sendall(GREETING.format(500).encode())
+                    self.assertIn(b' bay ', connection.recv(4096))
+                    connection.close()
+                connection, _ = server.accept()
+                said = run.waits_for(told)
+                self.assertEqual((said.count('ended the connection'), said.count(' bay ')), (1, 1))
+                self.assertNotIn('connected', said)
+                connection.sendall(GREETING.format(60_000).encode())
+                connection.recv(4096)
+                connection.sendall(b'5001 alive\n')
+                run.waits_for('connected')
+                connection.close()
+                run.waits_for('the connection was ')
+                self.assertEqual(run.printed().count('connected'), 1)
+
     def test_statuses(self):
         bay = self.file('bay', BAY)
         short, long = self.file('short', 'a' * 31), self.file('long', 'a' * 64 + '\n\n')
         for words, status in ((['--at', 'QX=open'], 2), (['--at', 'QA1=ajar'], 2),
                               (['--travel', 'nan'], 2), (['--process', '0'], 2), (['--once'], 3),
-                              (['--oldest', '-1'], 2), (['--key', 'absent'], 3),
-                              (['--key', short], 3), (['--key', long], 3)):
+                              (['--oldest', '-1'], 2), (['--process-key', 'absent'], 3),
+                              (['--process-key', short], 3), (['--process-key', long], 3)):
             found = self.call_tool('simulate', bay, '--process', free_port(), *words)
             self.assertEqual((found.status, found.error.count('\n'), found.out), (status, 1, ''))
 

@@ -16,7 +16,7 @@ from bay.files import BadFile
 from common.ending import CalledWrong
 from overview.bays import all_of, settings_of
 from overview.following import Follower, Journal
-from overview.gathering import Station, process_told
+from overview.gathering import Station
 from overview.pages import StationPages
 from tests.loopback import needs_loopback
 from tests.test_client import Bay as Server, served
@@ -174,17 +174,6 @@ class Journals(Tools):
             self.assertEqual(found, f'the journal can\'t be read: {program}: {told}')
 
 
-class Positions(unittest.TestCase):
-    def test_what_they_say_of_the_process(self):
-        def told(*pairs):
-            return process_told([{'position': a, 'quality': b} for a, b in pairs])
-
-        bad, good = ('bad', 'invalid'), ('open', 'good')
-        self.assertEqual(told(bad, bad), 'every position is bad: its process is lost')
-        self.assertEqual(told(('intermediate', 'invalid')), 'no position is known yet')
-        self.assertEqual((told(bad, good), told(good), told()), ('', '', ''))
-
-
 @needs_loopback
 class Stations(Tools):
     """Bays with servers, without one, and with another one's."""
@@ -224,14 +213,18 @@ class Stations(Tools):
         self.assertIn('QA1 is closed', [it['told'] for it in found[0]['moves']])
 
     def test_a_process_that_is_lost(self):
-        model = Model(FILE)
-        station = self.station((FILE, model))
+        text = FILE.partition('[[meter]]')[0]
+        model = Model(text)
+        station = self.station((text, model))
         self.until(station, lambda it: it[0]['switches'], 'it is read')
         for row, value in model.rows.items():
             if row.endswith('$ST$Pos') and row.startswith('CSWI'):
                 value.value[0].value, value.value[1].value = '11', '01' + '0' * 11
         found = self.until(station, lambda it: it[0]['process'], 'it is told')
-        self.assertEqual(found[0]['process'], 'every position is bad: its process is lost')
+        self.assertRegex(found[0]['process'],
+                         '^every position is bad: the process is lost, since ')
+        self.assertFalse(any(it[way]['free'] for it in found[0]['switches']
+                             for way in ('open', 'close')))
         self.assertEqual(found[0]['moves'][-1]['told'], 'QC1 is bad (invalid)')
 
     def test_another_bay(self):
@@ -320,7 +313,7 @@ class Stations(Tools):
         with socket.create_connection(('127.0.0.1', port), 5) as one:
             one.sendall(f'GET /events HTTP/1.1\r\nHost: 127.0.0.1:{port}\r\n\r\n'.encode())
             with one.makefile() as lines:
-                states = (json.loads(line[6:]) for line in lines if line.startswith('data: '))
+                states = (json.loads(line[6:]) for line in lines if line.startswith('data: {"now"'))
                 first = next(it for it in states if it['bays'][0]['switches'])
                 later = next(it for it in states if it['bays'][0]['read'] > first['now'])
         self.assertEqual(later['bays'][0]['moves'], first['bays'][0]['moves'])

@@ -272,6 +272,7 @@ class Panels(unittest.TestCase):
             self.assertEqual(watcher.state['told'],
                              f'connected to port {port} of O=Station A, CN=bay')
             operator = Operator(watcher)
+            operator.page_comes('p')
             operator.act('select', 'QB1', 'close', 'p')
             self.assertTrue(operator.act('operate', 'QB1', 'close', 'p')['good'])
         self.assertEqual(model.idents, {b'operator'})

@@ -30,7 +30,7 @@ VALUES = {
         'TimeoutStartSec': TIME,
         'RestartPreventExitStatus': r'\d( \d)*', 'SuccessExitStatus': r'\d+',
         'SyslogIdentifier': r'%p(@%i)?', 'SyslogLevel': 'info|notice', 'SyslogLevelPrefix': NO,
-        'User': r'\w+', 'Group': r'\w+', 'SupplementaryGroups': r'[\w-]+',
+        'User': r'[\w-]+', 'Group': r'[\w-]+', 'SupplementaryGroups': r'[\w-]+',
         'TemporaryFileSystem': '/etc/bayctl:ro', 'BindReadOnlyPaths': '/etc/bayctl/%i',
         'RestrictAddressFamilies': r'AF_\w+( AF_\w+)*', 'IPAddressDeny': 'any',
         'IPAddressAllow': r'localhost( [\d.]+/\d+)*', 'SocketBindDeny': r'any|ipv6',
@@ -109,7 +109,8 @@ class Units(Tools):
 
     def test_each_service_starts_again_and_with_the_machine(self):
         self.assertEqual([unit.name for unit in services()], [
-            'bayctl@.service', 'driver@.service', 'station.service', 'tls@.service'])
+            'bayctl-driver@.service', 'bayctl-station.service', 'bayctl-tls@.service',
+            'bayctl@.service'])
         for unit in services():
             self.assertEqual((unit.one('Restart'), unit.one('RestartSec')), ('always', '1'))
             for key, section in (('StartLimitIntervalSec', 'Unit'), ('PartOf', 'Unit'),
@@ -120,7 +121,7 @@ class Units(Tools):
 
     def test_the_driver_and_the_door_stop_before_the_server_and_the_network(self):
         """They do not start it: a server whose file is refused would be started with each."""
-        for name in ('driver@.service', 'tls@.service'):
+        for name in ('bayctl-driver@.service', 'bayctl-tls@.service'):
             unit = Entries(STATION / name)
             self.assertEqual(unit.one('After', 'Unit').split(),
                              ['bayctl@%i.service', 'network.target'])

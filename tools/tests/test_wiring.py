@@ -41,6 +41,7 @@ magnet_coil = 2
 [[input]]
 name = "ES"
 contact = 2
+fault = false
 [[measure]]
 meter = "M1"
 field = "AA"
@@ -130,6 +131,10 @@ WRONG = [
      put('contact = 2', 'contact = 2000')),
     ('input 1: the bay has no input EX', put('name = "ES"', 'name = "EX"')),
     ('input ES: contact is missing', put('contact = 2', '')),
+    ('line 20: input ES: fault is missing: write true or false, the value that blocks: the server '
+     'is told it while the module is not heard', put('fault = false\n', '')),
+    ('line 23: input ES: fault is 0: write true or false, the value', put('fault = false',
+                                                                         'fault = 0')),
     ('input ES: invert is 1: write true or false', put('contact = 2', 'contact = 2\ninvert = 1')),
     ('input ES of the bay is not wired: .* or name "ES" in not_wired', without('input')),
     ('measure M1 AA of the bay is not wired: .* or name "M1 AA"', without('measure')),
@@ -208,7 +213,9 @@ class Samples(unittest.TestCase):
     def test_what_blocks_is_told_first(self):
         told = [(('contact', 'A'), OPEN), (('input', 'OK'), 0), (('measure', 'M', 'AA'), 5),
                 (('contact', 'B'), BAD), (('input', 'E'), 1), (('input', 'OK'), 1)]
-        self.assertEqual([rank(*one, {'OK'}) for one in told], [3, 0, 2, 1, 3, 4])
+        self.assertEqual([rank(*one, {'OK'}, ()) for one in told], [3, 0, 2, 1, 3, 4])
+        told = [(('input', name), value) for name in ('TRIP', 'ES') for value in (0, 1)]
+        self.assertEqual([rank(*one, (), {'TRIP'}) for one in told], [3, 1, 1, 3])
 
     def measure(self, more, registers):
         text = put('type = "int16"', more)
@@ -247,6 +254,17 @@ class Samples(unittest.TestCase):
         found = sampled.take(bits, {0: 0}, 1)
         self.assertEqual((found['contact', 'QA1'], found['input', 'ES']), (OPEN, 1))
         self.assertTrue(sampled.is_remote(module.switches[0]))
+
+    def test_an_input_that_blocks_while_it_is_true(self):
+        """TRUE counts at once, FALSE once it has stood; and it is TRUE of a lost module."""
+        module, = wiring_of(put('fault = false', 'fault = true\ndebounce_ms = 20'), BAY, MODBUS)
+        sampled, bits = Sampled(module), dict.fromkeys(range(7), False)
+        point = 'input', 'ES'
+        self.assertEqual(sampled.forget()[point], 1)
+        for at, is_on, told in ((0, False, 1), (0.01, False, 1), (0.02, False, 0), (0.03, True, 1),
+                                (0.04, False, 1), (0.07, False, 0)):
+            self.assertEqual(sampled.take(bits | {2: is_on}, {0: 0}, at)[point], told, at)
+        self.assertEqual(sampled.forget()[point], 1)
 
     def test_a_counter_that_stands(self):
         module, = wiring_of(put('alive = "OK"', 'alive = "OK"\ncounter = 5'), BAY, MODBUS)
@@ -293,6 +311,13 @@ id = "M1"
                      '1 module, 2 switches, 1 input, 1 measure: 10 terminals; on none: M1 TOTW, M1 '
                      'TOTVAR, M1 HZ, M1 AB, M1 AC'):
             self.assertIn(line, found.out)
+
+    def test_inputs_of_a_lost_module(self):
+        for value, frees, lost in (('true', 'FALSE', 'TRUE'), ('false', 'TRUE', 'FALSE')):
+            text = put('fault = false', f'fault = {value}')
+            found = self.call_tool('modbus', *self.wired(text), '--check')
+            self.assertIn(f'input ES: TRUE at 1, {frees} counts once it has stood for 20 ms; '
+                          f'{lost} while the module is not heard', found.out)
 
     def test_the_page(self):
         found = self.call_tool('modbus', *self.wired(), '--check', '--html', 'page.html')

@@ -3,7 +3,6 @@ the prover says of them."""
 import itertools
 import os
 import pathlib
-import re
 import sys
 import unittest
 from unittest import mock
@@ -157,10 +156,10 @@ class Reached(unittest.TestCase):
 
     def test_what_cites_it(self):
         self.assertEqual(list(itertools.islice(citing(only('selection_at')), 2)),
-                         ['bay_services', 'bay_device'])
+                         ['bay_mms_services', 'bay_device'])
         matched = definitions_in(DECISIONS.with_name('Backing.antt'))['IsMatched']
         self.assertEqual(list(itertools.islice(citing(matched), 2)),
-                         ['bay_device', 'bay_example_laws'])
+                         ['bay_device', 'bay_device_example_laws'])
 
 
 class Answers(unittest.TestCase):
@@ -192,7 +191,7 @@ class Answers(unittest.TestCase):
         self.assertEqual(found.goal, '`one`: has no field `x` (a proof names what went)')
 
     def test_a_library_that_is_built_first(self):
-        for name, verdict in (('bay_services', BROKEN), ('bay_tree', UNKNOWN)):
+        for name, verdict in (('bay_mms_services', BROKEN), ('bay_tree', UNKNOWN)):
             found = self.answer('proofs/One.antt:3:1: error: a goal', f'rt: the library {name} did '
                                 'not build, so nothing above it was checked', crate='bay_device')
             self.assertEqual((found.crate, found.verdict), (name, verdict))
@@ -218,21 +217,21 @@ class Laws(Tools):
         backed = definitions_in(DECISIONS.with_name('Backing.antt'))['IsBacked']
         (crate, laws), *further = laws_on(backed)
         self.assertEqual((crate, laws[0].title), (
-            'bay_example_laws', 'a_select_with_value_backs_what_it_asked_for'))
+            'bay_device_example_laws', 'a_select_with_value_backs_what_it_asked_for'))
         self.assertEqual(further[0][0], 'bay_control')
 
     def test_crates_up_to_the_law_are_sources(self):
-        self.assertEqual(all_below('bay_output'), ('bay_io', 'bay_lines'))
+        self.assertEqual(all_below('bay_stdio'), ('bay_io', 'bay_lines'))
         with mock.patch('anchoring.laws.copy_of'), mock.patch('anchoring.laws.kit',
                                                               return_value='/kit'):
             room = Room(self.folder)
-            for it in all_below('bay_example_laws'):
+            for it in all_below('bay_device_example_laws'):
                 room.library(it).mkdir(parents=True)
-            words = room.words('bay_control', 'bay_example_laws')
+            words = room.words('bay_control', 'bay_device_example_laws')
         taken = {kind: [it.partition('=')[0].partition(':')[0]
                         for flag, it in itertools.pairwise(words) if flag == kind]
                  for kind in ('--lib', '--extern')}
-        self.assertEqual(taken['--lib'], ['bay_control', 'bay_services', 'bay_device'])
+        self.assertEqual(taken['--lib'], ['bay_control', 'bay_mms_services', 'bay_device'])
         self.assertLessEqual({'std', 'toml', 'bay_tree', 'bay_ber'}, set(taken['--extern']))
         self.assertFalse(set(taken['--lib']) & set(taken['--extern']))
 
@@ -241,9 +240,9 @@ class Laws(Tools):
         clause = ('./proofs/laws/a_law/Answers.antt:4:5: error: 1 declaration that depends on '
                   '`one`, which was not admitted, was not checked: returns-clause-over\n')
         for printed, at in ((goal + clause, 'a_law/over'), (goal, 'proofs/One.antt')):
-            self.assertEqual(answer_of('bay_example_laws', 1, printed, ('bay_example_laws',)),
-                             Answer(BROKEN, ('bay_example_laws',), 'bay_example_laws', at,
-                                    '`one`: two types differ'))
+            laws = 'bay_device_example_laws'
+            self.assertEqual(answer_of(laws, 1, printed, (laws,)),
+                             Answer(BROKEN, (laws,), laws, at, '`one`: two types differ'))
         spoilt = answer_of('a', 1, '/x/crates/low/specs/Y.antt:3:1: error: no field\n' + goal, ())
         self.assertEqual((spoilt.verdict, spoilt.crate, spoilt.at), (UNREAD, 'low', 'specs/Y.antt'))
         self.assertEqual(answer_of('a', -1, 'it took long', ()).verdict, UNKNOWN)

@@ -197,6 +197,7 @@ def cited(call: Call, labels: frozenset[str] = frozenset()) -> tuple[Named, ...]
     return tuple(scope_of_call(call).named('\n'.join(texts)))
 
 
+@functools.cache
 def below(named: Named) -> list[Named]:
     """The definitions that a definition names itself."""
     return [it for it in scope_of(named).named(named.text) if it != named]

@@ -9,9 +9,9 @@ from .promises import Promise, borne_by, promises
 
 STANDS_ON = re.compile(r'^(\w+)(?: staticlib)?:(.*)$', re.M)
 JUDGED = {
-    'bay_output Descriptor::new': 'the program calls it; what the system takes of a descriptor is '
+    'bay_stdio Descriptor::new': 'the program calls it; what the system takes of a descriptor is '
                                   'tested',
-    'bay_output Descriptor::stop_waiting': 'the program calls it, where nobody reads any more; '
+    'bay_stdio Descriptor::stop_waiting': 'the program calls it, where nobody reads any more; '
                                            'what the system then does is tested',
     'bay_tree is_tree': 'cases ask it of rows; of a bay it is proved'}
 

@@ -17,21 +17,22 @@ NO_LAW = {
     'bay_device Device::step': '`operates`, `fresh`, `means`, `halts` and `leads` say what the '
                                'outcome comes to by events, answers and what programs mean',
     'bay_device Device::switch': OWN_WORDS + 'the place of an id, and the id at a place',
-    'bay_files write_whole': OWN_WORDS + 'tries in their order, up to the first that does not find '
-                             'its name taken',
+    'bay_files write_atomically': OWN_WORDS + 'tries in their order, up to the first that does '
+                                  'not find its name taken',
     'bay_io WatchedReader::new': OWN_WORDS + 'the calls on the source or sink, in their order',
     'bay_io WatchedWriter::put': OWN_WORDS + 'the calls on the sink, in their order',
     'bay_io WatchedWriter::log': OWN_WORDS + 'one call of the sink with the line, or none',
     'bay_io read_all': OWN_WORDS + 'what the reads gave, in order, up to an end',
-    'bay_main Ended::of': OWN_WORDS + 'a status for each answer',
-    'bay_output Output::new': OWN_WORDS + 'what each call leaves written, and what waits',
-    'bay_replay replay_watched': OWN_WORDS + 'what the reads gave, and what the writes took',
-    'bay_report tell_unread': OWN_WORDS + 'the words of the line, and what is printed',
-    'bay_serve serve_turn': 'it speaks of refusals alone; what a turn does has its laws in '
-                            'bay_serve_laws',
-    'bay_words task_of': OWN_WORDS + 'a job for each command line',
+    'bay_main CommandResult::of': OWN_WORDS + 'a status for each answer',
+    'bay_stdio Output::new': OWN_WORDS + 'what each call leaves written, and what waits',
+    'cmd_replay run_replay': OWN_WORDS + 'what the reads gave, and what the writes took',
+    'bay_report report_unread': OWN_WORDS + 'the words of the line, and what is printed',
+    'bay_server_turn serve_turn': 'it speaks of refusals alone; what a turn does has its laws '
+                                  'in bay_server_turn_laws',
+    'bay_cli task_of': OWN_WORDS + 'a job for each command line',
     'il_compile compile': '`follows` is the law of `image` and `tabled`: the code does what the '
-                          'program means by its structure; il_laws adds the standard\'s tables',
+                          'program means by its structure; il_standard_laws adds the '
+                          'standard\'s tables',
     'il_image decode': OWN_WORDS + 'the octets that stand before a lack of memory',
     'il_range scan_ranges': OWN_WORDS + 'each scan of the machine\'s own definition stays within '
                             'what is answered',
@@ -45,15 +46,14 @@ NO_LAW = {
 DEFINITIONS = 'it is about definitions alone: `tools/wrong_definitions` changes these'
 NO_EDIT = {
     'bay_device Device::step: sure': 'no body can choose without octets: the call has no allocator',
-    'bay_example_laws a_select_backs_its_own_operate': DEFINITIONS,
-    'bay_rules conditions_have_truths': 'it is about conditions as they are read; the edits of '
-                                        'reading are at `read_rules`',
-    'bay_serve Server::new': 'its clause has the whole value, a device and eight empty queues, and '
-                             'no edit is spent on it',
-    'bay_serve_laws queues_stay_in_their_room': 'a queue is a buffer whose room is part of its '
-                                                'type, so no body can exceed it; the edits of '
-                                                'closings are at the turns',
-    'bay_rule_laws the_last_scan_releases_a_command': DEFINITIONS,
+    'bay_device_example_laws a_select_backs_its_own_operate': DEFINITIONS,
+    'bay_audit_rules conditions_have_truths': 'it is about conditions as they are read; the '
+        'edits of reading are at `read_rules`',
+    'bay_server_turn Server::new': 'its clause has the whole value, a device and eight empty '
+                                   'queues, and no edit is spent on it',
+    'bay_server_turn_laws queues_stay_in_their_room': 'a queue is a buffer whose room is part '
+        'of its type, so no body can exceed it; the edits of closings are at the turns',
+    'cmd_audit_laws the_last_scan_releases_a_command': DEFINITIONS,
     'il_compile programs_have_a_meaning': DEFINITIONS}
 
 

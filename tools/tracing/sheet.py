@@ -4,8 +4,8 @@ import itertools
 import os
 import pathlib
 import re
-import subprocess
 
+from common import page_head
 from common.texts import counted
 
 from . import changed, inner, lacking, refusals, shown, standards
@@ -13,7 +13,7 @@ from .calls import CRATES, TOP, Call, crates
 from .definitions import NAMED, Declared, Named, Scope, below, cited, scope_of, scope_of_call
 from .edits import Edit, broken, laws_about, obeying, refused_of
 from .marked import inline, section
-from .promises import Borne, Promise, borne_by, promises
+from .promises import PAGES, Borne, Promise, borne_by, promises
 
 STYLE = '''
 body { font: 15px/1.45 Verdana, "DejaVu Sans", Helvetica, Arial, sans-serif; color: #1a1a1a;
@@ -21,7 +21,11 @@ body { font: 15px/1.45 Verdana, "DejaVu Sans", Helvetica, Arial, sans-serif; col
 h1 { font-size: 1.6em } h2 { border-bottom: 1px solid #999; margin-top: 2em } h3 { font-size: 1em }
 pre { background: #f6f6f4; padding: .5em .8em; overflow-x: auto; margin: .3em 0 }
 code, pre { font-family: "DejaVu Sans Mono", Consolas, monospace; font-size: .93em }
-table { border-collapse: collapse; margin: .5em 0 } th, td { text-align: left; vertical-align: top;
+table { border-collapse: collapse; margin: .5em 0; display: block; max-width: 100%;
+  overflow-x: auto }
+td pre { white-space: pre-wrap }
+.promise, .definition { content-visibility: auto; contain-intrinsic-size: auto 12em }
+th, td { text-align: left; vertical-align: top;
   padding: .2em .8em .2em 0; border-bottom: 1px solid #ddd }
 .promise { border: 1px solid #bbb; border-radius: 4px; padding: .2em 1em .6em; margin: 1em 0 }
 .promise > p:first-child { font-weight: bold } .kind { color: #555; margin: .8em 0 .2em }
@@ -43,7 +47,6 @@ FIRST = {
     'No program and no image goes wrong': 'P-138',
     'No octets crash the device or change what the process told': 'P-134',
     'A request is read in one way': 'P-137'}
-LINES_A_MINUTE = 20
 LEAD = '''<p>For each promise of README, PROVED and SECURITY this page shows the clauses that carry
 it, the laws, the wrong bodies that the prover refuses, and the cases that show it. In a clause and
 in a definition the names are links to their definitions, which stand at the end of the
@@ -58,11 +61,20 @@ break this one too. The gate tries some; <code>tools/wrong_bodies</code> tries t
 <li><b>Cases.</b> They are run in each gate.</li></ul>'''
 
 
-def commit() -> str:
-    """The commit that the page is of."""
-    done = subprocess.run(('git', 'log', '-1', '--format=%h of %as'), cwd=TOP, capture_output=True,
-                          text=True)
-    return done.stdout.strip() or 'no commit'
+def sources_read() -> list[page_head.Source]:
+    """The documents whose promises the page has, and all sources of the crates as one."""
+    found = [page_head.source_at('Page of promises', it) for it in PAGES]
+    kinds = {'.rt', '.antt', '.edit', '.txt', '.toml'}
+    crate_files = (it for it in CRATES.rglob('*') if it.is_file() and not it.is_symlink()
+                   and (it.suffix in kinds or it.name == 'stdin')
+                   and 'out' not in it.relative_to(CRATES).parts)
+    return [*found, page_head.source_of_many('Crates', crate_files)]
+
+
+def head(about: list[tuple[str, str]]) -> str:
+    """The head of a page: its time, this machine, the sources, the commit."""
+    moment = page_head.moment_told(page_head.now())
+    return '\n'.join(page_head.head('trace', moment, about, sources_read()))
 
 
 class Sheet:
@@ -155,7 +167,7 @@ class Sheet:
             '</div>'))
 
     def first(self) -> str:
-        """The first screen: what a buyer asks for, and how long it takes to understand."""
+        """The first screen: what a buyer asks for, and on how much it rests."""
         by_id = {it.id: borne for it, borne in self.borne.items()}
         rows = []
         for words, known in FIRST.items():
@@ -163,12 +175,11 @@ class Sheet:
             lines = sum(it.text.count('\n') + 1 for it in found)
             rows.append(f'<tr><td><a href="#{known}">{html.escape(words)}</a></td><td>{known}</td>'
                         f'<td>{counted(len(found), "definition")}, {counted(lines, "line")}</td>'
-                        f'<td>{time_for(lines)}</td></tr>')
+                        '</tr>')
         return ('<h2>What a buyer asks for</h2><table><tr><th>Promise</th><th>Id</th><th>It rests '
-                f'on</th><th>To understand it</th></tr>{"".join(rows)}</table><p class="quiet">'
-                'What a promise rests on is each definition that its clauses name, with those that '
-                'these name, and so on; all of them stand below. One who reads '
-                f'{LINES_A_MINUTE} lines of them a minute understands it in this time.</p>')
+                f'on</th></tr>{"".join(rows)}</table><p class="quiet">What a promise rests on is '
+                'each definition that its clauses name, with those that these name, and so on; all '
+                'of them stand below.</p>')
 
     def inner(self) -> str:
         """The public clauses that belong to no promise, by call, with the promise they serve."""
@@ -220,12 +231,13 @@ class Sheet:
         listed = sorted(self.listed, key=lambda it: (it.crate, it.name))
         parts = {it: part for it in crates() if (part := self.crate(it, listed))}
         links = [f'<a href="#crate-{it}">{it}</a>' for it in parts]
-        counts = f'{counted(len(self.borne), "promise")}, {counted(len(listed), "definition")}'
+        about = [('It has', f'{counted(len(self.borne), "promise")}, '
+                            f'{counted(len(listed), "definition")}')]
         return ''.join((
             '<!DOCTYPE html><html lang="en"><meta charset="utf-8">'
             '<meta name="viewport" content="width=device-width"><title>From a promise to its '
             f'proof</title><style>{STYLE}</style><h1>From a promise to its proof</h1>{LEAD}'
-            f'<p class="quiet">Commit {commit()}; {counts}.</p>{self.first()}<ul>{"".join(told)}'
+            f'{head(about)}{self.first()}<ul>{"".join(told)}'
             '<li><a href="#inner">Inner clauses</a></li>'
             '<li><a href="#changed">Definitions that were changed</a></li>'
             '<li><a href="#definitions">Definitions</a></li></ul><details><summary>How to read '
@@ -279,7 +291,7 @@ class StandardSheet(Sheet):
             'stands under the clauses that the comment above it names, or else the heading above '
             'it, or the head of its file. Those of our own stand last, with what they are for. In '
             f'these crates each says what it is:</p>{self.counts()}'
-            f'<p class="quiet">Commit {commit()}.</p>', *body, '<h2>Definitions</h2>',
+            f'{head([])}', *body, '<h2>Definitions</h2>',
             *(self.crate(it, listed) for it in crates()), '</html>\n'))
 
 
@@ -308,12 +320,6 @@ def rests_on(borne: Borne) -> list[Named]:
     """The definitions that a promise rests on: what its clauses cite, and all below."""
     return closure([it for call, labels in borne.calls.items()
                     for it in cited(call, frozenset(labels))])
-
-
-def time_for(lines: int) -> str:
-    """How long one reads so many lines of definitions."""
-    minutes = max(5, 5 * round(lines / LINES_A_MINUTE / 5))
-    return f'{minutes} minutes' if minutes < 120 else f'{round(minutes / 60)} hours'
 
 
 def mark(promise: Promise) -> str:

@@ -8,7 +8,7 @@ import re
 from .calls import CRATES, TOP
 from .promises import Promise, borne_by, promises
 
-PLACES = ('crates/layer_cases/stdin', 'crates/bayctl_cases/stdin', 'crates/bay_tests/src/*.rt',
+PLACES = ('crates/layer_cases/stdin', 'crates/bayctl_cases/stdin', 'crates/bayctl_tests/src/*.rt',
           'tools/checking/*.py', 'bench/speed/allocations', 'bench/trials/faults')
 SHOWS = re.compile(r'^(?:#|//|== note) Shows (P-\d{3}(?:, P-\d{3})*)\.$')
 TITLE = re.compile(r'^(?:# (?!Shows )|== note (?!Shows )|== (?=report|eight|hostile|bay'

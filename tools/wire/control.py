@@ -10,7 +10,8 @@ from .mms import Failure
 STATUS_ONLY, SELECTED, ENHANCED = 0, 2, 4  # control models: never operated, and selected first
 WAYS = {'close': True, 'open': False}
 ENDS = {True: '10', False: '01'}  # the positions to which an operate leads
-INTERMEDIATE, GOOD, EVERY = '00', '00', 0.1  # seconds between two looks at a position
+INTERMEDIATE, BAD, GOOD = '00', '11', '00'  # positions, and a quality
+EVERY = 0.1  # seconds between two looks at a position
 
 
 @dataclass
@@ -111,8 +112,9 @@ class Control:
         return True
 
     def state(self, on: bool) -> str:
-        """What can be known of a refused open or close: where the switch is, what its
-        interlocking allows, and which other switch moves. Nothing where the server doesn't tell."""
+        """What can be known of a refused open or close: that the process is lost, or where the
+        switch is, what its interlocking allows, and which other switch moves. Nothing where the
+        server doesn't tell."""
         cilo = 'CILO' + self.node.removeprefix('CSWI')
         wanted = {f'{self.node}$ST$Pos$stVal': mms.BITS, f'{cilo}$ST$EnaOpn$stVal': mms.BOOLEAN,
                   f'{cilo}$ST$EnaCls$stVal': mms.BOOLEAN}
@@ -121,19 +123,22 @@ class Control:
             return ''
         position, opened, closed = (self.client.typed(item, value, wanted[item])
                                     for item, value in found)
+        others = self.others()
+        if position == BAD and others and all(bits == BAD for bits, _ in others.values()):
+            return words.PROCESS_LOST
         ways = [f'may {"" if free else "not "}be {way}'
                 for way, free in (('opened', opened), ('closed', closed))]
         there = ' already' if position == ENDS[on] else ''
         told = f'{self.name} is {words.POSITIONS[position]}{there}, {" and ".join(ways)}'
-        others = self.moving()
-        return told + (f'; still moving: {", ".join(others)}' if others else '')
+        moving = [name for name, found in others.items() if found == (INTERMEDIATE, GOOD)]
+        return told + (f'; still moving: {", ".join(moving)}' if moving else '')
 
-    def moving(self) -> list[str]:
-        """The other switches whose position is intermediate, by what they themselves report: before
-        its first report a switch is intermediate and its quality invalid."""
+    def others(self) -> dict[str, tuple[str, str]]:
+        """The positions of the other switches with their validities: before its first report a
+        switch is intermediate and its quality invalid."""
         nodes = [name for name in self.client.names() if '$' not in name
                  and name.startswith('CSWI') and name != self.node]
         items = [f'{node}$ST$Pos${part}' for node in nodes for part in ('stVal', 'q')]
-        found = [getattr(value, 'value', '') for _, value in self.client.read(items)]
-        return [self.client.bay.switch(node) for at, node in enumerate(nodes)
-                if found[2 * at] == INTERMEDIATE and str(found[2 * at + 1])[:2] == GOOD]
+        found = [str(getattr(value, 'value', '')) for _, value in self.client.read(items)]
+        return {self.client.bay.switch(node): (found[2 * at], found[2 * at + 1][:2])
+                for at, node in enumerate(nodes)}

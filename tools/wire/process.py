@@ -100,6 +100,7 @@ class ServerClock:
 
     def __init__(self, moment: int) -> None:
         self.moment, self.since = moment, time.monotonic()
+        self.stamped = 0
 
     def passed(self) -> float:
         """The milliseconds since the last line."""
@@ -116,6 +117,14 @@ class ServerClock:
     def at(self, then: float) -> int:
         """The server's time at a moment of the monotonic clock."""
         return self.moment + math.floor((then - self.since) * 1000)
+
+    def stamp(self, then: float | None = None) -> int:
+        """The time of the next line that is sent, of what was so at this moment or is so now. It is
+        never before that of the last line, also where a line of the server turned the clock
+        back."""
+        moment = self.now() if then is None else self.at(then)
+        self.stamped = max(self.stamped, moment)
+        return self.stamped
 
 
 class Life:

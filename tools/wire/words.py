@@ -18,6 +18,7 @@ ADD_CAUSES = {
     23: 'abortion by communication loss', 24: 'blocked by command',
     25: 'none', 26: 'inconsistent parameters', 27: 'locked by other client'}
 HERE = {9: 'the process is lost'}  # the one thing that a cause comes of in bayctl
+PROCESS_LOST = 'every position is bad: the process is lost'
 ACCESS_ERRORS = {0: 'object invalidated', 1: 'hardware fault', 2: 'temporarily unavailable',
                  3: 'object access denied', 4: 'object undefined',
                  5: 'invalid address', 6: 'type unsupported', 7: 'type inconsistent',

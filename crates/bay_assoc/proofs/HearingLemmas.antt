@@ -2,16 +2,16 @@
 use Rattle.std.proofs.Common.{◌≡◌, ℕ, Bool, true, false, cond, List, Option, Some, None, Result, Ok, Err, sym, ap, subst, ◌∙◌}
 use Rattle.bay_ber.proofs.JudgedLemmas.{Fair, told-fair, wanted-fair, layers-fair}
 use Rattle.bay_ber.proofs.ReadLemmas.{IsBytes}
-use Rattle.bay_initiate.proofs.InitiateLemmas.{initiate-exact}
+use Rattle.bay_mms_initiate.proofs.InitiateLemmas.{initiate-exact}
 use Rattle.bay_assoc.specs.declared.fault.AssocFault.{AssocFault}
-use Rattle.bay_assoc.specs.declared.hearing.Accepted.{Accepted}
-use Rattle.bay_assoc.specs.declared.hearing.AssociationTerms.{AssociationTerms}
-use Rattle.bay_assoc.specs.declared.hearing.Phase.{Phase}
-use Rattle.bay_assoc.specs.declared.hearing.Phase.TheVariants.{Idle, Open, Over, Failed}
+use Rattle.bay_assoc.specs.declared.receive.Accepted.{Accepted}
+use Rattle.bay_assoc.specs.declared.receive.AssociationTerms.{AssociationTerms}
+use Rattle.bay_assoc.specs.declared.receive.Phase.{Phase}
+use Rattle.bay_assoc.specs.declared.receive.Phase.TheVariants.{Idle, Open, Over, Failed}
 use Rattle.bay_assoc.specs.declared.presentation.Context.{Context}
 use Rattle.bay_assoc.specs.Session.{Spdu, connect, finish, abort, transfer}
 use Rattle.bay_assoc.specs.Presentation.{Carried}
-use Rattle.bay_assoc.specs.Hearing.{Hearing, is_id, acse_value, mms_value, agreement, connection_request, release_request, data_transfer, heard_idle, heard_open, verdict}
+use Rattle.bay_assoc.specs.Receiving.{TsduMeaning, is_id, acse_value, mms_value, agreement, connection_request, release_request, data_transfer, idle_meaning, open_meaning, verdict}
 use Rattle.bay_assoc.proofs.MessageLemmas.{user_data-exact, user_data-keeps, request-exact, request-keeps, associate-exact, associate-keeps, release-exact}
 use Rattle.bay_assoc.proofs.SpduLemmas.{UserBytes, spdu-exact, spdu-keeps}
 
@@ -73,13 +73,13 @@ data-fair terms user b =
     layers-fair (wanted-fair _ user_data-exact user b) (λ c is.
     layers-fair (told-fair _) (λ pdu in_mms. told-fair _))
 
-idle-fair : {Good : Type 0} (s : Spdu) → (Good → UserBytes s) → Fair Good (heard_idle s)
+idle-fair : {Good : Type 0} (s : Spdu) → (Good → UserBytes s) → Fair Good (idle_meaning s)
 idle-fair (connect user) b = connection-fair user b
 idle-fair abort b = told-fair _
 idle-fair s b = told-fair _
 
 open-fair : {Good : Type 0} (terms : AssociationTerms) (s : Spdu) → (Good → UserBytes s)
-    → Fair Good (heard_open terms s)
+    → Fair Good (open_meaning terms s)
 open-fair terms (finish user) b = release-fair terms user b
 open-fair terms abort b = told-fair _
 open-fair terms (transfer user) b = data-fair terms user b
@@ -98,15 +98,16 @@ verdict-fair Failed octets = told-fair _
 
 -- ---- the one meaning
 
-pub told-is : (h k : Hearing) (p q : Phase)
-    → (let r : Result (Hearing × Phase) AssocFault = Ok (h, p) in r) ≡ Ok (k, q) → (h ≡ k) × (p ≡ q)
+pub told-is : (h k : TsduMeaning) (p q : Phase)
+    → (let r : Result (TsduMeaning × Phase) AssocFault = Ok (h, p) in r) ≡ Ok (k, q)
+    → (h ≡ k) × (p ≡ q)
 told-is h k p q e =
-    let x : Hearing × Phase = (h, p) in
-    let y : Hearing × Phase = (k, q) in
+    let x : TsduMeaning × Phase = (h, p) in
+    let y : TsduMeaning × Phase = (k, q) in
     let same : x ≡ y = cc in
-    (ap (λ (z : Hearing × Phase). z.0) same, ap (λ (z : Hearing × Phase). z.1) same)
+    (ap (λ (z : TsduMeaning × Phase). z.0) same, ap (λ (z : TsduMeaning × Phase). z.1) same)
 
-pub one-way : (old new next : Phase) (octets : List ℕ) (h k : Hearing)
+pub one-way : (old new next : Phase) (octets : List ℕ) (h k : TsduMeaning)
     → (verdict old octets).Spells (h, new) → (verdict old octets).Spells (k, next)
     → (h ≡ k) × (new ≡ next)
 one-way old new next octets h k a b =

@@ -7,13 +7,13 @@ use Rattle.bay_ber.specs.Spelling.{Spells}
 use Rattle.bay_ber.specs.Values.{Part, value, SpellAll}
 use Rattle.bay_ber.proofs.ReadLemmas.{IsBytes}
 use Rattle.bay_ber.specs.Tags.{constructed, sequence, int_tag}
-use Rattle.bay_assoc.specs.declared.hearing.Heard.{Heard}
-use Rattle.bay_assoc.specs.declared.hearing.Heard.TheVariants as heard
-use Rattle.bay_assoc.specs.declared.hearing.Phase.{Phase}
-use Rattle.bay_assoc.specs.declared.hearing.AssociationTerms.{AssociationTerms}
-use Rattle.bay_assoc.specs.declared.hearing.Phase.TheVariants.{Idle, Open, Over}
-use Rattle.bay_assoc.specs.Hearing.{mms, release_request, connection_request, data_transfer, heard_idle, heard_open, verdict, hearing}
-use Rattle.bay_assoc.specs.Hears.{association_terms, StandsLast, IsOpenFor}
+use Rattle.bay_assoc.specs.declared.receive.Heard.{Heard}
+use Rattle.bay_assoc.specs.declared.receive.Heard.TheVariants as heard
+use Rattle.bay_assoc.specs.declared.receive.Phase.{Phase}
+use Rattle.bay_assoc.specs.declared.receive.AssociationTerms.{AssociationTerms}
+use Rattle.bay_assoc.specs.declared.receive.Phase.TheVariants.{Idle, Open, Over}
+use Rattle.bay_assoc.specs.Receiving.{mms, release_request, connection_request, data_transfer, idle_meaning, open_meaning, verdict, tsdu_meaning}
+use Rattle.bay_assoc.specs.Receives.{association_terms, StandsLast, IsOpenFor}
 use Rattle.bay_assoc.specs.Presentation.{Carried, carried_parts, pdv_list, user_part, user_data}
 use Rattle.bay_assoc.specs.Session.{Spdu, connect, finish, abort, transfer, spdu}
 use Rattle.bay_assoc.specs.Tags.{oid_tag, application}
@@ -105,7 +105,7 @@ told-last terms octets user pdu new at is =
 
 -- Nothing but data is heard as a PDU of MMS.
 open-last : (terms : AssociationTerms) (octets pdu : List ℕ) (new : Phase) (s : Spdu)
-    → IsBytes octets → spdu.Spells octets s → (heard_open terms s).Spells (mms pdu, new)
+    → IsBytes octets → spdu.Spells octets s → (open_meaning terms s).Spells (mms pdu, new)
     → EndsWith octets pdu × IsSome (association_terms new)
 unfolding release_request
 open-last terms octets pdu new (transfer user) b at is =
@@ -118,7 +118,7 @@ open-last terms octets pdu new abort b at is =
     let heard = (told-is _ (mms pdu) Over new is).0 in absurd cc
 open-last terms octets pdu new s b at is = absurd cc
 
-not-idle : (pdu : List ℕ) (new : Phase) (s : Spdu) → (heard_idle s).Spells (mms pdu, new) → ⊥
+not-idle : (pdu : List ℕ) (new : Phase) (s : Spdu) → (idle_meaning s).Spells (mms pdu, new) → ⊥
 unfolding connection_request
 not-idle pdu new (connect user) is =
     let heard = (told-is _ (mms pdu) _ new is.2.2).0 in absurd cc
@@ -135,7 +135,7 @@ heard-last (Open terms) new octets pdu b is =
 heard-last old new octets pdu b is = absurd cc
 
 pub stands-last : (old new : Phase) (octets : List ℕ) (h : Heard) → IsBytes octets
-    → hearing old octets ≡ Ok (hearing_of h, new) → StandsLast octets h × IsOpenFor h new
+    → tsdu_meaning old octets ≡ Ok (hearing_of h, new) → StandsLast octets h × IsOpenFor h new
 stands-last old new octets (heard.Mms pdu) b e =
     let last = heard-last old new octets pdu.now b
     ((verdict-fair old octets).back b (mms pdu.now, new) e) in

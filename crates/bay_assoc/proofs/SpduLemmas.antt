@@ -3,7 +3,7 @@ use Rattle.std.proofs.Common.{◌≡◌, ℕ, Bool, true, false, cond, eqb, List
 use Rattle.std.proofs.lemmas.Option.{same_Some}
 use Rattle.std.specs.Prelude.{⊤}
 use Rattle.std.proofs.lemmas.Bool.{eq-eqb, ne_eqb, eqb-true, and_parts}
-use Rattle.bay_ber.specs.Forms.{Form, made, such}
+use Rattle.bay_ber.specs.Forms.{Form, map_form, such}
 use Rattle.bay_ber.proofs.ReadLemmas.{IsBytes}
 use Rattle.bay_ber.proofs.BackLemmas.{bind-some, bytes-behind, bytes-before}
 use Rattle.bay_ber.proofs.FormLemmas.{Exact, ExactIn, exacts, Keeps, made-keeps}
@@ -187,7 +187,7 @@ coded-keeps identifier k l = record {
 }
 
 kind-keeps : (s : Spdu) → FramedBytes s
-    → Keeps IsBytes (made (λ (x : Users). s) parameters) FramedBytes
+    → Keeps IsBytes (map_form (λ (x : Users). s) parameters) FramedBytes
 kind-keeps s b = record { holds = λ o t good is. subst FramedBytes is.2 b }
 
 by_identifier-keeps : Keeps ContentBytes by_identifier FramedBytes

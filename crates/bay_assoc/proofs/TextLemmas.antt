@@ -4,7 +4,7 @@ use Rattle.std.proofs.lemmas.List.{drop_all, drop_more, length-append}
 use Rattle.std.specs.Borrow.{Bor}
 use Rattle.std.specs.Option.{ForSome, option_map}
 use Rattle.bay_ber.specs.declared.tag.Tag.{Tag}
-use Rattle.bay_ber.specs.Sheets.{Sheet, sheet_with, within}
+use Rattle.bay_ber.specs.EncoderBuffers.{EncoderBuffer, sheet_with, within}
 use Rattle.bay_ber.specs.Writing.{element, integer_octets, length_octets}
 use Rattle.bay_ber.proofs.SheetLemmas.{put_nil, put-put, fits}
 use Rattle.bay_ber.proofs.SizeLemmas.{length-element, length-integer}
@@ -12,22 +12,24 @@ use Rattle.bay_ber.specs.Tags.{context, constructed, sequence, int_tag}
 use Rattle.bay_assoc.specs.Tags.{oid_tag, set_tag, external_tag, application, mms_application}
 use Rattle.bay_assoc.specs.Texts.{carried_text, user_text, result_text, results_text, selector_text, connected_text, associated_text, release_text}
 use Rattle.bay_assoc.specs.declared.presentation.Context.{Context}
-use Rattle.bay_assoc.specs.declared.hearing.Accepted.{Accepted}
+use Rattle.bay_assoc.specs.declared.receive.Accepted.{Accepted}
 
 -- ---- the results, one behind another
 
-pub each-next : (writer new whole : Sheet) (a : Accepted) (cs : List Context) (i : ℕ) (d : Context)
+pub each-next : (writer new whole : EncoderBuffer) (a : Accepted) (cs : List Context) (i : ℕ)
+    (d : Context)
     → i < length cs → new ≡ sheet_with writer (result_text a (get_or cs i d))
     → sheet_with writer (results_text a (drop i cs)) ≡ whole
     → sheet_with new (results_text a (drop (i + 1) cs)) ≡ whole
 each-next writer new whole a cs i d lt added all =
     let rest = results_text a (drop (i + 1) cs) in
-    ap (λ (s : Sheet). sheet_with s rest) added
+    ap (λ (s : EncoderBuffer). sheet_with s rest) added
     ∙ put-put writer (result_text a (get_or cs i d)) rest
     ∙ ap (λ (xs : List Context). sheet_with writer (results_text a xs)) (sym (drop_more cs i d lt))
     ∙ all
 
-pub each-end : (writer whole : Sheet) (a : Accepted) (cs : List Context) (i : ℕ) → length cs ≤ i
+pub each-end : (writer whole : EncoderBuffer) (a : Accepted) (cs : List Context) (i : ℕ)
+    → length cs ≤ i
     → sheet_with writer (results_text a (drop i cs)) ≡ whole → writer ≡ whole
 each-end writer whole a cs i past all =
     sym (put_nil writer) ∙ ap (λ (xs : List Context). sheet_with writer (results_text a xs))

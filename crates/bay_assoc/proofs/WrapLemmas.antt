@@ -15,13 +15,13 @@ use Rattle.bay_ber.proofs.SizeLemmas.{length-element, length-integer_octets}
 use Rattle.bay_ber.proofs.WriteLemmas.{element-spells, integer-is}
 use Rattle.bay_ber.specs.Tags.{constructed, sequence, int_tag}
 use Rattle.bay_assoc.specs.Tags.{application}
-use Rattle.bay_assoc.specs.declared.hearing.AssociationTerms.{AssociationTerms}
-use Rattle.bay_assoc.specs.declared.hearing.Phase.{Phase}
-use Rattle.bay_assoc.specs.declared.hearing.Phase.TheVariants.{Open}
+use Rattle.bay_assoc.specs.declared.receive.AssociationTerms.{AssociationTerms}
+use Rattle.bay_assoc.specs.declared.receive.Phase.{Phase}
+use Rattle.bay_assoc.specs.declared.receive.Phase.TheVariants.{Open}
 use Rattle.bay_assoc.specs.Presentation.{carried_parts, pdv_list, user_part, user_data}
 use Rattle.bay_assoc.specs.Session.{spdu}
 use Rattle.bay_assoc.specs.Texts.{user_text, transfer_text}
-use Rattle.bay_assoc.specs.Hearing.{mms, data_transfer, verdict, hearing}
+use Rattle.bay_assoc.specs.Receiving.{mms, data_transfer, verdict, tsdu_meaning}
 
 -- one value, and two
 pub value-element : (tag : Tag) (content : List ℕ) → tag.number < 31 → length content < 2 ^ 32
@@ -95,7 +95,7 @@ user-again id value low short =
 pub transfer-heard : (terms : AssociationTerms) (pdu : List ℕ)
     → user_data.reads (user_text terms.contexts.mms pdu)
     ≡ Some (record { id = pos terms.contexts.mms; value = pdu })
-    → hearing (Open terms) (transfer_text (user_text terms.contexts.mms pdu))
+    → tsdu_meaning (Open terms) (transfer_text (user_text terms.contexts.mms pdu))
     ≡ Ok (mms pdu, Open terms)
 unfolding verdict spdu data_transfer
 transfer-heard terms pdu read = rw (read, eq-eqb terms.contexts.mms terms.contexts.mms refl) refl
@@ -103,6 +103,6 @@ transfer-heard terms pdu read = rw (read, eq-eqb terms.contexts.mms terms.contex
 pub sent-is-heard : (phase : Phase) (terms : AssociationTerms) (front pdu : List ℕ)
     → phase ≡ Open terms → terms.contexts.mms < 65536 → length pdu < 2 ^ 31
     → front ++ pdu ≡ transfer_text (user_text terms.contexts.mms pdu)
-    → hearing phase (front ++ pdu) ≡ Ok (mms pdu, phase)
+    → tsdu_meaning phase (front ++ pdu) ≡ Ok (mms pdu, phase)
 sent-is-heard phase terms front pdu is low short sent =
     rw (is, sent) (transfer-heard terms pdu (user-again terms.contexts.mms pdu low (omega arith)))

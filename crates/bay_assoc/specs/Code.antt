@@ -1,4 +1,4 @@
--- The number of each fault. Want of memory has none.
+-- The number of each fault. `OutOfMemory` has none.
 use Rattle.std.specs.Prelude.{ℕ, Option, Some, None}
 use Rattle.bay_assoc.specs.declared.fault.AssocFault.{AssocFault}
 use Rattle.bay_assoc.specs.declared.fault.AssocFault.TheVariants.{BadSession, BadPresentation, NoContext, BadAcse, OutOfPhase, PduSizeTooSmall, Failed, OutOfMemory}

@@ -1,26 +1,28 @@
--- What an association hears of a TSDU: session (X.225), presentation (ISO 8823-1), association
--- control (ISO 8650-1). A message is a form of bay_ber, which both reads it and says how it is
--- spelled; laws say that the two agree: what is spelled so is heard so, in one way, and what is
--- heard is spelled so, or refused for the outermost layer that is spelled wrong.
+-- The meaning of a TSDU for an association: session (X.225), presentation (ISO 8823-1), association
+-- control (ISO 8650-1). A message is a form of bay_ber, which is both a reader and a relation of
+-- how the message is encoded. Laws prove that the two agree: octets that encode a message are read
+-- as exactly that message; and a TSDU that is encoded wrongly is refused for its outermost wrong
+-- layer.
 --
--- `Hearing` is the main file: the verdict on a TSDU in a phase, layer by layer, is what is heard
--- and the phase after it, or the fault. `Session` has the SPDUs, of units of identifier, length and
--- content, which `SessionReading` reads in turn; `Presentation` has the request for a connection,
--- its contexts, and user data, `Acse` the requests for an association and a release.
+-- `Receiving` is the main file: the verdict on a TSDU in a phase, layer by layer, is its meaning
+-- and the phase after it, or the fault. `Session` has the SPDUs, made of units of identifier,
+-- length and content, which `SessionReading` reads one after another; `Presentation` has the
+-- request for a connection, its contexts, and user data, `Acse` the requests for an association and
+-- a release.
 --
--- `Texts`: what is sent. `Hears`: what a call answers and which phase it leaves. `Sized`: how long
--- PDUs and answers are. `TakesMemory`: which TSDUs take memory. `Tags`: tags and object
--- identifiers. `Code` numbers the faults; `Views` and `SessionViews` map the code's values to plain
--- data.
+-- `Texts`: the texts that are sent. `Receives`: the result of a call, and the phase after it.
+-- `Sized`: the sizes of PDUs and answers. `TakesMemory`: which TSDUs make the code allocate.
+-- `Tags`: tags and object identifiers. `Code`: the numbers of the faults. `Views` and
+-- `SessionViews`: views of the code's values.
 
--- What public clauses cite of the crates below.
+-- Definitions of the crates below that public clauses cite.
 pub use Rattle.bay_ber.specs.Octets
-pub use Rattle.bay_initiate.specs.Sizes
--- Its own definitions.
+pub use Rattle.bay_mms_initiate.specs.Sizes
+-- The definitions of this crate.
 pub mod Acse
 pub mod Code
-pub mod Hearing
-pub mod Hears
+pub mod Receiving
+pub mod Receives
 pub mod Presentation
 pub mod Session
 pub mod SessionReading

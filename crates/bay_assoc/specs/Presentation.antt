@@ -1,9 +1,9 @@
--- What is read of presentation protocol data units (ISO 8823-1 8.2): the user data, and the request
+-- How presentation protocol data units are read (ISO 8823-1 8.2): the user data, and the request
 -- for a connection (CP).
 use Rattle.std.specs.Prelude.{ℕ, ℤ, pos, negsuc, ◌==◌, ◌&&◌, Bool, true, not, List, [], ◌∷◌, length, Option, Some, None, nat_lt, if◌then◌else◌}
 use Rattle.std.specs.List.{list_any}
 use Rattle.std.specs.Str.{bytes_eq}
-use Rattle.bay_ber.specs.Forms.{Form, made, such, integer, octets, anything, one, fields, known, each, whole, under, done, next, maybe, by_first}
+use Rattle.bay_ber.specs.Forms.{Form, map_form, such, integer, octets, anything, one, fields, known, each, whole, under, done, next, maybe, by_first}
 use Rattle.bay_ber.specs.Tags.{context, constructed, sequence, int_tag}
 use Rattle.bay_ber.specs.Values.{Part}
 use Rattle.bay_assoc.specs.Tags.{oid_tag, set_tag, application, acse_syntax, mms_syntax, ber_syntax}
@@ -13,18 +13,19 @@ use Rattle.bay_assoc.specs.declared.presentation.Context.{Context}
 
 -- a transfer syntax: whether it is the Basic Encoding Rules
 unfoldable pub transfer_syntax : Form Part Bool
-transfer_syntax = under oid_tag (made (λ name. bytes_eq name ber_syntax) octets)
+transfer_syntax = under oid_tag (map_form (λ name. bytes_eq name ber_syntax) octets)
 
--- transfer syntaxes: whether one of them is
+-- transfer syntaxes: whether one of them is the Basic Encoding Rules
 unfoldable pub transfer_syntaxes : Form (List ℕ) Bool
-transfer_syntaxes = made (list_any (λ b. b)) (each transfer_syntax)
+transfer_syntaxes = map_form (list_any (λ b. b)) (each transfer_syntax)
 
--- an identifier of a context, 1 to 32,767
+-- a number, if it is an identifier of a context: 1 to 32,767
 abbrev pub context_id : ℤ → Option ℕ
 context_id (pos n) = if nat_lt 0 n && nat_lt n 32768 then Some n else None
 context_id (negsuc n) = None
 
--- a context out of its identifier, its abstract syntax, and whether BER is offered
+-- a context, from its identifier, its abstract syntax, and whether the Basic Encoding Rules are
+-- offered
 abbrev pub context_of : ℕ × (List ℕ × (Bool × Unit {0})) → Context
 context_of x =
     record {
@@ -36,7 +37,7 @@ context_of x =
 -- a context's identifier, its abstract syntax, and its transfer syntaxes
 unfoldable pub context_parts : Form (List Part) Context
 context_parts =
-    made context_of (next (under int_tag (such context_id integer)) (next (under oid_tag octets)
+    map_form context_of (next (under int_tag (such context_id integer)) (next (under oid_tag octets)
     (next (under sequence transfer_syntaxes) done)))
 
 -- one context of the list
@@ -47,75 +48,77 @@ definition = under sequence (fields context_parts)
 abbrev pub has_id : ℕ → List Context → Bool
 has_id id contexts = list_any (λ c. c.id == id) contexts
 
--- whether no identifier is there twice
+-- whether no two contexts have the same identifier
 abbrev pub are_distinct : List Context → Bool
 are_distinct [] = true
 are_distinct (c ∷ contexts) = not (has_id c.id contexts) && are_distinct contexts
 
--- at most 16, and no two of one identifier (own)
+-- the contexts, if there are at most 16, with distinct identifiers (own)
 abbrev pub few_contexts : List Context → Option (List Context)
 few_contexts contexts =
     if nat_lt 16 (length contexts) then None
     else (if are_distinct contexts then Some contexts else None)
 
--- the contexts that are offered
+-- the offered contexts
 unfoldable pub definition_list : Form (List ℕ) (List Context)
 definition_list = such few_contexts (each definition)
 
 -- ---- ISO 8823-1 User-data: user data
 
--- a value, and the context that it is in
+-- a value, and the identifier of its context
 pub record Carried : Type 0 where
   pub id : ℤ
   pub value : List ℕ
 
+-- a value and its context, from the parts that were read
 abbrev pub carried_by : Option (Unit {0}) × (ℤ × (List ℕ × Unit {0})) → Carried
 carried_by x = record { id = x.1.0; value = x.1.1.0 }
 
 -- The parts of a PDV-list, and of an EXTERNAL (ISO 8823-1, PDV-list; X.690 8.18): an object
--- identifier that may be left out and is not looked at, a context's identifier, and a value as a
--- single ASN.1 type.
+-- identifier, which is optional and ignored, a context's identifier, and a value as a single ASN.1
+-- type.
 unfoldable pub carried_parts : Form (List Part) Carried
 carried_parts =
-    made carried_by (maybe oid_tag anything
+    map_form carried_by (maybe oid_tag anything
     (next (under int_tag integer) (next (under (constructed 0) octets) done)))
 
 -- a value and its context (ISO 8823-1, PDV-list)
 unfoldable pub pdv_list : Form Part Carried
 pdv_list = under sequence (fields carried_parts)
 
--- one of them, fully encoded (ISO 8823-1, Fully-encoded-data)
+-- one value and its context, fully encoded (ISO 8823-1, Fully-encoded-data)
 unfoldable pub user_part : Form Part Carried
 user_part = under (application 1) (one pdv_list)
 
--- the user data that octets are
+-- octets that are user data
 unfoldable pub user_data : Form (List ℕ) Carried
 user_data = one user_part
 
 -- ---- ISO 8823-1 CP-type: the request for a connection
 
--- what it has: the called selector, where it came, the contexts, and the user data
+-- the called selector, if present, the contexts, and the user data
 pub record Connect : Type 0 where
   pub called : Option (List ℕ)
   pub contexts : List Context
   pub user : Carried
 
--- a selector of at most 16 octets (own)
+-- a selector, if it has at most 16 octets (own)
 abbrev pub selector_of : List ℕ → Option (List ℕ)
 selector_of octets = if nat_lt 16 (length octets) then None else Some octets
 
+-- a request, from the parts that were read
 abbrev pub connect_by : Option (List ℕ) × (List Context × (Carried × Unit {0})) → Connect
 connect_by x = record { called = x.0; contexts = x.1.0; user = x.1.1.0 }
 
--- the called selector, which may be left out, the contexts, and the user data
+-- the called selector, which is optional, the contexts, and the user data
 unfoldable pub connect_parts : Form (List Part) Connect
 connect_parts =
-    made connect_by (maybe (context 2) (such selector_of octets)
+    map_form connect_by (maybe (context 2) (such selector_of octets)
     (next (under (constructed 4) definition_list) (next user_part done)))
 
--- before them the calling selector, which may be left out and is not looked at
+-- before them the calling selector, which is optional and ignored
 unfoldable pub normal_parts : Form (List Part) Connect
-normal_parts = made (λ x. x.1) (maybe (context 1) anything connect_parts)
+normal_parts = map_form (λ x. x.1) (maybe (context 1) anything connect_parts)
 
 -- the parameters of the normal mode, among other fields (normal-mode-parameters)
 unfoldable pub normal : Form Part Connect
@@ -123,7 +126,7 @@ normal =
     under (constructed 2)
     (known (context 1 ∷ context 2 ∷ constructed 4 ∷ application 1 ∷ []) normal_parts)
 
--- the normal mode is the number 1
+-- a number, if it is that of the normal mode, 1
 abbrev pub mode_of : ℤ → Option ℤ
 mode_of (pos n) = if n == 1 then Some (pos n) else None
 mode_of (negsuc n) = None
@@ -135,10 +138,10 @@ mode = under (constructed 0) (one (under (context 0) (such mode_of integer)))
 -- the normal mode and its parameters, in either order, as in a set
 unfoldable pub mode_parts : {A : Type 0} → Form Part A → Form (List Part) A
 mode_parts parameters =
-    by_first (constructed 0) (made (λ x. x.1.0) (next mode (next parameters done)))
-    (made (λ x. x.0) (next parameters (next mode done)))
+    by_first (constructed 0) (map_form (λ x. x.1.0) (next mode (next parameters done)))
+    (map_form (λ x. x.0) (next parameters (next mode done)))
 
--- the two among other fields
+-- the mode and the parameters, among other fields
 unfoldable pub cp : {A : Type 0} → Form Part A → Form (List ℕ) A
 cp parameters =
     one (under set_tag (known (constructed 0 ∷ constructed 2 ∷ []) (mode_parts parameters)))
@@ -147,6 +150,6 @@ cp parameters =
 abbrev pub request : Form (List ℕ) Connect
 request = cp normal
 
--- one whose parameters are not looked at (own)
+-- a request for a connection whose parameters are not read (own)
 abbrev pub request_mode : Form (List ℕ) Part
 request_mode = cp whole

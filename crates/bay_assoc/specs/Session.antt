@@ -1,63 +1,63 @@
--- Session protocol data units (X.225 8): an identifier, a length, and parameters, which are spelled
--- likewise.
+-- Session protocol data units (X.225 8): an identifier, a length, and parameters, which are encoded
+-- the same way.
 use Rattle.std.specs.Prelude.{ℕ, zero, suc, ◌≡◌, ◌≢◌, ◌⊎◌, ◌+◌, ◌*◌, ◌==◌, ◌&&◌, Bool, false, List, [], ◌∷◌, ◌++◌, length, take, drop, filter, Option, Some, None, option_map, nat_lt, if◌then◌else◌}
 use Rattle.bay_base.specs.Options.{◌>>=◌}
-use Rattle.bay_ber.specs.Forms.{Form, made, such}
+use Rattle.bay_ber.specs.Forms.{Form, map_form, such}
 
 -- ---- X.225 8.2: units
 
--- an identifier and the octets that the length behind it counts: an SPDU, a parameter or a group of
+-- an identifier and the octets that the length after it counts: an SPDU, a parameter or a group of
 -- parameters
 pub record Unit : Type 0 where
   pub identifier : ℕ
   pub content : List ℕ
 
--- ---- X.225 8.2: the units that octets are
+-- ---- X.225 8.2: how units are read
 
--- a length behind its first octet 255: two octets, the higher first (X.225 8.2.5)
+-- a length after its first octet 255: two octets, the higher first (X.225 8.2.5)
 abbrev pub long_size : List ℕ → Option (ℕ × List ℕ)
 long_size (high ∷ low ∷ octets) = Some (high * 256 + low, octets)
 long_size octets = None
 
--- a length, and the octets behind it (X.225 8.2.5)
+-- a length, and the octets after it (X.225 8.2.5)
 unfoldable pub size_at : List ℕ → Option (ℕ × List ℕ)
 size_at [] = None
 size_at (first ∷ octets) = if first == 255 then long_size octets else Some (first, octets)
 
--- the octets that a length counts, and those behind them
+-- the octets that a length counts, and those after them
 unfoldable pub counted_at : List ℕ → Option (List ℕ × List ℕ)
 counted_at octets =
     size_at octets >>= λ size. if nat_lt (length size.1) size.0 then None
     else Some (take size.0 size.1, drop size.0 size.1)
 
--- a unit, and the octets behind it
+-- a unit, and the octets after it
 unfoldable pub unit_at : List ℕ → Option (Unit × List ℕ)
 unit_at [] = None
 unit_at (identifier ∷ octets) =
     counted_at octets >>= λ counted. Some
     (record { identifier = identifier; content = counted.0 }, counted.1)
 
--- units in front of others, where there are others (own)
+-- units before others, if there are others (None stays None) (own)
 abbrev pub onto : List Unit → Option (List Unit) → Option (List Unit)
 onto front = option_map (λ units. front ++ units)
 
--- a unit in front of those behind it, where they are units (own)
+-- a unit before those in the rest, if the rest are units (own)
 abbrev pub with_front : Option (Unit × List ℕ) → (List ℕ → Option (List Unit)) → Option (List Unit)
 with_front (Some first) rest = onto (first.0 ∷ []) (rest first.1)
 with_front None rest = None
 
--- the units, at most so many
+-- the units that octets encode, if there are at most `most`
 unfoldable pub units_within : ℕ → List ℕ → Option (List Unit)
 units_within most [] = Some []
 units_within zero (octet ∷ octets) = None
 units_within (suc most) (octet ∷ octets) = with_front (unit_at (octet ∷ octets)) (units_within most)
 
--- the units that the octets are, one after another; a unit has at least two octets, so there are
--- fewer than octets
+-- the units that the octets encode, one after another; a unit has at least two octets, so there are
+-- fewer units than octets
 unfoldable pub units_in : List ℕ → Option (List Unit)
 units_in octets = units_within (length octets) octets
 
--- ---- X.225 8.2: how they are spelled
+-- ---- X.225 8.2: how units are encoded
 
 -- A length is one octet other than 255, or 255 and two octets, the higher first (X.225 8.2.5).
 abbrev pub IsSize : List ℕ → ℕ → Type 0
@@ -65,13 +65,13 @@ IsSize (first ∷ []) n = (first ≢ 255) × (n ≡ first)
 IsSize (first ∷ high ∷ low ∷ []) n = (first ≡ 255) × (n ≡ high * 256 + low)
 IsSize octets n = ⊥
 
--- The octets are a unit, that is its identifier, a length, and so many octets, and the rest.
+-- The octets are a unit (its identifier, a length, and as many octets), followed by the rest.
 pub record Leads (octets : List ℕ) (u : Unit) (rest : List ℕ) : Type 0 where
   pub size : List ℕ
   pub is : octets ≡ u.identifier ∷ (size ++ (u.content ++ rest))
   pub sized : IsSize size (length u.content)
 
--- The octets are these units and nothing else, one after another.
+-- The octets are the encodings of these units, one after another, and nothing else.
 abbrev pub SpellUnits : List ℕ → List Unit → Type 0
 SpellUnits octets [] = octets ≡ []
 SpellUnits octets (u ∷ units) =
@@ -79,10 +79,11 @@ SpellUnits octets (u ∷ units) =
 
 -- ---- own: forms of units
 
--- units one after another
+-- consecutive units
 abbrev pub units : Form (List ℕ) (List Unit)
 units = record { reads = units_in; Spells = SpellUnits }
 
+-- the unit, if no octets follow it
 abbrev pub alone : Unit → List ℕ → Option Unit
 alone u [] = Some u
 alone u (octet ∷ octets) = None
@@ -94,7 +95,8 @@ unit = record {
   Spells = λ octets u. Leads octets u [];
 }
 
--- the content of a unit of this identifier, or a unit of any other as another form has it
+-- a unit with this identifier and a content of one form, or a unit with any other identifier, of
+-- another form
 abbrev pub coded : {A : Type 0} → ℕ → Form (List ℕ) A → Form Unit A → Form Unit A
 coded identifier f g = record {
   reads = λ u. if u.identifier == identifier then f.reads u.content else g.reads u;
@@ -102,11 +104,11 @@ coded identifier f g = record {
       ⊎ ((u.identifier ≢ identifier) × g.Spells u x);
 }
 
--- no unit
+-- a form that no unit has
 abbrev pub uncoded : {A : Type 0} → Form Unit A
 uncoded = record { reads = λ u. None; Spells = λ u x. ⊥ }
 
--- of what f reads what g reads
+-- the form g of the value that f reads
 abbrev pub through : {S A B : Type 0} → Form S A → Form A B → Form S B
 through {A = A} f g = record {
   reads = λ s. f.reads s >>= g.reads;
@@ -119,26 +121,27 @@ through {A = A} f g = record {
 abbrev pub is_user : Unit → Bool
 is_user u = u.identifier == 0xC1
 
--- how often user data stand among parameters: not at all, once, or several times (own)
+-- the user data among parameters: none, one, or more than one (own)
 pub data Users : Type 0 where
   missing : Users
   once : List ℕ → Users
   several : Users
 
--- how often they stand there, of units that are user data (own)
+-- the user data, from the units that are user data (own)
 abbrev pub users_of : List Unit → Users
 users_of [] = missing
 users_of (u ∷ []) = once u.content
 users_of (u ∷ v ∷ us) = several
 
--- parameters, of which the user data are looked at
+-- parameters, of which only the user data are read
 unfoldable pub parameters : Form (List ℕ) Users
-parameters = made (λ us. users_of (filter is_user us)) units
+parameters = map_form (λ us. users_of (filter is_user us)) units
 
 -- ---- X.225 8.3: SPDUs
 
--- an SPDU: CONNECT (CN) with its user data, ACCEPT (AC), FINISH (FN) with its user data where they
--- came, DISCONNECT (DN), ABORT (AB), or DATA TRANSFER (DT) behind a GIVE TOKENS, with its user data
+-- an SPDU: CONNECT (CN) with its user data, ACCEPT (AC), FINISH (FN) with its user data if there
+-- are any, DISCONNECT (DN), ABORT (AB), or DATA TRANSFER (DT) after a GIVE TOKENS, with its user
+-- data
 pub data Spdu : Type 0 where
   connect : List ℕ → Spdu
   accept : Spdu
@@ -147,13 +150,13 @@ pub data Spdu : Type 0 where
   abort : Spdu
   transfer : List ℕ → Spdu
 
--- user data once
+-- the CONNECT with these user data, which must occur once
 abbrev pub connect_of : Users → Option Spdu
 connect_of missing = None
 connect_of (once user) = Some (connect user)
 connect_of several = None
 
--- user data at most once
+-- the FINISH with these user data, which must occur at most once
 abbrev pub finish_of : Users → Option Spdu
 finish_of missing = Some (finish None)
 finish_of (once user) = Some (finish (Some user))
@@ -164,15 +167,16 @@ finish_of several = None
 unfoldable pub by_identifier : Form Unit Spdu
 by_identifier =
     coded 0x0D (such connect_of parameters) (coded 0x09 (such finish_of parameters)
-    (coded 0x0E (made (λ x. accept) parameters) (coded 0x0A (made (λ x. disconnect) parameters)
-    (coded 0x19 (made (λ x. abort) parameters) uncoded))))
+    (coded 0x0E (map_form (λ x. accept) parameters)
+    (coded 0x0A (map_form (λ x. disconnect) parameters)
+    (coded 0x19 (map_form (λ x. abort) parameters) uncoded))))
 
--- whether octets begin with an empty GIVE TOKENS and the front of a DATA TRANSFER: 01 00 01 00
+-- whether octets begin with an empty GIVE TOKENS and the header of a DATA TRANSFER: 01 00 01 00
 abbrev pub is_transfer : List ℕ → Bool
 is_transfer (a ∷ b ∷ c ∷ d ∷ user) = (a == 1) && ((b == 0) && ((c == 1) && (d == 0)))
 is_transfer octets = false
 
--- the SPDU that a TSDU is; all behind the front of a DATA TRANSFER is user data
+-- the SPDU in a TSDU; all octets after the header of a DATA TRANSFER are user data
 unfoldable pub spdu : Form (List ℕ) Spdu
 spdu = record {
   reads = λ octets. if is_transfer octets then Some (transfer (drop 4 octets))
@@ -181,6 +185,6 @@ spdu = record {
       ⊎ ((is_transfer octets ≡ false) × (through unit by_identifier).Spells octets s);
 }
 
--- what it is read as (own)
+-- the SPDU that a TSDU is read as (own)
 abbrev pub spdu_in : List ℕ → Option Spdu
 spdu_in octets = spdu.reads octets

@@ -1,25 +1,25 @@
--- Units that are read in turn.
+-- Reading consecutive units.
 use Rattle.std.specs.Prelude.{ℕ, ◌≡◌, ◌<◌, List, [], ◌∷◌, length, Some, None, if◌then◌else◌}
-use Rattle.bay_assoc.specs.declared.session.Next.{Next}
-use Rattle.bay_assoc.specs.declared.session.Next.TheVariants as next
+use Rattle.bay_assoc.specs.declared.session.UnitRead.{UnitRead}
+use Rattle.bay_assoc.specs.declared.session.UnitRead.TheVariants as next
 use Rattle.bay_assoc.specs.Session.{Unit, onto, units_in, is_user, Users, missing, once, several}
 use Rattle.bay_assoc.specs.SessionViews.{unit_of}
 
--- ---- own: units that are read in turn
+-- ---- own: reading consecutive units
 
--- what was read next of the units in octets, and which octets are left
-abbrev pub NextUnit : List ℕ → Next → List ℕ → Type 0
+-- the result of reading the next unit in octets, and the octets left
+abbrev pub NextUnit : List ℕ → UnitRead → List ℕ → Type 0
 NextUnit old next.End new = units_in old ≡ Some []
 NextUnit old (next.Unit u) new =
     (units_in old ≡ onto (unit_of u ∷ []) (units_in new)) × (length new < length old)
 NextUnit old next.Bad new = units_in old ≡ None
 
--- the user data once a unit has been read
+-- the user data found so far, after one more parameter of user data
 abbrev pub then_user : Users → List ℕ → Users
 then_user missing octets = once octets
 then_user (once first) octets = several
 then_user several octets = several
 
--- the same, if the unit is user data
+-- the user data found so far, after one more unit
 abbrev pub with_user : Users → Unit → Users
 with_user users u = if is_user u then then_user users u.content else users

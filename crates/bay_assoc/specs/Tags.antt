@@ -14,11 +14,11 @@ oid_tag = record { class = Universal; constructed = false; number = 6 }
 abbrev pub set_tag : Tag
 set_tag = record { class = Universal; constructed = true; number = 17 }
 
--- an external
+-- an EXTERNAL
 abbrev pub external_tag : Tag
 external_tag = record { class = Universal; constructed = true; number = 8 }
 
--- an application's tag on a value that is made of values (X.690 8.1.2.2)
+-- an application tag of a constructed value (X.690 8.1.2.2)
 abbrev pub application : ℕ → Tag
 application number = record { class = Application; constructed = true; number = number }
 

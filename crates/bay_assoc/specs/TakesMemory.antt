@@ -1,11 +1,11 @@
--- Which TSDUs take memory: those that are answered.
+-- Which TSDUs make the code allocate: those that are answered.
 use Rattle.std.specs.Prelude.{Option, Some, IsSome}
-use Rattle.bay_assoc.specs.declared.hearing.Phase.{Phase}
-use Rattle.bay_assoc.specs.declared.hearing.Phase.TheVariants.{Idle, Open}
+use Rattle.bay_assoc.specs.declared.receive.Phase.{Phase}
+use Rattle.bay_assoc.specs.declared.receive.Phase.TheVariants.{Idle, Open}
 use Rattle.bay_assoc.specs.Presentation.{request_mode}
 use Rattle.bay_assoc.specs.Session.{Spdu, connect, finish}
 
--- ---- own: which TSDUs take memory
+-- ---- own: which TSDUs make the code allocate
 
 -- A request for a connection of the normal mode, which is answered.
 abbrev pub IsConnect : Spdu → Type 0

@@ -1,20 +1,20 @@
--- What is sent: the canonical texts of the answers and of data (X.225 8.3, ISO 8823-1 8.2, ISO
--- 8650-1 9).
+-- The canonical texts that are sent: the answers, and data (X.225 8.3, ISO 8823-1 8.2, ISO 8650-1
+-- 9).
 use Rattle.std.specs.Prelude.{ℕ, pos, ◌/◌, ◌%◌, ◌==◌, ◌||◌, List, [], ◌∷◌, ◌++◌, length, Option, Some, None, nat_lt, if◌then◌else◌}
 use Rattle.bay_ber.specs.declared.tag.Tag.{Tag}
 use Rattle.bay_ber.specs.Writing.{element, integer_octets}
 use Rattle.bay_ber.specs.Tags.{context, constructed, sequence, int_tag}
 use Rattle.bay_assoc.specs.Tags.{oid_tag, set_tag, external_tag, application, mms_application}
 use Rattle.bay_assoc.specs.declared.presentation.Context.{Context}
-use Rattle.bay_assoc.specs.declared.hearing.Accepted.{Accepted}
+use Rattle.bay_assoc.specs.declared.receive.Accepted.{Accepted}
 
 -- ---- X.225 8.2: session
 
--- a length, of less than 65,536 octets
+-- the encoding of a length below 65,536
 abbrev pub size_text : ℕ → List ℕ
 size_text n = if nat_lt n 255 then n ∷ [] else 255 ∷ n / 256 ∷ n % 256 ∷ []
 
--- an SPDU or a parameter
+-- the encoding of an SPDU or a parameter
 abbrev pub unit_text : ℕ → List ℕ → List ℕ
 unit_text identifier content = identifier ∷ (size_text (length content) ++ content)
 
@@ -30,7 +30,7 @@ accept_text user =
 abbrev pub disconnect_text : List ℕ → List ℕ
 disconnect_text user = unit_text 0x0A (unit_text 0xC1 user)
 
--- user data behind an empty GIVE TOKENS and the front of a DATA TRANSFER (X.225, DT)
+-- user data after an empty GIVE TOKENS and the header of a DATA TRANSFER (X.225, DT)
 abbrev pub transfer_text : List ℕ → List ℕ
 transfer_text user = 1 ∷ 0 ∷ 1 ∷ 0 ∷ user
 
@@ -45,23 +45,23 @@ carried_text tag id value =
 abbrev pub user_text : ℕ → List ℕ → List ℕ
 user_text id value = element (application 1) (carried_text sequence id value)
 
--- ---- ISO 8823-1 Result-list: what comes of contexts
+-- ---- ISO 8823-1 Result-list: the results for contexts
 
--- What comes of a context: accepted (0) with the Basic Encoding Rules, or rejected by the provider
--- (2).
+-- The result for an offered context: accepted (0) with the Basic Encoding Rules, or rejected by the
+-- provider (2).
 abbrev pub result_text : Accepted → Context → List ℕ
 result_text a c =
     element sequence (if (c.id == a.acse) || (c.id == a.mms)
     then 0x80 ∷ 0x01 ∷ 0x00 ∷ 0x81 ∷ 0x02 ∷ 0x51 ∷ 0x01 ∷ [] else 0x80 ∷ 0x01 ∷ 0x02 ∷ [])
 
--- what comes of each of them, one behind another
+-- the result for each offered context, one after another
 abbrev pub results_text : Accepted → List Context → List ℕ
 results_text a [] = []
 results_text a (c ∷ contexts) = result_text a c ++ results_text a contexts
 
 -- ---- ISO 8823-1 CPA-PPDU: the answer to a request for a connection
 
--- the selector of the one called, where it came
+-- the responding selector, which repeats the called one, if there is one
 abbrev pub selector_text : Option (List ℕ) → List ℕ
 selector_text None = []
 selector_text (Some octets) = element (context 3) octets
@@ -88,6 +88,6 @@ associated_text mms pdu =
 
 -- ---- ISO 8650-1 RLRE-apdu: the answer to a request for a release
 
--- the answer to a request for a release (RLRE), of the reason normal (0)
+-- the answer to a request for a release (RLRE), with the reason normal (0)
 abbrev pub release_text : List ℕ
 release_text = element (application 3) (0x80 ∷ 0x01 ∷ 0x00 ∷ [])

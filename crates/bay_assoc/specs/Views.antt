@@ -1,26 +1,26 @@
--- What the code reads, without where it lies in memory.
+-- The code's values without the slices they borrow from.
 use Rattle.std.specs.Prelude.{option_map}
 use Rattle.bay_assoc.specs.declared.session.UserData.{UserData}
 use Rattle.bay_assoc.specs.declared.session.UserData.TheVariants as user
 use Rattle.bay_assoc.specs.declared.session.Spdu as code
 use Rattle.bay_assoc.specs.declared.session.Spdu.TheVariants as spdu
-use Rattle.bay_assoc.specs.declared.presentation.Carried as carried
+use Rattle.bay_assoc.specs.declared.presentation.ContextValue as carried
 use Rattle.bay_assoc.specs.declared.request.Connect as request
-use Rattle.bay_assoc.specs.declared.hearing.Heard.{Heard}
-use Rattle.bay_assoc.specs.declared.hearing.Heard.TheVariants as heard
+use Rattle.bay_assoc.specs.declared.receive.Heard.{Heard}
+use Rattle.bay_assoc.specs.declared.receive.Heard.TheVariants as heard
 use Rattle.bay_assoc.specs.Session.{Users, missing, once, several, Spdu, connect, accept, finish, disconnect, abort, transfer}
 use Rattle.bay_assoc.specs.Presentation.{Carried, Connect}
-use Rattle.bay_assoc.specs.Hearing.{Hearing, answer, mms, released, aborted}
+use Rattle.bay_assoc.specs.Receiving.{TsduMeaning, answer, mms, released, aborted}
 
 -- ---- own: views of the code
 
--- how often user data stand among parameters
+-- the view of the user data among parameters
 abbrev pub users_of : UserData → Users
 users_of user.Missing = missing
 users_of (user.Once octets) = once octets.now
 users_of user.Several = several
 
--- an SPDU
+-- the view of an SPDU
 abbrev pub spdu_view : code.Spdu → Spdu
 spdu_view (spdu.Connect octets) = connect octets.now
 spdu_view spdu.Accept = accept
@@ -29,11 +29,11 @@ spdu_view spdu.Disconnect = disconnect
 spdu_view spdu.Abort = abort
 spdu_view (spdu.Transfer octets) = transfer octets.now
 
--- a value in a context
-abbrev pub carried_view : carried.Carried → Carried
+-- the view of a value in a context
+abbrev pub carried_view : carried.ContextValue → Carried
 carried_view c = record { id = c.id; value = c.value.now }
 
--- a request for a connection
+-- the view of a request for a connection
 abbrev pub connect_view : request.Connect → Connect
 connect_view c =
     record {
@@ -42,8 +42,8 @@ connect_view c =
       user = carried_view c.user;
     }
 
--- what is heard of a TSDU
-abbrev pub hearing_of : Heard → Hearing
+-- the view of the meaning of a TSDU
+abbrev pub hearing_of : Heard → TsduMeaning
 hearing_of (heard.Answer octets) = answer octets.items
 hearing_of (heard.Mms octets) = mms octets.now
 hearing_of (heard.Released octets) = released octets.items

@@ -1,21 +1,21 @@
-// An association as its user sees it.
+// An association, for its user.
 ghost use Rattle.std.specs.Prelude.{◌≡◌, ◌<◌, ◌^◌, ◌++◌, ◌↔◌, Ok, length, IfOk, IfSome, IsErrOf, IsSome, IsTrue};
-ghost use Rattle.bay_initiate.specs.Sizes.{IsPduSize};
-ghost use Rattle.bay_assoc.specs.Hearing.{mms, hearing};
-ghost use Rattle.bay_assoc.specs.Hears.{association_terms, Hears, StandsLast, IsOpenFor};
+ghost use Rattle.bay_mms_initiate.specs.Sizes.{IsPduSize};
+ghost use Rattle.bay_assoc.specs.Receiving.{mms, tsdu_meaning};
+ghost use Rattle.bay_assoc.specs.Receives.{association_terms, ReceivesTsdu, StandsLast, IsOpenFor};
 ghost use Rattle.bay_assoc.specs.Session.{spdu_in};
 ghost use Rattle.bay_assoc.specs.Sized.{IsShort};
 ghost use Rattle.bay_assoc.specs.TakesMemory.{TakesMemory};
 ghost use Rattle.bay_assoc.specs.Texts.{user_text, transfer_text};
 
+use crate::data_prefix::data_prefix;
 use crate::fault::AssocFault;
-use crate::front::front;
-use crate::hearing::{Heard, Phase, hear};
+use crate::receive::{Heard, Phase, receive};
 use arrayvec::ArrayVec;
 use std::alloc::Global;
 use std::marker::Model;
 
-/// One association, which contracts see as its phase.
+/// One association, which contracts view as its phase.
 #[derive(Drop)]
 pub struct Assoc {
     alloc: Global,
@@ -23,7 +23,7 @@ pub struct Assoc {
 }
 
 impl Model for Assoc {
-    ghost use Rattle.bay_assoc.specs.declared.hearing.Phase.{Phase};
+    ghost use Rattle.bay_assoc.specs.declared.receive.Phase.{Phase};
     ghost use Rattle.bay_assoc.specs.Sized.{IsSized};
 
     ghost Value = { Phase };
@@ -44,26 +44,26 @@ impl Assoc {
         }
     }
 
-    /// Handles a TSDU: a request for an association or for a release, with its answer; a PDU of
-    /// MMS, which is a slice of the TSDU; or an abort. Keeps nothing of a TSDU except the agreed
-    /// contexts and size.
+    /// Handles a TSDU, and returns its meaning: a request for an association or for a release, with
+    /// its answer; a PDU of MMS, which is a slice of the TSDU; or an abort. Stores nothing of a
+    /// TSDU except the agreed contexts and size.
     ///
-    /// A refusal is final: later TSDUs return `Failed`, also after an allocation failed. After a
-    /// release or an abort every TSDU is refused.
+    /// A fault is final: later calls fail with `Failed`, also after an allocation failed. After a
+    /// release or an abort, the next TSDU fails with `OutOfPhase`.
     pub fn on_tsdu<'a>(&mut self, tsdu: &'a [u8]) -> Result<Heard<'a>, AssocFault>
-        ensures heard { Hears self.old tsdu.now result self.new }
-        // Memory is wanting only where an answer is due: not for a request of another mode.
+        ensures heard { ReceivesTsdu self.old tsdu.now result self.new }
+        // An allocation can fail only if an answer is due: not for a request of another mode.
         ensures memory { IsErrOf result AssocFault.OutOfMemory
             → TakesMemory self.old (spdu_in tsdu.now) }
-        // An answer has at most 1,000 octets. A PDU of MMS stands last in the TSDU, and is heard
-        // where it can be answered.
+        // An answer has at most 1,000 octets. A PDU of MMS is the last part of its TSDU, and is
+        // returned only if the association is open.
         ensures short { IfOk result IsShort }
         ensures last { IfOk result (StandsLast tsdu.now) }
         ensures open { IfOk result (λ heard. IsOpenFor heard self.new) }
     {
         let phase = self.phase;
         self.phase = Phase::Failed;
-        let (heard, next) = hear(self.alloc, phase, tsdu)?;
+        let (heard, next) = receive(self.alloc, phase, tsdu)?;
         self.phase = next;
         Ok(heard)
     }
@@ -95,19 +95,19 @@ impl Assoc {
         }
     }
 
-    /// Returns what precedes a PDU of MMS in its TSDU. The TSDU consists of these octets, at most
-    /// 27, and then the PDU. The association must be open.
-    pub fn front(&self, pdu: &[u8]) -> ArrayVec<u8, 27>
+    /// Returns the octets before a PDU of MMS in its TSDU, at most 27. The TSDU consists of these
+    /// octets followed by the PDU. The association must be open.
+    pub fn data_prefix(&self, pdu: &[u8]) -> ArrayVec<u8, 27>
         requires { IsSome (association_terms self.now) }
         ensures exact { IfSome (association_terms self.now)
             (λ terms. result.items ++ pdu.now
             ≡ transfer_text (user_text terms.contexts.mms pdu.now)) }
-        // The TSDU is heard as this PDU.
+        // A receiver in the same phase reads the TSDU as this PDU.
         ensures heard { length pdu.now < 2 ^ 31
-            → hearing self.now (result.items ++ pdu.now) ≡ Ok (mms pdu.now, self.now) }
+            → tsdu_meaning self.now (result.items ++ pdu.now) ≡ Ok (mms pdu.now, self.now) }
     {
         match self.phase {
-            Phase::Open(terms) => front(terms.contexts.mms, pdu),
+            Phase::Open(terms) => data_prefix(terms.contexts.mms, pdu),
             Phase::Idle | Phase::Over | Phase::Failed => unreachable!(),
         }
     }

@@ -20,8 +20,8 @@ pub enum AssocFault {
     /// in a context that was not accepted.
     #[error("the presentation context is missing")]
     NoContext,
-    /// A value is not an APDU of ACSE that is allowed now (ISO 8650-1 9), or proposes nothing that
-    /// can be read.
+    /// A value is not an APDU of ACSE that is allowed now (ISO 8650-1 9), or contains no initiate
+    /// of MMS that can be read.
     #[error("the value is no APDU of ACSE")]
     BadAcse,
     /// The SPDU is not allowed now.
@@ -39,7 +39,7 @@ pub enum AssocFault {
 }
 
 impl AssocFault {
-    /// Returns the number of the fault: 20 to 26 in the order of the variants. Out of memory has
+    /// Returns the number of the fault: 20 to 26 in the order of the variants. `OutOfMemory` has
     /// none.
     pub fn code(self) -> Option<u8>
         ensures { result ≡ code_of self }

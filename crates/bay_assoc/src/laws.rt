@@ -1,27 +1,27 @@
-// Laws of what is heard. Each function does nothing, and its contract is the law.
+// Laws about the meaning of TSDUs. Each function does nothing, and its contract is the law.
 ghost use Rattle.std.specs.Prelude.{◌≡◌, ◌↔◌, List, ℕ, Some, Ok, Err};
 ghost use Rattle.bay_ber.specs.Octets.{AreOctets};
 ghost use Rattle.bay_assoc.specs.declared.fault.AssocFault.{AssocFault};
-ghost use Rattle.bay_assoc.specs.declared.hearing.Phase.{Phase};
+ghost use Rattle.bay_assoc.specs.declared.receive.Phase.{Phase};
 ghost use Rattle.bay_assoc.specs.Acse.{associate};
-ghost use Rattle.bay_assoc.specs.Hearing.{Hearing, verdict, hearing};
+ghost use Rattle.bay_assoc.specs.Receiving.{TsduMeaning, verdict, tsdu_meaning};
 ghost use Rattle.bay_assoc.specs.Presentation.{Carried, Connect, user_data, request};
 ghost use Rattle.bay_assoc.specs.Session.{Spdu, spdu, spdu_in};
 
-/// A TSDU has at most one meaning. What the layers spell is heard as exactly that, with the phase
-/// that follows; and what is heard is spelled that way.
-pub fn one_hearing()
-    ensures heard { (old new : Phase) (octets : List ℕ) (h : Hearing)
-        → (verdict old octets).Spells (h, new) → hearing old octets ≡ Ok (h, new) }
-    ensures spelled { (old new : Phase) (octets : List ℕ) (h : Hearing) → AreOctets octets
-        → hearing old octets ≡ Ok (h, new) → (verdict old octets).Spells (h, new) }
-    ensures one { (old new next : Phase) (octets : List ℕ) (h k : Hearing)
+/// A TSDU has at most one meaning. If the layers spell a meaning and a next phase, the TSDU is read
+/// as exactly these; and a TSDU is read only as what its layers spell.
+pub fn one_meaning()
+    ensures heard { (old new : Phase) (octets : List ℕ) (h : TsduMeaning)
+        → (verdict old octets).Spells (h, new) → tsdu_meaning old octets ≡ Ok (h, new) }
+    ensures spelled { (old new : Phase) (octets : List ℕ) (h : TsduMeaning) → AreOctets octets
+        → tsdu_meaning old octets ≡ Ok (h, new) → (verdict old octets).Spells (h, new) }
+    ensures one { (old new next : Phase) (octets : List ℕ) (h k : TsduMeaning)
         → (verdict old octets).Spells (h, new) → (verdict old octets).Spells (k, next)
         → (h ≡ k) × (new ≡ next) }
 {}
 
-/// Octets that spell an SPDU, user data, a request for a connection or a request for an association
-/// are read as that. So they are spelled in one way.
+/// Octets that encode an SPDU, user data, a request for a connection or a request for an
+/// association are read as exactly that. So octets encode at most one of each.
 pub fn one_spelling()
     ensures spdu { (octets : List ℕ) (s : Spdu) → spdu.Spells octets s → spdu_in octets ≡ Some s }
     ensures user { (octets : List ℕ) (c : Carried) → user_data.Spells octets c
@@ -33,7 +33,7 @@ pub fn one_spelling()
 {}
 
 /// Octets that are read as an SPDU, user data, a request for a connection or a request for an
-/// association spell it.
+/// association are an encoding of it.
 pub fn read_is_spelled()
     ensures spdu { (octets : List ℕ) (s : Spdu) → AreOctets octets → spdu_in octets ≡ Some s
         → spdu.Spells octets s }
@@ -45,9 +45,9 @@ pub fn read_is_spelled()
         → associate.reads octets ≡ Some c → associate.Spells octets c }
 {}
 
-/// A TSDU has at most one fault. It is refused with a fault exactly if its spelling has that fault,
-/// which is that of the outermost layer with a wrong spelling.
+/// A TSDU has at most one fault. It is refused with a fault if and only if the verdict of its
+/// layers refuses it with that fault, which is the fault of the outermost wrongly encoded layer.
 pub fn one_fault()
     ensures { (phase : Phase) (octets : List ℕ) (fault : AssocFault) → AreOctets octets
-        → (hearing phase octets ≡ Err fault) ↔ (verdict phase octets).Refuses fault }
+        → (tsdu_meaning phase octets ≡ Err fault) ↔ (verdict phase octets).Refuses fault }
 {}

@@ -1,4 +1,4 @@
-// Presentation protocol data units (ISO 8823-1 8.2).
+// Reads presentation protocol data units (ISO 8823-1 8.2).
 ghost use Rattle.std.specs.Prelude.{◌≡◌, ◌≤◌, ◌++◌, ◌∷◌, ◌&&◌, ◌||◌, [], length, map, option_map, OnOk, IfOk, IfSome, IsErrOf, IsSome};
 ghost use Rattle.bay_base.specs.Exact.{Gives};
 ghost use Rattle.bay_ber.specs.Forms.{octets as any_content, one, under, each, whole};
@@ -25,7 +25,7 @@ const MMS: &[u8] = &[0x28, 0xCA, 0x22, 0x02, 0x01];
 // The Basic Encoding Rules as a transfer syntax, 2.1.1.
 const BER: &[u8] = &[0x51, 0x01];
 
-// A request offers at most so many contexts, and names a selector of at most so many octets.
+// The most contexts that a request may offer, and the most octets of its selector.
 const CONTEXTS_MAX: usize = 16;
 
 const SELECTOR_MAX: usize = 16;
@@ -41,43 +41,46 @@ pub struct Context {
 
 /// A value and the identifier of its context.
 #[derive(Clone, Copy)]
-pub struct Carried<'a> {
+pub struct ContextValue<'a> {
     pub id: i64,
     pub value: &'a [u8],
 }
 
-/// Reads octets as exactly one value and returns its content if it has this tag.
-pub(crate) fn content_under<'a>(octets: &'a [u8], tag: Tag) -> Option<&'a [u8]>
+/// Reads octets as exactly one value, and returns its content if it has this tag.
+pub(crate) fn parse_content_with_tag<'a>(octets: &'a [u8], tag: Tag) -> Option<&'a [u8]>
     ensures { option_map (λ o. o.now) result ≡ (one (under tag any_content)).reads octets.now }
 {
     let value = whole_value(octets)?;
-    value.under(tag)
+    value.content_with_tag(tag)
 }
 
-// Whether a transfer syntax is the Basic Encoding Rules.
+// Returns whether a transfer syntax is the Basic Encoding Rules; `None` if the value is no transfer
+// syntax.
 #[tactic(auto, unfolding(crate::specs::Presentation::transfer_syntax))]
 fn is_ber(value: &Value<'_>) -> Option<bool>
     ensures { result ≡ transfer_syntax.reads (part_of value.now) }
 {
-    let name = value.under(Tag::universal(6))?;
+    let name = value.content_with_tag(Tag::universal(6))?;
     Some(name == BER)
 }
 
-// `first && second` by a call, so that the proof of a caller has no case for each.
+// Returns `first && second`. A call, so that the proof of a caller need not split into cases.
 fn both(first: bool, second: bool) -> bool
     ensures { result ≡ (first && second) }
 {
     first && second
 }
 
-// `first || second` likewise.
+// Returns `first
+//
+// second`, likewise.
 fn either(first: bool, second: bool) -> bool
     ensures { result ≡ (first || second) }
 {
     first || second
 }
 
-// Whether one of the transfer syntaxes in octets is.
+// Returns whether one of the transfer syntaxes in octets is the Basic Encoding Rules.
 fn offers_ber(octets: &[u8]) -> Option<bool>
     ensures { result ≡ transfer_syntaxes.reads octets.now }
 {
@@ -97,7 +100,7 @@ fn offers_ber(octets: &[u8]) -> Option<bool>
     }
 }
 
-// The identifier of a presentation context: 1 to 32,767.
+// Returns the identifier of a presentation context, if the number is one: 1 to 32,767.
 fn context_id(number: i64) -> Option<u16>
     ensures { result ≡ spec.context_id number }
 {
@@ -108,15 +111,15 @@ fn context_id(number: i64) -> Option<u16>
     }
 }
 
-// The context of an identifier, an abstract syntax and a list of transfer syntaxes.
+// Reads a context from its identifier, its abstract syntax and its list of transfer syntaxes.
 #[tactic(auto, unfolding(crate::specs::Presentation::context_parts, bay_ber::specs::Values::integer_under))]
 fn context_with(id: &Value<'_>, syntax: &Value<'_>, transfers: &Value<'_>) -> Option<Context>
     ensures { result ≡ context_parts.reads
         (part_of id.now ∷ part_of syntax.now ∷ part_of transfers.now ∷ []) }
 {
-    let id = context_id(id.integer_under(Tag::universal(2))?)?;
-    let name = syntax.under(Tag::universal(6))?;
-    let list = transfers.under(Tag::sequence())?;
+    let id = context_id(id.integer_with_tag(Tag::universal(2))?)?;
+    let name = syntax.content_with_tag(Tag::universal(6))?;
+    let list = transfers.content_with_tag(Tag::sequence())?;
     let ber = offers_ber(list)?;
     Some(Context {
         id,
@@ -125,9 +128,9 @@ fn context_with(id: &Value<'_>, syntax: &Value<'_>, transfers: &Value<'_>) -> Op
     })
 }
 
-// The context whose three parts these are.
+// Reads a context from its three parts.
 #[tactic(auto, unfolding(crate::specs::Presentation::context_parts))]
-fn context_of(parts: &[Value<'_>]) -> Option<Context>
+fn context_from_parts(parts: &[Value<'_>]) -> Option<Context>
     ensures { result ≡ context_parts.reads (map part_of parts.now) }
 {
     match parts {
@@ -136,16 +139,16 @@ fn context_of(parts: &[Value<'_>]) -> Option<Context>
     }
 }
 
-// The context that a value offers.
+// Reads an offered context.
 #[tactic(auto, unfolding(crate::specs::Presentation::definition))]
-fn context_as(value: &Value<'_>) -> Option<Context>
+fn context_from_value(value: &Value<'_>) -> Option<Context>
     ensures { result ≡ definition.reads (part_of value.now) }
 {
-    let parts = few_values(value.under(Tag::sequence())?)?;
-    context_of(parts.as_slice())
+    let parts = few_values(value.content_with_tag(Tag::sequence())?)?;
+    context_from_parts(parts.as_slice())
 }
 
-// The contexts that octets offer, one after another.
+// Reads consecutive offered contexts.
 fn read_contexts(alloc: Global, octets: &[u8]) -> Result<Vec<Context>, AssocFault>
     ensures { Gives AssocFault.OutOfMemory (λ v. v.items) result
         (or_fault BadPresentation ((each definition).reads octets.now)) }
@@ -155,7 +158,7 @@ fn read_contexts(alloc: Global, octets: &[u8]) -> Result<Vec<Context>, AssocFaul
     loop {
         match values.next_value() {
             Ok(Some(value)) => {
-                match context_as(&value) {
+                match context_from_value(&value) {
                     Some(one) => push_context(&mut contexts, one)?,
                     None => return Err(AssocFault::BadPresentation),
                 }
@@ -166,7 +169,7 @@ fn read_contexts(alloc: Global, octets: &[u8]) -> Result<Vec<Context>, AssocFaul
     }
 }
 
-// Keeps one context more.
+// Appends a context.
 fn push_context(contexts: &mut Vec<Context>, one: Context) -> Result<(), AllocError>
     ensures { OnOk result (contexts.new.items ≡ contexts.old.items ++ one ∷ []) }
 {
@@ -174,14 +177,14 @@ fn push_context(contexts: &mut Vec<Context>, one: Context) -> Result<(), AllocEr
     Ok(())
 }
 
-// Whether a context has this identifier.
+// Returns whether one of the contexts has this identifier.
 fn has_id(id: u16, contexts: &[Context]) -> bool
     ensures { result ≡ spec.has_id id contexts.now }
 {
     contexts.iter().any(|context| context.id == id)
 }
 
-// Whether no two contexts have one identifier.
+// Returns whether no two contexts have the same identifier.
 fn are_distinct(contexts: &[Context]) -> bool
     ensures { result ≡ spec.are_distinct contexts.now }
 {
@@ -194,9 +197,9 @@ fn are_distinct(contexts: &[Context]) -> bool
     true
 }
 
-// The contexts that octets offer, if they are few and distinct.
+// Reads the offered contexts: at most 16, with distinct identifiers.
 #[tactic(auto, unfolding(crate::specs::Presentation::definition_list))]
-fn contexts_in(alloc: Global, octets: &[u8]) -> Result<Vec<Context>, AssocFault>
+fn parse_contexts(alloc: Global, octets: &[u8]) -> Result<Vec<Context>, AssocFault>
     ensures exact { Gives AssocFault.OutOfMemory (λ v. v.items) result
         (or_fault BadPresentation (definition_list.reads octets.now)) }
     ensures few { IfOk result (λ v. length v.items ≤ 16) }
@@ -208,56 +211,56 @@ fn contexts_in(alloc: Global, octets: &[u8]) -> Result<Vec<Context>, AssocFault>
     Ok(contexts)
 }
 
-// The identifier of a context, and the value that is carried in it as a single ASN.1 type.
+// Reads the identifier of a context, and the value in it, a single ASN.1 type.
 #[tactic(auto, unfolding(crate::specs::Presentation::carried_parts, bay_ber::specs::Values::integer_under))]
-fn carried_as<'a>(id: &Value<'_>, value: &Value<'a>) -> Option<Carried<'a>>
+fn context_value_from_values<'a>(id: &Value<'_>, value: &Value<'a>) -> Option<ContextValue<'a>>
     ensures { option_map carried_view result
         ≡ carried_parts.reads (part_of id.now ∷ part_of value.now ∷ []) }
 {
-    let id = id.integer_under(Tag::universal(2))?;
-    let value = value.under(Tag::context_constructed(0))?;
-    Some(Carried { id, value })
+    let id = id.integer_with_tag(Tag::universal(2))?;
+    let value = value.content_with_tag(Tag::context_constructed(0))?;
+    Some(ContextValue { id, value })
 }
 
-/// Reads the value that parts carry, and its context.
+/// Reads a value and its context from the parts of a PDV-list or an EXTERNAL.
 #[tactic(auto, unfolding(crate::specs::Presentation::carried_parts))]
-pub(crate) fn carried_of<'a>(parts: &[Value<'a>]) -> Option<Carried<'a>>
+pub(crate) fn context_value_from_parts<'a>(parts: &[Value<'a>]) -> Option<ContextValue<'a>>
     ensures { option_map carried_view result ≡ carried_parts.reads (map part_of parts.now) }
 {
     match parts {
-        [id, value] => carried_as(id, value),
-        [name, id, value] if name.tag.is(Tag::universal(6)) => carried_as(id, value),
+        [id, value] => context_value_from_values(id, value),
+        [name, id, value] if name.tag.is(Tag::universal(6)) => context_value_from_values(id, value),
         _ => None,
     }
 }
 
-// The one value of fully encoded user data.
+// Reads the one value of fully encoded user data.
 #[tactic(auto, unfolding(crate::specs::Presentation::pdv_list))]
-fn carried_in(octets: &[u8]) -> Option<Carried<'_>>
+fn parse_context_value(octets: &[u8]) -> Option<ContextValue<'_>>
     ensures { option_map carried_view result ≡ (one pdv_list).reads octets.now }
 {
-    let parts = few_values(content_under(octets, Tag::sequence())?)?;
-    carried_of(parts.as_slice())
+    let parts = few_values(parse_content_with_tag(octets, Tag::sequence())?)?;
+    context_value_from_parts(parts.as_slice())
 }
 
-// The one value of user data under their tag.
+// Reads the one value of user data, with their tag.
 #[tactic(auto, unfolding(crate::specs::Presentation::user_part))]
-fn carried_under<'a>(value: &Value<'a>) -> Option<Carried<'a>>
+fn carried_under<'a>(value: &Value<'a>) -> Option<ContextValue<'a>>
     ensures { option_map carried_view result ≡ user_part.reads (part_of value.now) }
 {
-    carried_in(value.under(Tag::application_constructed(1))?)
+    parse_context_value(value.content_with_tag(Tag::application_constructed(1))?)
 }
 
-/// Reads the value that user data of the session carry, and its context.
+/// Reads the user data of the session as one value and its context.
 #[tactic(auto, unfolding(crate::specs::Presentation::user_data))]
-pub(crate) fn user_in(octets: &[u8]) -> Option<Carried<'_>>
+pub(crate) fn parse_user_data(octets: &[u8]) -> Option<ContextValue<'_>>
     ensures { option_map carried_view result ≡ user_data.reads octets.now }
 {
     let value = whole_value(octets)?;
     carried_under(&value)
 }
 
-// A selector of at most 16 octets.
+// Returns a selector, if it has at most 16 octets.
 fn selector_of(octets: &[u8]) -> Option<&[u8]>
     ensures exact { option_map (λ o. o.now) result ≡ spec.selector_of octets.now }
     ensures short { IfSome result (λ o. length o.now ≤ 16) }
@@ -269,9 +272,9 @@ fn selector_of(octets: &[u8]) -> Option<&[u8]>
     }
 }
 
-// What a request for a connection has, behind the calling selector.
+// Reads the parts of a request for a connection after its calling selector.
 #[tactic(auto, unfolding(crate::specs::Presentation::connect_parts))]
-fn connect_of<'a>(alloc: Global, parts: &[Value<'a>]) -> Result<Connect<'a>, AssocFault>
+fn connect_from_parts<'a>(alloc: Global, parts: &[Value<'a>]) -> Result<Connect<'a>, AssocFault>
     ensures { Gives AssocFault.OutOfMemory connect_view result
         (or_fault BadPresentation (connect_parts.reads (map part_of parts.now))) }
 {
@@ -279,7 +282,7 @@ fn connect_of<'a>(alloc: Global, parts: &[Value<'a>]) -> Result<Connect<'a>, Ass
         [list, user] => (None, list, user),
         [called, list, user] => {
             let octets = called
-                .under(Tag::context(2))
+                .content_with_tag(Tag::context(2))
                 .ok_or(AssocFault::BadPresentation)?;
             let selector = selector_of(octets).ok_or(AssocFault::BadPresentation)?;
             (Some(selector), list, user)
@@ -287,10 +290,10 @@ fn connect_of<'a>(alloc: Global, parts: &[Value<'a>]) -> Result<Connect<'a>, Ass
         _ => return Err(AssocFault::BadPresentation),
     };
     let octets = list
-        .under(Tag::context_constructed(4))
+        .content_with_tag(Tag::context_constructed(4))
         .ok_or(AssocFault::BadPresentation)?;
     let user = carried_under(user).ok_or(AssocFault::BadPresentation)?;
-    let contexts = contexts_in(alloc, octets)?;
+    let contexts = parse_contexts(alloc, octets)?;
     Ok(Connect {
         called,
         contexts,
@@ -298,26 +301,28 @@ fn connect_of<'a>(alloc: Global, parts: &[Value<'a>]) -> Result<Connect<'a>, Ass
     })
 }
 
-// The same behind the calling selector, where it came.
+// Reads the parts of a request for a connection, and ignores its calling selector, if it has one.
 #[tactic(auto, unfolding(crate::specs::Presentation::normal_parts))]
-fn normal_of<'a>(alloc: Global, parts: &[Value<'a>]) -> Result<Connect<'a>, AssocFault>
+fn normal_from_parts<'a>(alloc: Global, parts: &[Value<'a>]) -> Result<Connect<'a>, AssocFault>
     ensures { Gives AssocFault.OutOfMemory connect_view result
         (or_fault BadPresentation (normal_parts.reads (map part_of parts.now))) }
 {
     match parts {
-        [calling, parts @ ..] if calling.tag.is(Tag::context(1)) => connect_of(alloc, parts),
-        _ => connect_of(alloc, parts),
+        [calling, parts @ ..] if calling.tag.is(Tag::context(1)) => connect_from_parts(
+            alloc, parts,
+        ),
+        _ => connect_from_parts(alloc, parts),
     }
 }
 
-// The parameters of the normal mode under their tag, among other fields.
+// Reads the parameters of the normal mode, with their tag, and ignores other fields.
 #[tactic(auto, unfolding(crate::specs::Presentation::normal))]
-fn normal_as<'a>(alloc: Global, value: &Value<'a>) -> Result<Connect<'a>, AssocFault>
+fn normal_from_value<'a>(alloc: Global, value: &Value<'a>) -> Result<Connect<'a>, AssocFault>
     ensures { Gives AssocFault.OutOfMemory connect_view result
         (or_fault BadPresentation (normal.reads (part_of value.now))) }
 {
     let octets = value
-        .under(Tag::context_constructed(2))
+        .content_with_tag(Tag::context_constructed(2))
         .ok_or(AssocFault::BadPresentation)?;
     let tags = [
         Tag::context(1),
@@ -326,29 +331,29 @@ fn normal_as<'a>(alloc: Global, value: &Value<'a>) -> Result<Connect<'a>, AssocF
         Tag::application_constructed(1),
     ];
     let known = known_values(octets, &tags).ok_or(AssocFault::BadPresentation)?;
-    normal_of(alloc, known.as_slice())
+    normal_from_parts(alloc, known.as_slice())
 }
 
-// The number of the normal mode, 1; no other mode is taken.
-fn mode_of(number: i64) -> Option<i64>
+// Returns the number of the mode if it is the normal mode, 1.
+fn mode_from_number(number: i64) -> Option<i64>
     ensures { result ≡ spec.mode_of number }
 {
     if number == 1 { Some(number) } else { None }
 }
 
-// The normal mode.
+// Reads the mode, which must be the normal mode.
 #[tactic(auto, unfolding(crate::specs::Presentation::mode))]
-fn mode_as(value: &Value<'_>) -> Option<i64>
+fn mode_from_value(value: &Value<'_>) -> Option<i64>
     ensures { result ≡ mode.reads (part_of value.now) }
 {
-    let mode = value.under(Tag::context_constructed(0))?;
-    let number = content_under(mode, Tag::context(0))?;
-    mode_of(int_of(number).ok()?)
+    let mode = value.content_with_tag(Tag::context_constructed(0))?;
+    let number = parse_content_with_tag(mode, Tag::context(0))?;
+    mode_from_number(int_of(number).ok()?)
 }
 
-// The mode and the parameters, in either order.
+// Reads the mode and the parameters, in either order.
 #[tactic(auto, unfolding(crate::specs::Presentation::mode_parts))]
-fn request_of<'a>(alloc: Global, parts: &[Value<'a>]) -> Result<Connect<'a>, AssocFault>
+fn request_from_parts<'a>(alloc: Global, parts: &[Value<'a>]) -> Result<Connect<'a>, AssocFault>
     ensures request { Gives AssocFault.OutOfMemory connect_view result
         (or_fault BadPresentation ((mode_parts normal).reads (map part_of parts.now))) }
     ensures memory { IsErrOf result AssocFault.OutOfMemory
@@ -360,23 +365,24 @@ fn request_of<'a>(alloc: Global, parts: &[Value<'a>]) -> Result<Connect<'a>, Ass
         [first, second] => (second, first),
         _ => return Err(AssocFault::BadPresentation),
     };
-    mode_as(selector).ok_or(AssocFault::BadPresentation)?;
-    normal_as(alloc, parameters)
+    mode_from_value(selector).ok_or(AssocFault::BadPresentation)?;
+    normal_from_value(alloc, parameters)
 }
 
-/// Reads octets as a request for a connection (CP), which may have other fields.
+/// Reads octets as a request for a connection (CP), and ignores other fields. Fails with
+/// `BadPresentation` if they are none.
 #[tactic(auto, unfolding(crate::specs::Presentation::cp))]
-pub(crate) fn request_in(alloc: Global, octets: &[u8]) -> Result<Connect<'_>, AssocFault>
+pub(crate) fn parse_connect_request(alloc: Global, octets: &[u8]) -> Result<Connect<'_>, AssocFault>
     ensures request { Gives AssocFault.OutOfMemory connect_view result
         (or_fault BadPresentation (request.reads octets.now)) }
     ensures memory { IsErrOf result AssocFault.OutOfMemory
         → IsSome (request_mode.reads octets.now) }
     ensures mode { IfOk result (λ r. IsSome (request_mode.reads octets.now)) }
 {
-    let content = content_under(octets, Tag::universal_constructed(17)).ok_or(
+    let content = parse_content_with_tag(octets, Tag::universal_constructed(17)).ok_or(
         AssocFault::BadPresentation,
     )?;
     let tags = [Tag::context_constructed(0), Tag::context_constructed(2)];
     let known = known_values(content, &tags).ok_or(AssocFault::BadPresentation)?;
-    request_of(alloc, known.as_slice())
+    request_from_parts(alloc, known.as_slice())
 }

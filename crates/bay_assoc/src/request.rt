@@ -1,10 +1,10 @@
-// What a request for a connection has (ISO 8823-1 8.2, CP).
+// A request for a presentation connection (ISO 8823-1 8.2, CP).
 ghost use Rattle.std.specs.Prelude.{◌≤◌, length};
 ghost use Rattle.std.specs.Option.{ForSome};
 
-use crate::presentation::{Carried, Context};
+use crate::presentation::{Context, ContextValue};
 
-/// The fields of a request for a connection.
+/// A request for a presentation connection.
 #[derive(Drop)]
 pub struct Connect<'a> {
     /// The called selector, if it is present, at most 16 octets.
@@ -12,7 +12,7 @@ pub struct Connect<'a> {
     /// The offered contexts, at most 16.
     pub contexts: Vec<Context>,
     /// The user data.
-    pub user: Carried<'a>,
+    pub user: ContextValue<'a>,
     ghost few: { length contexts.items ≤ 16 },
     ghost short: { ForSome called (λ octets. length octets.now ≤ 16) },
 }

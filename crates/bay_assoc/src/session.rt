@@ -1,5 +1,5 @@
-// Session protocol data units (X.225 8): an identifier, a length, and parameters, which are spelled
-// likewise.
+// Reads session protocol data units (X.225 8): an identifier, a length, and parameters, which are
+// encoded the same way.
 ghost use Rattle.std.specs.Prelude.{◌≡◌, ◌+◌, ◌≤◌, length, option_map, IfSome};
 ghost use Rattle.bay_assoc.specs.Session.{unit, parameters, by_identifier, spdu};
 ghost use Rattle.bay_assoc.specs.Session as spec;
@@ -21,7 +21,7 @@ pub struct Unit<'a> {
     pub content: &'a [u8],
 }
 
-/// How often user data occur among the parameters.
+/// The user data among the parameters: none, one, or more than one.
 #[derive(Clone, Copy)]
 pub enum UserData<'a> {
     Missing,
@@ -46,7 +46,7 @@ pub enum Spdu<'a> {
     Transfer(&'a [u8]),
 }
 
-// A length of two octets, and the octets behind it.
+// Reads a length of two octets, and returns the octets after it.
 fn long_size(octets: &[u8]) -> Option<(usize, &[u8])>
     ensures exact { option_map (λ x. (x.0, x.1.now)) result ≡ spec.long_size octets.now }
     ensures shorter { IfSome result (λ x. length x.1.now ≤ length octets.now) }
@@ -57,7 +57,7 @@ fn long_size(octets: &[u8]) -> Option<(usize, &[u8])>
     }
 }
 
-// A length, and the octets behind it.
+// Reads a length, and returns the octets after it.
 #[tactic(auto, unfolding(crate::specs::Session::size_at))]
 fn size_at(octets: &[u8]) -> Option<(usize, &[u8])>
     ensures exact { option_map (λ x. (x.0, x.1.now)) result ≡ spec.size_at octets.now }
@@ -75,7 +75,7 @@ fn size_at(octets: &[u8]) -> Option<(usize, &[u8])>
     }
 }
 
-// The octets that a length counts, and those behind them.
+// Reads a length, and returns as many octets, and those after them.
 #[tactic(auto, unfolding(crate::specs::Session::counted_at))]
 fn counted_at(octets: &[u8]) -> Option<(&[u8], &[u8])>
     ensures exact { option_map (λ x. (x.0.now, x.1.now)) result ≡ spec.counted_at octets.now }
@@ -88,7 +88,7 @@ fn counted_at(octets: &[u8]) -> Option<(&[u8], &[u8])>
     Some(rest.split_at(count))
 }
 
-// A unit, and the octets behind it.
+// Reads a unit, and returns the octets after it.
 #[tactic(auto, unfolding(crate::specs::Session::unit_at))]
 fn unit_at(octets: &[u8]) -> Option<(Unit<'_>, &[u8])>
     ensures exact { option_map (λ x. (unit_of x.0, x.1.now)) result ≡ spec.unit_at octets.now }
@@ -107,7 +107,7 @@ fn unit_at(octets: &[u8]) -> Option<(Unit<'_>, &[u8])>
     }
 }
 
-/// An iterator over consecutive units in octets, which contracts see as the octets that are left.
+/// An iterator over consecutive units in octets, which contracts view as the octets not yet read.
 #[derive(Drop)]
 pub struct Units<'a> {
     rest: &'a [u8],
@@ -121,8 +121,8 @@ impl<'a> Model for Units<'a> {
     ghost view = { λ u. u.rest.now };
 }
 
-/// What comes next among units.
-pub enum Next<'a> {
+/// The result of reading the next unit.
+pub enum UnitRead<'a> {
     /// No octet is left.
     End,
     /// A unit.
@@ -132,38 +132,38 @@ pub enum Next<'a> {
 }
 
 impl<'a> Units<'a> {
-    // The units of these octets, none read yet.
+    // Starts at the first of these octets.
     fn new(octets: &'a [u8]) -> Units<'a>
         ensures { result ≡ octets.now }
     {
         Units { rest: octets }
     }
 
-    // The next unit. Where none stands there, nothing is passed over.
-    fn next_unit(&mut self) -> Next<'a>
+    // Reads the next unit. Does not advance if no unit comes next.
+    fn next_unit(&mut self) -> UnitRead<'a>
         ensures { NextUnit self.old result self.new }
     {
         if self.rest.is_empty() {
-            return Next::End;
+            return UnitRead::End;
         }
         match unit_at(self.rest) {
             Some((unit, rest)) => {
                 self.rest = rest;
-                Next::Unit(unit)
+                UnitRead::Unit(unit)
             }
-            None => Next::Bad,
+            None => UnitRead::Bad,
         }
     }
 }
 
-// Whether a parameter is user data.
+// Returns whether a parameter is user data.
 fn is_user(unit: &Unit<'_>) -> bool
     ensures { result ≡ spec.is_user (unit_of unit.now) }
 {
     unit.identifier == USER_DATA
 }
 
-// The user data behind those found, where a unit is one.
+// Returns the user data found so far, after one more unit.
 fn with_user<'a>(found: UserData<'a>, unit: Unit<'a>) -> UserData<'a>
     ensures { users_of result
         ≡ spec_session_reading.with_user (users_of found.entry) (unit_of unit.entry) }
@@ -177,22 +177,22 @@ fn with_user<'a>(found: UserData<'a>, unit: Unit<'a>) -> UserData<'a>
     }
 }
 
-// The user data among the parameters that octets are; None where they are no parameters.
-fn users_in(octets: &[u8]) -> Option<UserData<'_>>
+// Returns the user data among the parameters in octets; `None` if the octets are no parameters.
+fn parse_user_parameters(octets: &[u8]) -> Option<UserData<'_>>
     ensures { option_map users_of result ≡ parameters.reads octets.now }
 {
     let mut found = UserData::Missing;
     let mut units = Units::new(octets);
     loop {
         match units.next_unit() {
-            Next::Unit(unit) => found = with_user(found, unit),
-            Next::End => return Some(found),
-            Next::Bad => return None,
+            UnitRead::Unit(unit) => found = with_user(found, unit),
+            UnitRead::End => return Some(found),
+            UnitRead::Bad => return None,
         }
     }
 }
 
-// A CONNECT has user data once.
+// Returns the CONNECT with these user data, which must occur once.
 fn connect_of(users: UserData<'_>) -> Option<Spdu<'_>>
     ensures { option_map spdu_view result ≡ spec.connect_of (users_of users.entry) }
 {
@@ -202,7 +202,7 @@ fn connect_of(users: UserData<'_>) -> Option<Spdu<'_>>
     }
 }
 
-// A FINISH has user data at most once.
+// Returns the FINISH with these user data, which must occur at most once.
 fn finish_of(users: UserData<'_>) -> Option<Spdu<'_>>
     ensures { option_map spdu_view result ≡ spec.finish_of (users_of users.entry) }
 {
@@ -213,12 +213,12 @@ fn finish_of(users: UserData<'_>) -> Option<Spdu<'_>>
     }
 }
 
-// The SPDU that a unit is.
+// Returns the SPDU of a unit; `None` if its identifier or its parameters are not known here.
 #[tactic(auto, unfolding(crate::specs::Session::by_identifier))]
-fn spdu_of(unit: Unit<'_>) -> Option<Spdu<'_>>
+fn spdu_from_unit(unit: Unit<'_>) -> Option<Spdu<'_>>
     ensures { option_map spdu_view result ≡ by_identifier.reads (unit_of unit.entry) }
 {
-    let users = users_in(unit.content)?;
+    let users = parse_user_parameters(unit.content)?;
     match unit.identifier {
         0x0D => connect_of(users),
         0x09 => finish_of(users),
@@ -229,8 +229,8 @@ fn spdu_of(unit: Unit<'_>) -> Option<Spdu<'_>>
     }
 }
 
-// The unit that octets are.
-fn unit_in(octets: &[u8]) -> Option<Unit<'_>>
+// Reads octets that are exactly one unit.
+fn parse_unit(octets: &[u8]) -> Option<Unit<'_>>
     ensures { option_map unit_of result ≡ unit.reads octets.now }
 {
     match unit_at(octets) {
@@ -239,16 +239,16 @@ fn unit_in(octets: &[u8]) -> Option<Unit<'_>>
     }
 }
 
-/// Reads a TSDU as an SPDU.
+/// Reads a TSDU as an SPDU; `None` if it is none that is known here.
 #[tactic(auto, unfolding(crate::specs::Session::spdu))]
-pub(crate) fn spdu_in(tsdu: &[u8]) -> Option<Spdu<'_>>
+pub(crate) fn parse_spdu(tsdu: &[u8]) -> Option<Spdu<'_>>
     ensures { option_map spdu_view result ≡ spdu.reads tsdu.now }
 {
     match tsdu {
         [1, 0, 1, 0, user @ ..] => Some(Spdu::Transfer(user)),
         _ => {
-            let unit = unit_in(tsdu)?;
-            spdu_of(unit)
+            let unit = parse_unit(tsdu)?;
+            spdu_from_unit(unit)
         }
     }
 }

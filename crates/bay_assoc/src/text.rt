@@ -1,21 +1,21 @@
-// The canonical texts of each layer.
+// Writes the canonical texts of each layer.
 ghost use Rattle.std.specs.Prelude.{◌≡◌, ◌+◌, ◌<◌, ◌≤◌, ◌++◌, length, option_map, OnOk, IfOk};
 ghost use Rattle.std.specs.Option.{ForSome};
-ghost use Rattle.bay_ber.specs.Sheets.{sheet_with};
+ghost use Rattle.bay_ber.specs.EncoderBuffers.{sheet_with};
 ghost use Rattle.bay_ber.specs.Writing.{element};
 ghost use Rattle.bay_ber.specs.Tags.{constructed};
 ghost use Rattle.bay_assoc.specs.Tags.{oid_tag, external_tag, mms_application};
 ghost use Rattle.bay_assoc.specs.Texts.{size_text, unit_text, accept_text, disconnect_text, transfer_text, carried_text, user_text, result_text, results_text, selector_text, connected_text, associated_text, release_text};
 
-use crate::hearing::Accepted;
 use crate::presentation::Context;
+use crate::receive::Accepted;
 use bay_ber::outgoing::Outgoing;
 use bay_ber::tag::Tag;
 use bay_ber::writer::Writer;
 use std::alloc::{AllocError, Global};
 
-// The front of the parameters of an ACCEPT: the protocol options and the version as one group, and
-// the functional units.
+// The first parameters of an ACCEPT: the protocol options and the version as one group, and the
+// functional units.
 const ACCEPT: [u8; 12] = [
     0x05, 0x06, 0x13, 0x01, 0x00, 0x16, 0x01, 0x02, 0x14, 0x02, 0x00, 0x02,
 ];
@@ -61,7 +61,7 @@ pub(crate) fn accept(alloc: Global, user: &[u8]) -> Result<Vec<u8>, AllocError>
     Ok(out)
 }
 
-// A DISCONNECT with user data.
+// Writes a DISCONNECT with user data.
 fn disconnect(alloc: Global, user: &[u8]) -> Result<Vec<u8>, AllocError>
     requires { length user.now < 65_500 }
     ensures text { IfOk result (λ octets. octets.items ≡ disconnect_text user.now) }
@@ -74,7 +74,7 @@ fn disconnect(alloc: Global, user: &[u8]) -> Result<Vec<u8>, AllocError>
     Ok(out)
 }
 
-// Writes a value in a context.
+// Appends a value in a context.
 #[tactic(auto, using(bay_ber::proofs::SheetLemmas::sheet_rules))]
 fn put_carried(writer: &mut Writer, tag: Tag, id: u16, value: &[u8])
     requires { tag.number < 31 }
@@ -86,7 +86,7 @@ fn put_carried(writer: &mut Writer, tag: Tag, id: u16, value: &[u8])
     writer.close(start);
 }
 
-// Writes fully encoded user data.
+// Appends fully encoded user data.
 #[tactic(auto, using(bay_ber::proofs::SheetLemmas::sheet_rules))]
 fn put_user(writer: &mut Writer, id: u16, value: &[u8])
     ensures { writer.new ≡ sheet_with writer.old (user_text id value.now) }
@@ -96,7 +96,7 @@ fn put_user(writer: &mut Writer, id: u16, value: &[u8])
     writer.close(start);
 }
 
-// What comes of a context.
+// Appends the result for one offered context: accepted or rejected.
 fn put_result(writer: &mut Writer, accepted: Accepted, context: &Context)
     ensures { writer.new ≡ sheet_with writer.old (result_text accepted context.now) }
 {
@@ -107,7 +107,7 @@ fn put_result(writer: &mut Writer, accepted: Accepted, context: &Context)
     }
 }
 
-// What comes of each context.
+// Appends the result for each offered context.
 fn put_each(writer: &mut Writer, accepted: Accepted, contexts: &[Context])
     ensures { writer.new ≡ sheet_with writer.old (results_text accepted contexts.now) }
 {
@@ -116,7 +116,7 @@ fn put_each(writer: &mut Writer, accepted: Accepted, contexts: &[Context])
     }
 }
 
-// Writes the list of the results, one for each context that was offered.
+// Appends the list of the results, one for each offered context.
 #[tactic(auto, using(bay_ber::proofs::SheetLemmas::sheet_rules))]
 fn put_results(writer: &mut Writer, accepted: Accepted, contexts: &[Context])
     ensures { writer.new ≡ sheet_with writer.old
@@ -127,7 +127,7 @@ fn put_results(writer: &mut Writer, accepted: Accepted, contexts: &[Context])
     writer.close(start);
 }
 
-// Writes the selector of the one called, where it came.
+// Appends the responding selector, which repeats the called one, if there is one.
 #[tactic(auto, using(bay_ber::proofs::SheetLemmas::put_nil))]
 fn put_selector(writer: &mut Writer, called: Option<&[u8]>)
     ensures { writer.new ≡ sheet_with writer.old
@@ -138,7 +138,7 @@ fn put_selector(writer: &mut Writer, called: Option<&[u8]>)
     }
 }
 
-// Writes the parameters of the normal mode, with a value of ACSE.
+// Appends the parameters of the normal mode, with a value of ACSE.
 #[tactic(auto, using(bay_ber::proofs::SheetLemmas::sheet_rules))]
 fn put_normal(
     writer: &mut Writer,
@@ -159,7 +159,7 @@ fn put_normal(
     writer.close(start);
 }
 
-// Writes the answer to a request for a connection.
+// Appends the answer to a request for a connection.
 #[tactic(auto, using(bay_ber::proofs::SheetLemmas::sheet_rules))]
 fn put_connected(
     writer: &mut Writer,
@@ -180,7 +180,7 @@ fn put_connected(
 
 /// Writes the answer to a request for a connection (CPA), with a value of ACSE.
 #[tactic(auto, using(bay_ber::proofs::SheetLemmas::message_put, crate::proofs::TextLemmas::connected_short, crate::proofs::TextLemmas::connected_within))]
-pub(crate) fn connected(
+pub(crate) fn write_cpa(
     alloc: Global,
     called: Option<&[u8]>,
     contexts: &[Context],
@@ -198,10 +198,10 @@ pub(crate) fn connected(
 {
     let mut writer = Writer::new(alloc, 560)?;
     put_connected(&mut writer, called, contexts, accepted, value);
-    Ok(writer.finish_held())
+    Ok(writer.finish_untruncated())
 }
 
-// The object identifier of the application context of MMS.
+// Returns the object identifier of the application context of MMS, encoded.
 #[tactic(auto, unfolding(bay_ber::specs::Writing::element, bay_ber::specs::Writing::length_octets))]
 fn application_context() -> &'static [u8]
     ensures { result.now ≡ element oid_tag mms_application }
@@ -209,7 +209,7 @@ fn application_context() -> &'static [u8]
     &[0x06, 0x05, 0x28, 0xCA, 0x22, 0x02, 0x03]
 }
 
-// Writes the user information, which is one external.
+// Appends the user information, which is one EXTERNAL.
 #[tactic(auto, using(bay_ber::proofs::SheetLemmas::sheet_rules))]
 fn put_information(writer: &mut Writer, mms: u16, pdu: &[u8])
     ensures { writer.new ≡ sheet_with writer.old
@@ -220,7 +220,7 @@ fn put_information(writer: &mut Writer, mms: u16, pdu: &[u8])
     writer.close(start);
 }
 
-// Writes the answer to a request for an association.
+// Appends the answer to a request for an association.
 #[tactic(auto, using(bay_ber::proofs::SheetLemmas::sheet_rules))]
 fn put_associated(writer: &mut Writer, mms: u16, pdu: &[u8])
     ensures { writer.new ≡ sheet_with writer.old (associated_text mms pdu.now) }
@@ -235,17 +235,17 @@ fn put_associated(writer: &mut Writer, mms: u16, pdu: &[u8])
 
 /// Writes the answer to a request for an association (AARE), with a PDU of MMS.
 #[tactic(auto, using(bay_ber::proofs::SheetLemmas::message_put, crate::proofs::TextLemmas::associated_short, crate::proofs::TextLemmas::associated_within))]
-pub(crate) fn associated(alloc: Global, mms: u16, pdu: &[u8]) -> Result<Outgoing, AllocError>
+pub(crate) fn write_aare(alloc: Global, mms: u16, pdu: &[u8]) -> Result<Outgoing, AllocError>
     requires { length pdu.now ≤ 200 }
     ensures text { IfOk result (λ octets. octets ≡ associated_text mms pdu.now) }
     ensures few { IfOk result (λ octets. length octets ≤ 271) }
 {
     let mut writer = Writer::new(alloc, 271)?;
     put_associated(&mut writer, mms, pdu);
-    Ok(writer.finish_held())
+    Ok(writer.finish_untruncated())
 }
 
-// The RLRE.
+// Returns the encoded RLRE.
 #[tactic(auto, unfolding(bay_ber::specs::Writing::element, bay_ber::specs::Writing::length_octets))]
 fn release() -> &'static [u8]
     ensures { result.now ≡ release_text }
@@ -253,7 +253,7 @@ fn release() -> &'static [u8]
     &[0x63, 0x03, 0x80, 0x01, 0x00]
 }
 
-// The RLRE in the context of ACSE, as user data.
+// Writes the RLRE in the context of ACSE, as user data.
 #[tactic(auto, using(bay_ber::proofs::SheetLemmas::message_put, crate::proofs::TextLemmas::released_short, crate::proofs::TextLemmas::released_within))]
 fn release_user(alloc: Global, acse: u16) -> Result<Outgoing, AllocError>
     ensures text { IfOk result (λ octets. octets ≡ user_text acse release_text) }
@@ -261,11 +261,11 @@ fn release_user(alloc: Global, acse: u16) -> Result<Outgoing, AllocError>
 {
     let mut writer = Writer::new(alloc, 41)?;
     put_user(&mut writer, acse, release());
-    Ok(writer.finish_held())
+    Ok(writer.finish_untruncated())
 }
 
 /// Writes the DISCONNECT that answers a request for a release, with its RLRE.
-pub(crate) fn released(alloc: Global, acse: u16) -> Result<Vec<u8>, AllocError>
+pub(crate) fn write_release_response(alloc: Global, acse: u16) -> Result<Vec<u8>, AllocError>
     ensures text { IfOk result
         (λ octets. octets.items ≡ disconnect_text (user_text acse release_text)) }
     ensures few { IfOk result (λ octets. length octets.items ≤ 100) }

@@ -15,7 +15,7 @@ use Rattle.bay_base.specs.declared.point.SwitchPoint.{SwitchPoint}
 use Rattle.bay_base.specs.declared.point.SwitchPoint.TheVariants.{Position, Open, Closed, EnableOpen, EnableClose}
 use Rattle.bay_config.specs.declared.bay.Bay.{Bay}
 use Rattle.bay_process.specs.Values.{position_value}
-use Rattle.bay_rules.specs.Process.{Process, same_position}
+use Rattle.bay_audit_rules.specs.Process.{Process, same_position}
 use Rattle.bay_tree.specs.declared.leaf.Dbpos.{Dbpos}
 use Rattle.bay_tree.specs.declared.leaf.Dbpos.TheVariants.{Intermediate, Off, On, Bad}
 use Rattle.bay_tree.specs.declared.leaf.Leaf.TheVariants as leaf

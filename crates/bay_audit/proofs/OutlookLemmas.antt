@@ -7,56 +7,57 @@ use Rattle.std.proofs.lemmas.Bool.Decides.{Decides-int_eq}
 use Rattle.std.proofs.lemmas.Int.{ints}
 use Rattle.bay_tree.specs.declared.leaf.Dbpos.{Dbpos}
 use Rattle.bay_tree.specs.declared.leaf.Dbpos.TheVariants.{Intermediate, Off, On, Bad}
-use Rattle.bay_rules.specs.Process.{Process, after_item, after_items, holds, joined, negated, same_position, stands, top}
-use Rattle.bay_rules.specs.declared.rule.ConditionItem.{ConditionItem}
-use Rattle.bay_rules.specs.declared.rule.ConditionItem.TheVariants as items
-use Rattle.bay_rules.specs.declared.rule.Relation.{Relation}
-use Rattle.bay_rules.specs.declared.rule.Relation.TheVariants.{Less, AtMost, Equal, Unequal, AtLeast, Greater}
+use Rattle.bay_audit_rules.specs.Process.{Process, after_item, after_items, holds, joined, negated, same_position, stands, top}
+use Rattle.bay_audit_rules.specs.declared.rule.ConditionItem.{ConditionItem}
+use Rattle.bay_audit_rules.specs.declared.rule.ConditionItem.TheVariants as items
+use Rattle.bay_audit_rules.specs.declared.rule.Relation.{Relation}
+use Rattle.bay_audit_rules.specs.declared.rule.Relation.TheVariants.{Less, AtMost, Equal, Unequal, AtLeast, Greater}
 use Rattle.bay_audit.specs.Cases.{high_of, input_may, is_in, low_of, may_be}
-use Rattle.bay_audit.specs.Conditions.{both, either, includes, opposed, opposite, outlook, outlook_after, outlook_of, outlooks_after, paired, position_outlook, relation_outlook, top_outlook}
+use Rattle.bay_audit.specs.Conditions.{both, either, includes, opposed, opposite, truth_set, outlook_after, outlook_of, outlooks_after, paired, position_truths, relation_truths, top_outlook}
 use Rattle.bay_audit.specs.Process.{IsProcess}
 use Rattle.bay_audit.specs.declared.case.TestAnswer.{TestAnswer}
-use Rattle.bay_audit.specs.declared.outlook.Outlook.{Outlook}
+use Rattle.bay_audit.specs.declared.truth_set.TruthSet.{TruthSet}
 use Rattle.bay_audit.proofs.CaseLemmas.{high-of, input-may, low-of, or-first, or-second, or-third, position-may}
 
 -- ---- stacks
 
 -- each truth value is one of those that may be
-abbrev Include : List Outlook → List Bool → Type 0
+abbrev Include : List TruthSet → List Bool → Type 0
 Include [] [] = Unit {0}
 Include (o ∷ os) (b ∷ bs) = (includes o b ≡ true) × Include os bs
 Include [] (b ∷ bs) = ⊥
 Include (o ∷ os) [] = ⊥
 
-pub of-opposite : (o : Outlook) (b : Bool) → includes o b ≡ true → includes (opposite o) (not b) ≡ true
+pub of-opposite : (o : TruthSet) (b : Bool) → includes o b ≡ true
+    → includes (opposite o) (not b) ≡ true
 of-opposite o true h = h
 of-opposite o false h = h
 
-pub of-both : (o q : Outlook) (a b : Bool) → includes o a ≡ true → includes q b ≡ true
+pub of-both : (o q : TruthSet) (a b : Bool) → includes o a ≡ true → includes q b ≡ true
     → includes (both o q) (a && b) ≡ true
 of-both o q true true h k = and_from o.yes q.yes h k
 of-both o q true false h k = or_right o.no q.no k
 of-both o q false true h k = or_left o.no q.no h
 of-both o q false false h k = or_left o.no q.no h
 
-of-either : (o q : Outlook) (a b : Bool) → includes o a ≡ true → includes q b ≡ true
+of-either : (o q : TruthSet) (a b : Bool) → includes o a ≡ true → includes q b ≡ true
     → includes (either o q) (a || b) ≡ true
 of-either o q true true h k = or_left o.yes q.yes h
 of-either o q true false h k = or_left o.yes q.yes h
 of-either o q false true h k = or_right o.yes q.yes k
 of-either o q false false h k = and_from o.no q.no h k
 
-include-opposed : (os : List Outlook) (bs : List Bool) → Include os bs
+include-opposed : (os : List TruthSet) (bs : List Bool) → Include os bs
     → Include (opposed os) (negated bs)
 include-opposed [] [] h = tt
 include-opposed (o ∷ os) (b ∷ bs) h = (of-opposite o b h.0, h.1)
 include-opposed [] (b ∷ bs) h = absurd h
 include-opposed (o ∷ os) [] h = absurd h
 
-module _ (f : Outlook → Outlook → Outlook) (g : Bool → Bool → Bool)
-    (each : (o q : Outlook) (a b : Bool) → includes o a ≡ true → includes q b ≡ true
+module _ (f : TruthSet → TruthSet → TruthSet) (g : Bool → Bool → Bool)
+    (each : (o q : TruthSet) (a b : Bool) → includes o a ≡ true → includes q b ≡ true
     → includes (f o q) (g a b) ≡ true) where
-  include-joined : (os : List Outlook) (bs : List Bool) → Include os bs
+  include-joined : (os : List TruthSet) (bs : List Bool) → Include os bs
       → Include (paired f os) (joined g bs)
   include-joined [] [] h = tt
   include-joined (o ∷ []) (b ∷ []) h = tt
@@ -71,7 +72,7 @@ module _ (f : Outlook → Outlook → Outlook) (g : Bool → Bool → Bool)
 
 module _ (may : Dbpos → Bool) where
   position-included : (d which : Dbpos) → may d ≡ true
-      → includes (position_outlook which (may Intermediate) (may Off) (may On) (may Bad))
+      → includes (position_truths which (may Intermediate) (may Off) (may On) (may Bad))
       (same_position d which) ≡ true
   position-included Intermediate Intermediate h = h
   position-included Off Off h = h
@@ -91,13 +92,13 @@ module _ (may : Dbpos → Bool) where
   position-included Bad On h = or-third (may Intermediate) (may Off) (may Bad) h
 
 truth-included : (t f b : Bool) → (b ≡ true → t ≡ true) → (b ≡ false → f ≡ true)
-    → includes (outlook t f) b ≡ true
+    → includes (truth_set t f) b ≡ true
 truth-included t f true p q = p refl
 truth-included t f false p q = q refl
 
 module _ (low high x n : ℤ) (above : low ≤ℤ x) (below : x ≤ℤ high) where
   relation-included : (r : Relation)
-      → includes (relation_outlook r low high n) (stands r x n) ≡ true
+      → includes (relation_truths r low high n) (stands r x n) ≡ true
   relation-included Less =
       truth-included _ _ (int_lt x n) (λ e. grind (arith, ints)) (λ e. grind (arith, ints))
   relation-included AtMost =
@@ -117,11 +118,11 @@ module _ (low high x n : ℤ) (above : low ≤ℤ x) (below : x ≤ℤ high) whe
 
 module _ (p : Process) (is : IsProcess p) (case : List TestAnswer) (h : is_in case p ≡ true) where
   input-included : (k : ℕ) (b : Bool) → input_may case k b ≡ true
-      → includes (outlook (input_may case k true) (input_may case k false)) b ≡ true
+      → includes (truth_set (input_may case k true) (input_may case k false)) b ≡ true
   input-included k true e = e
   input-included k false e = e
 
-  item-included : (i : ConditionItem) (os : List Outlook) (bs : List Bool) → Include os bs
+  item-included : (i : ConditionItem) (os : List TruthSet) (bs : List Bool) → Include os bs
       → Include (outlook_after case i os) (after_item p i bs)
   item-included items.True os bs all = (refl, all)
   item-included (items.Position k which) os bs all =
@@ -137,13 +138,13 @@ module _ (p : Process) (is : IsProcess p) (case : List TestAnswer) (h : is_in ca
   item-included items.And os bs all = include-joined both (λ a b. a && b) of-both os bs all
   item-included items.Or os bs all = include-joined either (λ a b. a || b) of-either os bs all
 
-  items-included : (is : List ConditionItem) (os : List Outlook) (bs : List Bool) → Include os bs
+  items-included : (is : List ConditionItem) (os : List TruthSet) (bs : List Bool) → Include os bs
       → Include (outlooks_after case is os) (after_items p is bs)
   items-included [] os bs all = all
   items-included (i ∷ is) os bs all =
       items-included is (outlook_after case i os) (after_item p i bs) (item-included i os bs all)
 
-  top-included : (os : List Outlook) (bs : List Bool) → Include os bs
+  top-included : (os : List TruthSet) (bs : List Bool) → Include os bs
       → includes (top_outlook os) (top bs) ≡ true
   top-included [] [] all = refl
   top-included (o ∷ os) (b ∷ bs) all = all.0
@@ -151,6 +152,7 @@ module _ (p : Process) (is : IsProcess p) (case : List TestAnswer) (h : is_in ca
   top-included (o ∷ os) [] all = absurd all
 
   -- the condition is one of what it may come to
-  pub condition-included : (is : List ConditionItem) → includes (outlook_of case is) (holds is p) ≡ true
+  pub condition-included : (is : List ConditionItem)
+      → includes (outlook_of case is) (holds is p) ≡ true
   condition-included is =
       top-included (outlooks_after case is []) (after_items p is []) (items-included is [] [] tt)

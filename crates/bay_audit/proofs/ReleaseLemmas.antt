@@ -5,16 +5,16 @@ use Rattle.std.proofs.lemmas.List.{map-append}
 use Rattle.std.proofs.lemmas.List.Elements.{All-push}
 use Rattle.std.proofs.lemmas.List.Sums.{sum_by-append}
 use Rattle.bay_config.specs.declared.bay.Bay.{Bay}
-use Rattle.bay_rules.specs.Process.{Process}
+use Rattle.bay_audit_rules.specs.Process.{Process}
 use Rattle.bay_audit.specs.Cases.{is_in, lost_case}
 use Rattle.bay_audit.specs.Process.{IsLost, IsProcess}
-use Rattle.bay_audit.specs.Rules.{AreReleases, AreTold, IsDecision, IsRelease, IsToldFor, IsToldOf, HasProcess, IsTurn, IsVerdict, BoundProgram, case_count, demand, parts_of, told_count, way_of, ways}
-use Rattle.bay_audit.specs.declared.answer.Decision.{Decision}
-use Rattle.bay_audit.specs.declared.answer.Decision.TheVariants.{Obeyed, Missed}
+use Rattle.bay_audit.specs.Rules.{AreReleases, AreReported, IsDecision, IsRelease, IsReportedFor, IsReportedOf, HasProcess, IsTurn, IsVerdict, BoundProgram, case_count, demand, parts_of, told_count, way_of, ways}
+use Rattle.bay_audit.specs.declared.answer.RuleVerdict.{RuleVerdict}
+use Rattle.bay_audit.specs.declared.answer.RuleVerdict.TheVariants.{Obeyed, Missed}
 use Rattle.bay_audit.specs.declared.answer.Release.{Release}
 use Rattle.bay_audit.specs.declared.answer.CaseRelease.{CaseRelease}
 use Rattle.bay_audit.specs.declared.answer.CaseRelease.TheVariants.{Released, Refused, Hangs}
-use Rattle.bay_audit.specs.declared.answer.ToldCase.{ToldCase}
+use Rattle.bay_audit.specs.declared.answer.ReportedCase.{ReportedCase}
 use Rattle.bay_audit.specs.declared.answer.Verdict.{Verdict}
 use Rattle.bay_audit.specs.declared.answer.Verdict.TheVariants as verdict
 use Rattle.bay_audit.specs.declared.case.TestAnswer.{TestAnswer}
@@ -30,25 +30,26 @@ use Rattle.bay_nodes.specs.declared.switch.Operation.TheVariants as operations
 module _ (g : BoundProgram) (k : ℕ) (operation : Operation) where
   pub verdict-told : (case : List TestAnswer) (v : Verdict) (told : CaseRelease)
       → IsVerdict g (demand k operation) case v
-      → IsTurn v (let r : Result CaseRelease Test = Ok told in r) → IsToldOf g k operation case told
+      → IsTurn v (let r : Result CaseRelease Test = Ok told in r)
+      → IsReportedOf g k operation case told
   verdict-told case verdict.Obeyed told is turn =
-      let same : told ≡ Released = cc in subst (IsToldOf g k operation case) (sym same)
+      let same : told ≡ Released = cc in subst (IsReportedOf g k operation case) (sym same)
       (λ p ip inside machine now slots timers image kept leaves.
       is p ip inside machine now slots timers image kept tt leaves)
   verdict-told case verdict.Broken told is turn =
-      let same : told ≡ Refused = cc in subst (IsToldOf g k operation case) (sym same)
+      let same : told ≡ Refused = cc in subst (IsReportedOf g k operation case) (sym same)
       (λ p ip inside machine now slots timers image kept leaves.
       is p ip inside machine now slots timers image kept tt leaves)
   verdict-told case (verdict.Open kept) told is turn =
-      let same : told ≡ Hangs kept = cc in subst (IsToldOf g k operation case) (sym same) tt
+      let same : told ≡ Hangs kept = cc in subst (IsReportedOf g k operation case) (sym same) tt
   verdict-told case (verdict.Split test) told is turn = absurd cc
 
   -- what a pass decides of the case of a process that is lost
-  module _ (bay : Bay) (d : Demand) (case : List TestAnswer) (x : Decision)
+  module _ (bay : Bay) (d : Demand) (case : List TestAnswer) (x : RuleVerdict)
       (demands : d ≡ demand k operation)
       (lost : case ≡ lost_case (length bay.switches) (length bay.inputs))
       (is : IsDecision g d case x) where
-    decided : (y : Decision) → x ≡ y → IsDecision g (demand k operation) case y
+    decided : (y : RuleVerdict) → x ≡ y → IsDecision g (demand k operation) case y
     decided y same =
         subst (IsDecision g (demand k operation) case) same
         (subst (λ (e : Demand). IsDecision g e case x) demands is)
@@ -57,33 +58,34 @@ module _ (g : BoundProgram) (k : ℕ) (operation : Operation) where
     inside p gone =
         subst (λ (c : List TestAnswer). is_in c p ≡ true) (sym lost) (lost-in p bay gone)
 
-    pub lost-released : x ≡ Obeyed → IsToldFor (IsLost bay) g k operation Released
+    pub lost-released : x ≡ Obeyed → IsReportedFor (IsLost bay) g k operation Released
     lost-released e p ip gone machine now slots timers image kept leaves =
         decided Obeyed e p ip (inside p gone) machine now slots timers image kept tt leaves
 
-    pub lost-refused : x ≡ Missed → IsToldFor (IsLost bay) g k operation Refused
+    pub lost-refused : x ≡ Missed → IsReportedFor (IsLost bay) g k operation Refused
     lost-refused e p ip gone machine now slots timers image kept leaves =
         decided Missed e p ip (inside p gone) machine now slots timers image kept tt leaves
 
-  pub told-more : (cases : List ToldCase) (c : ToldCase) → AreTold g k operation cases
-      → IsToldOf g k operation c.case c.told → AreTold g k operation (cases ++ c ∷ [])
+  pub told-more : (cases : List ReportedCase) (c : ReportedCase) → AreReported g k operation cases
+      → IsReportedOf g k operation c.case c.told → AreReported g k operation (cases ++ c ∷ [])
   told-more [] c all one = (one, tt)
   told-more (d ∷ cases) c all one = (all.0, told-more cases c all.1 one)
 
 -- ---- how many have a process
 
 -- a case that is told is left no more
-pub one-told : (cases : List ToldCase) (left : List (List TestAnswer)) (c : ToldCase) (p : Process)
+pub one-told : (cases : List ReportedCase) (left : List (List TestAnswer)) (c : ReportedCase)
+    (p : Process)
     → told_count cases p + case_count (left ++ c.case ∷ []) p ≡ 1
     → told_count (cases ++ c ∷ []) p + case_count left p ≡ 1
 one-told cases left c p one =
     let told : told_count (cases ++ c ∷ []) p ≡ told_count cases p + (0 + one_if (is_in c.case p)) =
-    sum_by-append (λ (d : ToldCase). cond (is_in d.case p) 1 0) cases (c ∷ []) in
+    sum_by-append (λ (d : ReportedCase). cond (is_in d.case p) 1 0) cases (c ∷ []) in
     let e = count-last left c.case p in
     omega (arith, told, e, one)
 
 -- the parts of a case are left in its place
-pub one-split : (cases : List ToldCase) (left : List (List TestAnswer)) (case : List TestAnswer)
+pub one-split : (cases : List ReportedCase) (left : List (List TestAnswer)) (case : List TestAnswer)
     (test : Test) (p : Process) → IsProcess p
     → told_count cases p + case_count (left ++ case ∷ []) p ≡ 1
     → told_count cases p + case_count (left ++ parts_of case test) p ≡ 1
@@ -93,9 +95,9 @@ one-split cases left case test p is one =
     omega (arith, e, two, one)
 
 -- one told case more has a process
-pub told-full : (cases : List ToldCase) (c : ToldCase) → All (λ d. HasProcess d.case) cases
+pub told-full : (cases : List ReportedCase) (c : ReportedCase) → All (λ d. HasProcess d.case) cases
     → HasProcess c.case → All (λ d. HasProcess d.case) (cases ++ c ∷ [])
-told-full cases c all one = All-push (λ (d : ToldCase). HasProcess d.case) cases c all one
+told-full cases c all one = All-push (λ (d : ReportedCase). HasProcess d.case) cases c all one
 
 -- ---- several releases
 

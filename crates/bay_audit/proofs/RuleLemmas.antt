@@ -2,9 +2,9 @@
 use Rattle.std.proofs.Common.{◌≡◌, ◌⊎◌, inl, inr, ℕ, zero, suc, Bool, true, false, not, ◌&&◌, ◌||◌, cond, List, [], ◌∷◌, map, slice_get, Option, Some, None, refl, sym, ap, subst, ◌∙◌, arith}
 use Rattle.std.specs.Prelude.{is_none, position}
 use Rattle.bay_process.specs.Values.{is_point, output_at}
-use Rattle.bay_rules.specs.Process.{Process, holds}
-use Rattle.bay_rules.specs.declared.rule.RuleKind.{RuleKind}
-use Rattle.bay_rules.specs.declared.rule.RuleKind.TheVariants.{Never, Always}
+use Rattle.bay_audit_rules.specs.Process.{Process, holds}
+use Rattle.bay_audit_rules.specs.declared.rule.RuleKind.{RuleKind}
+use Rattle.bay_audit_rules.specs.declared.rule.RuleKind.TheVariants.{Never, Always}
 use Rattle.il_image.specs.declared.image.ImagePoint.{ImagePoint}
 use Rattle.il_image.specs.declared.timer.TimerPhase.{TimerPhase}
 use Rattle.il_image.specs.declared.timer.TimerPhase.TheVariants.{Idle, Held, Since}
@@ -19,16 +19,16 @@ use Rattle.il_scan.specs.Places.{is_true}
 use Rattle.il_scan.specs.Scans.{outputs_of}
 use Rattle.il_scan.specs.Scans as scans
 use Rattle.bay_audit.specs.Cases.{is_in, range_of}
-use Rattle.bay_audit.specs.Conditions.{asked_of, includes, opposite, outlook_of}
+use Rattle.bay_audit.specs.Conditions.{base_truths_of, includes, opposite, outlook_of}
 use Rattle.bay_audit.specs.Process.{IsProcess, process_value}
 use Rattle.bay_audit.specs.Rules.{Comes, Foresees, IsMissed, IsDecision, BoundProgram, decide, goal_range, idle_range, is_asked, is_kept, is_missed, is_obeyed, range_at, range_there, reaches, releasing_point}
 use Rattle.bay_audit.specs.declared.demand.Demand.{Demand}
 use Rattle.bay_audit.specs.declared.demand.Goal.{Goal}
 use Rattle.bay_audit.specs.declared.demand.Goal.TheVariants as goals
 use Rattle.bay_audit.specs.declared.case.TestAnswer.{TestAnswer}
-use Rattle.bay_audit.specs.declared.outlook.Outlook.{Outlook}
-use Rattle.bay_audit.specs.declared.answer.Decision.{Decision}
-use Rattle.bay_audit.specs.declared.answer.Decision.TheVariants.{Obeyed, Missed, Unknown}
+use Rattle.bay_audit.specs.declared.truth_set.TruthSet.{TruthSet}
+use Rattle.bay_audit.specs.declared.answer.RuleVerdict.{RuleVerdict}
+use Rattle.bay_audit.specs.declared.answer.RuleVerdict.TheVariants.{Obeyed, Missed, Unknown}
 use Rattle.bay_audit.proofs.CaseLemmas.{ranges-have}
 use Rattle.bay_audit.proofs.OutlookLemmas.{condition-included, of-both, of-opposite}
 
@@ -149,7 +149,7 @@ is-missed false true true true h = absurd cc
 is-missed false true true false h = (refl, refl)
 is-missed false true false f h = absurd cc
 
-module _ (kind : RuleKind) (o : Outlook) (r : Range) (b : Bool) (told : Told r b) where
+module _ (kind : RuleKind) (o : TruthSet) (r : Range) (b : Bool) (told : Told r b) where
   obeyed-so : (c : Bool) → includes o c ≡ true → decide kind o r ≡ Obeyed
       → is_obeyed kind c b ≡ true
   obeyed-so false one e = refl
@@ -192,7 +192,7 @@ goal-told g (goals.Idle n) now slots timers ranges limits h y = idle-told now ti
 -- ---- what is asked
 
 pub asked-included : (d : Demand) (p : Process) → IsProcess p → (case : List TestAnswer)
-    → is_in case p ≡ true → includes (asked_of case d.when d.unless) (is_asked d p) ≡ true
+    → is_in case p ≡ true → includes (base_truths_of case d.when d.unless) (is_asked d p) ≡ true
 asked-included d p is case inside =
     of-both (outlook_of case d.when) (opposite (outlook_of case d.unless)) (holds d.when p)
     (not (holds d.unless p)) (condition-included p is case inside d.when)
@@ -213,7 +213,7 @@ foresees-by g memory limits given last result is foretells machine inputs now sl
 module _ (g : BoundProgram) (d : Demand) (case : List TestAnswer) (ranges : List Range)
     (limits : List (Option ℕ))
     (foresees : Foresees g d.limits (map (range_of case) g.reads) limits ranges)
-    (asked : Outlook) (r : Range) (is-asked : asked ≡ asked_of case d.when d.unless)
+    (asked : TruthSet) (r : Range) (is-asked : asked ≡ base_truths_of case d.when d.unless)
     (is-range : r ≡ goal_range g.image.points g.writes ranges limits d.goal) where
   module _ (p : Process) (is : IsProcess p) (inside : is_in case p ≡ true) (machine : scans.Held)
       (now : ℕ) (slots : List Value) (timers : List TimerState) (image : machine.image ≡ g.image)
@@ -229,7 +229,7 @@ module _ (g : BoundProgram) (d : Demand) (case : List TestAnswer) (ranges : List
           (goal-told g d.goal now slots timers ranges limits end.0 end.1)
 
       included : includes asked (is_asked d p) ≡ true
-      included = ap (λ (o : Outlook). includes o (is_asked d p)) is-asked
+      included = ap (λ (o : TruthSet). includes o (is_asked d p)) is-asked
           ∙ asked-included d p is case inside
 
   obeyed-by : decide d.kind asked r ≡ Obeyed
@@ -245,20 +245,21 @@ module _ (g : BoundProgram) (d : Demand) (case : List TestAnswer) (ranges : List
       (told p is inside machine now slots timers image kept young leaves) (is_asked d p)
       (included p is inside machine now slots timers image kept young leaves) e
 
-  pub decision-by : (x : Decision) → x ≡ decide d.kind asked r → IsDecision g d case x
+  pub decision-by : (x : RuleVerdict) → x ≡ decide d.kind asked r → IsDecision g d case x
   decision-by Obeyed e = obeyed-by (sym e)
   decision-by Missed e = broken-by (sym e)
   decision-by Unknown e = tt
 
 -- a demand is met where nothing is asked
-idle-so : (kind : RuleKind) (o : Outlook) (c b : Bool) → o.yes ≡ false → includes o c ≡ true
+idle-so : (kind : RuleKind) (o : TruthSet) (c b : Bool) → o.yes ≡ false → includes o c ≡ true
     → is_obeyed kind c b ≡ true
 idle-so kind o false b never one = refl
 idle-so kind o true b never one = absurd (let f : true ≡ false = sym one ∙ never in cc)
 
 pub idle-in : (g : BoundProgram) (d : Demand) (case : List TestAnswer)
-    → (asked_of case d.when d.unless).yes ≡ false → (p : Process) → IsProcess p
+    → (base_truths_of case d.when d.unless).yes ≡ false → (p : Process) → IsProcess p
     → is_in case p ≡ true → Comes true g d p
 idle-in g d case never p is inside machine now slots timers image kept young leaves =
-    idle-so d.kind (asked_of case d.when d.unless) (is_asked d p) (reaches g d.goal slots timers)
+    idle-so d.kind (base_truths_of case d.when d.unless) (is_asked d p)
+    (reaches g d.goal slots timers)
     never (asked-included d p is case inside)

@@ -5,13 +5,13 @@ use Rattle.std.specs.List.{All}
 use Rattle.std.proofs.lemmas.List.Elements.{All-append, All-cons, All-nil, All-pop}
 use Rattle.std.proofs.lemmas.List.Folds.{list_all-append}
 use Rattle.std.proofs.lemmas.List.Sums.{sum_by-append}
-use Rattle.bay_rules.specs.Process.{Process}
-use Rattle.bay_rules.specs.declared.rule.Rule.{Rule}
+use Rattle.bay_audit_rules.specs.Process.{Process}
+use Rattle.bay_audit_rules.specs.declared.rule.Rule.{Rule}
 use Rattle.bay_audit.specs.declared.demand.Demand.{Demand}
 use Rattle.bay_audit.specs.Cases.{answer_of, example_of, is_in, meets}
 use Rattle.bay_audit.specs.Process.{IsProcess}
 use Rattle.bay_audit.specs.Rules.{AreRight, Comes, HasProcess, IsLeft, IsMet, IsRight, BoundProgram, case_count, if_any, part, parts_of}
-use Rattle.bay_audit.specs.declared.answer.Answer.{Answer}
+use Rattle.bay_audit.specs.declared.answer.RuleAnswer.{RuleAnswer}
 use Rattle.bay_audit.specs.declared.case.TestAnswer.{TestAnswer}
 use Rattle.bay_audit.specs.declared.case.Test.{Test}
 use Rattle.bay_audit.proofs.CaseLemmas.{example-is}
@@ -70,7 +70,8 @@ pub parts-more : (cases : List (List TestAnswer)) (case : List TestAnswer) (test
     (p : Process) → IsProcess p
     → case_count (cases ++ parts_of case test) p ≡ case_count cases p + one_if (is_in case p)
 parts-more cases case test p is =
-    let a = sum_by-append (λ (c : List TestAnswer). one_if (is_in c p)) cases (parts_of case test) in
+    let a = sum_by-append (λ (c : List TestAnswer). one_if (is_in c p)) cases (parts_of case test)
+    in
     let b = sum_by-append (λ (c : List TestAnswer). one_if (is_in c p))
     (if_any (part case test false)) (if_any (part case test true)) in
     let no = if-count (part case test false) p is in
@@ -142,7 +143,8 @@ module _ (g : BoundProgram) (d : Demand) where
   left-none cases none left p is = left p is (ap (λ cs. case_count cs p) none)
 
 -- one rule more, and its answer
-pub right-more : (g : BoundProgram) (rules : List Rule) (answers : List Answer) (r : Rule) (a : Answer)
+pub right-more : (g : BoundProgram) (rules : List Rule) (answers : List RuleAnswer) (r : Rule)
+    (a : RuleAnswer)
     → AreRight g rules answers → IsRight g r a → AreRight g (rules ++ r ∷ []) (answers ++ a ∷ [])
 right-more g [] [] r a all one = (one, tt)
 right-more g (q ∷ rules) (b ∷ answers) r a all one =

@@ -8,11 +8,11 @@ use Rattle.std.proofs.lemmas.Bool.Decides.{nat_tests}
 use Rattle.std.proofs.lemmas.Int.{ints}
 use Rattle.bay_base.specs.declared.point.MeterField.{MeterField}
 use Rattle.bay_base.specs.declared.point.MeterField.TheVariants.{TotW, TotVAr, Hz, PhaseA, PhaseB, PhaseC}
-use Rattle.bay_rules.specs.Process.{Process, same_position}
+use Rattle.bay_audit_rules.specs.Process.{Process, same_position}
 use Rattle.bay_tree.specs.declared.leaf.Dbpos.{Dbpos}
 use Rattle.bay_tree.specs.declared.leaf.Dbpos.TheVariants.{Intermediate, Off, On, Bad}
 use Rattle.bay_audit.specs.Cases.{IsWithin, allows, answer_of, example_of, first_position, grants, high_after, high_by, high_of, input_may, is_in, is_of_field, low_after, low_by, low_of, lowered, may_be, meets, raised, same_field, test_allows, test_grants}
-use Rattle.bay_audit.specs.Laws.{CasesAreTold, CasesHaveExamples}
+use Rattle.bay_audit.specs.Laws.{CasesAreReported, CasesHaveExamples}
 use Rattle.bay_audit.specs.Process.{IsProcess}
 use Rattle.bay_audit.specs.declared.case.TestAnswer.{TestAnswer}
 use Rattle.bay_audit.specs.declared.case.Test.{Test}
@@ -57,7 +57,8 @@ module _ (p : Process) where
       → p.measure k field ≤ℤ high_by k field (high k field) value t)
       → beq (answer_of p t) value ≡ true
   meets-one (test.Position j which) value low high a g least greatest =
-      unless-other (nat_eq j j) (beq (same_position which (p.position j)) value) (same-number j) (a j)
+      unless-other (nat_eq j j) (beq (same_position which (p.position j)) value) (same-number j)
+      (a j)
   meets-one (test.Input j) value low high a g least greatest =
       unless-other (nat_eq j j) (beq (p.input j) value) (same-number j) (g j)
   meets-one (test.AtMost j field most) value low high a g least greatest =
@@ -76,7 +77,8 @@ module _ (p : Process) where
   in-by (l ∷ case) low high a g least greatest =
       and_from (meets p l) (is_in case p)
       (meets-one l.test l.value low high
-      (λ k. (and_parts (allows k (p.position k) l) (list_all (allows k (p.position k)) case) (a k)).0)
+      (λ k. (and_parts (allows k (p.position k) l) (list_all (allows k (p.position k)) case)
+      (a k)).0)
       (λ k. (and_parts (grants k (p.input k) l) (list_all (grants k (p.input k)) case) (g k)).0)
       (λ k field. low-least k field case (low_after k field (low k field) l) (p.measure k field)
       (least k field))
@@ -84,7 +86,8 @@ module _ (p : Process) where
       (greatest k field)))
       (in-by case (λ k field. low_after k field (low k field) l)
       (λ k field. high_after k field (high k field) l)
-      (λ k. (and_parts (allows k (p.position k) l) (list_all (allows k (p.position k)) case) (a k)).1)
+      (λ k. (and_parts (allows k (p.position k) l) (list_all (allows k (p.position k)) case)
+      (a k)).1)
       (λ k. (and_parts (grants k (p.input k) l) (list_all (grants k (p.input k)) case) (g k)).1)
       least greatest)
 
@@ -101,7 +104,7 @@ module _ (p : Process) where
     greatest = high-of p is case inside;
   }
 
-pub cases-told : CasesAreTold
+pub cases-told : CasesAreReported
 cases-told case p is = (within-in p is case, in-within p case)
 
 -- ---- the example

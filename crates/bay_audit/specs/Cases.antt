@@ -1,4 +1,4 @@
--- A case of what the process reports: some tests of it have these answers.
+-- A case: some tests of the process have these answers.
 use Rattle.std.specs.Prelude.{◌≡◌, ◌≤ℤ◌, ℕ, zero, suc, ℤ, ◌+ℤ◌, negsuc, pos, int_le, int_lt, Bool, true, false, not, ◌&&◌, ◌||◌, ◌==◌, List, [], ◌∷◌, ◌++◌, fold, if◌then◌else◌}
 use Rattle.std.specs.Bool.{beq}
 use Rattle.std.specs.List.{list_all}
@@ -12,36 +12,36 @@ use Rattle.bay_tree.specs.declared.leaf.Dbpos.{Dbpos}
 use Rattle.bay_tree.specs.declared.leaf.Dbpos.TheVariants.{Intermediate, Off, On, Bad}
 use Rattle.il_range.specs.declared.range.Range.{Range}
 use Rattle.il_range.specs.declared.range.Range.TheVariants.{No, Yes, Either, Between}
-use Rattle.bay_rules.specs.Process.{Process, same_position}
+use Rattle.bay_audit_rules.specs.Process.{Process, same_position}
 use Rattle.bay_audit.specs.declared.case.TestAnswer.{TestAnswer}
 use Rattle.bay_audit.specs.declared.case.Test.{Test}
 use Rattle.bay_audit.specs.declared.case.Test.TheVariants as test
 
--- ---- what a case is
+-- ---- cases
 
--- the answer of a test: the switch has this position, the input is TRUE, the measured value is this
--- or less
+-- the answer of a test: the switch has this position, the input is TRUE, the measured value is at
+-- most this number
 abbrev pub answer_of : Process → Test → Bool
 answer_of p (test.Position k position) = same_position position (p.position k)
 answer_of p (test.Input k) = p.input k
 answer_of p (test.AtMost k field most) = int_le (p.measure k field) most
 
--- the test of the literal has its answer
+-- the process gives the test its answer
 abbrev pub meets : Process → TestAnswer → Bool
 meets p l = beq (answer_of p l.test) l.value
 
--- the process is one of the case
+-- the process is in the case
 abbrev pub is_in : List TestAnswer → Process → Bool
 is_in case p = list_all (meets p) case
 
 -- ---- the case of a process that is lost
 
--- each of so many switches has position 3
+-- each of the first n switches has a bad position
 abbrev pub bad_positions : ℕ → List TestAnswer
 bad_positions zero = []
 bad_positions (suc k) = bad_positions k ++ record { test = test.Position k Bad; value = true } ∷ []
 
--- each of so many inputs is FALSE
+-- each of the first n inputs is FALSE
 abbrev pub false_inputs : ℕ → List TestAnswer
 false_inputs zero = []
 false_inputs (suc k) = false_inputs k ++ record { test = test.Input k; value = false } ∷ []
@@ -49,9 +49,9 @@ false_inputs (suc k) = false_inputs k ++ record { test = test.Input k; value = f
 abbrev pub lost_case : ℕ → ℕ → List TestAnswer
 lost_case switches inputs = bad_positions switches ++ false_inputs inputs
 
--- ---- what a case leaves open
+-- ---- the values that a case allows
 
--- two fields of a meter are one
+-- two fields of a meter are equal
 abbrev pub same_field : MeterField → MeterField → Bool
 same_field TotW TotW = true
 same_field TotVAr TotVAr = true
@@ -61,7 +61,7 @@ same_field PhaseB PhaseB = true
 same_field PhaseC PhaseC = true
 same_field a b = false
 
--- a switch may have the position, by one literal and by all
+-- a switch may have the position, by one test and by all
 abbrev pub test_allows : ℕ → Dbpos → Bool → Test → Bool
 test_allows k position value (test.Position j which) =
     not (j == k) || beq (same_position which position) value
@@ -74,7 +74,7 @@ allows k position l = test_allows k position l.value l.test
 abbrev pub may_be : List TestAnswer → ℕ → Dbpos → Bool
 may_be case k position = list_all (allows k position) case
 
--- an input may have the value
+-- an input may have the value, by one test and by all
 abbrev pub test_grants : ℕ → Bool → Bool → Test → Bool
 test_grants k wanted value (test.Position j which) = true
 test_grants k wanted value (test.Input j) = not (j == k) || beq wanted value
@@ -120,20 +120,20 @@ low_of case k field = fold (low_after k field) (negsuc 2147483647) case
 abbrev pub high_of : List TestAnswer → ℕ → MeterField → ℤ
 high_of case k field = fold (high_after k field) (pos 2147483647) case
 
--- Each point of the process is as the case leaves it.
+-- The case allows each value of the process.
 pub record IsWithin (case : List TestAnswer) (p : Process) : Type 0 where
   pub positions : (k : ℕ) → may_be case k (p.position k) ≡ true
   pub inputs : (k : ℕ) → input_may case k (p.input k) ≡ true
   pub least : (k : ℕ) (field : MeterField) → low_of case k field ≤ℤ p.measure k field
   pub greatest : (k : ℕ) (field : MeterField) → p.measure k field ≤ℤ high_of case k field
 
--- ---- a process of a case
+-- ---- the example of a case
 
 -- the first position that a switch may have
 abbrev pub first_position : Bool → Bool → Bool → Dbpos
 first_position i o n = if i then Intermediate else if o then Off else if n then On else Bad
 
--- of each point the first value that it may have
+-- the example of a case: each point has the first value that it may have
 abbrev pub example_of : List TestAnswer → Process
 example_of case = record {
   position = λ k. first_position (may_be case k Intermediate) (may_be case k Off)
@@ -142,16 +142,16 @@ example_of case = record {
   measure = λ k field. lowered (pos 2147483647) (low_of case k field);
 }
 
--- ---- what is known of the points
+-- ---- the ranges of points
 
--- what is known of a truth value that may be TRUE, and may be FALSE
+-- the range of a truth value that may be TRUE and may be FALSE
 abbrev pub truth_range : Bool → Bool → Range
 truth_range true false = Yes
 truth_range true true = Either
 truth_range false true = No
 truth_range false false = Either
 
--- what is known of a position's number
+-- the least and the greatest number of a position that a switch may have
 abbrev pub least_position : Bool → Bool → Bool → ℤ
 least_position i o n = if i then pos 0 else if o then pos 1 else if n then pos 2 else pos 3
 
@@ -165,7 +165,7 @@ position_range Closed i o n b = truth_range n (i || o || b)
 position_range EnableOpen i o n b = No
 position_range EnableClose i o n b = No
 
--- what is known of what a point stands for
+-- the range of a source in a case
 abbrev pub range_of : List TestAnswer → Source → Range
 range_of case (source.Switch k point) =
     position_range point (may_be case k Intermediate) (may_be case k Off) (may_be case k On)

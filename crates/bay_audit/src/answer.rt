@@ -1,97 +1,102 @@
-// The answers to rules, and what one pass tells of a rule.
+// The answers to rules, and the verdict of one pass on a rule.
 use crate::case::{Case, Test};
 use bay_nodes::switch::Operation;
 
-/// What holds of a rule.
+/// The answer to a rule.
 #[derive(Drop)]
-pub enum Answer {
-    /// The rule holds, by so many cases.
+pub enum RuleAnswer {
+    /// The rule holds; the proof needed this number of cases.
     Holds { cases: u32 },
-    /// Each process of the case breaks it, in each state that the program can reach; or a rule with
-    /// a time is broken by one of the case, in one scan or two from the program's first values.
+    /// Each process of the case breaks the rule, in each state that the program can reach; or, for
+    /// a rule with a time, a process of the case breaks it in the first scan or the second from the
+    /// program's first values.
     Broken { case: Case },
-    /// In this case it hangs on what no test of the process tells: on what the program keeps, or on
-    /// a calculation that is not followed. A hint names what it may hang on.
-    Open { case: Case, kept: Kept },
-    /// It takes more passes than are allowed.
+    /// In this case the answer depends on something that no test of the process decides: on
+    /// variables or timers that the program retains, or on a calculation that the audit does not
+    /// follow. `kept` is a hint of what it may depend on.
+    Open { case: Case, kept: StateDependencies },
+    /// The rule needs more passes than allowed.
     TooMany,
-    /// It has a time and holds, by so many cases: the timer at this place of the image runs only
-    /// while the rule's condition does, and is over before the switch is released.
+    /// The rule has a time and holds; the proof needed this number of cases. The timer with this
+    /// index in the image runs only while the rule's condition holds, and has expired before the
+    /// switch is released.
     Since { timer: usize, cases: u32 },
 }
 
-/// What is told of a release in a case.
+/// The release of a switch in a case.
 #[derive(Drop)]
 pub enum CaseRelease {
-    /// For each process of the case the program releases it, in each state that it can reach.
+    /// The program releases it for each process of the case, in each state that the program can
+    /// reach.
     Released,
-    /// For each process of the case it does not, in each state that it can reach.
+    /// The program does not release it, for each process of the case, in each state that the
+    /// program can reach.
     Refused,
-    /// It hangs on what no test of the process tells.
-    Hangs(Kept),
+    /// It depends on something that no test of the process decides.
+    Hangs(StateDependencies),
 }
 
-/// A case of a release.
+/// A case with the release of the switch in it.
 #[derive(Drop)]
-pub struct ToldCase {
+pub struct ReportedCase {
     pub case: Case,
     pub told: CaseRelease,
 }
 
-/// When a switch is released in a direction. Each process is in just one of the cases, or of those
-/// that are left.
+/// The cases in which a switch is released in a direction. Each process is in exactly one of the
+/// cases and of those that are left.
 #[derive(Drop)]
 pub struct Release {
     /// The index of the switch in the bay.
     pub switch: usize,
-    /// The operation that is meant.
+    /// The operation that is released or not.
     pub operation: Operation,
-    pub cases: Vec<ToldCase>,
-    /// The cases that were not decided in the passes that are allowed.
+    pub cases: Vec<ReportedCase>,
+    /// The cases that could not be decided in the allowed passes.
     pub left: Vec<Case>,
-    /// What is told of it while the process is lost: each position is bad, and each input FALSE.
+    /// The release while the process is lost: each position is bad, and each input FALSE.
     pub lost: CaseRelease,
 }
 
 /// The answers to rules, and the releases.
 #[derive(Drop)]
 pub struct Audit {
-    /// One for each rule, in their order.
-    pub answers: Vec<Answer>,
+    /// One answer for each rule, in their order.
+    pub answers: Vec<RuleAnswer>,
     /// Opening and closing of each switch, in the order of the bay.
     pub releases: Vec<Release>,
 }
 
-/// What a release may hang on that the program keeps from scan to scan. It is a hint: no clause says
-/// that it is all, or no more.
+/// The retained variables and timers that a release may depend on. A hint: no clause says that the
+/// lists are complete or minimal.
 #[derive(Drop)]
-pub struct Kept {
-    /// The slots of writable points and of variables, by their places in the image.
+pub struct StateDependencies {
+    /// The slots of writable points and of variables, by their indices in the image.
     pub slots: Vec<usize>,
-    /// The timers, by their places in the image.
+    /// The timers, by their indices in the image.
     pub timers: Vec<usize>,
 }
 
-/// What a pass tells of a demand in a case.
+/// The verdict of a pass on a demand in a case.
 #[derive(Drop)]
 pub enum Verdict {
     /// Each process of the case obeys it, in each state that the program can reach.
     Obeyed,
     /// Each process of the case breaks it, in each state that the program can reach.
     Broken,
-    /// It hangs on this test.
+    /// It depends on this test.
     Split(Test),
-    /// It hangs on this alone.
-    Open(Kept),
+    /// It depends only on these.
+    Open(StateDependencies),
 }
 
-/// What is known of a rule, if that tells whether it is obeyed.
+/// Whether a rule is obeyed, if the ranges of its condition and its release decide it.
 #[derive(Clone, Copy)]
-pub enum Decision {
+pub enum RuleVerdict {
     /// It is obeyed.
     Obeyed,
     /// It is broken.
     Missed,
-    /// That does not tell.
+    /// Undecided.
     Unknown,
 }

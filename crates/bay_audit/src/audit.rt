@@ -1,26 +1,26 @@
-// Which rules hold of a program, and where the others are broken.
+// Finds which rules a program obeys, and in which cases it breaks the others.
 ghost use Rattle.std.specs.Prelude.{◌≡◌, ◌++◌, length, map, IfOk, OnOk};
 ghost use Rattle.bay_audit.specs.Rules.{AreReleases, IsAnswer, program_of, way_of, ways};
 ghost use Rattle.bay_audit.specs.Rules.{AreRight, IsRight};
 ghost use Rattle.bay_audit.specs.Rules as spec;
 
-use crate::answer::{Answer, Audit, Verdict};
+use crate::answer::{Audit, RuleAnswer, Verdict};
 use crate::case::{Case, Test};
 use crate::demand::{Demand, Goal};
-use crate::program::Program;
+use crate::program::AuditedProgram;
 use crate::release::releases;
 use crate::until::until;
 use crate::verdict::verdict;
+use bay_audit_rules::rule::Rule;
 use bay_base::listing::Listing;
 use bay_config::bay::Bay;
-use bay_rules::rule::Rule;
 use il_verify::verify::Verified;
 use std::alloc::{AllocError, Global};
 
-/// The most passes over the code for one rule or one release.
+/// The maximum number of passes over the code for one rule or one release.
 pub const PASSES: u32 = 10_000;
 
-// Puts a case behind those that are left, if it has a process.
+// Appends a case to those that are left, if it has a process.
 fn keep(left: &mut Vec<Case>, case: Case) -> Result<(), AllocError>
     ensures { OnOk result (left.new.items ≡ left.old.items ++ spec.if_any case) }
 {
@@ -30,7 +30,8 @@ fn keep(left: &mut Vec<Case>, case: Case) -> Result<(), AllocError>
     Ok(())
 }
 
-/// Puts the parts of a case that have a process behind the cases that are left.
+/// Appends the two parts of a case to the cases that are left, each if it has a process. Fails only
+/// if an allocation fails.
 pub(crate) fn split(
     alloc: Global,
     left: &mut Vec<Case>,
@@ -43,13 +44,14 @@ pub(crate) fn split(
     keep(left, case.with(alloc, test, true)?)
 }
 
-/// Answers a demand, in so many passes.
+/// Answers a demand in at most `passes` passes, and subtracts those that it needed. Fails only if
+/// an allocation fails.
 pub(crate) fn answer(
     alloc: Global,
-    program: &Program<'_>,
+    program: &AuditedProgram<'_>,
     demand: &Demand,
     passes: &mut u32,
-) -> Result<Answer, AllocError>
+) -> Result<RuleAnswer, AllocError>
     ensures { IfOk result (IsAnswer program.now demand.now) }
 {
     let mut left = Case::all(alloc)?;
@@ -61,19 +63,19 @@ pub(crate) fn answer(
         *passes = passes.saturating_sub(1);
         match verdict(alloc, program, demand, &case)? {
             Verdict::Obeyed => cases = cases.saturating_add(1),
-            Verdict::Broken => return Ok(Answer::Broken { case }),
-            Verdict::Open(kept) => return Ok(Answer::Open { case, kept }),
+            Verdict::Broken => return Ok(RuleAnswer::Broken { case }),
+            Verdict::Open(kept) => return Ok(RuleAnswer::Open { case, kept }),
             Verdict::Split(test) => split(alloc, &mut left, &case, test)?,
         }
     }
     if left.as_slice().is_empty() {
-        Ok(Answer::Holds { cases })
+        Ok(RuleAnswer::Holds { cases })
     } else {
-        Ok(Answer::TooMany)
+        Ok(RuleAnswer::TooMany)
     }
 }
 
-/// Returns what a rule demands, but for its time.
+/// Returns the demand of a rule, without its time. Fails only if an allocation fails.
 pub(crate) fn plain_demand(alloc: Global, rule: &Rule) -> Result<Demand, AllocError>
     ensures { IfOk result (λ demand. demand ≡ spec.plain_demand rule.now) }
 {
@@ -90,13 +92,13 @@ pub(crate) fn plain_demand(alloc: Global, rule: &Rule) -> Result<Demand, AllocEr
     })
 }
 
-// Answers a rule, in at most so many passes.
+// Answers a rule in at most `most` passes.
 fn answer_to(
     alloc: Global,
-    program: &Program<'_>,
+    program: &AuditedProgram<'_>,
     rule: &Rule,
     most: u32,
-) -> Result<Answer, AllocError>
+) -> Result<RuleAnswer, AllocError>
     ensures { IfOk result (IsRight program.now rule.now) }
 {
     let mut passes = most;
@@ -109,13 +111,13 @@ fn answer_to(
     }
 }
 
-// Answers rules.
+// Answers a list of rules.
 fn answers(
     alloc: Global,
-    program: &Program<'_>,
+    program: &AuditedProgram<'_>,
     rules: &[Rule],
     most: u32,
-) -> Result<Vec<Answer>, AllocError>
+) -> Result<Vec<RuleAnswer>, AllocError>
     ensures { IfOk result
         (λ answers. AreRight program.now rules.now answers.items) }
 {
@@ -126,8 +128,9 @@ fn answers(
     Ok(answers)
 }
 
-/// Answers rules of a bay's program, and tells when each switch is released: each in at most so
-/// many passes over the code. Fails only for want of memory.
+/// Answers the rules of a bay's program, and returns in which cases each switch is released. Uses
+/// at most `most` passes over the code for each rule and each release. Fails only if an allocation
+/// fails.
 pub fn audit(
     alloc: Global,
     bay: &Bay,
@@ -135,23 +138,24 @@ pub fn audit(
     rules: &[Rule],
     most: u32,
 ) -> Result<Audit, AllocError>
-    // Each answer is right: a rule that holds does so whatever a process reports, in each state
-    // that the program can reach from its first values; one that is broken is so by each process of
-    // its case, in each such state; one with a time that holds does so by a timer that is over, and
-    // that runs only while the condition does, and it is broken also by a run of two scans;
+    // Each answer is right. A rule that holds does so for every process, in each state that the
+    // program can reach from its first values. A rule that is broken is so by each process of its
+    // case, in each such state. A rule with a time may also hold by a timer, which runs only while
+    // the condition holds and has expired before a release, and may also be broken by a run of one
+    // scan or two;
     ensures answers { IfOk result (λ audit. AreRight (program_of bay.now verified.now) rules.now
         audit.answers.items) }
-    // The cases of each release are right, disjoint, have a process each, and cover all with those
-    // that are left, and what is told of it while the process is lost is right: where it is
-    // released, each scan from such a process leaves the release TRUE, in each state that the
-    // program can reach, and where it is not, FALSE;
+    // The cases of each release are right and disjoint, each has a process, and together with those
+    // that are left they cover all processes; the release while the process is lost is right. If a
+    // case is released, each scan from such a process leaves the release TRUE, in each state that
+    // the program can reach; if it is refused, FALSE;
     ensures releases { IfOk result (λ audit. AreReleases bay.now (program_of bay.now verified.now)
         audit.releases.items) }
-    // there is one for each switch and direction.
+    // There is one release for each switch and direction.
     ensures ways { IfOk result (λ audit. map way_of audit.releases.items
         ≡ ways (length bay.now.switches)) }
 {
-    let program = Program::new(alloc, bay, verified)?;
+    let program = AuditedProgram::new(alloc, bay, verified)?;
     Ok(Audit {
         answers: answers(alloc, &program, rules, most)?,
         releases: releases(alloc, bay, &program, most)?,

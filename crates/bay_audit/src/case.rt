@@ -1,4 +1,4 @@
-// A case of what the process reports, and what it leaves open.
+// A case: some tests of the process with their answers, and the values that they allow.
 ghost use Rattle.std.specs.Prelude.{◌≡◌, IfOk, IfSome, ◌++◌, ◌∷◌, [], Some};
 ghost use Rattle.bay_audit.specs.Cases as spec;
 ghost use Rattle.bay_audit.specs.Process.{process_value};
@@ -12,7 +12,7 @@ use il_range::range::Range;
 use std::alloc::{AllocError, Global};
 use std::marker::Model;
 
-/// A test of what the process reports.
+/// A test of the values that the process reports.
 #[derive(Clone, Copy)]
 pub enum Test {
     /// The switch at this index, counted from 0, has this position.
@@ -24,7 +24,7 @@ pub enum Test {
     Input {
         input: usize,
     },
-    /// The measured value of a field of the meter at this index is this or less.
+    /// The measured value of a field of the meter at this index is at most this number.
     AtMost {
         meter: usize,
         field: MeterField,
@@ -40,7 +40,7 @@ pub struct TestAnswer {
 }
 
 impl TestAnswer {
-    // Whether the switch may have the position.
+    // Returns whether the switch may have the position.
     fn allows(self, switch: usize, position: Dbpos) -> bool
         ensures { result ≡ spec.allows switch position self }
     {
@@ -53,7 +53,7 @@ impl TestAnswer {
         }
     }
 
-    // Whether the input may have the value.
+    // Returns whether the input may have the value.
     fn grants(self, input: usize, wanted: bool) -> bool
         ensures { result ≡ spec.grants input wanted self }
     {
@@ -63,7 +63,7 @@ impl TestAnswer {
         }
     }
 
-    // The least number of a measured value that was at least `low`.
+    // Returns the least number that a measured value may have, if it was at least `low`.
     fn low_after(self, meter: usize, field: MeterField, low: i64) -> i64
         ensures { result ≡ spec.low_after meter field low self }
     {
@@ -74,7 +74,7 @@ impl TestAnswer {
                 most,
             } => {
                 if at == meter && which == field && !self.value {
-                    raised(low, i64::from(most) + 1)
+                    greater(low, i64::from(most) + 1)
                 } else {
                     low
                 }
@@ -83,7 +83,7 @@ impl TestAnswer {
         }
     }
 
-    // The greatest number of a measured value that was at most `high`.
+    // Returns the greatest number that a measured value may have, if it was at most `high`.
     fn high_after(self, meter: usize, field: MeterField, high: i64) -> i64
         ensures { result ≡ spec.high_after meter field high self }
     {
@@ -94,7 +94,7 @@ impl TestAnswer {
                 most,
             } => {
                 if at == meter && which == field && self.value {
-                    lowered(high, i64::from(most))
+                    lesser(high, i64::from(most))
                 } else {
                     high
                 }
@@ -104,21 +104,21 @@ impl TestAnswer {
     }
 }
 
-// The greater of both.
-fn raised(low: i64, other: i64) -> i64
+// Returns the greater of two numbers.
+fn greater(low: i64, other: i64) -> i64
     ensures { result ≡ spec.raised low other }
 {
     if low < other { other } else { low }
 }
 
-// The lesser of both.
-fn lowered(high: i64, other: i64) -> i64
+// Returns the lesser of two numbers.
+fn lesser(high: i64, other: i64) -> i64
     ensures { result ≡ spec.lowered high other }
 {
     if other < high { other } else { high }
 }
 
-// The first position that a switch may have.
+// Returns the first position that a switch may have.
 fn first_position(intermediate: bool, off: bool, on: bool) -> Dbpos
     ensures { result ≡ spec.first_position intermediate off on }
 {
@@ -133,7 +133,7 @@ fn first_position(intermediate: bool, off: bool, on: bool) -> Dbpos
     }
 }
 
-// What is known of a truth value that may be TRUE, and may be FALSE.
+// Returns the range of a truth value that may be TRUE (`yes`) and may be FALSE (`no`).
 fn truth_range(yes: bool, no: bool) -> Range
     ensures { result ≡ spec.truth_range yes no }
 {
@@ -144,7 +144,7 @@ fn truth_range(yes: bool, no: bool) -> Range
     }
 }
 
-// The number of the first position that a switch may have.
+// Returns the number of the first position that a switch may have.
 fn least_position(intermediate: bool, off: bool, on: bool) -> i64
     ensures { result ≡ spec.least_position intermediate off on }
 {
@@ -159,7 +159,7 @@ fn least_position(intermediate: bool, off: bool, on: bool) -> i64
     }
 }
 
-// The number of the last position that a switch may have.
+// Returns the number of the last position that a switch may have.
 fn greatest_position(off: bool, on: bool, bad: bool) -> i64
     ensures { result ≡ spec.greatest_position off on bad }
 {
@@ -174,7 +174,7 @@ fn greatest_position(off: bool, on: bool, bad: bool) -> i64
     }
 }
 
-// What is known of a point of a switch that may have these positions.
+// Returns the range of a point of a switch that may have these positions.
 fn position_range(point: SwitchPoint, intermediate: bool, off: bool, on: bool, bad: bool) -> Range
     ensures { result ≡ spec.position_range point intermediate off on bad }
 {
@@ -201,7 +201,7 @@ fn number_of_position(position: Dbpos) -> i16
     }
 }
 
-// Returns the value of a point of a switch at a position.
+// Returns the value of a point of a switch with this position.
 fn position_value(point: SwitchPoint, position: Dbpos) -> Value
     ensures { result ≡ spec_values.position_value point (Some (leaves.Dbpos position)) }
 {
@@ -213,8 +213,8 @@ fn position_value(point: SwitchPoint, position: Dbpos) -> Value
     }
 }
 
-/// A case: tests of what the process reports, each with its answer. A process is one of the case if
-/// it gives these answers.
+/// A case: tests of the process, each with its answer. A process is in the case if it gives these
+/// answers.
 #[derive(Drop)]
 pub struct Case {
     literals: Vec<TestAnswer>,
@@ -239,7 +239,7 @@ impl Case {
         }
     }
 
-    /// Makes the case of all processes alone.
+    /// Returns a list with only the case of all processes. Fails only if an allocation fails.
     pub fn all(alloc: Global) -> Result<Vec<Case>, AllocError>
         ensures { IfOk result (λ cases. cases.items ≡ [] ∷ []) }
     {
@@ -248,8 +248,8 @@ impl Case {
         Ok(cases)
     }
 
-    /// Makes the case of a process that is lost: each of so many switches has position 3, and each
-    /// of so many inputs is FALSE.
+    /// Makes the case of a process that is lost: each of the first `switches` switches has a bad
+    /// position, and each of the first `inputs` inputs is FALSE. Fails only if an allocation fails.
     pub fn lost(alloc: Global, switches: usize, inputs: usize) -> Result<Self, AllocError>
         ensures { IfOk result (λ case. case ≡ spec.lost_case switches inputs) }
     {
@@ -268,7 +268,8 @@ impl Case {
         Ok(Case { literals })
     }
 
-    /// Returns the part of the case in which a test has this answer.
+    /// Returns the part of the case in which a test has this answer. Fails only if an allocation
+    /// fails.
     pub fn with(&self, alloc: Global, test: Test, value: bool) -> Result<Case, AllocError>
         ensures { IfOk result (λ case. case ≡ self.now
             ++ record { test = test; value = value } ∷ []) }
@@ -318,7 +319,7 @@ impl Case {
         high
     }
 
-    // The first position that a switch may have.
+    // Returns the first position that a switch may have.
     fn example_position(&self, switch: usize) -> Dbpos
         ensures { result ≡ (spec.example_of self.now).position switch }
     {
@@ -329,15 +330,15 @@ impl Case {
         )
     }
 
-    // The first number that a field of a meter may have.
+    // Returns the first number that a field of a meter may have.
     fn example_measure(&self, meter: usize, field: MeterField) -> i64
         ensures { result ≡ (spec.example_of self.now).measure meter field }
     {
-        lowered(i64::from(i32::MAX), self.low_of(meter, field))
+        lesser(i64::from(i32::MAX), self.low_of(meter, field))
     }
 
-    /// Returns the value of what a point stands for, where each point has the first value that it
-    /// may have. It is there.
+    /// Returns the value of a source in the example of the case, where each point has the first
+    /// value that it may have; `None` if a measured value does not fit 32 bits.
     pub fn example_value(&self, source: Source) -> Option<Value>
         ensures { IfSome result (λ v. v ≡ process_value (spec.example_of self.now) source) }
     {
@@ -355,7 +356,7 @@ impl Case {
         }
     }
 
-    // The answer of a test where each point has the first value that it may have.
+    // Returns the answer of the example of the case to a test.
     fn answer_of(&self, test: Test) -> bool
         ensures { result ≡ spec.answer_of (spec.example_of self.now) test }
     {
@@ -368,8 +369,7 @@ impl Case {
         }
     }
 
-    /// Returns whether the process is one of the case in which each point has the first value that
-    /// it may have.
+    /// Returns whether the example of the case is in the case.
     pub fn has_example(&self) -> bool
         ensures { result ≡ spec.is_in self.now (spec.example_of self.now) }
     {
@@ -378,7 +378,7 @@ impl Case {
             .all(|literal| self.answer_of(literal.test) == literal.value)
     }
 
-    /// Returns what is known of what a point stands for.
+    /// Returns the range of the values that a source may have in the case.
     pub fn range_of(&self, source: Source) -> Range
         ensures { result ≡ spec.range_of self.now source }
     {

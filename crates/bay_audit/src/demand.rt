@@ -1,29 +1,29 @@
-// What is demanded of each scan.
+// A demand on each scan of a program.
+use bay_audit_rules::rule::{ConditionItem, RuleKind};
 use bay_base::listing::Listing;
 use bay_nodes::switch::Operation;
-use bay_rules::rule::{ConditionItem, RuleKind};
 
-/// What a scan may come to.
+/// A result of a scan.
 #[derive(Clone, Copy)]
 pub enum Goal {
     /// The switch at this index of the bay is released for this operation.
     Release { switch: usize, operation: Operation },
-    /// No delay of the timer at this place of the image runs.
+    /// No delay of the timer with this index in the image is running.
     Idle { timer: usize },
 }
 
-/// What is demanded of each scan that is meant.
+/// A demand on each scan that it covers.
 #[derive(Drop)]
 pub struct Demand {
-    /// Whether the scan must come to the goal, or must not.
+    /// Whether the scan must never or must always reach the goal.
     pub kind: RuleKind,
     pub goal: Goal,
-    /// The condition, in postfix order: nothing is demanded while it does not hold.
+    /// The condition, in postfix order: the demand covers only processes for which it is TRUE.
     pub when: Listing<ConditionItem>,
-    /// The exception, in postfix order: nothing is demanded while it holds. No item is no
-    /// exception.
+    /// The exception, in postfix order: the demand covers no process for which it is TRUE. An empty
+    /// list is no exception.
     pub unless: Listing<ConditionItem>,
-    /// Scans are meant whose timers have delays that began less than so many milliseconds ago,
-    /// where there is a number; the first one for the first timer.
+    /// For each timer, in their order, an optional limit in milliseconds: the demand covers only
+    /// scans in which the timer's delay began less than the limit ago, if it is running.
     pub limits: Listing<Option<u32>>,
 }

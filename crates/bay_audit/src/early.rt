@@ -11,16 +11,16 @@ ghost use Rattle.bay_audit.specs.Rules.{IsEarlyBy, IsEarlyIn, Passes};
 use crate::answer::Verdict;
 use crate::audit::{plain_demand, split};
 use crate::case::Case;
-use crate::outlook::outlook_of;
-use crate::program::Program;
+use crate::program::AuditedProgram;
+use crate::truth_set::truths_of;
 use crate::verdict::{release_place, verdict};
-use bay_rules::rule::Rule;
+use bay_audit_rules::rule::Rule;
 use il_image::value::Value;
 use il_scan::machine::Machine;
 use il_scan::points::Inputs;
 use std::alloc::{AllocError, Global};
 
-// Inputs of a list.
+// The inputs of a scan, as a list.
 #[derive(Drop)]
 struct Listed<'a> {
     pub values: &'a [Value],
@@ -44,10 +44,10 @@ impl<'a> Inputs for Listed<'a> {
     ghost sized = { λ inputs. sym (length-map inputs.values.now type_of) };
 }
 
-// Returns what the points that a program reads have in the example of a case.
+// Returns the values that a program reads in the example of a case.
 fn values_of(
     alloc: Global,
-    program: &Program<'_>,
+    program: &AuditedProgram<'_>,
     case: &Case,
 ) -> Result<Option<Vec<Value>>, AllocError>
     ensures { IfOk result (λ found. IfSome found (λ values. values.items
@@ -71,7 +71,7 @@ fn scan_once(machine: &mut Machine, inputs: &[Value], now: u64)
     machine.scan_points(&Listed { values: inputs }, now);
 }
 
-// Whether the last scan released what stands at this place among the writable points.
+// Returns whether the last scan released the operation with this index among the writable points.
 fn is_released(machine: &Machine, place: Option<usize>) -> bool
     ensures { result ≡ is_true (output_at place
         (outputs_of machine.now.image.points machine.now.slots)) }
@@ -82,8 +82,9 @@ fn is_released(machine: &Machine, place: Option<usize>) -> bool
     }
 }
 
-// Whether one scan or two from the program's first values, with these inputs, the second less than
-// the time after the first, release what stands at this place among the writable points.
+// Returns whether one scan or two with these inputs, from the program's first values, release the
+// operation with this index among the writable points. The second scan comes less than `time` after
+// the first.
 fn releases_early(machine: Machine, inputs: &[Value], place: Option<usize>, time: u32) -> bool
     ensures { result ≡ true → IsEarlyBy inputs.now machine place time }
 {
@@ -99,18 +100,18 @@ fn releases_early(machine: Machine, inputs: &[Value], place: Option<usize>, time
     is_released(&machine, place)
 }
 
-// Whether a process of a case shows that a switch is released before a condition can have held for
-// a time.
+// Returns whether the example of a case is a process for which a switch is released before a
+// condition can have held for a time.
 fn is_early(
     alloc: Global,
-    program: &Program<'_>,
+    program: &AuditedProgram<'_>,
     rule: &Rule,
     time: u32,
     case: &Case,
 ) -> Result<bool, AllocError>
     ensures { IfOk result (λ shown. shown ≡ true → IsEarlyIn program.now rule.now time case.now) }
 {
-    let asked = outlook_of(alloc, case, rule.when.as_slice())?;
+    let asked = truths_of(alloc, case, rule.when.as_slice())?;
     if asked.no || !case.has_example() {
         return Ok(false);
     }
@@ -124,11 +125,12 @@ fn is_early(
     Ok(releases_early(machine, inputs.as_slice(), place, time))
 }
 
-/// Returns a case that shows that a switch is released before a condition can have held for a time,
-/// if one is found in so many passes.
+/// Returns a case with a process for which a switch is released before a condition can have held
+/// for a time; `None` if none is found in at most `passes` passes. Subtracts the passes that it
+/// needed. Fails only if an allocation fails.
 pub(crate) fn early_case(
     alloc: Global,
-    program: &Program<'_>,
+    program: &AuditedProgram<'_>,
     rule: &Rule,
     time: u32,
     passes: &mut u32,

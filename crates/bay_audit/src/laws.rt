@@ -1,10 +1,10 @@
-// Laws of the definitions. Each function does nothing, and its contract is the law.
-ghost use Rattle.bay_audit.specs.Laws.{CasesAreTold, CasesHaveExamples};
+// Laws of the definitions. Each function does nothing; its contract is the law.
+ghost use Rattle.bay_audit.specs.Laws.{CasesAreReported, CasesHaveExamples};
 
-/// A process is one of a case exactly where each position, input and measured value is one that the
-/// case leaves it: those that the case's text names, and any other of what it does not name. A case
-/// that has a process has the one in which each point has the first value that it may have.
-pub fn cases_are_told()
-    ensures told { CasesAreTold }
+/// A process is in a case if and only if the case allows each of its positions, inputs and measured
+/// values: those that the case's text names, and any value where it names none. If a case has a
+/// process, it has its example, in which each point has the first value that the case allows.
+pub fn cases_are_reported()
+    ensures told { CasesAreReported }
     ensures examples { CasesHaveExamples }
 {}

@@ -1,17 +1,17 @@
-// Which rules hold of a bay's program: a theorem of each, for all that the process can report and
-// all states that the program can reach from its first values, or a case in which it is broken or
-// hangs on what the program keeps.
+// Which rules a bay's program obeys: for each rule a theorem, for all processes and all states that
+// the program can reach from its first values, or a case in which the rule is broken or depends on
+// what the program retains.
 //
 // - `program`: a program on a bay, and what its scans can reach.
-// - `case`: a case of what the process reports: tests of it, each with its answer.
-// - `demand`: what is demanded of each scan; a rule without a time is one demand.
-// - `outlook`: what a rule's condition may come to in a case.
-// - `verdict`: what one pass over the code tells of a demand in a case.
-// - `split`: on what a case is split where that does not tell.
-// - `audit`: the answers, of the types in `answer`; `until` has those to rules with a time, `early`
-//   the runs that break one, and `release` when each switch is released, also while the process is
-//   lost.
-// - `laws`: a case is as it is told.
+// - `case`: a case: tests of the process, each with its answer.
+// - `demand`: a demand on each scan; a rule without a time is one demand.
+// - `truth_set`: the truth values that a rule's condition can have in a case.
+// - `verdict`: the verdict of one pass over the code on a demand in a case.
+// - `split`: the test by which an undecided case is split.
+// - `audit`: the answers, of the types in `answer`; `until` answers rules with a time, `early` has
+// the runs that break one, and `release` finds the cases in which each switch is released, also
+// while the process is lost.
+// - `laws`: a case has exactly the processes that its text allows.
 #![tactic(auto)]
 
 pub mod answer;
@@ -20,9 +20,9 @@ pub mod case;
 pub mod demand;
 mod early;
 pub mod laws;
-pub mod outlook;
 pub mod program;
 mod release;
 mod split;
+pub mod truth_set;
 mod until;
 pub mod verdict;

@@ -1,4 +1,4 @@
-// A program on a bay, and what its scans can reach.
+// A program on a bay, and the states that its scans can reach.
 ghost use Rattle.std.specs.Prelude.{◌≡◌, ◌+◌, IfOk, IfSome, length};
 ghost use Rattle.il_scan.specs.Scans.{held_first};
 ghost use Rattle.bay_audit.specs.Rules.{Foresees, program_of};
@@ -10,26 +10,26 @@ use bay_process::bind::sources_of;
 use il_image::image::{Image, ImagePoint};
 use il_range::memory::memory_ranges;
 use il_range::range::Range;
-use il_range::scan::{Forecast, scan_ranges};
+use il_range::scan::{ScanPrediction, scan_ranges};
 use il_scan::machine::Machine;
 use il_verify::fault::VerifyFault;
 use il_verify::verify::{Verified, verify};
 use std::alloc::{AllocError, Global};
 use std::marker::Model;
 
-/// A program on a bay: its image, and what its points stand for that it only reads, and those that
-/// it may write.
+/// A program on a bay: its image, and the sources of the points that it only reads, and of those
+/// that it may write.
 #[derive(Drop)]
-pub struct Program<'a> {
+pub struct AuditedProgram<'a> {
     points: &'a [Point],
     verified: &'a Verified,
     reads: Vec<Source>,
     writes: Vec<Source>,
-    // The ranges of the slots in all that scans reach from the program's first values.
+    // The ranges of the slots in all states that scans reach from the program's first values.
     memory: Vec<Range>,
 }
 
-impl<'a> Model for Program<'a> {
+impl<'a> Model for AuditedProgram<'a> {
     ghost use Rattle.bay_audit.specs.Rules.{BoundProgram, program};
     ghost use Rattle.il_range.specs.Foretold.{IsMemory};
 
@@ -66,17 +66,17 @@ fn copy_of(alloc: Global, image: &Image) -> Result<Image, AllocError>
     Ok(Image::new(points, variables, timers, code))
 }
 
-impl<'a> Program<'a> {
-    /// Binds a program to a bay.
+impl<'a> AuditedProgram<'a> {
+    /// Binds a program to a bay. Fails only if an allocation fails.
     pub fn new(
         alloc: Global,
         bay: &'a Bay,
         verified: &'a Verified,
-    ) -> Result<Program<'a>, AllocError>
+    ) -> Result<AuditedProgram<'a>, AllocError>
         ensures { IfOk result (λ program. program ≡ program_of bay.now verified.now) }
     {
         let points = verified.image().points();
-        Ok(Program {
+        Ok(AuditedProgram {
             points: bay.points.as_slice(),
             verified,
             reads: sources_of(alloc, false, bay.points.as_slice(), points)?,
@@ -92,28 +92,29 @@ impl<'a> Program<'a> {
         self.verified.image()
     }
 
-    /// Returns what the points stand for that the program only reads.
+    /// Returns the sources of the points that the program only reads.
     pub fn reads(&self) -> &[Source]
         ensures { result.now ≡ self.now.reads }
     {
         self.reads.as_slice()
     }
 
-    /// Returns what the points stand for that the program may write.
+    /// Returns the sources of the points that the program may write.
     pub fn writes(&self) -> &[Source]
         ensures { result.now ≡ self.now.writes }
     {
         self.writes.as_slice()
     }
 
-    /// Foretells a scan from each state that the program can reach, whose inputs are in these
-    /// ranges, and whose timers' delays have run for less than the limits.
+    /// Predicts a scan from every state that the program can reach, with inputs in these ranges and
+    /// with timers whose delays have run for less than the limits. Fails only if an allocation
+    /// fails.
     pub fn scan(
         &self,
         alloc: Global,
         limits: &[Option<u32>],
         given: &[Range],
-    ) -> Result<Forecast, AllocError>
+    ) -> Result<ScanPrediction, AllocError>
         ensures size { IfOk result
             (λ f. length f.ranges.items ≡ length self.now.image.points
             + length self.now.image.variables) }
@@ -125,7 +126,8 @@ impl<'a> Program<'a> {
         Ok(found)
     }
 
-    /// Returns a machine with the program before its first scan.
+    /// Returns a machine with the program in its state before the first scan; `None` if the
+    /// verifier refuses the copy of the image. Fails only if an allocation fails.
     pub fn machine(&self, alloc: Global) -> Result<Option<Machine>, AllocError>
         ensures { IfOk result (λ made. IfSome made (λ m. m ≡ held_first self.now.image)) }
     {

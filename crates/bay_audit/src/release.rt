@@ -1,21 +1,21 @@
-// When each switch is released, and in which direction.
+// The cases in which each switch is released, in each direction.
 ghost use Rattle.std.specs.Prelude.{◌≡◌, IfOk, length, map};
 ghost use Rattle.bay_audit.specs.Process.{IsLost};
-ghost use Rattle.bay_audit.specs.Rules.{AreReleases, IsRelease, IsToldFor, IsTurn, way_of, ways};
+ghost use Rattle.bay_audit.specs.Rules.{AreReleases, IsRelease, IsReportedFor, IsTurn, way_of, ways};
 ghost use Rattle.bay_audit.specs.Rules as spec;
 
-use crate::answer::{CaseRelease, Decision, Release, ToldCase, Verdict};
+use crate::answer::{CaseRelease, Release, ReportedCase, RuleVerdict, Verdict};
 use crate::audit::split;
 use crate::case::{Case, Test};
 use crate::demand::{Demand, Goal};
-use crate::outlook::Outlook;
-use crate::program::Program;
-use crate::split::hangs_on;
+use crate::program::AuditedProgram;
+use crate::split::dependencies_of;
+use crate::truth_set::TruthSet;
 use crate::verdict::{pass, verdict};
+use bay_audit_rules::rule::{ConditionItem, RuleKind};
 use bay_base::listing::Listing;
 use bay_config::bay::Bay;
 use bay_nodes::switch::Operation;
-use bay_rules::rule::{ConditionItem, RuleKind};
 use std::alloc::{AllocError, Global};
 
 // Returns the demand that a switch is always released in a direction.
@@ -32,7 +32,7 @@ fn demand(alloc: Global, switch: usize, operation: Operation) -> Result<Demand, 
     })
 }
 
-// What a verdict on that demand tells of the release, or the test that it hangs on.
+// Returns the release that a verdict on that demand means, or the test by which to split the case.
 fn told_by(verdict: Verdict) -> Result<CaseRelease, Test>
     ensures { IsTurn verdict result }
 {
@@ -44,15 +44,15 @@ fn told_by(verdict: Verdict) -> Result<CaseRelease, Test>
     }
 }
 
-// Returns what one pass tells of a release while the process is lost.
+// Returns the release while the process is lost, by the verdict of one pass.
 fn lost_release(
     alloc: Global,
     bay: &Bay,
-    program: &Program<'_>,
+    program: &AuditedProgram<'_>,
     switch: usize,
     operation: Operation,
 ) -> Result<CaseRelease, AllocError>
-    ensures { IfOk result (IsToldFor (IsLost bay.now) program.now switch operation) }
+    ensures { IfOk result (IsReportedFor (IsLost bay.now) program.now switch operation) }
 {
     let demand = demand(alloc, switch, operation)?;
     let case = Case::lost(
@@ -60,26 +60,26 @@ fn lost_release(
         bay.switches.as_slice().len(),
         bay.inputs.as_slice().len(),
     )?;
-    let asked = Outlook {
+    let asked = TruthSet {
         yes: true,
         no: false,
     };
     let (decision, forecast) = pass(alloc, program, &demand, &case, asked)?;
     match decision {
-        Decision::Obeyed => Ok(CaseRelease::Released),
-        Decision::Missed => Ok(CaseRelease::Refused),
-        Decision::Unknown => {
-            let kept = hangs_on(alloc, program, demand.goal, &forecast)?;
+        RuleVerdict::Obeyed => Ok(CaseRelease::Released),
+        RuleVerdict::Missed => Ok(CaseRelease::Refused),
+        RuleVerdict::Unknown => {
+            let kept = dependencies_of(alloc, program, demand.goal, &forecast)?;
             Ok(CaseRelease::Hangs(kept))
         }
     }
 }
 
-// Returns when a switch is released in a direction, by at most so many passes.
+// Returns the cases in which a switch is released in a direction, in at most `most` passes.
 fn release(
     alloc: Global,
     bay: &Bay,
-    program: &Program<'_>,
+    program: &AuditedProgram<'_>,
     switch: usize,
     operation: Operation,
     most: u32,
@@ -95,7 +95,7 @@ fn release(
             break;
         };
         match told_by(verdict(alloc, program, &demand, &case)?) {
-            Ok(told) => cases.push(ToldCase { case, told })?,
+            Ok(told) => cases.push(ReportedCase { case, told })?,
             Err(test) => split(alloc, &mut left, &case, test)?,
         }
     }
@@ -108,11 +108,12 @@ fn release(
     })
 }
 
-/// Returns when each switch of a bay is released, opening first, each by at most so many passes.
+/// Returns the cases in which each switch of a bay is released, opening first, each in at most
+/// `most` passes. Fails only if an allocation fails.
 pub fn releases(
     alloc: Global,
     bay: &Bay,
-    program: &Program<'_>,
+    program: &AuditedProgram<'_>,
     most: u32,
 ) -> Result<Vec<Release>, AllocError>
     ensures right { IfOk result

@@ -1,26 +1,27 @@
-// On what a case is split where a pass does not tell. Any test is right, so no clause says which it
-// is.
+// Chooses the test by which an undecided case is split. Any test is sound, so no clause says which
+// one it is.
 ghost use Rattle.std.specs.Prelude.{IfOk};
 ghost use Rattle.bay_audit.specs.Rules.{IsUndecided};
 
-use crate::answer::{Kept, Verdict};
+use crate::answer::{StateDependencies, Verdict};
 use crate::case::{Case, Test};
 use crate::demand::{Demand, Goal};
-use crate::program::Program;
+use crate::program::AuditedProgram;
 use crate::verdict::release_place;
+use bay_audit_rules::rule::{ConditionItem, Relation};
 use bay_config::bay::{MeterField, Source, SwitchPoint};
-use bay_rules::rule::{ConditionItem, Relation};
 use bay_tree::leaf::Dbpos;
 use il_image::image::ImagePoint;
 use il_image::instr::Instr;
 use il_image::read::instr_at;
 use il_image::value::Value;
-use il_range::scan::Forecast;
+use il_range::scan::ScanPrediction;
 use std::alloc::{AllocError, Global};
 
 const POSITIONS: [Dbpos; 4] = [Dbpos::Off, Dbpos::On, Dbpos::Intermediate, Dbpos::Bad];
 
-// Whether a case has both a switch with this position and one without.
+// Returns whether a case has both a process with the switch at this position and one with the
+// switch at another.
 fn is_open_at(case: &Case, switch: usize, position: Dbpos) -> bool {
     case.may_be(switch, position)
         && POSITIONS
@@ -28,7 +29,7 @@ fn is_open_at(case: &Case, switch: usize, position: Dbpos) -> bool {
             .any(|other| *other != position && case.may_be(switch, *other))
 }
 
-// The test of a switch's position that its case leaves open, if one is.
+// Returns the test of a switch's position; `None` if the case decides it.
 fn position_test(case: &Case, switch: usize, position: Dbpos) -> Option<Test> {
     if is_open_at(case, switch, position) {
         Some(Test::Position { switch, position })
@@ -37,7 +38,7 @@ fn position_test(case: &Case, switch: usize, position: Dbpos) -> Option<Test> {
     }
 }
 
-// The test of the first position of a switch that its case leaves open.
+// Returns the test of the first position of a switch that the case leaves open.
 fn any_position_test(case: &Case, switch: usize) -> Option<Test> {
     POSITIONS
         .iter()
@@ -48,7 +49,7 @@ fn any_position_test(case: &Case, switch: usize) -> Option<Test> {
         })
 }
 
-// The test of an input that its case leaves open.
+// Returns the test of an input; `None` if the case decides it.
 fn input_test(case: &Case, input: usize) -> Option<Test> {
     if case.input_may(input, true) && case.input_may(input, false) {
         Some(Test::Input { input })
@@ -57,7 +58,7 @@ fn input_test(case: &Case, input: usize) -> Option<Test> {
     }
 }
 
-// The test whether a measured value is at most this, where its case leaves it open.
+// Returns the test whether a measured value is at most a number; `None` if the case decides it.
 fn at_most_test(case: &Case, meter: usize, field: MeterField, most: i32) -> Option<Test> {
     let number = i64::from(most);
     if case.low_of(meter, field) <= number && number < case.high_of(meter, field) {
@@ -67,7 +68,8 @@ fn at_most_test(case: &Case, meter: usize, field: MeterField, most: i32) -> Opti
     }
 }
 
-// The test whether a measured value is below this, or else at most this.
+// Returns the test whether a measured value is below a number; if the case decides that, whether it
+// is at most this number.
 fn measure_test(case: &Case, meter: usize, field: MeterField, number: i32) -> Option<Test> {
     number
         .checked_sub(1)
@@ -75,7 +77,7 @@ fn measure_test(case: &Case, meter: usize, field: MeterField, number: i32) -> Op
         .or_else(|| at_most_test(case, meter, field, number))
 }
 
-// The test of a relation to a number.
+// Returns the test of a measured value for its relation to a number; `None` if the case decides it.
 fn relation_test(
     case: &Case,
     meter: usize,
@@ -91,7 +93,7 @@ fn relation_test(
     }
 }
 
-// The test of an item of a condition that its case leaves open.
+// Returns the test of an item of a condition; `None` if the case decides it.
 fn item_test(case: &Case, item: ConditionItem) -> Option<Test> {
     match item {
         ConditionItem::Position { switch, position } => position_test(case, switch, position),
@@ -106,12 +108,13 @@ fn item_test(case: &Case, item: ConditionItem) -> Option<Test> {
     }
 }
 
-// The first test of a condition that its case leaves open.
+// Returns the first test of a condition that the case leaves open.
 fn condition_split(case: &Case, items: &[ConditionItem]) -> Option<Test> {
     items.iter().find_map(|item| item_test(case, *item))
 }
 
-// The test of a measured value at the first constant of the program that its case leaves open.
+// Returns the test of a measured value at the first constant of the program for which the case
+// leaves one open.
 fn constant_test(code: &[u8], case: &Case, meter: usize, field: MeterField) -> Option<Test> {
     let mut next = 0;
     for place in 0..code.len() {
@@ -129,7 +132,7 @@ fn constant_test(code: &[u8], case: &Case, meter: usize, field: MeterField) -> O
     None
 }
 
-// The test of what a point stands for that its case leaves open.
+// Returns the test of a source; `None` if the case decides it.
 fn source_test(code: &[u8], case: &Case, source: Source) -> Option<Test> {
     match source {
         Source::Switch { switch, point } => match point {
@@ -143,7 +146,7 @@ fn source_test(code: &[u8], case: &Case, source: Source) -> Option<Test> {
     }
 }
 
-// The slot of the writable point at a place among those.
+// Returns the slot of the writable point with this index among the writable points.
 fn slot_of(points: &[ImagePoint], place: usize) -> Option<usize> {
     let mut left = place;
     for (slot, point) in points.iter().enumerate() {
@@ -157,11 +160,12 @@ fn slot_of(points: &[ImagePoint], place: usize) -> Option<usize> {
     None
 }
 
-// The first test of what a goal hangs on, by its slot, that its case leaves open.
+// Returns the first test of a source that a goal, by its slot, depends on and that the case leaves
+// open.
 fn program_split(
-    program: &Program<'_>,
+    program: &AuditedProgram<'_>,
     case: &Case,
-    forecast: &Forecast,
+    forecast: &ScanPrediction,
     goal: usize,
 ) -> Option<Test> {
     let image = program.image();
@@ -171,7 +175,7 @@ fn program_split(
         .enumerate()
         .filter(|(_, point)| !point.writable);
     for ((slot, _), source) in slots.zip(program.reads().iter()) {
-        if forecast.sources.on_slot(goal, slot) {
+        if forecast.sources.depends_on_slot(goal, slot) {
             let test = source_test(image.code(), case, *source);
             if test.is_some() {
                 return test;
@@ -181,8 +185,8 @@ fn program_split(
     None
 }
 
-// The slot of a goal: that of a release, or the one that a timer counts as.
-fn goal_slot(program: &Program<'_>, goal: Goal, forecast: &Forecast) -> usize {
+// Returns the slot of a goal: that of a release, or the one that represents a timer.
+fn goal_slot(program: &AuditedProgram<'_>, goal: Goal, forecast: &ScanPrediction) -> usize {
     match goal {
         Goal::Release { switch, operation } => release_place(program.writes(), switch, operation)
             .and_then(|place| slot_of(program.image().points(), place))
@@ -191,37 +195,37 @@ fn goal_slot(program: &Program<'_>, goal: Goal, forecast: &Forecast) -> usize {
     }
 }
 
-/// Returns the slots and the timers that a goal may hang on.
-pub fn hangs_on(
+/// Returns the slots and the timers that a goal may depend on. Fails only if an allocation fails.
+pub fn dependencies_of(
     alloc: Global,
-    program: &Program<'_>,
+    program: &AuditedProgram<'_>,
     goal: Goal,
-    forecast: &Forecast,
-) -> Result<Kept, AllocError> {
+    forecast: &ScanPrediction,
+) -> Result<StateDependencies, AllocError> {
     let goal = goal_slot(program, goal, forecast);
     let mut slots = Vec::new(alloc);
     for slot in 0..forecast.ranges.len() {
-        if forecast.sources.on_slot(goal, slot) {
+        if forecast.sources.depends_on_slot(goal, slot) {
             slots.push(slot)?;
         }
     }
     let mut timers = Vec::new(alloc);
     for timer in 0..program.image().timers().len() {
-        if forecast.sources.on_timer(goal, timer) {
+        if forecast.sources.depends_on_timer(goal, timer) {
             timers.push(timer)?;
         }
     }
-    Ok(Kept { slots, timers })
+    Ok(StateDependencies { slots, timers })
 }
 
-/// Returns how to go on where a pass does not tell: the next test, or what the goal may hang on
-/// alone.
+/// Returns the verdict of a pass that decides nothing: the next test, or what the goal may depend
+/// on. Fails only if an allocation fails.
 pub fn undecided(
     alloc: Global,
-    program: &Program<'_>,
+    program: &AuditedProgram<'_>,
     demand: &Demand,
     case: &Case,
-    forecast: &Forecast,
+    forecast: &ScanPrediction,
 ) -> Result<Verdict, AllocError>
     ensures { IfOk result IsUndecided }
 {
@@ -236,6 +240,6 @@ pub fn undecided(
     if let Some(test) = program_split(program, case, forecast, slot) {
         return Ok(Verdict::Split(test));
     }
-    let kept = hangs_on(alloc, program, demand.goal, forecast)?;
+    let kept = dependencies_of(alloc, program, demand.goal, forecast)?;
     Ok(Verdict::Open(kept))
 }

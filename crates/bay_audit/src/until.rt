@@ -1,16 +1,16 @@
-// Rules with a time: a switch is not released until a condition has held for a time, or it is
+// Rules with a time: a switch is not released until a condition has held for a time, or is released
 // after that.
 ghost use Rattle.std.specs.Prelude.{◌≡◌, IfOk, IfSome, IsSome};
 ghost use Rattle.bay_audit.specs.Rules.{IsForbidden, IsMet, IsUntil};
 ghost use Rattle.bay_audit.specs.Rules as spec;
 
-use crate::answer::Answer;
+use crate::answer::RuleAnswer;
 use crate::audit::{answer, plain_demand};
 use crate::demand::{Demand, Goal};
 use crate::early::early_case;
-use crate::program::Program;
+use crate::program::AuditedProgram;
+use bay_audit_rules::rule::{ConditionItem, Rule, RuleKind, Timing};
 use bay_base::listing::Listing;
-use bay_rules::rule::{ConditionItem, Rule, RuleKind, Timing};
 use std::alloc::{AllocError, Global};
 
 // Returns a copy of a condition.
@@ -30,8 +30,9 @@ fn limit_of(alloc: Global, timer: usize, time: u32) -> Result<Listing<Option<u32
     Ok(Listing::new(limits))
 }
 
-// That the switch is not released where the timer's delay began less than the time ago.
-fn late(alloc: Global, rule: &Rule, time: u32, timer: usize) -> Result<Demand, AllocError>
+// Returns the demand that the switch is not released unless a delay of the timer runs that began at
+// least `time` ago.
+fn late_demand(alloc: Global, rule: &Rule, time: u32, timer: usize) -> Result<Demand, AllocError>
     ensures { IfOk result (λ demand. demand ≡ spec.late rule.now time timer) }
 {
     let when = copy_of(alloc, rule.when.as_slice())?;
@@ -48,8 +49,12 @@ fn late(alloc: Global, rule: &Rule, time: u32, timer: usize) -> Result<Demand, A
     })
 }
 
-// That the switch is not released while the condition does not hold.
-fn there(alloc: Global, rule: &Rule, condition: &[ConditionItem]) -> Result<Demand, AllocError>
+// Returns the demand that the switch is not released while the condition is FALSE.
+fn presence_demand(
+    alloc: Global,
+    rule: &Rule,
+    condition: &[ConditionItem],
+) -> Result<Demand, AllocError>
     ensures { IfOk result (λ demand. demand ≡ spec.there rule.now condition.now) }
 {
     let when = copy_of(alloc, rule.when.as_slice())?;
@@ -66,8 +71,12 @@ fn there(alloc: Global, rule: &Rule, condition: &[ConditionItem]) -> Result<Dema
     })
 }
 
-// That no delay of the timer runs while the condition does not hold.
-fn idle(alloc: Global, condition: &[ConditionItem], timer: usize) -> Result<Demand, AllocError>
+// Returns the demand that no delay of the timer runs while the condition is FALSE.
+fn idle_demand(
+    alloc: Global,
+    condition: &[ConditionItem],
+    timer: usize,
+) -> Result<Demand, AllocError>
     ensures { IfOk result (λ demand. demand ≡ spec.idle condition.now timer) }
 {
     let when = vec![in alloc; ConditionItem::True]?;
@@ -81,8 +90,12 @@ fn idle(alloc: Global, condition: &[ConditionItem], timer: usize) -> Result<Dema
     })
 }
 
-// That the switch is released while the condition holds.
-fn after(alloc: Global, rule: &Rule, condition: &[ConditionItem]) -> Result<Demand, AllocError>
+// Returns the demand that the switch is released while the condition is TRUE.
+fn later_demand(
+    alloc: Global,
+    rule: &Rule,
+    condition: &[ConditionItem],
+) -> Result<Demand, AllocError>
     ensures { IfOk result (λ demand. demand ≡ spec.after rule.now condition.now) }
 {
     let when = copy_of(alloc, rule.when.as_slice())?;
@@ -100,26 +113,26 @@ fn after(alloc: Global, rule: &Rule, condition: &[ConditionItem]) -> Result<Dema
     })
 }
 
-// By how many cases a demand is met, if it is.
-fn met(
+// Returns the number of cases by which a demand is met; `None` if it is not proved.
+fn cases_needed(
     alloc: Global,
-    program: &Program<'_>,
+    program: &AuditedProgram<'_>,
     demand: &Demand,
     passes: &mut u32,
 ) -> Result<Option<u32>, AllocError>
     ensures { IfOk result (λ cases. IsSome cases → IsMet program.now demand.now) }
 {
     match answer(alloc, program, demand, passes)? {
-        Answer::Holds { cases } => Ok(Some(cases)),
+        RuleAnswer::Holds { cases } => Ok(Some(cases)),
         _ => Ok(None),
     }
 }
 
-// By how many cases a timer's delay runs only while a condition holds, and a release waits for it,
-// if that is so.
+// Returns the number of cases by which a timer's delay runs only while a condition is TRUE, and a
+// release waits for the delay; `None` if that is not proved.
 fn by_timer(
     alloc: Global,
-    program: &Program<'_>,
+    program: &AuditedProgram<'_>,
     rule: &Rule,
     timing: &Timing,
     timer: usize,
@@ -129,33 +142,34 @@ fn by_timer(
         → IsMet program.now (spec.late rule.now timing.now.time timer)
         × IsMet program.now (spec.idle timing.now.condition timer)) }
 {
-    let demand = late(alloc, rule, timing.time, timer)?;
-    let Some(late) = met(alloc, program, &demand, passes)? else {
+    let demand = late_demand(alloc, rule, timing.time, timer)?;
+    let Some(late_demand) = cases_needed(alloc, program, &demand, passes)? else {
         return Ok(None);
     };
-    let demand = idle(alloc, timing.condition.as_slice(), timer)?;
-    let Some(idle) = met(alloc, program, &demand, passes)? else {
+    let demand = idle_demand(alloc, timing.condition.as_slice(), timer)?;
+    let Some(idle_demand) = cases_needed(alloc, program, &demand, passes)? else {
         return Ok(None);
     };
-    Ok(Some(late.saturating_add(idle)))
+    Ok(Some(late_demand.saturating_add(idle_demand)))
 }
 
-// The answer by a timer that bears a rule, where the switch is not released without the condition.
-fn borne(
+// Returns the answer that a timer establishes the rule; `None` if none does. The switch is not
+// released without the condition.
+fn answer_by_bearing_timer(
     alloc: Global,
-    program: &Program<'_>,
+    program: &AuditedProgram<'_>,
     rule: &Rule,
     timing: &Timing,
     cases: u32,
     passes: &mut u32,
-) -> Result<Option<Answer>, AllocError>
+) -> Result<Option<RuleAnswer>, AllocError>
     requires { IsMet program.now (spec.there rule.now timing.now.condition) }
     ensures { IfOk result
         (λ found. IfSome found (IsForbidden program.now rule.now timing.now)) }
 {
     for timer in 0..program.image().timers().len() {
         if let Some(more) = by_timer(alloc, program, rule, timing, timer, passes)? {
-            return Ok(Some(Answer::Since {
+            return Ok(Some(RuleAnswer::Since {
                 timer,
                 cases: cases.saturating_add(more),
             }));
@@ -164,69 +178,72 @@ fn borne(
     Ok(None)
 }
 
-// The answer by what the switch's release hangs on: it is never released while the rule is asked,
-// or is so too early in a case, or that is not told.
-fn tried(
+// Answers by the release of the switch: the rule holds if it is never released in a state that the
+// rule covers, is broken if it is released too early in a case, or is not decided.
+fn answer_by_dependency(
     alloc: Global,
-    program: &Program<'_>,
+    program: &AuditedProgram<'_>,
     rule: &Rule,
     timing: &Timing,
     passes: &mut u32,
-) -> Result<Answer, AllocError>
+) -> Result<RuleAnswer, AllocError>
     ensures { IfOk result (IsForbidden program.now rule.now timing.now) }
 {
     let demand = plain_demand(alloc, rule)?;
     let found = answer(alloc, program, &demand, passes)?;
-    if let Answer::Holds { cases } = found {
-        return Ok(Answer::Holds { cases });
+    if let RuleAnswer::Holds { cases } = found {
+        return Ok(RuleAnswer::Holds { cases });
     }
     if let Some(case) = early_case(alloc, program, rule, timing.time, passes)? {
-        return Ok(Answer::Broken { case });
+        return Ok(RuleAnswer::Broken { case });
     }
     match found {
-        Answer::Open { case, kept } if *passes > 0 => Ok(Answer::Open { case, kept }),
-        _ => Ok(Answer::TooMany),
+        RuleAnswer::Open { case, kept } if *passes > 0 => Ok(RuleAnswer::Open { case, kept }),
+        _ => Ok(RuleAnswer::TooMany),
     }
 }
 
 // Answers a rule that forbids until a condition has held for a time: it holds if one of the
-// program's timers bears it.
-fn forbidden(
+// program's timers establishes it.
+fn answer_forbidden(
     alloc: Global,
-    program: &Program<'_>,
+    program: &AuditedProgram<'_>,
     rule: &Rule,
     timing: &Timing,
     passes: &mut u32,
-) -> Result<Answer, AllocError>
+) -> Result<RuleAnswer, AllocError>
     ensures { IfOk result (IsForbidden program.now rule.now timing.now) }
 {
-    let demand = there(alloc, rule, timing.condition.as_slice())?;
+    let demand = presence_demand(alloc, rule, timing.condition.as_slice())?;
     match answer(alloc, program, &demand, passes)? {
-        Answer::Holds { cases } => {
-            if let Some(found) = borne(alloc, program, rule, timing, cases, passes)? {
+        RuleAnswer::Holds { cases } => {
+            if let Some(found) = answer_by_bearing_timer(
+                alloc, program, rule, timing, cases, passes,
+            )? {
                 return Ok(found);
             }
         }
-        Answer::Broken { case } => return Ok(Answer::Broken { case }),
+        RuleAnswer::Broken { case } => return Ok(RuleAnswer::Broken { case }),
         _ => {}
     }
-    tried(alloc, program, rule, timing, passes)
+    answer_by_dependency(alloc, program, rule, timing, passes)
 }
 
-/// Answers a rule with a time, in so many passes.
+/// Answers a rule with a time in at most `passes` passes, and subtracts those that it needed. Fails
+/// only if an allocation fails.
 pub(crate) fn until(
     alloc: Global,
-    program: &Program<'_>,
+    program: &AuditedProgram<'_>,
     rule: &Rule,
     timing: &Timing,
     passes: &mut u32,
-) -> Result<Answer, AllocError>
+) -> Result<RuleAnswer, AllocError>
     ensures { IfOk result (IsUntil program.now rule.now timing.now) }
 {
     match rule.kind {
-        RuleKind::Never => forbidden(alloc, program, rule, timing, passes),
+        RuleKind::Never => answer_forbidden(alloc, program, rule, timing, passes),
         RuleKind::Always => {
-            let demand = after(alloc, rule, timing.condition.as_slice())?;
+            let demand = later_demand(alloc, rule, timing.condition.as_slice())?;
             answer(alloc, program, &demand, passes)
         }
     }

@@ -1,4 +1,5 @@
-// One pass over a case: whether a demand is met there, is not, or hangs on something.
+// One pass over the code for a case: whether a demand is met or missed there, or on what that
+// depends.
 ghost use Rattle.std.specs.Prelude.{◌≡◌, ◌≤◌, IfOk, length, map, position, slice_get};
 ghost use Rattle.bay_process.specs.Values as spec_values;
 ghost use Rattle.il_scan.specs.Scans.{outputs_of};
@@ -7,23 +8,23 @@ ghost use Rattle.bay_audit.specs.Conditions as spec_outlook;
 ghost use Rattle.bay_audit.specs.Rules.{IsDecision, IsVerdict, goal_range};
 ghost use Rattle.bay_audit.specs.Rules as spec;
 
-use crate::answer::{Decision, Verdict};
+use crate::answer::{RuleVerdict, Verdict};
 use crate::case::Case;
 use crate::demand::{Demand, Goal};
-use crate::outlook::{Outlook, asked_of};
-use crate::program::Program;
+use crate::program::AuditedProgram;
 use crate::split::undecided;
+use crate::truth_set::{TruthSet, base_truths_of};
+use bay_audit_rules::rule::RuleKind;
 use bay_config::bay::{Source, SwitchPoint};
 use bay_nodes::switch::Operation;
 use bay_process::bind::output_place;
-use bay_rules::rule::RuleKind;
 use il_image::image::ImagePoint;
 use il_range::range::Range;
-use il_range::scan::Forecast;
+use il_range::scan::ScanPrediction;
 use std::alloc::{AllocError, Global};
 
-// Returns what is known of the points that the program only reads.
-fn given(alloc: Global, case: &Case, reads: &[Source]) -> Result<Vec<Range>, AllocError>
+// Returns the ranges of the points that the program only reads.
+fn input_ranges(alloc: Global, case: &Case, reads: &[Source]) -> Result<Vec<Range>, AllocError>
     ensures { IfOk result (λ ranges. ranges.items ≡ map (spec_cases.range_of case.now) reads.now) }
 {
     reads
@@ -32,7 +33,7 @@ fn given(alloc: Global, case: &Case, reads: &[Source]) -> Result<Vec<Range>, All
         .collect(alloc)
 }
 
-// Returns the point by which an operation is released.
+// Returns the point that releases an operation.
 fn releasing_point(operation: Operation) -> SwitchPoint
     ensures { result ≡ spec.releasing_point operation }
 {
@@ -42,7 +43,8 @@ fn releasing_point(operation: Operation) -> SwitchPoint
     }
 }
 
-/// Returns the place of a release among the writable points, if the program names it.
+/// Returns the index of a release among the writable points; `None` if the program does not name
+/// the point.
 pub(crate) fn release_place(writes: &[Source], switch: usize, operation: Operation) -> Option<usize>
     ensures { result ≡ position (spec_values.is_point switch (spec.releasing_point operation))
         writes.now }
@@ -68,7 +70,7 @@ fn outputs_of(
     Ok(outputs)
 }
 
-// Returns the range at a place; FALSE where the program does not name the point.
+// Returns the range at an index; FALSE if the program does not name the point.
 fn range_at(outputs: &[Range], place: Option<usize>) -> Range
     ensures { result ≡ spec.range_at outputs.now place }
 {
@@ -78,7 +80,8 @@ fn range_at(outputs: &[Range], place: Option<usize>) -> Range
     }
 }
 
-// Whether a rule is surely obeyed with such a release, where its condition holds.
+// Returns whether a release in this range obeys the rule for certain, if the rule's condition is
+// TRUE.
 fn is_kept(kind: RuleKind, release: Range) -> bool
     ensures { result ≡ spec.is_kept kind release }
 {
@@ -88,7 +91,8 @@ fn is_kept(kind: RuleKind, release: Range) -> bool
     }
 }
 
-// Whether it is surely broken.
+// Returns whether a release in this range breaks the rule for certain, if the rule's condition is
+// TRUE.
 fn is_missed(kind: RuleKind, release: Range) -> bool
     ensures { result ≡ spec.is_missed kind release }
 {
@@ -98,23 +102,23 @@ fn is_missed(kind: RuleKind, release: Range) -> bool
     }
 }
 
-// Decides a rule by what its condition may come to, and by what is known of the release.
-fn decide(kind: RuleKind, when: Outlook, release: Range) -> Decision
+// Decides a rule from the truth set of its condition and the range of the release.
+fn decide(kind: RuleKind, when: TruthSet, release: Range) -> RuleVerdict
     ensures { result ≡ spec.decide kind when release }
 {
     if is_kept(kind, release) || !when.yes {
-        Decision::Obeyed
+        RuleVerdict::Obeyed
     } else if is_missed(kind, release) && !when.no {
-        Decision::Missed
+        RuleVerdict::Missed
     } else {
-        Decision::Unknown
+        RuleVerdict::Unknown
     }
 }
 
 // Returns the range of a release.
 fn release_range(
     alloc: Global,
-    program: &Program<'_>,
+    program: &AuditedProgram<'_>,
     switch: usize,
     operation: Operation,
     ranges: &[Range],
@@ -128,7 +132,8 @@ fn release_range(
     Ok(range_at(outputs.as_slice(), place))
 }
 
-// Returns whether no delay of a timer runs, by the limits of all: TRUE where that is known.
+// Returns the range of whether no delay of a timer runs, from the limits of all timers; TRUE if
+// that is known.
 fn idle_range(limits: &[Option<u32>], timer: usize) -> Range
     ensures { result ≡ spec.idle_range (slice_get limits.now timer) }
 {
@@ -138,12 +143,12 @@ fn idle_range(limits: &[Option<u32>], timer: usize) -> Range
     }
 }
 
-// Returns what is known of whether a scan comes to a goal.
+// Returns the range of whether a scan reaches a goal.
 fn range_of_goal(
     alloc: Global,
-    program: &Program<'_>,
+    program: &AuditedProgram<'_>,
     goal: Goal,
-    forecast: &Forecast,
+    forecast: &ScanPrediction,
 ) -> Result<Range, AllocError>
     requires { length program.now.image.points ≤ length forecast.now.ranges.items }
     ensures { IfOk result (λ r. r ≡ goal_range program.now.image.points program.now.writes
@@ -163,35 +168,35 @@ fn range_of_goal(
     }
 }
 
-/// Returns what a pass decides of a demand in a case, where what is asked may come to this, and
-/// what it foretells.
+/// Returns the verdict of a pass on a demand in a case, and its prediction. `asked` is the truth
+/// set of the demand's condition with its exception. Fails only if an allocation fails.
 pub(crate) fn pass(
     alloc: Global,
-    program: &Program<'_>,
+    program: &AuditedProgram<'_>,
     demand: &Demand,
     case: &Case,
-    asked: Outlook,
-) -> Result<(Decision, Forecast), AllocError>
-    requires { asked ≡ spec_outlook.asked_of case.now demand.now.when demand.now.unless }
+    asked: TruthSet,
+) -> Result<(RuleVerdict, ScanPrediction), AllocError>
+    requires { asked ≡ spec_outlook.base_truths_of case.now demand.now.when demand.now.unless }
     ensures { IfOk result
         (λ found. IsDecision program.now demand.now case.now found.0) }
 {
-    let given = given(alloc, case, program.reads())?;
-    let forecast = program.scan(alloc, demand.limits.as_slice(), given.as_slice())?;
+    let input_ranges = input_ranges(alloc, case, program.reads())?;
+    let forecast = program.scan(alloc, demand.limits.as_slice(), input_ranges.as_slice())?;
     let range = range_of_goal(alloc, program, demand.goal, &forecast)?;
     Ok((decide(demand.kind, asked, range), forecast))
 }
 
-/// Returns what one pass tells of a demand in a case.
+/// Returns the verdict of one pass on a demand in a case. Fails only if an allocation fails.
 pub fn verdict(
     alloc: Global,
-    program: &Program<'_>,
+    program: &AuditedProgram<'_>,
     demand: &Demand,
     case: &Case,
 ) -> Result<Verdict, AllocError>
     ensures { IfOk result (IsVerdict program.now demand.now case.now) }
 {
-    let asked = asked_of(
+    let asked = base_truths_of(
         alloc,
         case,
         demand.when.as_slice(),
@@ -202,8 +207,8 @@ pub fn verdict(
     }
     let (decision, forecast) = pass(alloc, program, demand, case, asked)?;
     match decision {
-        Decision::Obeyed => Ok(Verdict::Obeyed),
-        Decision::Missed => Ok(Verdict::Broken),
-        Decision::Unknown => undecided(alloc, program, demand, case, &forecast),
+        RuleVerdict::Obeyed => Ok(Verdict::Obeyed),
+        RuleVerdict::Missed => Ok(Verdict::Broken),
+        RuleVerdict::Unknown => undecided(alloc, program, demand, case, &forecast),
     }
 }

@@ -9,7 +9,7 @@ use Rattle.bay_nodes.specs.Names.{StatusNames, control_of, meter_names, node_of,
 use Rattle.bay_nodes.specs.Node.{node_name}
 use Rattle.bay_nodes.specs.declared.switch.Switch.{Switch}
 use Rattle.bay_process.specs.Names.{field_names}
-use Rattle.bay_process.specs.Values.{is_position, is_quality, rows_after_change, rows_after_contact, rows_after_doubt, tells, tells_doubt, with_status}
+use Rattle.bay_process.specs.Values.{is_position, is_quality, rows_after_change, rows_after_contact, rows_after_doubt, has_position, tells_doubt, with_status}
 use Rattle.bay_process.proofs.ToldLemmas.{leaf-other, leaf-own}
 use Rattle.bay_tree.specs.Rows.{leaf_of, with_leaf_of}
 use Rattle.bay_tree.specs.declared.leaf.Dbpos.TheVariants.{Intermediate, Off, On, Bad}
@@ -149,7 +149,7 @@ module _ (n : List ℕ) (value : Leaf) (lasts : Lasts n value) where
       → Holds rows → Holds (rows_after_contact (switch_names switches j switch) Bad now rows)
   contact-holds switches j switch now rows is =
       let names = switch_names switches j switch in
-      holds-if (tells names.position Bad rows) rows (rows_after_change names Bad now rows) is
+      holds-if (has_position names.position Bad rows) rows (rows_after_change names Bad now rows) is
       (status-holds names.control now _ (position-ends (control_of j))
       (status-holds names.position now rows (position-ends (node_of switches j switch)) is))
 
@@ -255,7 +255,7 @@ status-bad node now rows there =
     }
 
 pub bad-if : (b : Bool) (node control : List ℕ) (now : ℕ) (rows : List Row)
-    → tells (position_names node) Bad rows ≡ b → AreThere node rows
+    → has_position (position_names node) Bad rows ≡ b → AreThere node rows
     → BadAt node (cond b rows (with_status (position_names control) (leaf.Dbpos Bad) Invalid now
     (with_status (position_names node) (leaf.Dbpos Bad) Invalid now rows)))
 bad-if true node control now rows told there =

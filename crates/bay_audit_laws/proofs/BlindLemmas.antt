@@ -12,9 +12,9 @@ use Rattle.bay_nodes.specs.declared.switch.Switch.{Switch}
 use Rattle.bay_nodes.specs.declared.switch.SwitchKind.{SwitchKind}
 use Rattle.bay_nodes.specs.declared.switch.SwitchKind.TheVariants.{Breaker, Disconnector, Earthing}
 use Rattle.bay_process.specs.Names.{field_names}
-use Rattle.bay_process.specs.Values.{position_leaf, position_value, tells, with_enabled, with_outputs, with_status}
+use Rattle.bay_process.specs.Values.{position_leaf, position_value, has_position, with_enabled, with_outputs, with_status}
 use Rattle.bay_process.proofs.ToldLemmas.{IsAway, away-position, leaf-other}
-use Rattle.bay_services.specs.Bay.{rows_shown}
+use Rattle.bay_mms_services.specs.Bay.{rows_with_selection}
 use Rattle.bay_tree.specs.Rows.{leaf_of, with_leaf_of}
 use Rattle.bay_tree.specs.declared.leaf.Dbpos.{Dbpos}
 use Rattle.bay_tree.specs.declared.leaf.Dbpos.TheVariants.{Bad}
@@ -69,7 +69,7 @@ lost-bad now (x ∷ ss) k s zero i switch here at there =
     subst (λ m. AreThere (node_of s.switches m x) s.rows) (sym first)
     (subst (λ (y : Switch). AreThere (node_of s.switches i y) s.rows) (sym same) there) in
     let own : BadAt (node_of s.switches k x) (contact_taken now k x Bad s).rows =
-    bad-if (tells (position_names (node_of s.switches k x)) Bad s.rows)
+    bad-if (has_position (position_names (node_of s.switches k x)) Bad s.rows)
     (node_of s.switches k x) (control_of k) now s.rows refl there-own in
     let bad : BadAt node (contact_taken now k x Bad s).rows =
     subst (λ (y : Switch). BadAt (node_of s.switches i y) (contact_taken now k x Bad s).rows) same
@@ -311,15 +311,15 @@ node-apart Earthing n j s t e = let first : 88 ≡ 67 = ap (λ l. get_or l 0 0) 
     omega (arith, first)
 
 shown-there : (count : ℕ) (kind : SwitchKind) (number : ℕ) (t : List ℕ) (rows : List Row)
-    → leaf_of (node_name (class_of kind) number ++ t) (rows_shown None count rows)
+    → leaf_of (node_name (class_of kind) number ++ t) (rows_with_selection None count rows)
     ≡ leaf_of (node_name (class_of kind) number ++ t) rows
 shown-there zero kind number t rows = refl
 shown-there (suc count) kind number t rows =
-    leaf-other (rows_shown None count rows) _ _ _ (node-apart kind number (count + 1) t _)
+    leaf-other (rows_with_selection None count rows) _ _ _ (node-apart kind number (count + 1) t _)
     ∙ shown-there count kind number t rows
 
 first-have : (bay : Bay) → IsBay bay
-    → HavePositions bay.switches (rows_shown None (length bay.switches) bay.rows)
+    → HavePositions bay.switches (rows_with_selection None (length bay.switches) bay.rows)
 first-have bay is_bay k switch here =
     let number = node_number bay.switches switch k in
     let has =

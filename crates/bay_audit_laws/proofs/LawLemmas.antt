@@ -11,17 +11,17 @@ use Rattle.bay_nodes.specs.Names.{meter_names}
 use Rattle.bay_nodes.specs.declared.switch.Operation.{Operation}
 use Rattle.bay_nodes.specs.declared.switch.Operation.TheVariants as operations
 use Rattle.bay_nodes.specs.declared.switch.Switch.{Switch}
-use Rattle.bay_process.specs.Told.{IsTold}
+use Rattle.bay_process.specs.ReportedRows.{HoldsRelease}
 use Rattle.bay_process.specs.Values.{is_truth, measure_leaf, number_of_leaf, output_of, position_leaf}
 use Rattle.bay_process.specs.Names.{field_names}
 use Rattle.bay_process.proofs.ToldLemmas.{Keeps, field-away}
-use Rattle.bay_rules.specs.Process.{Process, holds}
-use Rattle.bay_rules.specs.declared.rule.ConditionItem.{ConditionItem}
-use Rattle.bay_rules.specs.declared.rule.Rule.{Rule}
-use Rattle.bay_rules.specs.declared.rule.RuleKind.TheVariants.{Never}
-use Rattle.bay_services.specs.Controls.{dbpos_of}
-use Rattle.bay_services.specs.Released.{releasing}
-use Rattle.bay_services.specs.declared.answer.Command.{Command}
+use Rattle.bay_audit_rules.specs.Process.{Process, holds}
+use Rattle.bay_audit_rules.specs.declared.rule.ConditionItem.{ConditionItem}
+use Rattle.bay_audit_rules.specs.declared.rule.Rule.{Rule}
+use Rattle.bay_audit_rules.specs.declared.rule.RuleKind.TheVariants.{Never}
+use Rattle.bay_mms_services.specs.Controls.{dbpos_of}
+use Rattle.bay_mms_services.specs.Released.{releasing}
+use Rattle.bay_mms_services.specs.declared.answer.Command.{Command}
 use Rattle.bay_tree.specs.Rows.{leaf_of}
 use Rattle.bay_tree.specs.declared.leaf.Leaf.TheVariants as leaf
 use Rattle.bay_tree.specs.declared.row.Row.{Row}
@@ -58,7 +58,7 @@ own-truth false = refl
 
 -- the value that a row tells of a direction, where both are told
 pub released-told : (s : State) (writes : List Source) (outputs : List Value) (k : ℕ)
-    (operation : Operation) → IsTold s.rows k (told_by writes outputs k)
+    (operation : Operation) → HoldsRelease s.rows k (told_by writes outputs k)
     → is_released s k operation ≡ output_of k (releasing_point operation) writes outputs
 released-told s writes outputs k operations.Close told =
     ap (is_truth true) told.closing.value_is ∙ own-truth (output_of k EnableClose writes outputs)
@@ -257,7 +257,7 @@ module _ (bay : Bay) (image : Image) (rule : Rule) (is_bay : IsBay bay)
       leaves = record { most = length s.machine.image.code; steps = steps; halts = halts.halts }
 
       pub scanned-told : (k : ℕ) → k < length bay.switches
-          → IsTold scanned.rows k (told_by s.writes outputs k)
+          → HoldsRelease scanned.rows k (told_by s.writes outputs k)
       scanned-told k lt =
           let sized : length s.switches ≡ length bay.switches = ap length o.switches in
           outputs-told s.switches s.writes outputs now (length bay.switches) is_bay.few_switches 0

@@ -9,9 +9,9 @@ use Rattle.bay_config.proofs.NamedLemmas.{names-interlocking, names-meter}
 use Rattle.bay_nodes.specs.Names.{StatusNames, closing_of, interlocking_of, meter_names, opening_of}
 use Rattle.bay_nodes.specs.Node.{node_name, row}
 use Rattle.bay_process.specs.Names.{field_names}
-use Rattle.bay_process.specs.Told.{AreValued}
+use Rattle.bay_process.specs.ReportedRows.{AreValued}
 use Rattle.bay_process.proofs.ToldLemmas.{leaf-other}
-use Rattle.bay_services.specs.Bay.{rows_shown}
+use Rattle.bay_mms_services.specs.Bay.{rows_with_selection}
 use Rattle.bay_tree.specs.Rows.{IsTree, leaf_of, row_at}
 use Rattle.bay_tree.specs.declared.leaf.Leaf.{Leaf}
 use Rattle.bay_tree.specs.declared.row.Row.{Row}
@@ -40,20 +40,20 @@ selected-apart k j x t e = let second : 73 ≡ 83 = ap (λ l. get_or l 1 0) e in
     omega (arith, second)
 
 shown-same : (selected : Option ℕ) (count : ℕ) (rows : List Row) (k : ℕ) (x : List ℕ)
-    → leaf_of (interlocking_of k ++ x) (rows_shown selected count rows)
+    → leaf_of (interlocking_of k ++ x) (rows_with_selection selected count rows)
     ≡ leaf_of (interlocking_of k ++ x) rows
 shown-same selected zero rows k x = refl
 shown-same selected (suc count) rows k x =
-    leaf-other (rows_shown selected count rows) (interlocking_of k ++ x) _ _
+    leaf-other (rows_with_selection selected count rows) (interlocking_of k ++ x) _ _
     (selected-apart k count x _) ∙ shown-same selected count rows k x
 
 shown-valued : (bay : Bay) (is_bay : IsBay bay) (k : ℕ) (names : StatusNames)
     → HasEnable bay.rows names
-    → (leaf_of names.value (rows_shown None (length bay.switches) bay.rows)
+    → (leaf_of names.value (rows_with_selection None (length bay.switches) bay.rows)
     ≡ leaf_of names.value bay.rows)
-    → (leaf_of names.quality (rows_shown None (length bay.switches) bay.rows)
+    → (leaf_of names.quality (rows_with_selection None (length bay.switches) bay.rows)
     ≡ leaf_of names.quality bay.rows)
-    → AreValued (rows_shown None (length bay.switches) bay.rows) names
+    → AreValued (rows_with_selection None (length bay.switches) bay.rows) names
 shown-valued bay is_bay k names has value quality = record {
   value_there = λ none. contains-leaf bay.rows names.value _ is_bay.tree has.value_there
       (sym value ∙ none);
@@ -62,7 +62,7 @@ shown-valued bay is_bay k names has value quality = record {
 }
 
 pub first-both : (bay : Bay) (is_bay : IsBay bay) (k : ℕ) → k < length bay.switches
-    → AreBoth (rows_shown None (length bay.switches) bay.rows) k
+    → AreBoth (rows_with_selection None (length bay.switches) bay.rows) k
 first-both bay is_bay k lt =
     let named = names-interlocking bay k (interlocking_of k) lt refl in
     record {
@@ -82,11 +82,11 @@ meter-apart : (j k : ℕ) (t s : List ℕ)
 meter-apart j k t s e = let first : 77 ≡ 67 = ap (λ l. get_or l 0 0) e in omega (arith, first)
 
 shown-meter : (count j : ℕ) (s : List ℕ) (rows : List Row)
-    → leaf_of (node_name (codes "MMXU") j ++ s) (rows_shown None count rows)
+    → leaf_of (node_name (codes "MMXU") j ++ s) (rows_with_selection None count rows)
     ≡ leaf_of (node_name (codes "MMXU") j ++ s) rows
 shown-meter zero j s rows = refl
 shown-meter (suc count) j s rows =
-    leaf-other (rows_shown None count rows) _ _ _ (meter-apart j (count + 1) _ s)
+    leaf-other (rows_with_selection None count rows) _ _ _ (meter-apart j (count + 1) _ s)
     ∙ shown-meter count j s rows
 
 measured-fits : (rows : List Row) (names : StatusNames) → IsTree rows → HasMeasured rows names
@@ -104,7 +104,7 @@ field-fits rows k PhaseB tree m = measured-fits rows _ tree m.phase_b
 field-fits rows k PhaseC tree m = measured-fits rows _ tree m.phase_c
 
 field-shown : (count k : ℕ) (field : MeterField) (rows : List Row)
-    → leaf_of (field_names field (meter_names k)).value (rows_shown None count rows)
+    → leaf_of (field_names field (meter_names k)).value (rows_with_selection None count rows)
     ≡ leaf_of (field_names field (meter_names k)).value rows
 field-shown count k TotW rows = shown-meter count (k + 1) _ rows
 field-shown count k TotVAr rows = shown-meter count (k + 1) _ rows
@@ -114,7 +114,7 @@ field-shown count k PhaseB rows = shown-meter count (k + 1) _ rows
 field-shown count k PhaseC rows = shown-meter count (k + 1) _ rows
 
 pub first-fits : (bay : Bay) → IsBay bay
-    → AllFit (length bay.meters) (rows_shown None (length bay.switches) bay.rows)
+    → AllFit (length bay.meters) (rows_with_selection None (length bay.switches) bay.rows)
 first-fits bay is_bay k field lt =
     subst Fits (sym (field-shown (length bay.switches) k field bay.rows))
     (field-fits bay.rows k field is_bay.tree

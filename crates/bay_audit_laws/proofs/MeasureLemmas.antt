@@ -13,7 +13,7 @@ use Rattle.bay_nodes.specs.declared.switch.Switch.{Switch}
 use Rattle.bay_nodes.specs.declared.switch.SwitchKind.{SwitchKind}
 use Rattle.bay_nodes.specs.declared.switch.SwitchKind.TheVariants.{Breaker, Disconnector, Earthing}
 use Rattle.bay_process.specs.Names.{field_names}
-use Rattle.bay_process.specs.Values.{is_operation, measure_leaf, number_of_leaf, operation_counted, position_quality, rows_after_change, rows_after_contact, rows_after_doubt, rows_after_measure, tells, tells_doubt, tells_measure, with_count, with_status}
+use Rattle.bay_process.specs.Values.{is_operation, measure_leaf, number_of_leaf, operation_counted, position_quality, rows_after_change, rows_after_contact, rows_after_doubt, rows_after_measure, has_position, tells_doubt, tells_measure, with_count, with_status}
 use Rattle.bay_process.proofs.ToldLemmas.{leaf-other}
 use Rattle.bay_tree.specs.Rows.{leaf_of, with_leaf_of}
 use Rattle.bay_tree.specs.declared.leaf.Dbpos.{Dbpos}
@@ -162,7 +162,8 @@ module _ (count : ℕ) where
       with_status names.control (leaf.Dbpos position) (position_quality position) now told in
       let both : AllFit count after =
       status-fits names.control _ _ now told tt (status-fits names.position _ _ now rows tt all) in
-      if-fits (tells names.position position rows) rows (rows_after_change names position now rows)
+      if-fits (has_position names.position position rows) rows
+      (rows_after_change names position now rows)
       all
       (if-fits (is_operation position (leaf_of names.position.value rows))
       (operation_counted names.operations now after) after

@@ -6,7 +6,7 @@ use Rattle.bay_base.specs.declared.point.Source.{Source}
 use Rattle.bay_base.specs.declared.point.SwitchPoint.TheVariants.{EnableOpen, EnableClose}
 use Rattle.bay_nodes.specs.Names.{StatusNames, closing_of, interlocking_of, opening_of, switch_names}
 use Rattle.bay_nodes.specs.declared.switch.Switch.{Switch}
-use Rattle.bay_process.specs.Told.{AreValued, IsTold}
+use Rattle.bay_process.specs.ReportedRows.{AreValued, HoldsRelease}
 use Rattle.bay_process.specs.Values.{output_of, with_enabled, with_output, with_outputs, with_status}
 use Rattle.bay_process.specs.declared.switch.Enabled.{Enabled}
 use Rattle.bay_process.proofs.ToldLemmas.{IsAway, leaf-other, same-node, stands-valued, told-here}
@@ -90,7 +90,7 @@ pub record AreBoth (rows : List Row) (k : ℕ) : Type 0 where
 
 own-told : (switches : List Switch) (k : ℕ) (s : Switch) (e : Enabled) (now : ℕ) (rows : List Row)
     → AreBoth rows k
-    → IsTold (with_output (switch_names switches k s) e.may_open e.may_close now rows) k e
+    → HoldsRelease (with_output (switch_names switches k s) e.may_open e.may_close now rows) k e
 own-told switches k s e now rows both =
     let mid = with_enabled (opening_of k) e.may_open now rows in
     told-here k e now rows mid _ both.opening refl
@@ -103,7 +103,7 @@ own-told switches k s e now rows both =
           ∙ none);
     }) refl
 
-pub told-both : (rows : List Row) (k : ℕ) (e : Enabled) → IsTold rows k e → AreBoth rows k
+pub told-both : (rows : List Row) (k : ℕ) (e : Enabled) → HoldsRelease rows k e → AreBoth rows k
 told-both rows k e told = record {
   opening = stands-valued rows (opening_of k) e.may_open told.opening;
   closing = stands-valued rows (closing_of k) e.may_close told.closing;
@@ -150,8 +150,8 @@ module _ (k j : ℕ) (few : k + 1 < 2 ^ 64) (less : j + 1 < 2 ^ 64) (other : k �
         };
   }
 
-  other-told : (d : Enabled) → IsTold rows k d
-      → IsTold (with_output (switch_names switches j s) e.may_open e.may_close now rows) k d
+  other-told : (d : Enabled) → HoldsRelease rows k d
+      → HoldsRelease (with_output (switch_names switches j s) e.may_open e.may_close now rows) k d
   other-told d told = record {
     opening =
         record {
@@ -200,11 +200,11 @@ module _ (switches : List Switch) (writes : List Source) (outputs : List Value) 
 
   after-told : (b : Bool) (j : ℕ) (s : Switch) (rows : List Row) → j < count → AllBoth rows count
       → (k : ℕ) → nat_eq k j ≡ b → k < count
-      → (k < j → IsTold rows k (told_by writes outputs k)) → k < j + 1
-      → IsTold (after j s rows) k (told_by writes outputs k)
+      → (k < j → HoldsRelease rows k (told_by writes outputs k)) → k < j + 1
+      → HoldsRelease (after j s rows) k (told_by writes outputs k)
   after-told true j s rows less all k same lt before near =
       let is : j ≡ k = grind (arith, nat_tests) in
-      subst (λ n. IsTold (after j s rows) n (told_by writes outputs n)) is
+      subst (λ n. HoldsRelease (after j s rows) n (told_by writes outputs n)) is
       (own-told switches j s (told_by writes outputs j) now rows (all j less))
   after-told false j s rows less all k same lt before near =
       let other : k ≡ j → ⊥ = λ is. let yes_same : nat_eq k j ≡ true = grind (arith, nat_tests) in
@@ -216,8 +216,9 @@ module _ (switches : List Switch) (writes : List Source) (outputs : List Value) 
   -- each of them stands as the outputs tell
   pub outputs-told : (j : ℕ) (ss : List Switch) (rows : List Row) → AllBoth rows count
       → j + length ss ≤ count → (k : ℕ) → k < count
-      → (k < j → IsTold rows k (told_by writes outputs k)) → k < j + length ss
-      → IsTold (with_outputs switches writes outputs now j ss rows) k (told_by writes outputs k)
+      → (k < j → HoldsRelease rows k (told_by writes outputs k)) → k < j + length ss
+      → HoldsRelease (with_outputs switches writes outputs now j ss rows) k
+      (told_by writes outputs k)
   outputs-told j [] rows all within k lt before near = before (omega (arith, near))
   outputs-told j (s ∷ ss) rows all within k lt before near =
       outputs-told (j + 1) ss (after j s rows)

@@ -4,13 +4,13 @@ use Rattle.std.specs.Prelude.{IsOkAnd, IsSomeAnd, is_none}
 use Rattle.std.proofs.lemmas.Bool.{and_parts}
 use Rattle.bay_config.specs.Laws.{IsBay}
 use Rattle.bay_config.specs.declared.bay.Bay.{Bay}
-use Rattle.bay_rules.specs.Process.{holds}
-use Rattle.bay_rules.specs.declared.rule.Rule.{Rule}
-use Rattle.bay_rules.specs.declared.rule.RuleKind.TheVariants.{Always, Never}
-use Rattle.bay_rules.specs.declared.rule.Timing.{Timing}
+use Rattle.bay_audit_rules.specs.Process.{holds}
+use Rattle.bay_audit_rules.specs.declared.rule.Rule.{Rule}
+use Rattle.bay_audit_rules.specs.declared.rule.RuleKind.TheVariants.{Always, Never}
+use Rattle.bay_audit_rules.specs.declared.rule.Timing.{Timing}
 use Rattle.bay_process.specs.Values.{is_truth}
-use Rattle.bay_services.specs.Released.{releasing}
-use Rattle.bay_services.specs.declared.answer.Command.{Command}
+use Rattle.bay_mms_services.specs.Released.{releasing}
+use Rattle.bay_mms_services.specs.declared.answer.Command.{Command}
 use Rattle.bay_tree.specs.Rows.{leaf_of}
 use Rattle.il_image.specs.Images.{Image}
 use Rattle.il_image.specs.declared.timer.TimerPhase.{TimerPhase}

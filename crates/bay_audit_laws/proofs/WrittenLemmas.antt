@@ -5,7 +5,7 @@ use Rattle.bay_base.specs.declared.point.Source.{Source}
 use Rattle.bay_base.specs.declared.point.SwitchPoint.TheVariants.{EnableOpen, EnableClose}
 use Rattle.bay_nodes.specs.Names.{StatusNames, SwitchNames, switch_names}
 use Rattle.bay_nodes.specs.declared.switch.Switch.{Switch}
-use Rattle.bay_process.specs.Values.{is_operation, operation_counted, output_of, position_quality, rows_after_change, rows_after_contact, rows_after_doubt, rows_after_measure, tells, tells_doubt, tells_measure, with_count, with_enabled, with_outputs, with_status}
+use Rattle.bay_process.specs.Values.{is_operation, operation_counted, output_of, position_quality, rows_after_change, rows_after_contact, rows_after_doubt, rows_after_measure, has_position, tells_doubt, tells_measure, with_count, with_enabled, with_outputs, with_status}
 use Rattle.bay_tree.specs.Rows.{leaf_of, with_leaf_of}
 use Rattle.bay_tree.specs.declared.leaf.Dbpos.{Dbpos}
 use Rattle.bay_tree.specs.declared.leaf.Leaf.{Leaf}
@@ -53,7 +53,7 @@ module _ (P : List Row → Type 0)
       with_status names.control (leaf.Dbpos position) (position_quality position) now told in
       let both : P after =
       status-passes names.control _ _ now told (status-passes names.position _ _ now rows p) in
-      if-passes (tells names.position position rows) rows
+      if-passes (has_position names.position position rows) rows
       (rows_after_change names position now rows) p
       (if-passes (is_operation position (leaf_of names.position.value rows))
       (operation_counted names.operations now after) after

@@ -2,15 +2,15 @@
 use Rattle.std.specs.Prelude.{List, [], ◌∷◌, None}
 use Rattle.bay_audit.specs.Rules.{BoundProgram, program}
 use Rattle.bay_nodes.specs.declared.switch.Operation.TheVariants.{Open}
-use Rattle.bay_rules.specs.declared.rule.ConditionItem.TheVariants as items
-use Rattle.bay_rules.specs.declared.rule.Rule.{Rule}
-use Rattle.bay_rules.specs.declared.rule.RuleKind.{RuleKind}
+use Rattle.bay_audit_rules.specs.declared.rule.ConditionItem.TheVariants as items
+use Rattle.bay_audit_rules.specs.declared.rule.Rule.{Rule}
+use Rattle.bay_audit_rules.specs.declared.rule.RuleKind.{RuleKind}
 
 -- the program, without points, variables and timers
 abbrev pub halting : BoundProgram
 halting = program (record { points = []; variables = []; timers = []; code = 1 ∷ [] }) [] []
 
--- whatever the process reports, the switch is never released for opening, or always
+-- the rule that the first switch is never, or always, released for opening, for every process
 abbrev pub at_all_times : RuleKind → Rule
 at_all_times kind = record {
   line = 1;

@@ -1,18 +1,18 @@
--- The scans and the commands of a device, by a rule that holds of its program.
+-- The scans and the commands of a device, if a rule holds of its program.
 use Rattle.std.specs.Prelude.{ℕ, ℤ, ◌-◌, ◌≤◌, ◌≤ℤ◌, negsuc, pos, [], ◌∷◌, ◌≡◌, ◌<◌, ◌⊎◌, Bool, true, false, All, List, length, slice_get, unwrap_or, Result, Ok, Err, IfOk, IsSomeAnd, OnOk}
 use Rattle.bay_config.specs.Laws.{IsBay}
 use Rattle.bay_config.specs.declared.bay.Bay.{Bay}
 use Rattle.bay_tree.specs.Rows.{leaf_of}
 use Rattle.bay_process.specs.Values.{is_truth, measure_leaf, number_of_leaf, position_leaf}
 use Rattle.bay_nodes.specs.declared.switch.Operation.{Operation}
-use Rattle.bay_rules.specs.Process.{Process, holds}
-use Rattle.bay_rules.specs.declared.rule.ConditionItem.{ConditionItem}
-use Rattle.bay_rules.specs.declared.rule.Rule.{Rule}
-use Rattle.bay_rules.specs.declared.rule.RuleKind.TheVariants.{Never}
-use Rattle.bay_rules.specs.declared.rule.Timing.{Timing}
-use Rattle.bay_services.specs.Controls.{dbpos_of}
-use Rattle.bay_services.specs.Released.{releasing}
-use Rattle.bay_services.specs.declared.answer.Command.{Command}
+use Rattle.bay_audit_rules.specs.Process.{Process, holds}
+use Rattle.bay_audit_rules.specs.declared.rule.ConditionItem.{ConditionItem}
+use Rattle.bay_audit_rules.specs.declared.rule.Rule.{Rule}
+use Rattle.bay_audit_rules.specs.declared.rule.RuleKind.TheVariants.{Never}
+use Rattle.bay_audit_rules.specs.declared.rule.Timing.{Timing}
+use Rattle.bay_mms_services.specs.Controls.{dbpos_of}
+use Rattle.bay_mms_services.specs.Released.{releasing}
+use Rattle.bay_mms_services.specs.declared.answer.Command.{Command}
 use Rattle.il_image.specs.Images.{Image}
 use Rattle.bay_device.specs.Device.{State}
 use Rattle.bay_device.specs.Load.{initial_device}
@@ -26,8 +26,8 @@ use Rattle.bay_audit.specs.Rules.{IsByTimer, IsRule, is_obeyed, program_of}
 
 -- ---- a device
 
--- what the process last reported, as the device has it: a switch without a report is neither open
--- nor closed, an input FALSE, a measured value 0
+-- the values that the process last reported, as the device has them: a switch without a report is
+-- intermediate, an input FALSE, a measured value 0
 abbrev pub process_of : State → Process
 process_of s = record {
   position = λ k. dbpos_of (position_leaf s.switches s.rows k (slice_get s.switches k));
@@ -35,12 +35,11 @@ process_of s = record {
   measure = λ k field. number_of_leaf (measure_leaf s.rows k field (slice_get s.meters k));
 }
 
--- whether the operation of the switch is released: EnaCls of its CILO for closing, EnaOpn for
--- opening
+-- the operation of the switch is released: EnaCls of its CILO for closing, EnaOpn for opening
 abbrev pub is_released : State → ℕ → Operation → Bool
 is_released s k operation = is_truth true (leaf_of (releasing k operation) s.rows)
 
--- The interlocking values obey a rule, while the process reports what the device has of it.
+-- The interlocking values obey a rule, for the process of the device.
 abbrev pub RowsObey : Rule → State → Type 0
 RowsObey rule s =
     is_obeyed rule.kind (holds rule.when (process_of s)) (is_released s rule.switch rule.operation)
@@ -48,12 +47,12 @@ RowsObey rule s =
 
 -- ---- events
 
--- A number has 32 bits.
+-- A number fits 32 bits with a sign.
 pub record Has32Bits (z : ℤ) : Type 0 where
   pub least : negsuc 2147483647 ≤ℤ z
   pub greatest : z ≤ℤ pos 2147483647
 
--- A measured value that an event brings has 32 bits, as its type has.
+-- A measured value of an event fits 32 bits, as its type requires.
 abbrev pub IsOfType : Event → Type 0
 IsOfType (Open a) = Unit {0}
 IsOfType (Recv a octets) = Unit {0}
@@ -69,13 +68,13 @@ abbrev pub AreOfTypes : List (ℕ × Event) → Type 0
 AreOfTypes [] = Unit {0}
 AreOfTypes (e ∷ es) = IsOfType e.1 × AreOfTypes es
 
--- A scan that is done leaves the interlocking values so that they obey a rule.
+-- An accepted scan leaves interlocking values that obey a rule.
 abbrev pub ScanObeysAt : Rule → ℕ → Event → State → Result Step StepFault → State → Type 0
 ScanObeysAt rule now event old answer new =
     event ≡ Scan → OnOk answer (RowsObey rule new)
 
--- A command that a rule forbids while its condition holds is issued while it does not, of what the
--- process last reported.
+-- If a rule forbids a command while its condition is TRUE, the command is issued only while the
+-- condition is FALSE for the values that the process last reported.
 abbrev pub IsAllowed : Rule → State → Command → Type 0
 IsAllowed rule s command =
     rule.kind ≡ Never → command.switch ≡ rule.switch → command.operation ≡ rule.operation
@@ -87,8 +86,8 @@ CommandsObeyAt rule now event old answer new =
 
 -- ---- the laws
 
--- What is said of each event holds in each run of a device, from load on of a bay and an image,
--- where a rule holds of that program.
+-- `Does` is true for each event in each run of a device, from load of a bay and an image on, if a
+-- rule holds of that program.
 abbrev pub Always : (Rule → ℕ → Event → State → Result Step StepFault → State → Type 0) → Type 0
 Always Does =
     (bay : Bay) (image : Image) (rule : Rule) → IsBay bay
@@ -105,8 +104,8 @@ CommandsObey = Always CommandsObeyAt
 
 -- ---- rules with a time
 
--- the scans that were done, the last one first: the moment of each, and whether a condition held of
--- what the process had last reported
+-- the accepted scans, the last one first: the time of each, and whether a condition was TRUE for
+-- the values that the process had last reported
 abbrev pub scan_noted : List ConditionItem → ℕ → State → Result Step StepFault → List (ℕ × Bool)
     → List (ℕ × Bool)
 scan_noted condition now s (Ok step) scans = (now, holds condition (process_of s)) ∷ scans
@@ -125,14 +124,14 @@ scans_after condition now (BadMeasure k field) s answer scans = scans
 scans_after condition now Lost s answer scans = scans
 scans_after condition now Scan s answer scans = scan_noted condition now s answer scans
 
--- The condition has held for a time, at a moment: at the last scan, and at each before it up to one
--- that is as long ago.
+-- The condition has held for a time, as of `now`: it was TRUE at the last scan, and at each scan
+-- before it back to one that is at least this time ago.
 abbrev pub HasHeld : ℕ → ℕ → List (ℕ × Bool) → Type 0
 HasHeld time now [] = ⊥
 HasHeld time now (scan ∷ scans) =
     (scan.1 ≡ true) × ((time ≤ now - scan.0) ⊎ HasHeld time now scans)
 
--- A scan that is done releases the switch, while the rule is asked, only where the condition has
+-- An accepted scan releases the switch, in a state that the rule covers, only if the condition has
 -- held for the time.
 abbrev pub ScanWaitsAt : Rule → Timing → List (ℕ × Bool) → ℕ → Event → State
     → Result Step StepFault → State → Type 0
@@ -141,8 +140,8 @@ ScanWaitsAt rule timing scans now event old answer new =
     → is_released new rule.switch rule.operation ≡ true
     → HasHeld timing.time now (scans_after timing.condition now event old answer scans))
 
--- A command to move it so is issued, while the rule is asked of what the process last reported,
--- only where at the last scan the condition had held for the time.
+-- A command to move the switch so is issued, in a state that the rule covers, only if at the last
+-- scan the condition had held for the time.
 abbrev pub HasWaited : Rule → Timing → List (ℕ × Bool) → State → Command → Type 0
 HasWaited rule timing scans s command =
     command.switch ≡ rule.switch → command.operation ≡ rule.operation
@@ -154,7 +153,7 @@ abbrev pub CommandsWaitAt : Rule → Timing → List (ℕ × Bool) → ℕ → E
 CommandsWaitAt rule timing scans now event old answer new =
     IfOk answer (λ step. All (HasWaited rule timing scans old) step.commands)
 
--- Each event is a step of which this is so, by the scans before it.
+-- Each event is a step for which `Does` is true, with the scans before it.
 abbrev pub EachAfter : (List (ℕ × Bool) → ℕ → Event → State → Result Step StepFault → State
     → Type 0)
     → List ConditionItem → List (ℕ × Event) → List (ℕ × Bool) → State → List (Result Step StepFault)
@@ -166,8 +165,8 @@ EachAfter Does condition (e ∷ es) scans s (answer ∷ answers) last =
     (new : State) × Steps e.0 e.1 s answer new × Does scans e.0 e.1 s answer new
     × EachAfter Does condition es (scans_after condition e.0 e.1 s answer scans) new answers last
 
--- What is said holds in each run of a device, from load on of a bay and an image, where a timer
--- bears a rule with a time.
+-- `Does` is true in each run of a device, from load of a bay and an image on, if a timer
+-- establishes a rule with a time.
 abbrev pub Waits : (Rule → Timing → List (ℕ × Bool) → ℕ → Event → State → Result Step StepFault
     → State → Type 0) → Type 0
 Waits Does =

@@ -1,4 +1,4 @@
--- What a program reads while the process is lost.
+-- The values that a program reads while the process is lost.
 use Rattle.std.specs.Prelude.{◌≡◌, ◌<◌, ℕ, false, List, [], ◌∷◌, length, slice_get, unwrap_or, Some}
 use Rattle.bay_base.specs.declared.point.Source.TheVariants as source
 use Rattle.bay_base.specs.declared.point.SwitchPoint.{SwitchPoint}
@@ -18,8 +18,8 @@ use Rattle.bay_device.specs.Fresh.{Past, is_heard}
 use Rattle.bay_device.specs.Load.{initial_device}
 use Rattle.bay_device.specs.Steps.{Steps}
 
--- Nothing is believed that the process told: the position of each switch is bad, with an invalid
--- quality, and each input is FALSE.
+-- The device has only the values of a lost process: the position of each switch is bad, with an
+-- invalid quality, and each input is FALSE.
 pub record IsBlind (s : State) : Type 0 where
   pub positions : (k : ℕ) (switch : Switch) → slice_get s.switches k ≡ Some switch
       → leaf_of (switch_names s.switches k switch).position.value s.rows ≡ Some (leaf.Dbpos Bad)
@@ -28,20 +28,20 @@ pub record IsBlind (s : State) : Type 0 where
       ≡ Some (leaf.Quality Invalid)
   pub inputs : (k : ℕ) → unwrap_or (slice_get s.input_values k) false ≡ false
 
--- So is it read by a program: the points of each switch are those of a bad position, and each input
--- is FALSE.
+-- A program reads these values: the points of each switch are those of a bad position, and each
+-- input is FALSE.
 pub record ReadsBlind (s : State) : Type 0 where
   pub switches : (k : ℕ) (point : SwitchPoint) → k < length s.switches
       → point_value s (source.Switch k point) ≡ position_value point (Some (leaf.Dbpos Bad))
   pub inputs : (k : ℕ) → point_value s (source.Input k) ≡ Truth false
 
--- A device came so far from another by these events, the last of them first.
+-- These events led from the first device to this one; the last event comes first.
 abbrev pub CameFrom : State → List Past → State → Type 0
 CameFrom first [] s = s ≡ first
 CameFrom first (p ∷ past) s = (s ≡ p.after)
     × ((before : State) × CameFrom first past before × Steps p.now p.event before p.answer p.after)
 
--- In each run from load on of a bay and an image, it is so while the process is lost.
+-- In each run from load of a bay and an image on, both are so while the process is lost.
 abbrev pub LostIsBlind : Type 0
 LostIsBlind =
     (bay : Bay) (image : Image) → IsBay bay → (past : List Past) (s : State)

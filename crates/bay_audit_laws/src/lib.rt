@@ -1,4 +1,4 @@
-// What a rule that holds of a program says of a device with it.
+// The consequences of a rule that holds of a program, for a device with this program.
 //
 // - `laws`: its scans and its commands.
 #![tactic(auto)]

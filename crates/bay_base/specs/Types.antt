@@ -3,7 +3,7 @@ use Rattle.std.specs.Prelude.{Bool as Truth, true, false}
 use Rattle.bay_base.specs.declared.types.ElementaryType.{ElementaryType}
 use Rattle.bay_base.specs.declared.types.ElementaryType.TheVariants.{Bool, Int, Dint, Lint, Time}
 
--- two types are one
+-- whether two types are the same
 abbrev pub same_type : ElementaryType → ElementaryType → Truth
 same_type Bool Bool = true
 same_type Int Int = true

@@ -4,7 +4,7 @@ use Rattle.bay_base.specs.Names.{same_name}
 use Rattle.bay_base.specs.declared.words.ReservedWord.{ReservedWord}
 use Rattle.bay_base.specs.declared.words.ReservedWord.TheVariants as word
 
--- each reserved word in upper case, and what it is
+-- each reserved word: its spelling in upper case, and its value
 unfoldable pub reserved_words : List (List ℕ × ReservedWord)
 reserved_words =
     (codes "LD", word.Ld) ∷
@@ -56,6 +56,6 @@ reserved_words =
     (codes "FALSE", word.False) ∷
     []
 
--- the reserved word that a word is, in letters of either case
+-- the reserved word that a text spells, in letters of either case, or None
 unfoldable pub reserved_of : List ℕ → Option ReservedWord
 reserved_of w = option_map (λ r. r.1) (find (λ r. same_name w r.0) reserved_words)

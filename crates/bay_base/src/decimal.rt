@@ -1,4 +1,4 @@
-// Numbers as decimal digits write them.
+// Numbers in decimal digits.
 ghost use Rattle.std.specs.Prelude.{◌≡◌, ℕ, Some};
 ghost use Rattle.bay_base.specs.Decimals.{positive_of, negative_of, read_number};
 ghost use Rattle.bay_base.specs.Decimals as spec;
@@ -6,8 +6,8 @@ ghost use Rattle.bay_base.specs.Decimals as spec;
 // A number below this stays below 2^64 with any one digit appended.
 const ROOM_FOR_A_DIGIT: u64 = 1_000_000_000_000_000_000;
 
-/// Appends a decimal digit to a number, or returns `None` if the octet is not a digit or the result
-/// reaches 2^64.
+/// Appends a decimal digit to a number. Returns `None` if the octet is not a digit or the result is
+/// 2^64 or more.
 pub fn with_digit(number: u64, octet: u8) -> Option<u64>
     ensures { result ≡ spec.with_digit number octet }
 {
@@ -21,7 +21,8 @@ pub fn with_digit(number: u64, octet: u8) -> Option<u64>
     number.checked_mul(10)?.checked_add(digit)
 }
 
-/// Reads a decimal number below 2^64. Leading zeros are allowed, a sign is not.
+/// Reads a decimal number below 2^64. Leading zeros are allowed, a sign is not. Returns `None` if
+/// the word is empty, if it contains anything but digits, or if the number is 2^64 or more.
 pub fn decimal(word: &[u8]) -> Option<u64>
     ensures { result ≡ read_number word.now }
 {
@@ -35,7 +36,7 @@ pub fn decimal(word: &[u8]) -> Option<u64>
     Some(number)
 }
 
-/// Returns the number as a value if it is below 2^31.
+/// Returns the number as a signed value, or `None` if it is 2^31 or more.
 pub fn positive(number: u64) -> Option<i32>
     ensures { result ≡ positive_of number }
 {
@@ -46,7 +47,7 @@ pub fn positive(number: u64) -> Option<i32>
     }
 }
 
-/// Returns the negated number as a value if it is not below -2^31.
+/// Returns the negated number, or `None` if it is below -2^31.
 pub fn negative(number: u64) -> Option<i32>
     ensures { result ≡ negative_of number }
 {

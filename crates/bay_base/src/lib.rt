@@ -1,10 +1,11 @@
-// What the language's crates and the bay's have in common.
+// What the crates of the language and those of the bay share.
 //
-// `text` and `listing`: texts and lists that contracts see as lists. `types`: the elementary types
-// (IEC 61131-3:2003, table 10) and the timers. `names`: how Instruction List compares names.
-// `decimal`: the numbers that decimal digits write. `point`: the points of a bay, through which a
-// program reads and writes it. `words`: its reserved words, in one table. specs/Exact says what 'exact, but for want of memory'
-// means; specs/Results and Options have what definitions of every layer read one after another.
+// `text` and `listing`: a text and a list, which contracts view as lists. `types`: the elementary
+// types (IEC 61131-3:2003, table 10) and the timers. `names`: how Instruction List compares names.
+// `decimal`: numbers in decimal digits. `point`: the points of a bay, through which a program reads
+// and writes it. `words`: the reserved words of Instruction List, in one table. specs/Exact defines
+// 'exact unless an allocation fails'; specs/Results and Options define how definitions of every
+// layer chain steps that may fail.
 #![tactic(auto)]
 
 pub mod decimal;

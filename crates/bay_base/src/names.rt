@@ -2,15 +2,15 @@
 ghost use Rattle.std.specs.Prelude.{◌≡◌};
 ghost use Rattle.bay_base.specs.Names as spec;
 
-/// Returns whether two names are the same. The case of letters isn't significant (IEC 61131-3:2003,
-/// 2.1.2).
+/// Returns whether two names are the same. The case of letters is not significant (IEC
+/// 61131-3:2003, 2.1.2).
 pub fn same_name(a: &str, b: &str) -> bool
     ensures { result ≡ spec.same_name a.now b.now }
 {
     same_letters(a.as_bytes(), b.as_bytes())
 }
 
-/// Returns whether two lists of octets are the same, ignoring the case of ASCII letters.
+/// Returns whether two slices of octets are equal if the case of ASCII letters is ignored.
 #[tactic(auto, using(crate::proofs::NameLemmas::other_lengths, crate::proofs::NameLemmas::same_from, crate::proofs::NameLemmas::other_from, crate::proofs::NameLemmas::same_at_end))]
 pub fn same_letters(a: &[u8], b: &[u8]) -> bool
     ensures { result ≡ spec.same_name a.now b.now }

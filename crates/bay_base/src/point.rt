@@ -10,37 +10,37 @@ pub struct Point {
     pub kind: ElementaryType,
     /// Whether the program may write it.
     pub writable: bool,
-    /// The part of the bay that it stands for.
+    /// The part of the bay that it represents.
     pub source: Source,
 }
 
-/// The part of the bay that a point stands for.
+/// The part of the bay that a point represents.
 #[derive(Clone, Copy, Debug, PartialEq, Eq)]
 pub enum Source {
     /// A point of the switch at this index, counted from 0 in the order of the file.
     Switch { switch: usize, point: SwitchPoint },
-    /// The input at this index.
+    /// The input at this index, counted from 0 in the order of the file.
     Input { input: usize },
-    /// A field of the meter at this index.
+    /// A field of the meter at this index, counted from 0 in the order of the file.
     Meter { meter: usize, field: MeterField },
 }
 
 /// A point of a switch.
 #[derive(Clone, Copy, Debug, PartialEq, Eq)]
 pub enum SwitchPoint {
-    /// Its position as a number.
+    /// The position as a number.
     Position,
-    /// Whether it is open.
+    /// Whether the switch is open.
     Open,
-    /// Whether it is closed.
+    /// Whether the switch is closed.
     Closed,
-    /// Whether it may be opened. The program writes it.
+    /// Whether the switch may be opened. The program writes this point.
     EnableOpen,
-    /// Whether it may be closed. The program writes it.
+    /// Whether the switch may be closed. The program writes this point.
     EnableClose,
 }
 
-/// A field of a meter (IEC 61850-7-4, MMXU), in whole units.
+/// A measured value of a meter (IEC 61850-7-4, MMXU), in whole units.
 #[derive(Clone, Copy, Debug, PartialEq, Eq)]
 pub enum MeterField {
     /// The total active power, TotW.

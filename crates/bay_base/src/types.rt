@@ -1,4 +1,4 @@
-// The types that this controller has: the elementary ones, and the timers.
+// The types of this controller's language: the elementary types and the timers.
 ghost use Rattle.std.specs.Prelude.{◌≡◌};
 ghost use Rattle.bay_base.specs.Types.{same_type};
 

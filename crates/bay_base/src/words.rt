@@ -6,8 +6,8 @@ ghost use Rattle.bay_base.specs.Words as spec;
 
 use crate::names::same_name;
 
-/// A reserved word: an operator that is spelled as a name (IEC 61131-3:2003, table 52), a word of a
-/// program's frame and declarations, a type, or a truth value. A name must not be spelled like a
+/// A reserved word: an operator that is spelled as a name (IEC 61131-3:2003, table 52), a keyword
+/// of programs and declarations, a type, or a truth value. A name must not be spelled like a
 /// reserved word.
 #[derive(Clone, Copy, Debug, PartialEq, Eq)]
 pub enum ReservedWord {
@@ -138,7 +138,8 @@ fn word_of(entry: Option<&(&'static str, ReservedWord)>) -> Option<ReservedWord>
     }
 }
 
-/// Returns the reserved word that a text spells, in letters of either case, or `None`.
+/// Returns the reserved word that a text spells, in letters of either case, or `None` if it spells
+/// none.
 pub fn reserved_word(text: &str) -> Option<ReservedWord>
     ensures { result ≡ reserved_of text.now }
 {

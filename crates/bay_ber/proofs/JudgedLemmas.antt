@@ -2,7 +2,7 @@
 use Rattle.std.proofs.Common.{◌≡◌, Option, Some, None, Result, Ok, Err, refl, sym, ap, ◌∙◌, inl, inr}
 use Rattle.bay_ber.proofs.ReadLemmas.{bind-ok, bind-err}
 use Rattle.bay_ber.specs.Forms.{Form}
-use Rattle.bay_ber.specs.Judged.{Verdict, or_fault, wanted, told, ◌>>=◌}
+use Rattle.bay_ber.specs.Judged.{Verdict, or_fault, wanted, verdict_of, ◌>>=◌}
 use Rattle.bay_ber.proofs.FormLemmas.{Exact}
 
 -- What is spelled is answered; and of what is good, what is answered is spelled or refused so.
@@ -12,7 +12,7 @@ pub record Fair {A E : Type 0} (Good : Type 0) (v : Verdict A E) : Type 0 where
   pub refused : Good → (e : E) → v.Refuses e → v.answers ≡ Err e
   pub why : Good → (e : E) → v.answers ≡ Err e → v.Refuses e
 
-pub told-fair : {A E Good : Type 0} (r : Result A E) → Fair Good (told r)
+pub told-fair : {A E Good : Type 0} (r : Result A E) → Fair Good (verdict_of r)
 told-fair r = record {
   read = λ x is. is;
   back = λ good x is. is;

@@ -10,7 +10,7 @@ use Rattle.std.specs.Option.{option_map}
 use Rattle.bay_ber.specs.declared.tag.Tag.{Tag}
 use Rattle.bay_ber.specs.Spelling.{octet_of}
 use Rattle.bay_ber.specs.Writing.{octets_needed, length_octets, element}
-use Rattle.bay_ber.specs.Sheets.{Sheet, short_value, empty, within, text_with, sheet_with, rewritten, close_sheet, message, value_around, behind, IsLength, IsEnd, HasTwoAt, IsOpen}
+use Rattle.bay_ber.specs.EncoderBuffers.{EncoderBuffer, short_value, empty, within, text_with, sheet_with, rewritten, close_sheet, message, value_around, behind, IsLength, IsEnd, HasTwoAt, IsOpen}
 
 -- a text longer than the limit is none
 pub past : (limit : ℕ) (text : List ℕ) → limit < length text → within limit text ≡ None
@@ -58,16 +58,16 @@ joined-nil limit None = refl
 joined-nil limit (Some text) =
     room limit text [] (omega arith) ∙ ap (λ (ys : List ℕ). Some ys) (append-nil text)
 
-pub put_nil : (sheet : Sheet) → sheet_with sheet [] ≡ sheet
+pub put_nil : (sheet : EncoderBuffer) → sheet_with sheet [] ≡ sheet
 unfolding sheet_with
 put_nil sheet = rw (joined-nil sheet.limit sheet.text) refl
 
-pub put-put : (sheet : Sheet) (xs ys : List ℕ)
+pub put-put : (sheet : EncoderBuffer) (xs ys : List ℕ)
     → sheet_with (sheet_with sheet xs) ys ≡ sheet_with sheet (xs ++ ys)
 unfolding sheet_with
 put-put sheet xs ys = rw (joined-joined sheet.limit sheet.text xs ys) refl
 
-pub put-twice : (old middle new : Sheet) (xs ys : List ℕ) → middle ≡ sheet_with old xs
+pub put-twice : (old middle new : EncoderBuffer) (xs ys : List ℕ) → middle ≡ sheet_with old xs
     → new ≡ sheet_with middle ys → new ≡ sheet_with old (xs ++ ys)
 put-twice old middle new xs ys first last = last ∙ rw first (put-put old xs ys)
 
@@ -134,7 +134,7 @@ rewritten-joined limit (Some text) start tag content at =
     ]
 
 -- what was opened, written and closed is the value
-pub closed-put : (sheet : Sheet) (start tag : ℕ) (content : List ℕ) → IsEnd start sheet
+pub closed-put : (sheet : EncoderBuffer) (start tag : ℕ) (content : List ℕ) → IsEnd start sheet
     → close_sheet (sheet_with sheet (tag ∷ 0 ∷ content)) start
     ≡ sheet_with sheet (short_value tag content)
 unfolding sheet_with close_sheet IsEnd
@@ -151,7 +151,7 @@ two-at limit (Some text) start tag content at =
       | inr le ↦ rw (room limit text (tag ∷ 0 ∷ content) le) (omega arith)
     ]
 
-pub is_open-put : (sheet : Sheet) (start tag : ℕ) (content : List ℕ) → IsEnd start sheet
+pub is_open-put : (sheet : EncoderBuffer) (start tag : ℕ) (content : List ℕ) → IsEnd start sheet
     → IsOpen start (sheet_with sheet (tag ∷ 0 ∷ content))
 unfolding sheet_with IsEnd IsOpen
 is_open-put sheet start tag content at = two-at sheet.limit sheet.text start tag content at
@@ -161,7 +161,7 @@ pub element-tagged : (tag : Tag) (content : List ℕ)
 unfolding element short_value
 element-tagged tag content = refl
 
-pub short-value : (old middle new : Sheet) (tag : Tag) (octet : ℕ) (content : List ℕ)
+pub short-value : (old middle new : EncoderBuffer) (tag : Tag) (octet : ℕ) (content : List ℕ)
     → octet ≡ octet_of tag → length content < 128
     → middle ≡ sheet_with old (octet ∷ length content ∷ []) → new ≡ sheet_with middle content
     → new ≡ sheet_with old (element tag content)
@@ -171,13 +171,13 @@ short-value old middle new tag octet content is few first last =
     unfold length_octets in rw (lt-ltb (length content) 128 few) refl in
     last ∙ rw (first, put-put old (octet ∷ length content ∷ []) content, is, e) refl
 
-opened-value : (old opened new : Sheet) (tag : Tag) (content : List ℕ)
+opened-value : (old opened new : EncoderBuffer) (tag : Tag) (content : List ℕ)
     → opened ≡ sheet_with old (octet_of tag ∷ 0 ∷ []) → new ≡ sheet_with opened content
     → new ≡ sheet_with old (octet_of tag ∷ 0 ∷ content)
 opened-value old opened new tag content first last =
     last ∙ rw first (put-put old (octet_of tag ∷ 0 ∷ []) content)
 
-pub open-value : (old opened new : Sheet) (tag : Tag) (start : ℕ) (content : List ℕ)
+pub open-value : (old opened new : EncoderBuffer) (tag : Tag) (start : ℕ) (content : List ℕ)
     → IsEnd start old → opened ≡ sheet_with old (octet_of tag ∷ 0 ∷ [])
     → new ≡ sheet_with opened content
     → IsOpen start new
@@ -185,7 +185,7 @@ open-value old opened new tag start content at first last =
     rw (opened-value old opened new tag content first last)
     (is_open-put old start (octet_of tag) content at)
 
-pub long-value : (old opened middle new : Sheet) (tag : Tag) (start : ℕ) (content : List ℕ)
+pub long-value : (old opened middle new : EncoderBuffer) (tag : Tag) (start : ℕ) (content : List ℕ)
     → IsEnd start old → opened ≡ sheet_with old (octet_of tag ∷ 0 ∷ [])
     → middle ≡ sheet_with opened content
     → new ≡ close_sheet middle start → new ≡ sheet_with old (element tag content)
@@ -201,7 +201,8 @@ flat-map-next f xs i d lt =
     ap (λ (ys : List _). flat_map f ys) (take_more xs i d lt)
     ∙ sym (flat_map_more f [] (take i xs) (get_or xs i d))
 
-pub put-next : {X : Type 0} (sheet : Sheet) (head : List ℕ) (f : X → List ℕ) (xs : List X) (i : ℕ)
+pub put-next : {X : Type 0} (sheet : EncoderBuffer) (head : List ℕ) (f : X → List ℕ) (xs : List X)
+    (i : ℕ)
     (d : X) → i < length xs
     → sheet_with (sheet_with sheet (head ++ flat_map f (take i xs))) (f (get_or xs i d))
     ≡ sheet_with sheet (head ++ flat_map f (take (i + 1) xs))
@@ -211,13 +212,15 @@ put-next sheet head f xs i d lt =
     refl
 
 -- the same in a value that was opened
-pub put-item : {X : Type 0} (sheet : Sheet) (tag : ℕ) (f : X → List ℕ) (xs : List X) (i : ℕ) (d : X)
+pub put-item : {X : Type 0} (sheet : EncoderBuffer) (tag : ℕ) (f : X → List ℕ) (xs : List X) (i : ℕ)
+    (d : X)
     → i < length xs
     → sheet_with (sheet_with sheet (tag ∷ 0 ∷ flat_map f (take i xs))) (f (get_or xs i d))
     ≡ sheet_with sheet (tag ∷ 0 ∷ flat_map f (take (i + 1) xs))
 put-item sheet tag f xs i d lt = put-next sheet (tag ∷ 0 ∷ []) f xs i d lt
 
-pub closed-items : {X : Type 0} (sheet : Sheet) (start tag : ℕ) (f : X → List ℕ) (xs : List X)
+pub closed-items : {X : Type 0} (sheet : EncoderBuffer) (start tag : ℕ) (f : X → List ℕ)
+    (xs : List X)
     (i : ℕ)
     → IsEnd start sheet → length xs ≤ i
     → close_sheet (sheet_with sheet (tag ∷ 0 ∷ flat_map f (take i xs))) start
@@ -245,16 +248,18 @@ pub message_put : (limit : ℕ) (text : List ℕ)
 unfolding sheet_with message
 message_put limit text = no-heads (text_with limit (Some []) text) ∙ from-none limit text
 
-pub short-message : (limit : ℕ) (text : List ℕ) (start now : Sheet) → start ≡ empty limit
+pub short-message : (limit : ℕ) (text : List ℕ) (start now : EncoderBuffer) → start ≡ empty limit
     → now ≡ sheet_with start text → length text ≤ limit → message now ≡ Some text
 short-message limit text start now is_empty is_put le =
     rw (is_put, is_empty) (message_put limit text ∙ fits limit text le)
 
-pub heads-put : (sheet : Sheet) (text : List ℕ) → (sheet_with sheet text).heads ≡ sheet.heads
+pub heads-put : (sheet : EncoderBuffer) (text : List ℕ)
+    → (sheet_with sheet text).heads ≡ sheet.heads
 unfolding sheet_with
 heads-put sheet text = refl
 
-pub limit-put : (sheet : Sheet) (text : List ℕ) → (sheet_with sheet text).limit ≡ sheet.limit
+pub limit-put : (sheet : EncoderBuffer) (text : List ℕ)
+    → (sheet_with sheet text).limit ≡ sheet.limit
 unfolding sheet_with
 limit-put sheet text = refl
 
@@ -276,13 +281,13 @@ front_of head heads None = refl
 front_of head heads (Some text) = ap (λ (ys : List ℕ). Some ys) (append_assoc head heads text)
 
 -- a head in front of the message
-pub message-front : (sheet : Sheet) (head : List ℕ)
+pub message-front : (sheet : EncoderBuffer) (head : List ℕ)
     → message (record { limit = sheet.limit; heads = head ++ sheet.heads; text = sheet.text })
     ≡ option_map (λ octets. head ++ octets) (message sheet)
 unfolding message
 message-front sheet head = front_of head sheet.heads sheet.text
 
-pub is-headed : (old new : Sheet) (tag : Tag) (count : ℕ) (octets : List ℕ)
+pub is-headed : (old new : EncoderBuffer) (tag : Tag) (count : ℕ) (octets : List ℕ)
     → Some octets ≡ message old → count ≡ length octets
     → new ≡ record {
       limit = old.limit;
@@ -305,19 +310,21 @@ pub content-less : (tag : Tag) (content : List ℕ) → length content < length 
 content-less tag content =
     omega (arith, length-element tag content, length-octets (length content))
 
-no-message : (sheet : Sheet) → sheet.text ≡ None → message sheet ≡ None
+no-message : (sheet : EncoderBuffer) → sheet.text ≡ None → message sheet ≡ None
 unfolding message
 no-message sheet none = rw none refl
 
 -- a value that is longer than the limit
-pub past-wrapped : (old new : Sheet) (tag : Tag) (octets : List ℕ) → Some octets ≡ message old
+pub past-wrapped : (old new : EncoderBuffer) (tag : Tag) (octets : List ℕ)
+    → Some octets ≡ message old
     → new.text ≡ None → old.limit < length (element tag octets)
     → message new ≡ value_around tag old.limit (message old)
 past-wrapped old new tag octets is none lt =
     no-message new none ∙ rw (← is, past old.limit (element tag octets) lt) refl
 
 -- one that is not
-pub fits-wrapped : (old new : Sheet) (tag : Tag) (octets : List ℕ) → Some octets ≡ message old
+pub fits-wrapped : (old new : EncoderBuffer) (tag : Tag) (octets : List ℕ)
+    → Some octets ≡ message old
     → length (element tag octets) ≤ old.limit
     → message new ≡ option_map (element tag) (message old)
     → message new ≡ value_around tag old.limit (message old)
@@ -325,7 +332,7 @@ fits-wrapped old new tag octets is le headed =
     headed ∙ rw (← is, fits old.limit (element tag octets) le) refl
 
 -- the head of a content, in one octet of the length or more
-pub head-short : (old new : Sheet) (tag : Tag) (octet count : ℕ) → octet ≡ octet_of tag
+pub head-short : (old new : EncoderBuffer) (tag : Tag) (octet count : ℕ) → octet ≡ octet_of tag
     → count < 128
     → new ≡ record { limit = old.limit; heads = octet ∷ count ∷ old.heads; text = old.text }
     → new ≡ record {
@@ -338,7 +345,8 @@ head-short old new tag octet count is few headed =
     unfold length_octets in rw (lt-ltb count 128 few) refl in
     headed ∙ rw (e, is) refl
 
-pub head-long : (old middle new : Sheet) (tag : Tag) (octet k : ℕ) (bytes : List ℕ) (count : ℕ)
+pub head-long : (old middle new : EncoderBuffer) (tag : Tag) (octet k : ℕ) (bytes : List ℕ)
+    (count : ℕ)
     → octet ≡ octet_of tag → 128 ≤ count → k ≡ octets_needed count
     → bytes ≡ bytes_high_first k count
     → middle ≡ record { limit = old.limit; heads = bytes ++ old.heads; text = old.text }
@@ -355,7 +363,7 @@ head-long old middle new tag octet k bytes count is many needed high headed twic
     twice ∙ rw (headed, high, e, is) refl
 
 -- a head has at most six octets
-pub head-few : (old new : Sheet) (octet count : ℕ)
+pub head-few : (old new : EncoderBuffer) (octet count : ℕ)
     → new ≡ record {
       limit = old.limit;
       heads = octet ∷ (length_octets count ++ old.heads);
@@ -370,7 +378,7 @@ head-few old new octet count headed =
     ))
 
 -- a value in front, its content first
-pub fronted-value : (old middle new : Sheet) (tag : Tag) (content : List ℕ)
+pub fronted-value : (old middle new : EncoderBuffer) (tag : Tag) (content : List ℕ)
     → middle ≡ record { limit = old.limit; heads = content ++ old.heads; text = old.text }
     → new ≡ record {
       limit = middle.limit;

@@ -5,32 +5,34 @@ use Rattle.std.proofs.lemmas.List.{append_assoc, length-append, length-drop, len
 use Rattle.std.proofs.Math.Seq.{take-append-add, drop-append-add}
 use Rattle.bay_ber.specs.declared.writer.Writer.TheInside.{Inside}
 use Rattle.bay_ber.specs.Writing.{length_octets}
-use Rattle.bay_ber.specs.Sheets.{Sheet, sheet_of, short_value, held_text, empty, sheet_with, close_sheet, message, IsLength, IsEnd, IsOpen}
+use Rattle.bay_ber.specs.EncoderBuffers.{EncoderBuffer, encoder_buffer_of, short_value, held_text, empty, sheet_with, close_sheet, message, IsLength, IsEnd, IsOpen}
 
-abbrev pub seen : Inside → Sheet
-seen w = sheet_of w.limit w.first w.over w.octets.items
+abbrev pub seen : Inside → EncoderBuffer
+seen w = encoder_buffer_of w.limit w.first w.over w.octets.items
 
 -- ---- appending
 
-pub over-put : (w : Inside) (sheet : Sheet) (more : List ℕ) → seen w ≡ sheet → w.over ≡ true
+pub over-put : (w : Inside) (sheet : EncoderBuffer) (more : List ℕ) → seen w ≡ sheet → w.over ≡ true
     → sheet ≡ sheet_with sheet more
 unfolding sheet_with
 over-put w sheet more is over = rw (← is, over) refl
 
-pub past-put : (w : Inside) (sheet : Sheet) (more : List ℕ) → seen w ≡ sheet → w.over ≡ false
+pub past-put : (w : Inside) (sheet : EncoderBuffer) (more : List ℕ) → seen w ≡ sheet
+    → w.over ≡ false
     → 64 ≤ length w.octets.items → length w.octets.items ≤ 64 + w.limit
     → 64 + w.limit - length w.octets.items < length more
-    → sheet_of w.limit w.first true w.octets.items ≡ sheet_with sheet more
+    → encoder_buffer_of w.limit w.first true w.octets.items ≡ sheet_with sheet more
 unfolding sheet_with
 past-put w sheet more is clear front fit past =
     let t = drop 64 w.octets.items in
     let m = length-drop 64 w.octets.items in
     rw (← is, clear, lt-ltb (w.limit - length t) (length more) (omega arith)) refl
 
-pub fits-put : (w : Inside) (sheet : Sheet) (more new : List ℕ) → seen w ≡ sheet → w.over ≡ false
+pub fits-put : (w : Inside) (sheet : EncoderBuffer) (more new : List ℕ) → seen w ≡ sheet
+    → w.over ≡ false
     → 64 ≤ length w.octets.items → length w.octets.items ≤ 64 + w.limit
     → length more ≤ 64 + w.limit - length w.octets.items → new ≡ w.octets.items ++ more
-    → sheet_of w.limit w.first w.over new ≡ sheet_with sheet more
+    → encoder_buffer_of w.limit w.first w.over new ≡ sheet_with sheet more
 unfolding sheet_with
 fits-put w sheet more new is clear front fit room added =
     let t = drop 64 w.octets.items in
@@ -47,8 +49,8 @@ fits-put w sheet more new is clear front fit room added =
 -- ---- beginning again
 
 -- a writer cut to the room of its heads holds no text
-pub cleared : (w : Inside) (sheet : Sheet) (new : List ℕ) → seen w ≡ sheet
-    → new ≡ take 64 w.octets.items → sheet_of w.limit 64 false new ≡ empty sheet.limit
+pub cleared : (w : Inside) (sheet : EncoderBuffer) (new : List ℕ) → seen w ≡ sheet
+    → new ≡ take 64 w.octets.items → encoder_buffer_of w.limit 64 false new ≡ empty sheet.limit
 cleared w sheet new is cut =
     let n = ap length cut ∙ length-take 64 w.octets.items in
     let m = length-take 64 new in
@@ -61,12 +63,12 @@ at-end : (over : Bool) (octets : List ℕ) (place : ℕ) → place ≡ length oc
 at-end true octets place is = tt
 at-end false octets place is = is ∙ sym (length-drop 64 octets)
 
-pub is_end : (w : Inside) (sheet : Sheet) (place : ℕ) → seen w ≡ sheet
+pub is_end : (w : Inside) (sheet : EncoderBuffer) (place : ℕ) → seen w ≡ sheet
     → place ≡ length w.octets.items - 64 → IsEnd place sheet
 unfolding IsEnd
 is_end w sheet place is at = rw (← is) (at-end w.over w.octets.items place at)
 
-pub is_open : (w : Inside) (sheet : Sheet) (start : ℕ) → seen w ≡ sheet → w.over ≡ false
+pub is_open : (w : Inside) (sheet : EncoderBuffer) (start : ℕ) → seen w ≡ sheet → w.over ≡ false
     → IsOpen start sheet → 64 + start + 2 ≤ length w.octets.items
 unfolding IsOpen
 is_open w sheet start is clear open_here =
@@ -74,7 +76,7 @@ is_open w sheet start is clear open_here =
     let two = rw text at open_here in
     omega (arith, two, length-drop 64 w.octets.items)
 
-pub over-closed : (w : Inside) (sheet : Sheet) (start : ℕ) → seen w ≡ sheet → w.over ≡ true
+pub over-closed : (w : Inside) (sheet : EncoderBuffer) (start : ℕ) → seen w ≡ sheet → w.over ≡ true
     → sheet ≡ close_sheet sheet start
 unfolding close_sheet
 over-closed w sheet start is over = rw (← is, over) refl
@@ -92,11 +94,11 @@ value-length text start tag more two is =
     let b = length-drop (start + 2) text in
     omega arith
 
-pub past-closed : (w : Inside) (sheet : Sheet) (start count more : ℕ) → seen w ≡ sheet
+pub past-closed : (w : Inside) (sheet : EncoderBuffer) (start count more : ℕ) → seen w ≡ sheet
     → w.over ≡ false → 64 + start + 2 ≤ length w.octets.items
     → length w.octets.items ≤ 64 + w.limit → count ≡ length w.octets.items - (64 + start + 2)
     → more + 1 ≡ length (length_octets count) → 64 + w.limit - length w.octets.items < more
-    → sheet_of w.limit w.first true w.octets.items ≡ close_sheet sheet start
+    → encoder_buffer_of w.limit w.first true w.octets.items ≡ close_sheet sheet start
 unfolding close_sheet
 past-closed w sheet start count more is clear two fit counted size past =
     let t = drop 64 w.octets.items in
@@ -140,13 +142,13 @@ value-in-place octets place start is two =
     )
     refl
 
-pub fits-closed : (w : Inside) (sheet : Sheet) (start count more place : ℕ) (new : List ℕ)
+pub fits-closed : (w : Inside) (sheet : EncoderBuffer) (start count more place : ℕ) (new : List ℕ)
     → seen w ≡ sheet → w.over ≡ false → 64 + start + 2 ≤ length w.octets.items
     → length w.octets.items ≤ 64 + w.limit → count ≡ length w.octets.items - (64 + start + 2)
     → more + 1 ≡ length (length_octets count) → more ≤ 64 + w.limit - length w.octets.items
     → place ≡ 64 + (start + 1)
     → new ≡ take place w.octets.items ++ (length_octets count ++ drop (place + 1) w.octets.items)
-    → sheet_of w.limit w.first w.over new ≡ close_sheet sheet start
+    → encoder_buffer_of w.limit w.first w.over new ≡ close_sheet sheet start
 unfolding close_sheet
 fits-closed w sheet start count more place new is clear two fit counted size room at written =
     let o = w.octets.items in
@@ -192,7 +194,7 @@ room-in-front : (first : ℕ) (octets : List ℕ) → 64 ≤ length octets
 room-in-front first octets front =
     length-drop first (take 64 octets) ∙ ap (λ (n : ℕ). n - first) (length-take-le 64 octets front)
 
-pub head-fits : (w : Inside) (sheet : Sheet) (head : List ℕ) → seen w ≡ sheet
+pub head-fits : (w : Inside) (sheet : EncoderBuffer) (head : List ℕ) → seen w ≡ sheet
     → 64 ≤ length w.octets.items → w.first ≤ 64 → length head + length sheet.heads ≤ 64
     → length head ≤ w.first
 head-fits w sheet head is front heads fits =
@@ -242,11 +244,11 @@ text-stays first n octets head count fits heads front =
     ∙ rw (drop-drop (64 - first) (k + n) octets, sum, all) refl)
 
 -- a head copied in front of the first octet is one head more
-pub fronted : (w : Inside) (sheet : Sheet) (head new : List ℕ) → seen w ≡ sheet
+pub fronted : (w : Inside) (sheet : EncoderBuffer) (head new : List ℕ) → seen w ≡ sheet
     → 64 ≤ length w.octets.items → w.first ≤ 64 → length head ≤ w.first
     → new ≡ take (w.first - length head) w.octets.items
     ++ (head ++ drop (w.first - length head + length head) w.octets.items)
-    → sheet_of w.limit (w.first - length head) w.over new
+    → encoder_buffer_of w.limit (w.first - length head) w.over new
     ≡ record { limit = sheet.limit; heads = head ++ sheet.heads; text = sheet.text }
 fronted w sheet head new is front heads fits written =
     rw (
@@ -256,7 +258,7 @@ fronted w sheet head new is front heads fits written =
       text-stays w.first (length head) w.octets.items head refl fits heads front,
     ) refl
 
-pub message-is : (w : Inside) (sheet : Sheet) → seen w ≡ sheet → w.over ≡ false
+pub message-is : (w : Inside) (sheet : EncoderBuffer) → seen w ≡ sheet → w.over ≡ false
     → 64 ≤ length w.octets.items → w.first ≤ 64
     → Some (drop w.first w.octets.items) ≡ message sheet
 unfolding message
@@ -266,7 +268,7 @@ message-is w sheet is clear front heads =
     let e = drop-append-le w.first (take 64 o) (drop 64 o) (omega arith) in
     rw (← is, clear, ← e, take-append-drop 64 o) refl
 
-pub over-message : (w : Inside) (sheet : Sheet) → seen w ≡ sheet → w.over ≡ true
+pub over-message : (w : Inside) (sheet : EncoderBuffer) → seen w ≡ sheet → w.over ≡ true
     → None ≡ message sheet
 unfolding message
 over-message w sheet is over = rw (← is, over) refl

@@ -5,6 +5,7 @@ use Rattle.bay_ber.specs.declared.fault.BerFault.TheVariants.{Truncated, Indefin
 
 -- ---- own: numbers of faults
 
+-- the number of a fault, 1 to 5
 abbrev pub code_of : BerFault → ℕ
 code_of Truncated = 1
 code_of Indefinite = 2

@@ -6,7 +6,7 @@ use Rattle.bay_ber.specs.Octets.{number_of}
 
 -- ---- X.690 8.3: integers
 
--- the number that octets spell in two's complement: bit 8 of the first is the sign (X.690 8.3.3)
+-- the number that octets encode in two's complement: bit 8 of the first is the sign (X.690 8.3.3)
 abbrev pub signed_of : List ℕ → ℤ
 signed_of [] = pos 0
 signed_of (first ∷ octets) =
@@ -23,7 +23,8 @@ pub record IsInteger (content : List ℕ) (value : ℤ) : Type 0 where
 
 -- ---- X.690 8.6: bit strings
 
--- Octets hold so many bits and at most 7 unused ones behind them, at most 2 ^ 64 - 8 bits in all.
+-- Octets hold `count` bits, followed by `unused` ones, at most 7; altogether at most 2 ^ 64 - 8
+-- bits.
 pub record HasBits (unused : ℕ) (octets : List ℕ) (count : ℕ) : Type 0 where
   pub few : unused ≤ 7
   pub filled : count + unused ≡ 8 * length octets
@@ -43,16 +44,16 @@ IsTruth content value = ⊥
 
 -- ---- own: views of the code
 
--- a bit string without where its octets lie in memory
+-- a bit string as a value, without the slice it borrows from
 pub record BitString : Type 0 where
   pub octets : List ℕ
   pub count : ℕ
 
--- a bit string as it was read
+-- the view of a bit string
 abbrev pub bits_of : Bits → BitString
 bits_of b = record { octets = b.octets.now; count = b.count }
 
--- ---- X.690 8.3: what integers are read as, which laws tie to the relation above
+-- ---- X.690 8.3: integers as they are read; laws prove that this agrees with the relation above
 
 -- whether a number is within 64 bits
 abbrev pub is_long : ℤ → Bool
@@ -64,28 +65,28 @@ unfoldable pub is_integer : List ℕ → Bool
 is_integer content =
     nat_lt 0 (length content) && (nat_lt (length content) 10 && is_long (signed_of content))
 
--- the number of an integer's content
+-- the number of an integer's content, or None
 abbrev pub integer_in : List ℕ → Option ℤ
 integer_in content = if is_integer content then Some (signed_of content) else None
 
--- ---- X.690 8.6: what bit strings are read as, which laws tie to the relation above
+-- ---- X.690 8.6: bit strings as they are read, likewise
 
--- whether so many unused bits may stand behind octets
+-- whether the last octet may have this number of unused bits
 unfoldable pub are_unused : ℕ → List ℕ → Bool
 are_unused unused octets =
     nat_lt unused 8 && (nat_lt unused (8 * length octets + 1)
     && nat_lt (length octets) 2305843009213693952)
 
--- the bits of a bit string's content
+-- the bits of a bit string's content, or None
 abbrev pub bits_in : List ℕ → Option BitString
 bits_in [] = None
 bits_in (unused ∷ octets) =
     if are_unused unused octets
     then Some (record { octets = octets; count = 8 * length octets - unused }) else None
 
--- ---- X.690 8.2: what truth values are read as, which laws tie to the relation above
+-- ---- X.690 8.2: booleans as they are read, likewise
 
--- the truth value of a content
+-- the boolean of a content, or None
 abbrev pub truth_in : List ℕ → Option Bool
 truth_in (octet ∷ []) = Some (nat_lt 0 octet)
 truth_in content = None

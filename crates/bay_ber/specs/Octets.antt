@@ -1,9 +1,9 @@
--- Numbers of octets.
+-- Octets as numbers.
 use Rattle.std.specs.Prelude.{ℕ, ◌+◌, ◌*◌, ◌<◌, fold, slice_index, List}
 
--- ---- own: numbers of octets
+-- ---- own: octets as numbers
 
--- the number whose octets these are, the highest first
+-- the number with these octets, the highest first
 abbrev pub number_of : List ℕ → ℕ
 number_of octets = fold (λ high octet. high * 256 + octet) 0 octets
 

@@ -1,4 +1,4 @@
--- What stands at the front of a list of octets.
+-- The value that octets begin with.
 use Rattle.std.specs.Prelude.{ℕ, ◌≡◌, ◌-◌, ◌/◌, ◌%◌, ◌<◌, ◌≤◌, ◌==◌, Bool, List, [], ◌∷◌, ◌++◌, length, take, drop, Result, Ok, Err, nat_lt, if◌then◌else◌}
 use Rattle.bay_base.specs.Results.{◌>>=◌}
 use Rattle.bay_ber.specs.declared.fault.BerFault.{BerFault}
@@ -10,34 +10,35 @@ use Rattle.bay_ber.specs.declared.tag.Tag.{Tag}
 use Rattle.bay_ber.specs.Octets.{number_of}
 use Rattle.bay_ber.specs.Spelling.{IsTag, Spells}
 
--- ---- own: what stands at the front of octets
+-- ---- own: the value that octets begin with
 
--- a value that was read, and the octets behind it, without where they lie in memory
+-- a value that was read, and the octets after it, as values, without the slices they borrow from
 pub record Reading : Type 0 where
   pub tag : Tag
   pub content : List ℕ
   pub rest : List ℕ
 
--- what was read, as slices of the input
+-- the view of a value that was read
 abbrev pub reading_of : Tlv → Reading
 reading_of t = record { tag = t.tag; content = t.content.now; rest = t.rest.now }
 
--- A prefix of the octets is spelled so, and the rest follows it.
+-- A prefix of the octets encodes the value, and the rest follows it.
 pub record Begins (octets : List ℕ) (r : Reading) : Type 0 where
   pub front : List ℕ
   pub spelled : Spells front r.tag r.content
   pub parts : octets ≡ front ++ r.rest
 
--- Some prefix is spelled.
+-- Some prefix of the octets encodes a value.
 abbrev pub IsSpelled : List ℕ → Type 0
 IsSpelled octets = (r : Reading) × Begins octets r
 
--- A tag octet has 31 in its low five bits, and an octet of 128 or more follows it (X.690 8.1.2.4).
+-- The first octet has 31 in its low five bits, and an octet of 128 or more follows it (X.690
+-- 8.1.2.4).
 abbrev pub HasLargeTag : List ℕ → Type 0
 HasLargeTag (first ∷ second ∷ octets) = (first % 32 ≡ 31) × (128 ≤ second)
 HasLargeTag octets = ⊥
 
--- A tag stands first, and then this octet in the length's place (X.690 8.1.3).
+-- The octets begin with a tag, followed by this octet as the first of the length (X.690 8.1.3).
 pub record HasLengthOctet (octets : List ℕ) (octet : ℕ) : Type 0 where
   pub tag : Tag
   pub front : List ℕ
@@ -45,22 +46,23 @@ pub record HasLengthOctet (octets : List ℕ) (octet : ℕ) : Type 0 where
   pub is_tag : IsTag front tag
   pub parts : octets ≡ front ++ octet ∷ rest
 
--- The octet 0x80 stands in the length's place: the indefinite form (X.690 8.1.3.6).
+-- The first octet of the length is 0x80: the indefinite form (X.690 8.1.3.6).
 abbrev pub IsIndefinite : List ℕ → Type 0
 IsIndefinite octets = HasLengthOctet octets 128
 
--- An octet above 0x84 stands there: more than four octets of length (X.690 8.1.3.5).
+-- The first octet of the length is above 0x84: more than four octets of length follow (X.690
+-- 8.1.3.5).
 abbrev pub HasLongLength : List ℕ → Type 0
 HasLongLength octets = (octet : ℕ) × (132 < octet) × HasLengthOctet octets octet
 
--- None of these, and no prefix is spelled.
+-- None of these holds, and no prefix encodes a value.
 pub record IsTruncated (octets : List ℕ) : Type 0 where
   pub no_large_tag : HasLargeTag octets → ⊥
   pub not_indefinite : IsIndefinite octets → ⊥
   pub no_long_length : HasLongLength octets → ⊥
   pub not_spelled : IsSpelled octets → ⊥
 
--- ---- X.690 8.1.2: tags, read from the left, which laws tie to the relations above
+-- ---- X.690 8.1.2: tags, read from the left; laws prove that this agrees with the relations above
 
 -- the class, in bits 8 and 7 of the first tag octet (X.690 8.1.2.2)
 abbrev pub class_of : ℕ → Class
@@ -69,15 +71,15 @@ class_of first =
     else (if nat_lt first 128 then Application
     else (if nat_lt first 192 then ContextSpecific else Private))
 
--- whether the content is made of values, in bit 6 (X.690 8.1.2.5)
+-- whether the value is constructed, in bit 6 (X.690 8.1.2.5)
 abbrev pub is_constructed : ℕ → Bool
 is_constructed first = (first / 32) % 2 == 1
 
--- the low five bits: the number, or 31 where it stands behind
+-- the low five bits: the number, or 31 if the number follows
 abbrev pub low_bits : ℕ → ℕ
 low_bits first = first % 32
 
--- a tag of two octets, behind its first (X.690 8.1.2.4)
+-- a tag of two octets, from the first and the octets after it (X.690 8.1.2.4)
 abbrev pub second_at : ℕ → List ℕ → Result (Tag × List ℕ) BerFault
 second_at first [] = Err Truncated
 second_at first (second ∷ octets) =
@@ -85,7 +87,7 @@ second_at first (second ∷ octets) =
     (record { class = class_of first; constructed = is_constructed first; number = second }, octets)
     else Err TagTooLarge
 
--- the tag at the front, and the octets behind it
+-- the tag that octets begin with, and the octets after it
 unfoldable pub tag_at : List ℕ → Result (Tag × List ℕ) BerFault
 tag_at [] = Err Truncated
 tag_at (first ∷ octets) =
@@ -101,7 +103,7 @@ tag_at (first ∷ octets) =
 
 -- ---- X.690 8.1.3: lengths, read from the left
 
--- the length at the front, and the octets behind it
+-- the length that octets begin with, and the octets after it
 unfoldable pub length_at : List ℕ → Result (ℕ × List ℕ) BerFault
 length_at [] = Err Truncated
 length_at (first ∷ octets) =
@@ -113,7 +115,7 @@ length_at (first ∷ octets) =
 
 -- ---- X.690 8.1.1: values, read from the left
 
--- the value at the front, and the octets behind it
+-- the value that octets begin with, and the octets after it
 unfoldable pub tlv_at : List ℕ → Result Reading BerFault
 tlv_at octets = do
   tag ← tag_at octets

@@ -1,4 +1,4 @@
--- The spelling of one value: a tag, a length and the content (X.690 8.1).
+-- The encoding of one value: a tag, a length and the content (X.690 8.1).
 use Rattle.std.specs.Prelude.{ℕ, ◌≡◌, ◌+◌, ◌*◌, ◌<◌, ◌≤◌, Bool, List, [], ◌∷◌, ◌++◌, length, if◌then◌else◌}
 use Rattle.bay_ber.specs.declared.tag.Class.{Class}
 use Rattle.bay_ber.specs.declared.tag.Class.TheVariants.{Universal, Application, ContextSpecific, Private}
@@ -14,7 +14,7 @@ class_bits Application = 1
 class_bits ContextSpecific = 2
 class_bits Private = 3
 
--- a first tag octet: the class, whether the content is constructed, and the low five bits
+-- the first octet of a tag: the class, whether the value is constructed, and the low five bits
 abbrev pub identifier : Class → Bool → ℕ → ℕ
 identifier class constructed low = class_bits class * 64 + (if constructed then 32 else 0) + low
 
@@ -22,8 +22,8 @@ identifier class constructed low = class_bits class * 64 + (if constructed then 
 abbrev pub octet_of : Tag → ℕ
 octet_of tag = identifier tag.class tag.constructed tag.number
 
--- A tag is one octet whose low five bits are below 31 and give the number, or one octet with 31
--- there and one octet below 128 that gives it (X.690 8.1.2).
+-- A tag is one octet whose low five bits are its number, below 31; or one octet with 31 there and
+-- one octet below 128, which is its number (X.690 8.1.2).
 abbrev pub IsTag : List ℕ → Tag → Type 0
 IsTag [] tag = ⊥
 IsTag (first ∷ []) tag =

@@ -1,13 +1,13 @@
--- When two tags are one, and the tags that messages have (X.690 8.1.2.2; X.680, table 1).
+-- When two tags are the same, and the tags of messages (X.690 8.1.2.2; X.680, table 1).
 use Rattle.std.specs.Prelude.{ℕ, Bool, true, false, ◌&&◌, ◌==◌}
 use Rattle.std.specs.Bool.{beq}
 use Rattle.bay_ber.specs.declared.tag.Class.{Class}
 use Rattle.bay_ber.specs.declared.tag.Class.TheVariants.{Universal, Application, ContextSpecific, Private}
 use Rattle.bay_ber.specs.declared.tag.Tag.{Tag}
 
--- ---- own: when two tags are one
+-- ---- own: when two tags are the same
 
--- Whether two classes are one.
+-- Whether two classes are the same.
 abbrev pub same_class : Class → Class → Bool
 same_class Universal Universal = true
 same_class Application Application = true
@@ -23,11 +23,11 @@ same_tag first second =
 
 -- ---- X.690 8.1.2.2: context-specific tags
 
--- the context-specific tag of a simple value
+-- the context-specific tag of a primitive value
 abbrev pub context : ℕ → Tag
 context number = record { class = ContextSpecific; constructed = false; number = number }
 
--- the context-specific tag of a value that is made of values
+-- the context-specific tag of a constructed value
 abbrev pub constructed : ℕ → Tag
 constructed number = record { class = ContextSpecific; constructed = true; number = number }
 

@@ -1,4 +1,4 @@
--- Values one after another.
+-- Consecutive values.
 use Rattle.std.specs.Prelude.{ℕ, ℤ, zero, suc, ◌≡◌, Bool, List, [], ◌∷◌, ◌++◌, length, filter, Option, Some, None, option_map, Result, Ok, Err, nat_lt, if◌then◌else◌}
 use Rattle.std.specs.List.{list_any}
 use Rattle.bay_ber.specs.declared.fault.BerFault.{BerFault}
@@ -10,77 +10,78 @@ use Rattle.bay_ber.specs.Reading.{Reading, Begins, IsSpelled, tlv_at}
 use Rattle.bay_ber.specs.Tags.{same_tag}
 use Rattle.bay_base.specs.Options.{◌>>=◌}
 
--- ---- own: values one after another
+-- ---- own: consecutive values
 
--- a tag and a content, without where they lie in memory
+-- a tag and a content, as values, without the slice they borrow from
 pub record Part : Type 0 where
   pub tag : Tag
   pub content : List ℕ
 
--- a value under a tag
+-- the value with this tag and this content
 abbrev pub value : Tag → List ℕ → Part
 value tag content = record { tag = tag; content = content }
 
--- a value that was read
+-- the view of a value that was read
 abbrev pub part_of : Value → Part
 part_of v = record { tag = v.tag; content = v.content.now }
 
--- The octets are these values and nothing else, one after another (X.690 8.9, 8.10).
+-- The octets are the encodings of these values, one after another, and nothing else (X.690 8.9,
+-- 8.10).
 abbrev pub SpellAll : List ℕ → List Part → Type 0
 SpellAll octets [] = octets ≡ []
 SpellAll octets (part ∷ parts) =
     (front : List ℕ) × (rest : List ℕ) × (octets ≡ front ++ rest)
     × Spells front part.tag part.content × SpellAll rest parts
 
--- What is answered of the values in octets, and what is left of them: none where no octet is left,
--- else the first and the octets behind it, or a fault where no value stands first.
+-- The result of reading the next value, and the octets left: None if no octet is left; else the
+-- first value and the octets after it; or a fault, if the octets begin with no value.
 abbrev pub Next : List ℕ → Result (Option Value) BerFault → List ℕ → Type 0
 Next old (Ok None) new = (old ≡ []) × (new ≡ [])
 Next old (Ok (Some value)) new =
     Begins old (record { tag = value.tag; content = value.content.now; rest = new })
 Next old (Err fault) new = (new ≡ old) × (old ≡ [] → ⊥) × (IsSpelled old → ⊥)
 
--- ---- own: the values that octets are, which the laws tie to the relation above
+-- ---- own: the values that octets encode; laws prove that this agrees with the relation above
 
--- the value at the front, without the octets behind it
+-- the value that was read, without the octets after it
 abbrev pub part_in : Reading → Part
 part_in r = record { tag = r.tag; content = r.content }
 
--- values in front of others, where there are others
+-- values before others, if there are others (None stays None)
 abbrev pub onto : List Part → Option (List Part) → Option (List Part)
 onto front = option_map (λ parts. front ++ parts)
 
--- a value that was read, in front of those behind it, where they are values
+-- a value that was read, before those in the rest, if the rest are values
 abbrev pub with_front : Result Reading BerFault → (List ℕ → Option (List Part)) → Option (List Part)
 with_front (Ok r) rest = onto (part_in r ∷ []) (rest r.rest)
 with_front (Err fault) rest = None
 
--- the values, at most so many
+-- the values that the octets encode, if there are at most `most`
 unfoldable pub values_within : ℕ → List ℕ → Option (List Part)
 values_within most [] = Some []
 values_within zero (octet ∷ octets) = None
 values_within (suc most) (octet ∷ octets) =
     with_front (tlv_at (octet ∷ octets)) (values_within most)
 
--- the values that the octets are, one after another; a value has at least two octets, so there are
--- fewer than octets (X.690 8.9, 8.10)
+-- the values that the octets encode, one after another; a value has at least two octets, so there
+-- are fewer values than octets (X.690 8.9, 8.10)
 unfoldable pub values_in : List ℕ → Option (List Part)
 values_in octets = values_within (length octets) octets
 
--- the one value of a list
+-- the value of a list with one value
 abbrev pub only_one : List Part → Option Part
 only_one (part ∷ []) = Some part
 only_one parts = None
 
--- the one value that the octets are
+-- the value, if the octets encode exactly one
 abbrev pub value_in : List ℕ → Option Part
 value_in octets = values_in octets >>= only_one
 
--- at most five values
+-- the values, if there are at most five
 abbrev pub at_most_five : List Part → Option (List Part)
 at_most_five parts = if nat_lt (length parts) 6 then Some parts else None
 
--- the values that the octets are, if they are at most five
+-- the values that the octets encode, if there are at most five
 abbrev pub few_in : List ℕ → Option (List Part)
 few_in octets = values_in octets >>= at_most_five
 
@@ -88,33 +89,33 @@ few_in octets = values_in octets >>= at_most_five
 abbrev pub is_known : List Tag → Part → Bool
 is_known tags part = list_any (λ tag. same_tag part.tag tag) tags
 
--- a value behind others, if its tag is one of these
+-- the known values with this one appended, if its tag is one of these
 abbrev pub with_known : List Tag → List Part → Part → List Part
 with_known tags known part = if is_known tags part then known ++ part ∷ [] else known
 
--- of the values that the octets are, those whose tags are among these, in order, if they are at
+-- of the values that the octets encode, those whose tags are among these, in order, if they are at
 -- most five
 unfoldable pub known_in : List Tag → List ℕ → Option (List Part)
 known_in tags octets = values_in octets >>= λ parts. at_most_five (filter (is_known tags) parts)
 
--- what each value is read as, if each is
+-- the results of reading each value, or None if one can't be read
 abbrev pub all_of : {B : Type 0} → (Part → Option B) → List Part → Option (List B)
 all_of f [] = Some []
 all_of f (part ∷ parts) = f part >>= λ x. all_of f parts >>= λ xs. Some (x ∷ xs)
 
--- what the values that the octets are, are read as, if each is
+-- the same of the values that the octets encode
 abbrev pub each_in : {B : Type 0} → (Part → Option B) → List ℕ → Option (List B)
 each_in f octets = values_in octets >>= all_of f
 
--- the content of a value that has this tag (X.690 8.14)
+-- the content of a value, if the value has this tag (X.690 8.14)
 abbrev pub under : Tag → Part → Option (List ℕ)
 under tag part = if same_tag part.tag tag then Some part.content else None
 
--- the integer that stands under a tag
+-- the integer of a value, if the value has this tag
 unfoldable pub integer_under : Tag → Part → Option ℤ
 integer_under tag part = under tag part >>= integer_in
 
--- what was read next of the values in octets, and which octets are left
+-- the result of reading the next value, and the octets left, by the function `values_in`
 abbrev pub NextIn : List ℕ → Result (Option Value) BerFault → List ℕ → Type 0
 NextIn old (Ok None) new = values_in old ≡ Some []
 NextIn old (Ok (Some value)) new = values_in old ≡ onto (part_of value ∷ []) (values_in new)

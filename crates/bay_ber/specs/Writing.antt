@@ -1,4 +1,4 @@
--- The canonical spelling: the shortest one (X.690 8.1.3, 8.2, 8.3.2 and 8.6, with the choices of
+-- The canonical encoding: the shortest one (X.690 8.1.3, 8.2, 8.3.2 and 8.6, with the choices of
 -- 10.1, 11.1 and 11.2).
 use Rattle.std.specs.Prelude.{ℕ, ℤ, ◌+◌, ◌-◌, ◌*◌, ◌/◌, ◌%◌, ◌^◌, ◌==◌, Bool, true, false, List, [], ◌∷◌, ◌++◌, length, take, slice_index, nat_lt, if◌then◌else◌}
 use Rattle.bay_ber.specs.declared.tag.Tag.{Tag}
@@ -7,13 +7,13 @@ use Rattle.std.specs.Int.{w64, bytes_high_first, to_be_bytes, cast_unsigned}
 
 -- ---- X.690 8.1.3, 10.1: the shortest length
 
--- how many octets a length needs behind the first
+-- how many octets a length of 128 or more needs after the first
 abbrev pub octets_needed : ℕ → ℕ
 octets_needed n =
     if nat_lt n 0x100 then 1
     else (if nat_lt n 0x1_0000 then 2 else (if nat_lt n 0x100_0000 then 3 else 4))
 
--- the shortest length
+-- the shortest encoding of a length
 unfoldable pub length_octets : ℕ → List ℕ
 length_octets n =
     if nat_lt n 128 then n ∷ [] else (128 + octets_needed n) ∷ bytes_high_first (octets_needed n) n
@@ -22,11 +22,11 @@ length_octets n =
 unfoldable pub element : Tag → List ℕ → List ℕ
 element tag content = octet_of tag ∷ (length_octets (length content) ++ content)
 
--- how many octets a value with so many octets of content takes (own)
+-- the number of octets of an encoded value whose content has `count` octets (own)
 abbrev pub element_length : ℕ → ℕ
 element_length count = if nat_lt count 128 then count + 2 else count + 2 + octets_needed count
 
--- ---- X.690 8.2, 11.1: truth values
+-- ---- X.690 8.2, 11.1: booleans
 
 -- TRUE is FF, and FALSE is 00.
 abbrev pub truth_octets : Bool → List ℕ
@@ -35,25 +35,25 @@ truth_octets false = 0 ∷ []
 
 -- ---- X.690 8.3: integers
 
--- The first of two octets and bit 8 of the second are all zeros or all ones, so the first says
--- nothing.
+-- Whether the first of two octets and bit 8 of the second are all zeros or all ones: the first is
+-- then redundant.
 abbrev pub is_needless : ℕ → ℕ → Bool
 is_needless first second = if nat_lt second 128 then first == 0 else first == 255
 
--- octets without the needless ones at their front
+-- octets without redundant leading ones
 abbrev pub without_needless : List ℕ → List ℕ
 without_needless [] = []
 without_needless (first ∷ []) = first ∷ []
 without_needless (first ∷ second ∷ octets) =
     if is_needless first second then without_needless (second ∷ octets) else first ∷ second ∷ octets
 
--- an integer of 64 bits in two's complement, without needless octets
+-- an integer of 64 bits in two's complement, without redundant octets
 abbrev pub integer_octets : ℤ → List ℕ
 integer_octets value = without_needless (to_be_bytes w64 (cast_unsigned w64 value))
 
 -- ---- X.690 8.6, 11.2: bit strings
 
--- an octet with 0 in its unused bits, the lowest
+-- an octet with 0 in its unused bits, which are the lowest
 abbrev pub with_unused_clear : ℕ → ℕ → ℕ
 with_unused_clear unused octet = octet / 2 ^ unused * 2 ^ unused
 

@@ -1,4 +1,4 @@
-// The contents of the simple types (X.690 8.2, 8.3 and 8.6), which other layers also spell under
+// The contents of the simple types (X.690 8.2, 8.3 and 8.6). Other layers also encode them with
 // tags of their own.
 ghost use Rattle.std.specs.Prelude.{◌≡◌, ◌+◌, ◌*◌, ◌^◌, ◌<◌, ◌≤◌, ℕ, ℤ, Bool, List, pos, Ok, Err, length, IfOk, IfErr, IsOkAnd, option_map};
 ghost use Rattle.std.specs.Result.{result_ok};
@@ -11,14 +11,14 @@ use crate::tlv::number_of;
 /// The bits of a bit string.
 #[derive(Clone, Copy, Debug)]
 pub struct Bits<'a> {
-    /// The octets that hold the bits, the first bit in bit 8 of the first octet. The last octet may
-    /// hold up to seven bits more, of any value.
+    /// The octets of the bits, the first bit in bit 8 of the first octet. The last octet may have
+    /// up to seven unused bits, of any value.
     pub octets: &'a [u8],
     /// The number of bits.
     pub count: usize,
 }
 
-// The number of values that so many octets can have.
+// Returns the number of values of `count` octets.
 fn span(count: usize) -> u128
     requires { count ≤ 9 }
     ensures { result ≡ 256 ^ count }
@@ -26,7 +26,7 @@ fn span(count: usize) -> u128
     1 << (8 * count)
 }
 
-// The number that octets spell in two's complement.
+// Returns the number that octets encode in two's complement.
 fn signed_of(octets: &[u8]) -> i128
     requires some { 0 < length octets.now }
     requires few { length octets.now ≤ 9 }
@@ -40,7 +40,7 @@ fn signed_of(octets: &[u8]) -> i128
     }
 }
 
-// The number of an integer's content.
+// Decodes the content of an integer.
 fn integer_of(content: &[u8]) -> Result<i64, BerFault>
     ensures ok { IfOk result (λ value. IsInteger content.now value) }
     ensures only { (value : ℤ) → IsInteger content.now value → result ≡ Ok value }
@@ -55,7 +55,7 @@ fn integer_of(content: &[u8]) -> Result<i64, BerFault>
 
 /// Decodes the content of an integer (X.690 8.3): two's complement in 1 to 9 octets, the highest
 /// first, within 64 bits. Accepts redundant leading octets, which 8.3.2 forbids a sender to write.
-/// `BadContent` if the content spells no value.
+/// Fails with `BadContent` if the content encodes no such value.
 pub fn int_of(content: &[u8]) -> Result<i64, BerFault>
     ensures ok { IfOk result (λ value. IsInteger content.now value) }
     ensures only { (value : ℤ) → IsInteger content.now value → result ≡ Ok value }
@@ -66,8 +66,8 @@ pub fn int_of(content: &[u8]) -> Result<i64, BerFault>
     integer_of(content)
 }
 
-// The bits of these octets, without the unused ones.
-fn bits_behind(unused: u8, octets: &[u8]) -> Result<Bits<'_>, BerFault>
+// Returns the bits of these octets without the unused ones.
+fn bits_of_octets(unused: u8, octets: &[u8]) -> Result<Bits<'_>, BerFault>
     ensures ok { IfOk result
         (λ bits. (bits.octets.now ≡ octets.now) × HasBits unused octets.now bits.count) }
     ensures err { IfErr result
@@ -84,8 +84,9 @@ fn bits_behind(unused: u8, octets: &[u8]) -> Result<Bits<'_>, BerFault>
 }
 
 /// Decodes the content of a bit string (X.690 8.6.2): the number of unused bits, then the octets.
-/// Ignores the values of the unused bits. `BadContent` if the content spells no bits: no octet,
-/// more than 7 unused bits, unused bits without octets, or 2^61 octets or more.
+/// Ignores the values of the unused bits. Fails with `BadContent` if the content encodes no bits:
+/// if it has no octet, more than 7 unused bits, unused bits without octets, or 2^61 octets of bits
+/// or more.
 pub fn bits_of(content: &[u8]) -> Result<Bits<'_>, BerFault>
     ensures ok { IfOk result (λ bits. IsBits content.now bits.octets.now bits.count) }
     ensures only { (b : BitString) → IsBits content.now b.octets b.count
@@ -96,13 +97,13 @@ pub fn bits_of(content: &[u8]) -> Result<Bits<'_>, BerFault>
     ensures exact { option_map spec.bits_of (result_ok result) ≡ bits_in content.now }
 {
     match content {
-        [unused, octets @ ..] => bits_behind(*unused, octets),
+        [unused, octets @ ..] => bits_of_octets(*unused, octets),
         [] => Err(BerFault::BadContent),
     }
 }
 
-/// Decodes the content of a truth value (X.690 8.2): one octet; 0 is false, anything else is true.
-/// `BadContent` for another number of octets.
+/// Decodes the content of a boolean (X.690 8.2): one octet; 0 is false, anything else is true.
+/// Fails with `BadContent` for any other number of octets.
 pub fn bool_of(content: &[u8]) -> Result<bool, BerFault>
     ensures ok { IfOk result (λ value. IsTruth content.now value) }
     ensures only { (value : Bool) → IsTruth content.now value → result ≡ Ok value }

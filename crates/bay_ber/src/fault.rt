@@ -1,4 +1,4 @@
-// Why octets are not read.
+// Why decoding octets failed.
 ghost use Rattle.std.specs.Prelude.{◌≡◌};
 ghost use Rattle.bay_ber.specs.Code.{code_of};
 
@@ -19,7 +19,7 @@ pub enum BerFault {
     /// The tag's number is 128 or more (X.690 8.1.2.4).
     #[error("the number of the tag is too large")]
     TagTooLarge,
-    /// The content spells no value of the expected type.
+    /// The content encodes no value of the expected type.
     #[error("the content spells no value of its type")]
     BadContent,
 }

@@ -1,4 +1,4 @@
-// Values whose tags are known, among others.
+// Selecting the values with known tags from consecutive values.
 ghost use Rattle.std.specs.Prelude.{◌≡◌, ◌≤◌, true, length, OnSome, IfNone};
 ghost use Rattle.bay_ber.specs.Values.{part_of, with_known, known_in};
 ghost use Rattle.bay_ber.specs.Values as spec;
@@ -6,14 +6,15 @@ ghost use Rattle.bay_ber.specs.Values as spec;
 use crate::tag::Tag;
 use crate::values::{Few, Value, Values};
 
-// Whether a value has one of these tags.
+// Returns whether a value has one of these tags.
 fn is_known(value: &Value<'_>, tags: &[Tag]) -> bool
     ensures { result ≡ spec.is_known tags.now (part_of value.now) }
 {
     tags.iter().any(|tag| value.tag.is(*tag))
 }
 
-// Puts a value behind those that are known, if it has one of these tags; None where they are five.
+// Appends a value to the known ones, if it has one of these tags. Returns `None` if there are
+// already five.
 fn add_known<'a>(known: &mut Few<'a>, value: Value<'a>, tags: &[Tag]) -> Option<()>
     requires { length known.old ≤ 5 }
     ensures some { OnSome result
@@ -29,8 +30,8 @@ fn add_known<'a>(known: &mut Few<'a>, value: Value<'a>, tags: &[Tag]) -> Option<
 }
 
 /// Returns those of the consecutive values in the octets whose tags are in `tags`, in order. The
-/// other values may be any (X.690 8.11). `None` if the octets are not values, or if more than five
-/// have one of the tags.
+/// other values may have any tags (X.690 8.11). Returns `None` if the octets are not consecutive
+/// values, or if more than five values have one of the tags.
 pub fn known_values<'a>(octets: &'a [u8], tags: &[Tag]) -> Option<Few<'a>>
     ensures { result ≡ known_in tags.now octets.now }
 {

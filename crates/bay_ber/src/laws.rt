@@ -1,4 +1,4 @@
-// Laws of the spelling. Each function does nothing, and its contract is the law.
+// Laws of the encoding. Each function does nothing, and its contract is the law.
 ghost use Rattle.std.specs.Prelude.{◌≡◌, ◌*◌, ◌^◌, ◌<◌, ◌≤◌, ◌↔◌, ◌++◌, Some, List, ℕ, ℤ, Bool, FitsSigned, length};
 ghost use Rattle.std.specs.Int.{w64};
 ghost use Rattle.bay_ber.specs.Content.{IsInteger, IsBits, IsTruth};
@@ -9,7 +9,7 @@ ghost use Rattle.bay_ber.specs.Writing.{element, element_length, integer_octets,
 ghost use Rattle.bay_ber.specs.Values.{Part, SpellAll, values_in};
 ghost use Rattle.bay_ber.specs.declared.tag.Tag.{Tag};
 
-/// At most one prefix of an input spells a value, and only in one way.
+/// At most one prefix of some octets encodes a value, and it encodes only one.
 pub fn one_spelling()
     ensures reading { (octets : List ℕ) (r s : Reading) → Begins octets r → Begins octets s
         → r ≡ s }
@@ -17,7 +17,7 @@ pub fn one_spelling()
         → a.front ≡ b.front }
 {}
 
-/// Octets spell one value in at most one way, and a list of values in at most one way.
+/// Octets are the encoding of at most one value, and of at most one list of values.
 pub fn one_list()
     ensures value { (octets : List ℕ) (p q : Part) → Spells octets p.tag p.content
         → Spells octets q.tag q.content → p ≡ q }
@@ -25,15 +25,16 @@ pub fn one_list()
         → ps ≡ qs }
 {}
 
-/// The function `values_in` gives exactly the values that the octets spell.
+/// The function `values_in` returns exactly the values that the octets encode.
 pub fn values_are_spelled()
     ensures { (octets : List ℕ) (parts : List Part) → AreOctets octets
         → (values_in octets ≡ Some parts) ↔ SpellAll octets parts }
 {}
 
-/// What is written is read back, whatever follows it. Each octet is the identifier of its class,
-/// form and number. The value under a tag is read as that value, and each content as the value that
-/// was written.
+/// Whatever is written can be read back, whatever octets follow. Each octet is the identifier octet
+/// of its class, form and low bits. An encoded value, with a tag of one octet and a content below
+/// 2^32 octets, is read as its tag and content, and each encoded content as the value that was
+/// written.
 pub fn written_is_read()
     ensures octet { (octet : ℕ) → octet < 256
         → octet ≡ identifier (class_of octet) (is_constructed octet) (low_bits octet) }
@@ -46,13 +47,13 @@ pub fn written_is_read()
     ensures truth { (value : Bool) → IsTruth (truth_octets value) value }
 {}
 
-/// The length of what is written.
+/// The length of an encoded value.
 pub fn written_is_as_long()
     ensures { (tag : Tag) (content : List ℕ)
         → length (element tag content) ≡ element_length (length content) }
 {}
 
-/// What is written is the shortest spelling: no shorter octets spell the same value, and no shorter
+/// The canonical encoding is the shortest: no shorter octets encode the same value, and no shorter
 /// content the same integer.
 pub fn written_is_shortest()
     ensures value { (octets content : List ℕ) (tag : Tag) → AreOctets octets

@@ -1,12 +1,11 @@
-// The Basic Encoding Rules (X.690) as MMS over OSI needs them: one tag, length and content at the
-// front of a list of octets, the contents of the simple types, and a writer of the canonical
-// spelling. The readers take no memory and hand out slices of what they read.
+// The Basic Encoding Rules (X.690), as far as MMS over OSI needs them: decoding the tag, length and
+// content that octets begin with, and the contents of the simple types; and a writer of the
+// canonical encoding. The readers do not allocate; they return slices of their input.
 //
-// `tag`: tags, for reading and writing. `tlv`: the value at the front of octets. `values`: values
-// one after another. `known`: values whose tags are known, among others. `content`: integers, bit
-// strings and truth values. `writer`: the canonical spelling. `outgoing`: octets with room in front
-// of them. `fault`: why octets are not read. `laws`: what holds of the definitions that the
-// contracts cite.
+// `tag`: tags. `tlv`: the value that octets begin with. `values`: consecutive values. `known`: the
+// values with known tags among consecutive values. `content`: integers, bit strings and booleans.
+// `writer`: the canonical encoding. `outgoing`: octets to send, with headroom. `fault`: why
+// decoding failed. `laws`: laws about the definitions that the contracts cite.
 #![tactic(auto)]
 
 pub mod content;

@@ -1,15 +1,15 @@
-// Octets that are to be sent, with room in front of them.
+// Octets to send, with headroom.
 ghost use Rattle.std.specs.Prelude.{◌≡◌, ◌≤◌, ◌++◌, drop, length, MatchBool};
 
 use std::marker::Model;
 
-/// Octets to be sent, which contracts see as a list. There may be room in front of them, into which
+/// Octets to send, which contracts view as a list. There may be headroom before them, into which
 /// lower layers write their headers, so that the octets need not be copied.
 #[derive(Drop)]
 pub struct Outgoing {
-    // The room, and the octets behind it.
+    // The headroom, followed by the octets.
     octets: Vec<u8>,
-    // Where the octets begin.
+    // The index of the first octet to send.
     first: usize,
 }
 
@@ -24,14 +24,14 @@ impl Model for Outgoing {
 }
 
 impl Outgoing {
-    /// Wraps octets without room in front of them.
+    /// Wraps octets without headroom.
     pub fn new(octets: Vec<u8>) -> Self
         ensures { result ≡ octets.items }
     {
         Outgoing { octets, first: 0 }
     }
 
-    /// Octets from a place on; those before it are room.
+    /// Wraps the octets from index `first` on; those before it are headroom.
     pub(crate) fn behind(octets: Vec<u8>, first: usize) -> Self
         requires { first ≤ length octets.items }
         ensures { result ≡ drop first octets.items }
@@ -46,7 +46,7 @@ impl Outgoing {
         &self.octets[self.first..]
     }
 
-    /// Writes a header in front of the octets if there is room for it. Returns whether there was.
+    /// Writes a header before the octets if it fits into the headroom. Returns whether it did.
     pub fn front(&mut self, head: &[u8]) -> bool
         ensures { MatchBool result (self.new ≡ head.now ++ self.old) (self.new ≡ self.old) }
     {

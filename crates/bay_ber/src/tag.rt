@@ -12,12 +12,12 @@ pub enum Class {
     Private,
 }
 
-/// A tag: it precedes each value and gives its type. Readers return it and writers take it.
+/// A tag: it precedes each value and determines its type (X.690 8.1.2).
 #[derive(Clone, Copy, Debug, PartialEq, Eq)]
 pub struct Tag {
     /// The class.
     pub class: Class,
-    /// Whether the content itself consists of values.
+    /// Whether the value is constructed: its content consists of values.
     pub constructed: bool,
     /// The number, 0 to 127. Only numbers below 31 are written.
     pub number: u8,
@@ -107,7 +107,7 @@ impl Tag {
         self == other
     }
 
-    /// Returns the single octet of the tag.
+    /// Returns the single octet of a tag with a number below 31.
     pub(crate) fn octet(self) -> u8
         requires { self.number < 31 }
         ensures { result ≡ octet_of self }

@@ -1,4 +1,4 @@
-// One tag, length and content at the front of a list of octets.
+// Reading the tag, length and content that octets begin with.
 ghost use Rattle.std.specs.Prelude.{◌≡◌, ◌+◌, ◌*◌, ◌^◌, ◌<◌, ◌≤◌, ◌==◌, ◌↔◌, Ok, Err, length, IfOk, IsOkAnd};
 ghost use Rattle.bay_ber.specs.Octets as spec_octets;
 ghost use Rattle.bay_base.specs.Results.{IsRead};
@@ -8,7 +8,7 @@ ghost use Rattle.bay_ber.specs.Reading as spec;
 use crate::fault::BerFault;
 use crate::tag::{Class, Tag};
 
-/// One value at the front of a list of octets, and the octets after it.
+/// The value that octets begin with, and the octets after it.
 #[derive(Clone, Copy)]
 pub struct Tlv<'a> {
     /// The tag.
@@ -19,7 +19,7 @@ pub struct Tlv<'a> {
     pub rest: &'a [u8],
 }
 
-// The class of a tag: the two highest bits of its first octet.
+// Returns the class of a tag: the two highest bits of its first octet.
 fn class_of(first: u8) -> Class
     ensures { result ≡ spec.class_of first }
 {
@@ -31,21 +31,21 @@ fn class_of(first: u8) -> Class
     }
 }
 
-// Whether the content is values in turn: the third highest bit.
+// Returns whether a value is constructed: the third highest bit of its first octet.
 fn is_constructed(first: u8) -> bool
     ensures { result ≡ spec.is_constructed first }
 {
     (first >> 5) & 1 == 1
 }
 
-// The number of a tag, or 31 where it stands in the octets behind.
+// Returns the number of a tag, or 31 if the number follows in further octets.
 fn low_bits(first: u8) -> u8
     ensures { result ≡ spec.low_bits first }
 {
     first & 0x1F
 }
 
-// The tag at the front of octets, and the octets behind it (X.690 8.1.2).
+// Reads the tag that octets begin with, and returns the octets after it (X.690 8.1.2).
 #[tactic(auto, unfolding(crate::specs::Reading::tag_at))]
 fn tag_at(octets: &[u8]) -> Result<(Tag, &[u8]), BerFault>
     ensures { IsRead (λ x. (x.0, x.1.now)) result (spec.tag_at octets.now) }
@@ -81,7 +81,7 @@ fn tag_at(octets: &[u8]) -> Result<(Tag, &[u8]), BerFault>
     }
 }
 
-/// Returns the number that the octets spell, the highest first.
+/// Returns the number that the octets encode, the highest octet first.
 pub(crate) fn number_of(octets: &[u8]) -> u128
     requires { length octets.now ≤ 9 }
     ensures value { result ≡ spec_octets.number_of octets.now }
@@ -94,7 +94,7 @@ pub(crate) fn number_of(octets: &[u8]) -> u128
     number
 }
 
-// The length at the front of octets, and the octets behind it (X.690 8.1.3).
+// Reads the length that octets begin with, and returns the octets after it (X.690 8.1.3).
 #[tactic(auto, unfolding(crate::specs::Reading::length_at))]
 fn length_at(octets: &[u8]) -> Result<(usize, &[u8]), BerFault>
     ensures { IsRead (λ x. (x.0, x.1.now)) result (spec.length_at octets.now) }
@@ -120,7 +120,7 @@ fn length_at(octets: &[u8]) -> Result<(usize, &[u8]), BerFault>
     Ok((number_of(octets) as usize, rest))
 }
 
-// The value at the front of octets: its tag, its length, and as many octets.
+// Reads the value that octets begin with: its tag, its length, and as many octets.
 #[tactic(auto, unfolding(crate::specs::Reading::tlv_at))]
 fn tlv_at(octets: &[u8]) -> Result<Tlv<'_>, BerFault>
     ensures { IsRead reading_of result (spec.tlv_at octets.now) }
@@ -134,23 +134,27 @@ fn tlv_at(octets: &[u8]) -> Result<Tlv<'_>, BerFault>
     Ok(Tlv { tag, content, rest })
 }
 
-/// Reads the value at the front of the octets (X.690 8.1); its content and the rest are slices of
+/// Reads the value that the octets begin with (X.690 8.1); its content and the rest are slices of
 /// them. Reads tag numbers up to 127 and lengths of one to five octets. Accepts more than X.690
 /// allows: a number below 31 may also use a second tag octet (8.1.2.2 and 8.1.2.4 put it in the
 /// first), and a length may have more octets than it needs, which 8.1.3.5 leaves to the sender.
+///
+/// Fails with `TagTooLarge` if the number of the tag is 128 or more, with `Indefinite` if the
+/// length has the indefinite form, with `LengthTooLong` if the length has more than four octets
+/// after its first, and with `Truncated` if the octets end before the end of the value.
 pub fn read_tlv(octets: &[u8]) -> Result<Tlv<'_>, BerFault>
-    // What is read is spelled so at the front of the octets, and what is spelled so is read.
+    // The value read is encoded by a prefix of the octets, and any value so encoded is read.
     ensures ok { IfOk result (λ tlv. Begins octets.now (reading_of tlv)) }
     ensures only { (r : Reading) → Begins octets.now r
         → IsOkAnd result (λ tlv. reading_of tlv ≡ r) }
     ensures shorter { IfOk result
         (λ tlv. length tlv.content.now + length tlv.rest.now + 2 ≤ length octets.now) }
-    // Each fault, exactly where it stands.
+    // Each fault, exactly when it occurs.
     ensures large_tag { (result ≡ Err BerFault.TagTooLarge) ↔ HasLargeTag octets.now }
     ensures indefinite { (result ≡ Err BerFault.Indefinite) ↔ IsIndefinite octets.now }
     ensures long_length { (result ≡ Err BerFault.LengthTooLong) ↔ HasLongLength octets.now }
     ensures truncated { (result ≡ Err BerFault.Truncated) ↔ IsTruncated octets.now }
-    // The same answer, read from the left.
+    // The same result, as a function that reads from the left.
     ensures exact { IsRead reading_of result (spec.tlv_at octets.now) }
 {
     tlv_at(octets)

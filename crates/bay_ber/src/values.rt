@@ -1,4 +1,4 @@
-// Values one after another, and octets that are one value.
+// Reading consecutive values, and octets that are exactly one value.
 ghost use Rattle.std.specs.Prelude.{◌≡◌, ◌+◌, ◌≤◌, [], ◌∷◌, ◌++◌, length, map, List, ℕ, IfSome, IfOk, IsSomeAnd, OnSome, IfNone, option_map};
 ghost use Rattle.bay_ber.specs.Spelling.{Spells};
 ghost use Rattle.bay_ber.specs.Values.{Part, part_of, Next, NextIn, value_in, few_in};
@@ -21,8 +21,8 @@ pub struct Value<'a> {
 }
 
 impl<'a> Value<'a> {
-    /// Returns the content if the value has this tag.
-    pub fn under(&self, tag: Tag) -> Option<&'a [u8]>
+    /// Returns the content if the value has this tag, and else `None`.
+    pub fn content_with_tag(&self, tag: Tag) -> Option<&'a [u8]>
         ensures { option_map (λ content. content.now) result ≡ spec.under tag (part_of self.now) }
     {
         if self.tag.is(tag) {
@@ -32,17 +32,18 @@ impl<'a> Value<'a> {
         }
     }
 
-    /// Returns the integer if the value has this tag and its content is one (X.690 8.3).
+    /// Returns the integer if the value has this tag and its content encodes one (X.690 8.3), and
+    /// else `None`.
     #[tactic(auto, unfolding(crate::specs::Values::integer_under))]
-    pub fn integer_under(&self, tag: Tag) -> Option<i64>
+    pub fn integer_with_tag(&self, tag: Tag) -> Option<i64>
         ensures { result ≡ spec.integer_under tag (part_of self.now) }
     {
-        int_of(self.under(tag)?).ok()
+        int_of(self.content_with_tag(tag)?).ok()
     }
 }
 
-/// Reads octets that are exactly one value (X.690 8.1). `None` if they are no value, or if octets
-/// follow it.
+/// Reads octets that are exactly one value (X.690 8.1). Returns `None` if they do not begin with a
+/// value, or if octets follow it.
 pub fn whole_value(octets: &[u8]) -> Option<Value<'_>>
     ensures some { IfSome result (λ value. Spells octets.now value.tag value.content.now) }
     ensures only { (tag : Tag) (content : List ℕ) → Spells octets.now tag content
@@ -64,8 +65,8 @@ pub fn whole_value(octets: &[u8]) -> Option<Value<'_>>
     }
 }
 
-/// An iterator over consecutive values in octets (X.690 8.9.2, 8.10.2), which contracts see as the
-/// octets that are left.
+/// An iterator over consecutive values in octets (X.690 8.9.2, 8.10.2), which contracts view as the
+/// octets not yet read.
 #[derive(Drop)]
 pub struct Values<'a> {
     rest: &'a [u8],
@@ -87,7 +88,8 @@ impl<'a> Values<'a> {
         Values { rest: octets }
     }
 
-    /// Reads the next value; `None` if no octet is left. Does not advance if no value comes next.
+    /// Reads the next value; returns `None` if no octet is left. Fails like `read_tlv` if no value
+    /// comes next, and then does not advance.
     pub fn next_value(&mut self) -> Result<Option<Value<'a>>, BerFault>
         ensures next { Next self.old result self.new }
         ensures exact { NextIn self.old result self.new }
@@ -107,7 +109,7 @@ impl<'a> Values<'a> {
     }
 }
 
-/// At most five values, which contracts see as a list of tags and contents.
+/// At most five values, which contracts view as a list of tags and contents.
 #[derive(Drop)]
 pub struct Few<'a> {
     values: [Value<'a>; 5],
@@ -140,7 +142,7 @@ impl<'a> Few<'a> {
         }
     }
 
-    /// Appends a value. `None` if there are already five.
+    /// Appends a value. Returns `None` if there are already five, and then appends nothing.
     pub fn push(&mut self, value: Value<'a>) -> Option<()>
         ensures some { OnSome result
             ((self.new ≡ self.old ++ part_of value.entry ∷ []) × (length self.old + 1 ≤ 5)) }
@@ -162,8 +164,8 @@ impl<'a> Few<'a> {
     }
 }
 
-/// Reads octets that are consecutive values (X.690 8.9.2). `None` if they are no values, or more
-/// than five.
+/// Reads octets that are consecutive values (X.690 8.9.2). Returns `None` if they are not, or if
+/// there are more than five values.
 pub fn few_values(octets: &[u8]) -> Option<Few<'_>>
     ensures { result ≡ few_in octets.now }
 {

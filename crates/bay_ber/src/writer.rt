@@ -1,10 +1,10 @@
-// A writer of the canonical spelling into room that is taken once.
+// A writer of the canonical encoding, into a buffer that is allocated once.
 ghost use Rattle.std.specs.Prelude.{◌≡◌, ◌+◌, ◌*◌, ◌<◌, ◌≤◌, ◌++◌, ◌∷◌, [], length, take, drop, false, Some, is_none, vec_len, vec_capacity, pos, IfOk, IfSome, OnOk};
 ghost use Rattle.std.specs.Option.{option_map};
 ghost use Rattle.bay_ber.specs.Spelling.{octet_of};
 ghost use Rattle.bay_ber.specs.Writing.{length_octets, element, truth_octets, integer_octets, bit_string_octets};
 ghost use Rattle.bay_ber.specs.Writing as spec;
-ghost use Rattle.bay_ber.specs.Sheets.{empty, sheet_with, close_sheet, message, value_around, IsEnd, IsOpen};
+ghost use Rattle.bay_ber.specs.EncoderBuffers.{empty, sheet_with, close_sheet, message, value_around, IsEnd, IsOpen};
 
 use crate::content::Bits;
 use crate::outgoing::Outgoing;
@@ -12,10 +12,11 @@ use crate::tag::Tag;
 use std::alloc::{AllocError, Global};
 use std::marker::Model;
 
-/// How many octets are reserved for headers in front of the text.
+/// The number of octets reserved for headers before the text.
 pub const HEADROOM: usize = 64;
 
-/// Returns how many octets a length of 128 or more needs behind the first (X.690 8.1.3.5).
+/// Returns how many octets a length from 128 to 2^32 - 1 needs after its first octet (X.690
+/// 8.1.3.5).
 pub fn octets_needed(length: usize) -> usize
     ensures needed { result ≡ spec.octets_needed length }
     ensures some { 1 ≤ result }
@@ -29,7 +30,7 @@ pub fn octets_needed(length: usize) -> usize
     }
 }
 
-// Appends octets, for which there is room.
+// Appends octets that fit into the capacity.
 fn extend(octets: &mut Vec<u8>, more: &[u8])
     requires { length octets.old.items + length more.now ≤ vec_capacity octets.old }
     ensures items { octets.new.items ≡ octets.old.items ++ more.now }
@@ -41,7 +42,7 @@ fn extend(octets: &mut Vec<u8>, more: &[u8])
     }
 }
 
-// Writes octets over those from a place on.
+// Overwrites the octets from an index on.
 fn overwrite(octets: &mut Vec<u8>, place: usize, more: &[u8])
     requires { place + length more.now ≤ length octets.old.items }
     ensures items { octets.new.items ≡ take place octets.old.items
@@ -51,8 +52,8 @@ fn overwrite(octets: &mut Vec<u8>, place: usize, more: &[u8])
     octets[place..place + more.len()].copy_from_slice(more);
 }
 
-// Puts octets, for which there is room, in front of those from a place on. Apart, so that `close`
-// saves no registers where a length takes one octet.
+// Inserts octets that fit into the capacity at an index. A function of its own, so that `close`
+// saves no registers if a length takes one octet.
 #[inline(never)]
 fn insert(octets: &mut Vec<u8>, place: usize, more: &[u8])
     requires place { place ≤ length octets.old.items }
@@ -67,7 +68,7 @@ fn insert(octets: &mut Vec<u8>, place: usize, more: &[u8])
     overwrite(octets, place, more);
 }
 
-// How many octets the shortest length takes more than one.
+// Returns how many octets the shortest length has after its first.
 #[tactic(auto, unfolding(crate::specs::Writing::length_octets))]
 fn octets_more(count: u32) -> usize
     ensures more { result + 1 ≡ length (length_octets count) }
@@ -79,7 +80,8 @@ fn octets_more(count: u32) -> usize
     }
 }
 
-// Writes the shortest length, for which there is room, in the place of one octet.
+// Replaces the octet at an index by the shortest encoding of a length, which fits into the
+// capacity.
 #[tactic(auto, unfolding(crate::specs::Writing::length_octets))]
 fn write_length(octets: &mut Vec<u8>, place: usize, size: u32)
     requires place { place < length octets.old.items }
@@ -99,7 +101,7 @@ fn write_length(octets: &mut Vec<u8>, place: usize, size: u32)
     insert(octets, place + 1, &size.to_be_bytes()[4 - needed..]);
 }
 
-// Whether the first of two octets says no more than the sign of the second.
+// Returns whether the first of two octets only repeats the sign of the second.
 fn is_needless(first: u8, second: u8) -> bool
     ensures { result ≡ spec.is_needless first second }
 {
@@ -110,7 +112,7 @@ fn is_needless(first: u8, second: u8) -> bool
     }
 }
 
-// The octets without the needless ones at their front.
+// Returns the octets without needless leading ones.
 fn without_needless(octets: &[u8]) -> &[u8]
     requires { 0 < length octets.now }
     ensures octets { result.now ≡ spec.without_needless octets.now }
@@ -125,7 +127,7 @@ fn without_needless(octets: &[u8]) -> &[u8]
     &octets[last..]
 }
 
-// The number, where it is 0 to 127.
+// Returns the number if it is 0 to 127.
 fn small_of(value: i64) -> Option<u8>
     ensures { IfSome result (λ small. (value ≡ pos small) × (small < 128)) }
 {
@@ -144,7 +146,8 @@ pub fn integer_length(value: i64) -> usize
     without_needless(&value.to_be_bytes()).len()
 }
 
-/// Returns the number of octets of a value whose content has `count` octets.
+/// Returns the number of octets of an encoded value whose content has `count` octets, with a tag of
+/// one octet.
 pub fn element_length(count: u32) -> u64
     ensures { result ≡ spec.element_length count }
 {
@@ -156,7 +159,7 @@ pub fn element_length(count: u32) -> u64
     u64::from(count) + header
 }
 
-// Appends the shortest length.
+// Appends the shortest encoding of a length.
 #[tactic(auto, unfolding(crate::specs::Writing::length_octets))]
 fn push_length(octets: &mut Vec<u8>, count: usize) -> Result<(), AllocError>
     ensures { OnOk result (octets.new.items ≡ octets.old.items ++ length_octets count) }
@@ -170,7 +173,7 @@ fn push_length(octets: &mut Vec<u8>, count: usize) -> Result<(), AllocError>
     octets.extend_from_slice(&count.to_be_bytes()[8 - needed..])
 }
 
-/// Appends a value with this content to octets that grow, as an octet string is written.
+/// Appends a value with this content to a vector, which grows. Fails only if an allocation fails.
 #[tactic(auto, unfolding(crate::specs::Writing::element))]
 pub fn push_value(octets: &mut Vec<u8>, tag: Tag, content: &[u8]) -> Result<(), AllocError>
     requires { tag.number < 31 }
@@ -181,13 +184,14 @@ pub fn push_value(octets: &mut Vec<u8>, tag: Tag, content: &[u8]) -> Result<(), 
     octets.extend_from_slice(content)
 }
 
-/// A writer of a text, which contracts see as a `Sheet`. Allocates its room once, when it is
-/// created. Does not hold a text longer than the limit; from then on the writer is over.
+/// A writer of a text, with headers before it, which contracts view as an `EncoderBuffer`.
+/// Allocates once, when it is created. If the text gets longer than the limit, the writer drops it
+/// and stays over the limit until it is cleared.
 #[derive(Drop)]
 pub struct Writer {
-    // The room for heads, and the text behind it.
+    // The headroom, with the headers at its end, followed by the text.
     octets: Vec<u8>,
-    // Where the heads begin.
+    // The index of the first octet of the headers.
     first: usize,
     limit: usize,
     over: bool,
@@ -195,17 +199,18 @@ pub struct Writer {
 
 impl Model for Writer {
     ghost use Rattle.std.specs.Prelude.{length, vec_capacity};
-    ghost use Rattle.bay_ber.specs.Sheets.{Sheet, IsSound, sheet_of};
+    ghost use Rattle.bay_ber.specs.EncoderBuffers.{EncoderBuffer, IsSound, encoder_buffer_of};
 
-    ghost Value = { Sheet };
+    ghost Value = { EncoderBuffer };
 
-    ghost view = { λ w. sheet_of w.limit w.first w.over w.octets.items };
+    ghost view = { λ w. encoder_buffer_of w.limit w.first w.over w.octets.items };
 
     ghost invariant = { λ w. IsSound (length w.octets.items) (vec_capacity w.octets) w.first w.limit };
 }
 
 impl Writer {
-    /// Creates a writer for a text of at most `limit` octets. Allocates all its room here.
+    /// Creates a writer for a text of at most `limit` octets. Allocates the whole buffer; fails
+    /// only if the allocation fails.
     pub fn new(alloc: Global, limit: u32) -> Result<Self, AllocError>
         ensures { IfOk result (λ writer. writer ≡ empty limit) }
     {
@@ -220,7 +225,7 @@ impl Writer {
         })
     }
 
-    /// Starts again with an empty text and no headers.
+    /// Resets the writer to an empty text without headers.
     pub fn clear(&mut self)
         ensures { self.new ≡ empty self.old.limit }
     {
@@ -229,7 +234,7 @@ impl Writer {
         self.over = false;
     }
 
-    /// Appends octets.
+    /// Appends octets to the text.
     pub fn append(&mut self, octets: &[u8])
         ensures { self.new ≡ sheet_with self.old octets.now }
     {
@@ -243,8 +248,8 @@ impl Writer {
         extend(&mut self.octets, octets);
     }
 
-    /// Begins a constructed value (X.690 8.9) and returns its position. What is appended until
-    /// `close` is its content.
+    /// Begins a constructed value (X.690 8.9) and returns its position in the text. All octets
+    /// appended until `close` are its content.
     pub fn open(&mut self, tag: Tag) -> usize
         requires { tag.number < 31 }
         ensures start { IsEnd result self.old }
@@ -255,7 +260,7 @@ impl Writer {
         start
     }
 
-    /// Ends the value that begins at `start`: writes its length in the fewest octets.
+    /// Ends the value that begins at position `start`: writes its length in the fewest octets.
     pub fn close(&mut self, start: usize)
         requires { IsOpen start self.old }
         ensures { self.new ≡ close_sheet self.old start }
@@ -271,7 +276,7 @@ impl Writer {
         write_length(&mut self.octets, HEADROOM + start + 1, count);
     }
 
-    /// Writes an octet string (X.690 8.7), or any value whose content is given.
+    /// Appends an octet string (X.690 8.7), or any value with this content.
     pub fn octets(&mut self, tag: Tag, content: &[u8])
         requires { tag.number < 31 }
         ensures { self.new ≡ sheet_with self.old (element tag content.now) }
@@ -286,7 +291,7 @@ impl Writer {
         self.close(start);
     }
 
-    /// Writes a text, whose octets are its content.
+    /// Appends a value with the octets of a string as its content.
     pub fn text(&mut self, tag: Tag, text: &str)
         requires { tag.number < 31 }
         ensures { self.new ≡ sheet_with self.old (element tag text.now) }
@@ -294,7 +299,7 @@ impl Writer {
         self.octets(tag, text.as_bytes());
     }
 
-    /// Writes a constructed value whose content is there already (X.690 8.9).
+    /// Appends a constructed value with an encoded content (X.690 8.9).
     pub fn nest(&mut self, tag: Tag, inner: &[u8])
         requires { tag.number < 31 }
         ensures { self.new ≡ sheet_with self.old (element tag inner.now) }
@@ -302,7 +307,7 @@ impl Writer {
         self.octets(tag, inner);
     }
 
-    // Appends the number of unused bits, and the octets of the bits with 0 in the unused ones.
+    // Appends the number of unused bits, and the octets of the bits, with 0 in the unused bits.
     #[tactic(auto, using(crate::proofs::SheetLemmas::sheet_rules))]
     fn append_bits(&mut self, bits: Bits<'_>)
         requires { bits.count ≤ 8 * length bits.octets.now }
@@ -321,7 +326,7 @@ impl Writer {
         self.append(&[bits.octets[whole] >> unused << unused]);
     }
 
-    /// Writes a bit string (X.690 8.6): the octets of its bits, with 0 in the unused bits of the
+    /// Appends a bit string (X.690 8.6): the octets of its bits, with 0 in the unused bits of the
     /// last.
     #[tactic(auto, using(crate::proofs::SheetLemmas::sheet_rules))]
     pub fn bits(&mut self, tag: Tag, bits: Bits<'_>)
@@ -335,7 +340,7 @@ impl Writer {
         self.close(start);
     }
 
-    /// Writes an integer in the fewest octets (X.690 8.3).
+    /// Appends an integer in the fewest octets (X.690 8.3).
     #[tactic(auto, using(crate::proofs::SmallLemmas::small_is))]
     pub fn int(&mut self, tag: Tag, value: i64)
         requires { tag.number < 31 }
@@ -347,7 +352,7 @@ impl Writer {
         }
     }
 
-    /// Writes a truth value (X.690 8.2). TRUE is FF.
+    /// Appends a boolean (X.690 8.2). TRUE is FF.
     #[tactic(auto, unfolding(crate::specs::Writing::element, crate::specs::Writing::length_octets))]
     pub fn boolean(&mut self, tag: Tag, value: bool)
         requires { tag.number < 31 }
@@ -357,14 +362,14 @@ impl Writer {
         self.append(&[tag.octet(), 1, octet]);
     }
 
-    /// Returns whether the text was longer than the limit.
+    /// Returns whether the text got longer than the limit.
     pub fn is_over(&self) -> bool
         ensures { result ≡ is_none self.now.text }
     {
         self.over
     }
 
-    /// Writes octets in front of the text and the headers already written.
+    /// Writes a header before the text and the headers already written.
     pub fn front(&mut self, head: &[u8])
         requires { length head.now + length self.old.heads ≤ HEADROOM }
         ensures { self.new ≡ record self.old { heads = head.now ++ self.old.heads } }
@@ -373,7 +378,7 @@ impl Writer {
         overwrite(&mut self.octets, self.first, head);
     }
 
-    // Writes a tag and the shortest length in front of a content that is there.
+    // Writes a tag and the shortest length before the message, as a header.
     fn head(&mut self, tag: Tag, count: u32)
         requires tag { tag.number < 31 }
         requires room { length self.old.heads + 6 ≤ HEADROOM }
@@ -389,8 +394,8 @@ impl Writer {
         self.front(&[tag.octet(), 0x80 + needed as u8]);
     }
 
-    /// Makes the message the content of a value, and writes the header of that value in front of
-    /// it. A message that is then longer than the limit, its headers included, is not held either.
+    /// Makes the message the content of a value: writes the header of that value before it. If the
+    /// message, its headers included, is then longer than the limit, the writer drops it.
     pub fn wrap(&mut self, tag: Tag)
         requires tag { tag.number < 31 }
         requires room { length self.old.heads + 6 ≤ HEADROOM }
@@ -414,7 +419,7 @@ impl Writer {
         self.head(tag, count);
     }
 
-    // Writes a value in front of the message.
+    // Writes a value before the message, as a header.
     fn front_value(&mut self, tag: Tag, content: &[u8])
         requires tag { tag.number < 31 }
         requires room { length content.now + length self.old.heads + 6 ≤ HEADROOM }
@@ -425,8 +430,8 @@ impl Writer {
         self.head(tag, content.len() as u32);
     }
 
-    /// Writes an integer in front of the message.
-    pub fn front_int(&mut self, tag: Tag, value: i64)
+    /// Writes an integer before the message, as a header.
+    pub fn prepend_int(&mut self, tag: Tag, value: i64)
         requires tag { tag.number < 31 }
         requires room { length self.old.heads + 14 ≤ HEADROOM }
         ensures { self.new ≡ record self.old
@@ -435,7 +440,8 @@ impl Writer {
         self.front_value(tag, without_needless(&value.to_be_bytes()));
     }
 
-    /// Returns the headers and the text; `None` if they were longer than the limit.
+    /// Returns the message: the headers followed by the text. Returns `None` if it got longer than
+    /// the limit.
     pub fn message(&self) -> Option<&[u8]>
         ensures { option_map (λ octets. octets.now) result ≡ message self.now }
     {
@@ -445,8 +451,8 @@ impl Writer {
         Some(&self.octets[self.first..])
     }
 
-    /// Returns the headers and the text, like `message`, with the room left in front of them. Frees
-    /// the room after them.
+    /// Returns the message, with the headroom left before it, and frees the rest of the buffer.
+    /// Returns `None` if it got longer than the limit.
     pub fn finish(self) -> Option<Outgoing>
         ensures { result ≡ message self }
     {
@@ -463,8 +469,8 @@ impl Writer {
         Some(Outgoing::behind(octets, first))
     }
 
-    /// Returns the headers and the text, which must be held.
-    pub fn finish_held(self) -> Outgoing
+    /// Returns the message, which must not be over the limit.
+    pub fn finish_untruncated(self) -> Outgoing
         requires { is_none (message self) ≡ false }
         ensures { Some result ≡ message self }
     {

@@ -1,4 +1,4 @@
--- The bay of a table: the sections of a bay file, its first refusal, and what it describes.
+-- The bay of a bay file: its sections, its first refusal, and the bay that it describes.
 use Rattle.std.specs.Prelude.{ℕ, nat_le, List, [], ◌∷◌, ◌++◌, length, map, codes, Option, None, Some, option_and_then, unwrap_or, Result, Err, if◌then◌else◌}
 use Rattle.toml.specs.Data.{Members, no_members, get_member, as_table}
 use Rattle.toml.specs.Parse.{parse_document}
@@ -16,7 +16,7 @@ use Rattle.bay_config.specs.Point.{points_of_all, names_refusal}
 use Rattle.bay_config.specs.Section.{Section, one, many, section_refusal, section_tables}
 use Rattle.bay_config.specs.Switch.{switch_keys, switch_in}
 
--- the keys of the section `bay`, in the order in which they are judged
+-- the keys of the section `bay`, in the order in which they are checked
 abbrev pub bay_keys : List Key
 bay_keys =
     record { name = codes "domain"; form = identifier 32 }
@@ -26,7 +26,7 @@ bay_keys =
     ∷ record { name = codes "scan_max_age_ms"; form = number 0 600000 }
     ∷ []
 
--- the section `bay`, which stands once
+-- the section `bay`, which occurs once
 abbrev pub bay_section : Section
 bay_section = record { name = codes "bay"; shape = one; keys = λ _. bay_keys }
 
@@ -42,12 +42,12 @@ name_key Meter = codes "id"
 abbrev pub name_keys : NameSection → List Key
 name_keys which = record { name = name_key which; form = identifier 16 } ∷ []
 
--- the section's name in the file
+-- the name of the section in the file
 abbrev pub section_name : NameSection → List ℕ
 section_name Input = codes "input"
 section_name Meter = codes "meter"
 
--- at most so many inputs, and so many meters
+-- at most 64 inputs, and at most 8 meters
 abbrev pub most_names : NameSection → ℕ
 most_names Input = 64
 most_names Meter = 8
@@ -68,7 +68,7 @@ sections = bay_section ∷ switch_section ∷ name_section Input ∷ name_sectio
 abbrev pub bay_table : Members → Members
 bay_table file = unwrap_or (option_and_then as_table (get_member (codes "bay") file)) no_members
 
--- what a file that is not refused describes
+-- the nameplate that the table of the section `bay` describes, if it is not refused
 abbrev pub nameplate_in : Members → Nameplate
 nameplate_in table = record {
   domain = text_in table (codes "domain");
@@ -78,18 +78,18 @@ nameplate_in table = record {
   scan_max_age_ms = number_in table (codes "scan_max_age_ms");
 }
 
--- the switches that a file describes
+-- the switches that a file describes, if it is not refused
 abbrev pub switches_in : Members → List Switch
 switches_in file = map switch_in (section_tables file switch_section)
 
--- the name that a table of an input or a meter gives it
+-- the name in a table of an input or a meter
 abbrev pub name_in : NameSection → Members → List ℕ
 name_in which table = text_in table (name_key which)
 
 abbrev pub names_in : Members → NameSection → List (List ℕ)
 names_in file which = map (name_in which) (section_tables file (name_section which))
 
--- a bay of these parts, with the rows and points that follow from them
+-- a bay of these parts, with the rows and points derived from them
 abbrev pub bay_with : Nameplate → List Switch → List (List ℕ) → List (List ℕ) → Bay
 bay_with nameplate switches inputs meters = record {
   domain = nameplate.domain;
@@ -104,14 +104,14 @@ bay_with nameplate switches inputs meters = record {
   meters = meters;
 }
 
--- the bay that a file describes which is not refused
+-- the bay that a file describes, if it is not refused
 abbrev pub bay_in : Members → Bay
 bay_in file =
     bay_with (nameplate_in (bay_table file)) (switches_in file) (names_in file Input)
     (names_in file Meter)
 
--- the first refusal of a file: a key that is no section, then section by section, then the names of
--- the points
+-- the first refusal of a file: a key that is not a section, then section by section, then the names
+-- of the points
 abbrev pub file_refusal : Members → Option BayFault
 file_refusal file =
     first_of
@@ -124,7 +124,7 @@ file_refusal file =
 abbrev pub bay_of_table : Members → Result Bay BayFault
 bay_of_table file = unless_refused (file_refusal file) (bay_in file)
 
--- a text that is no TOML is refused first
+-- a text that is not TOML is refused first
 abbrev pub bay_of_document : Option Members → Result Bay BayFault
 bay_of_document None = Err BadToml
 bay_of_document (Some file) = bay_of_table file

@@ -3,7 +3,7 @@ use Rattle.std.specs.Prelude.{ℕ, Option, Some, None}
 use Rattle.bay_config.specs.declared.fault.BayFault.{BayFault}
 use Rattle.bay_config.specs.declared.fault.BayFault.TheVariants.{BadToml, MissingKey, UnknownKey, BadValue, DuplicateName, TooMany, OutOfMemory}
 
--- the number of a refusal, by which the program and its documents tell it; want of memory has none
+-- the number of a fault, as documents and tools cite it; out of memory has none
 abbrev pub code_of : BayFault → Option ℕ
 code_of BadToml = Some 50
 code_of MissingKey = Some 51

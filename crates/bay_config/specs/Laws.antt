@@ -1,4 +1,4 @@
--- What holds of every bay that is read, beside what its file says.
+-- The properties of every bay that is read, whatever its file holds.
 use Rattle.std.specs.Prelude.{◌≡◌, ◌≢◌, ℕ, ◌+◌, ◌≤◌, ◌++◌, pos, false, codes, Some, None, List, [], length, slice_get, All, AllPairs, Contains}
 use Rattle.bay_tree.specs.declared.row.Row.{Row}
 use Rattle.bay_tree.specs.declared.leaf.Leaf.{Leaf}
@@ -19,35 +19,35 @@ use Rattle.bay_nodes.specs.Node.{Node, row, node_rows, node_name, class_of, node
 use Rattle.bay_nodes.specs.Names.{StatusNames, position_names, operation_names, opening_names, closing_names, ControlNames, control_names_of, MeterNames, meter_names_of}
 use Rattle.bay_config.specs.Point.{points_of, input_point, meter_points, points_of_all}
 
--- the switch at a place has the point
+-- the point is one of those of the switch at this index
 pub record Owns (switches : List Switch) (place : ℕ) (point : Point) : Type 0 where
   pub switch : Switch
   pub here : slice_get switches place ≡ Some switch
   pub has : Contains (points_of place switch) point
 
--- the point is that of the input at a place
+-- the point is that of the input at this index
 pub record OwnsInput (inputs : List (List ℕ)) (place : ℕ) (point : Point) : Type 0 where
   pub name : List ℕ
   pub here : slice_get inputs place ≡ Some name
   pub is : point ≡ input_point place name
 
--- the meter at a place has the point
+-- the point is one of those of the meter at this index
 pub record OwnsField (meters : List (List ℕ)) (place : ℕ) (point : Point) : Type 0 where
   pub id : List ℕ
   pub here : slice_get meters place ≡ Some id
   pub has : Contains (meter_points place id) point
 
--- the point is one of the switch, the input or the meter that an source names
+-- the point is one of the switch, the input or the meter that the source names
 abbrev pub IsOwnedAt : List Switch → List (List ℕ) → List (List ℕ) → Point → Source → Type 0
 IsOwnedAt switches inputs meters point (sources.Switch place which) = Owns switches place point
 IsOwnedAt switches inputs meters point (sources.Input place) = OwnsInput inputs place point
 IsOwnedAt switches inputs meters point (sources.Meter place field) = OwnsField meters place point
 
--- the point belongs to what its source names
+-- the point is one of the switch, the input or the meter that its own source names
 abbrev pub IsOwned : List Switch → List (List ℕ) → List (List ℕ) → Point → Type 0
 IsOwned switches inputs meters point = IsOwnedAt switches inputs meters point point.source
 
--- what the section `bay` said of a bay
+-- the nameplate of a bay, as its section `bay` gave it
 abbrev pub nameplate_of : Bay → Nameplate
 nameplate_of bay =
     record {
@@ -58,44 +58,44 @@ nameplate_of bay =
       scan_max_age_ms = bay.scan_max_age_ms;
     }
 
--- what holds of each bay that a file describes
+-- the properties of each bay that a file describes
 pub record IsBay (bay : Bay) : Type 0 where
   -- 1 to 32 switches, at most 64 inputs and at most 8 meters
   pub some_switch : 1 ≤ length bay.switches
   pub few_switches : length bay.switches ≤ 32
   pub few_inputs : length bay.inputs ≤ 64
   pub few_meters : length bay.meters ≤ 8
-  -- its points and rows are those of its nameplate, its switches, its inputs and its meters
+  -- the points and the rows are derived from the nameplate, the switches, the inputs and the meters
   pub points : bay.points ≡ points_of_all bay.switches bay.inputs bay.meters
   pub rows : bay.rows ≡ rows_of_all (nameplate_of bay) bay.switches bay.meters
-  -- no two points have one name, and each belongs to what its source names
+  -- no two points have the same name, and each is one of the object that its source names
   pub names : AllPairs (λ p q. p.name ≢ q.name) bay.points
   pub owners : All (IsOwned bay.switches bay.inputs bay.meters) bay.points
   -- names of rows are distinct, and each row's parent is a structure before it
   pub tree : IsTree bay.rows
 
--- the rows of a node are among those of a bay
+-- the bay has all rows of a node
 abbrev pub HasNode : Bay → Node → Type 0
 HasNode bay node = All (Contains bay.rows) (node_rows node)
 
--- the rows hold a value with its quality and its moment, as they are at the start
+-- the rows have a value with its quality and its time stamp, at their initial values
 pub record HasValue (rows : List Row) (names : StatusNames) (value : Leaf) (quality : Validity)
     : Type 0 where
   pub value_there : Contains rows (row names.value (Some value))
   pub quality_there : Contains rows (row names.quality (Some (Quality quality)))
   pub moment_there : Contains rows (row names.time (Some (Utc 0)))
 
--- the rows hold the position of a node XCBR or XSWI and the count of its operations
+-- the rows have the position below a node XCBR or XSWI, and the operation count
 pub record HasPosition (rows : List Row) (node : List ℕ) : Type 0 where
   pub position : HasValue rows (position_names node) (Dbpos Intermediate) Invalid
   pub operations : HasValue rows (operation_names node) (Int32 (pos 0)) Good
 
--- the rows hold the position of a node CSWI, and whether its switch is selected
+-- the rows have the position below a node CSWI, and stSeld
 pub record HasControl (rows : List Row) (node : List ℕ) : Type 0 where
   pub position : HasValue rows (position_names node) (Dbpos Intermediate) Invalid
   pub selected : Contains rows (row (control_names_of node).selected (Some (Truth false)))
 
--- the rows hold what is written to a control at a name, with the first value of each part (IEC
+-- the rows have the structure of a Cancel at a name, with the initial value of each part (IEC
 -- 61850-8-1)
 pub record HasCancel (rows : List Row) (name : List ℕ) : Type 0 where
   pub structure : Contains rows (row name None)
@@ -107,40 +107,39 @@ pub record HasCancel (rows : List Row) (name : List ℕ) : Type 0 where
   pub moment : Contains rows (row (name ++ codes "$T") (Some (Utc 0)))
   pub test : Contains rows (row (name ++ codes "$Test") (Some (Truth false)))
 
--- Oper and SBOw have checks too
+-- Oper and SBOw have a Check too
 pub record HasOperate (rows : List Row) (name : List ℕ) : Type 0 where
   pub parts : HasCancel rows name
   pub checks : Contains rows (row (name ++ codes "$Check") (Some (Dbpos Intermediate)))
 
--- what may be written to a switch with each kind of control, or read to select it, by the names of
--- its control
+-- the control rows of a switch that a client selects by a read
 pub record HasSelectByRead (rows : List Row) (names : ControlNames) : Type 0 where
   pub select : Contains rows (row names.select (Some (Reference [])))
   pub operate : HasOperate rows names.operate
   pub cancel : HasCancel rows names.cancel
 
--- a selection with a value is written, as an operate is
+-- the control rows of a switch that a client selects with value, by a write like that of an operate
 pub record HasSelectWithValue (rows : List Row) (names : ControlNames) : Type 0 where
   pub select : HasOperate rows names.select_with_value
   pub operate : HasOperate rows names.operate
   pub cancel : HasCancel rows names.cancel
 
--- what goes with a kind of control
+-- the control rows of a kind of control
 abbrev pub HasCommands : List Row → ControlNames → Control → Type 0
 HasCommands rows names Status = Unit
 HasCommands rows names Direct = HasOperate rows names.operate
 HasCommands rows names Sbo = HasSelectByRead rows names
 HasCommands rows names SboEnhanced = HasSelectWithValue rows names
 
--- the rows hold an interlocking value of a node CILO
+-- the rows have an interlocking value of a node CILO
 abbrev pub HasEnable : List Row → StatusNames → Type 0
 HasEnable rows names = HasValue rows names (Truth false) Invalid
 
--- the rows hold the measured values of a node MMXU
+-- the rows have a measured value of a node MMXU
 abbrev pub HasMeasured : List Row → StatusNames → Type 0
 HasMeasured rows names = HasValue rows names (Int32 (pos 0)) Invalid
 
--- the rows hold the six measured values of a meter
+-- the rows have the six measured values of a meter
 pub record HasMeter (rows : List Row) (names : MeterNames) : Type 0 where
   pub tot_w : HasMeasured rows names.tot_w
   pub tot_var : HasMeasured rows names.tot_var
@@ -149,7 +148,7 @@ pub record HasMeter (rows : List Row) (names : MeterNames) : Type 0 where
   pub phase_b : HasMeasured rows names.phase_b
   pub phase_c : HasMeasured rows names.phase_c
 
--- the name is that of the node XCBR or XSWI of the switch at a place
+-- the name is that of the node XCBR or XSWI of the switch at this index
 pub record NamesPosition (bay : Bay) (place : ℕ) (name : List ℕ) : Type 0 where
   pub switch : Switch
   pub here : slice_get bay.switches place ≡ Some switch
@@ -157,7 +156,7 @@ pub record NamesPosition (bay : Bay) (place : ℕ) (name : List ℕ) : Type 0 wh
   pub node : IsBay bay → HasNode bay (record { name = name; parts = position_parts switch.kind })
   pub rows : IsBay bay → HasPosition bay.rows name
 
--- the name is that of the node CSWI of the switch at a place
+-- the name is that of the node CSWI of the switch at this index
 pub record NamesControl (bay : Bay) (place : ℕ) (name : List ℕ) : Type 0 where
   pub switch : Switch
   pub here : slice_get bay.switches place ≡ Some switch
@@ -167,14 +166,14 @@ pub record NamesControl (bay : Bay) (place : ℕ) (name : List ℕ) : Type 0 whe
   pub rows : IsBay bay → HasControl bay.rows name
   pub commands : IsBay bay → HasCommands bay.rows (control_names_of name) switch.control
 
--- the name is that of the node CILO of the switch at a place
+-- the name is that of the node CILO of the switch at this index
 pub record NamesInterlocking (bay : Bay) (place : ℕ) (name : List ℕ) : Type 0 where
   pub named : name ≡ node_name (codes "CILO") (place + 1)
   pub node : IsBay bay → HasNode bay (record { name = name; parts = interlocking_parts })
   pub open_rows : IsBay bay → HasEnable bay.rows (opening_names name)
   pub close_rows : IsBay bay → HasEnable bay.rows (closing_names name)
 
--- the name is that of the node MMXU of the meter at a place
+-- the name is that of the node MMXU of the meter at this index
 pub record NamesMeter (bay : Bay) (place : ℕ) (name : List ℕ) : Type 0 where
   pub named : name ≡ node_name (codes "MMXU") (place + 1)
   pub node : IsBay bay → HasNode bay (record { name = name; parts = meter_parts })

@@ -16,8 +16,8 @@ use Rattle.bay_config.specs.declared.fault.BayFault.{BayFault}
 use Rattle.bay_config.specs.declared.fault.BayFault.TheVariants.{BadValue, DuplicateName}
 use Rattle.bay_config.specs.Key.{is_among, first_of, refused_if}
 
--- a point of the switch at a place with this id: what follows the id in its name, its type, whether
--- it may be written, and which of the switch's points it is
+-- a point of the switch at an index with this id: the ending of its name, its type, whether a
+-- program may write it, and which of the switch's points it is
 abbrev pub point_of : ℕ → List ℕ → List ℕ → ElementaryType → Bool → SwitchPoint → Point
 point_of place id ending kind writable which = record {
   name = str_to_ascii_uppercase id ++ ending;
@@ -26,7 +26,7 @@ point_of place id ending kind writable which = record {
   source = sources.Switch place which;
 }
 
--- the points that tell its position
+-- the points with the position of a switch
 abbrev pub position_points : ℕ → List ℕ → List Point
 position_points place id =
     point_of place id (codes "_POS") Int false Position
@@ -34,23 +34,23 @@ position_points place id =
     ∷ point_of place id (codes "_CLOSED") Truth false Closed
     ∷ []
 
--- the points that allow it to move
+-- the points that release its opening and its closing
 abbrev pub enable_points : ℕ → List ℕ → List Point
 enable_points place id =
     point_of place id (codes "_ENA_OPN") Truth true EnableOpen
     ∷ point_of place id (codes "_ENA_CLS") Truth true EnableClose
     ∷ []
 
--- the points of the switch at a place
+-- the points of the switch at an index
 abbrev pub points_of : ℕ → Switch → List Point
 points_of place switch = position_points place switch.id ++ enable_points place switch.id
 
--- the points of switches, of which the first stands at a place
+-- the points of a list of switches, the first of which has this index
 abbrev pub points_from : ℕ → List Switch → List Point
 points_from place [] = []
 points_from place (switch ∷ switches) = points_of place switch ++ points_from (place + 1) switches
 
--- the point of the input at a place, which has its name
+-- the point of the input at an index, named after the input
 abbrev pub input_point : ℕ → List ℕ → Point
 input_point place name =
     record {
@@ -60,13 +60,12 @@ input_point place name =
       source = sources.Input place;
     }
 
--- the points of inputs, of which the first stands at a place
+-- the points of a list of inputs, the first of which has this index
 abbrev pub inputs_from : ℕ → List (List ℕ) → List Point
 inputs_from place [] = []
 inputs_from place (name ∷ names) = input_point place name ∷ inputs_from (place + 1) names
 
--- a field of the meter at a place with this id: what follows the id in its name, and which field it
--- is
+-- the point of a field of the meter at an index with this id: the ending of its name, and the field
 abbrev pub field_point : ℕ → List ℕ → List ℕ → MeterField → Point
 field_point place id ending field =
     record {
@@ -76,7 +75,7 @@ field_point place id ending field =
       source = sources.Meter place field;
     }
 
--- the points of the meter at a place
+-- the points of the meter at an index
 abbrev pub meter_points : ℕ → List ℕ → List Point
 meter_points place id =
     field_point place id (codes "_TOTW") TotW
@@ -87,7 +86,7 @@ meter_points place id =
     ∷ field_point place id (codes "_AC") PhaseC
     ∷ []
 
--- the points of meters, of which the first stands at a place
+-- the points of a list of meters, the first of which has this index
 abbrev pub meters_from : ℕ → List (List ℕ) → List Point
 meters_from place [] = []
 meters_from place (id ∷ ids) = meter_points place id ++ meters_from (place + 1) ids
@@ -97,12 +96,13 @@ abbrev pub points_of_all : List Switch → List (List ℕ) → List (List ℕ) �
 points_of_all switches inputs meters =
     points_from 0 switches ++ (inputs_from 0 inputs ++ meters_from 0 meters)
 
--- some text stands twice in the list
+-- some text occurs twice in the list
 abbrev pub has_twin : List (List ℕ) → Bool
 has_twin [] = false
 has_twin (s ∷ rest) = is_among rest s || has_twin rest
 
--- two points of one name, then a point that is named as a reserved word
+-- the first refusal of the names: two points with the same name, then a point with the name of a
+-- reserved word
 abbrev pub names_refusal : List Point → Option BayFault
 names_refusal points =
     let names = map (λ p. p.name) points in

@@ -1,4 +1,4 @@
--- The sections of a bay file: how often each stands, which keys its tables have, and its first
+-- The sections of a bay file: how often each may occur, which keys its tables have, and its first
 -- refusal.
 use Rattle.std.specs.Prelude.{ℕ, ◌+◌, nat_lt, Bool, true, not, ◌&&◌, List, [], ◌∷◌, ◌++◌, map, Option, None, Some, is_some, option_to_list, unwrap_or}
 use Rattle.toml.specs.Data.{Data, Items, no_items, item, Members, get_member, as_table, as_array}
@@ -6,14 +6,14 @@ use Rattle.bay_config.specs.declared.fault.BayFault.{BayFault}
 use Rattle.bay_config.specs.declared.fault.BayFault.TheVariants.{MissingKey, BadValue, TooMany}
 use Rattle.bay_config.specs.Key.{Key, first_of, refused_if, entry_refusal}
 
--- how often a section stands in a file
+-- how often a section occurs in a file
 pub data Shape : Type 0 where
   -- as one table
   one : Shape
-  -- as a list of tables, at least so many and at most so many; where it is missing there are none
+  -- as a list of tables, at least and at most this number of them; a missing list has none
   many : ℕ → ℕ → Shape
 
--- a section, with the keys of a table of it, which may depend on what the table holds
+-- a section; the keys of one of its tables may depend on the contents of the table
 pub record Section : Type 0 where
   pub name : List ℕ
   pub shape : Shape
@@ -24,7 +24,7 @@ abbrev pub are_tables : Items → Bool
 are_tables no_items = true
 are_tables (item d ds) = is_some (as_table d) && are_tables ds
 
--- how many items a list has
+-- the number of items of a list
 abbrev pub count_of : Items → ℕ
 count_of no_items = 0
 count_of (item d ds) = count_of ds + 1
@@ -39,7 +39,8 @@ abbrev pub one_refusal : (Members → List Key) → Option Members → Option Ba
 one_refusal keys None = Some BadValue
 one_refusal keys (Some table) = entry_refusal (keys table) table
 
--- what is judged of a list before its tables: too few items, one that is no table, too many
+-- the checks of a list before its tables: too few items, an item that is not a table, too many
+-- items
 abbrev pub list_checks : ℕ → ℕ → Items → List (Option BayFault)
 list_checks least most items =
     refused_if (nat_lt (count_of items) least) MissingKey
@@ -52,22 +53,22 @@ items_refusal least most keys items =
     first_of (list_checks least most items
     ++ map (λ table. entry_refusal (keys table) table) (tables_of items))
 
--- the refusal of a section that is a list, where anything else than a list is refused too
+-- the refusal of a section that must be a list; `None` is a section that is not a list
 abbrev pub list_refusal : ℕ → ℕ → (Members → List Key) → Option Items → Option BayFault
 list_refusal least most keys None = Some BadValue
 list_refusal least most keys (Some items) = items_refusal least most keys items
 
--- the list at a section that is there, or an empty one; none where something else stands there
+-- the list at a section; an empty list if the section is missing, `None` if it is not a list
 abbrev pub items_at : Option Data → Option Items
 items_at None = Some no_items
 items_at (Some d) = as_array d
 
--- the refusal of what stands at such a section, or of nothing there
+-- the refusal of a section that must be one table; it may not be missing
 abbrev pub table_refusal : (Members → List Key) → Option Data → Option BayFault
 table_refusal keys None = Some MissingKey
 table_refusal keys (Some d) = one_refusal keys (as_table d)
 
--- the refusal of what stands at a section of either shape
+-- the refusal of a section of either shape
 abbrev pub shape_refusal : Shape → (Members → List Key) → Option Data → Option BayFault
 shape_refusal one keys d = table_refusal keys d
 shape_refusal (many least most) keys d = list_refusal least most keys (items_at d)

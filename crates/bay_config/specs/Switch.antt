@@ -8,7 +8,7 @@ use Rattle.bay_nodes.specs.declared.switch.Control.{Control}
 use Rattle.bay_nodes.specs.declared.switch.Control.TheVariants.{Status, Direct, Sbo, SboEnhanced}
 use Rattle.bay_config.specs.Key.{Key, identifier, number, word, value_named, text_in, number_in}
 
--- the words for the kinds of switches
+-- the words for the kinds of switch
 abbrev pub kinds : List (List ℕ × SwitchKind)
 kinds = (codes "breaker", Breaker) ∷ (codes "disconnector", Disconnector)
     ∷ (codes "earthing", Earthing) ∷ []
@@ -19,7 +19,7 @@ controls =
     (codes "status", Status) ∷ (codes "direct", Direct) ∷ (codes "sbo", Sbo)
     ∷ (codes "sbo-enhanced", SboEnhanced) ∷ []
 
--- the kind and the control of a table, where they can be read
+-- the kind and the control in a table; `None` if missing or invalid
 abbrev pub kind_of : Members → Option SwitchKind
 kind_of table =
     option_and_then (value_named kinds) (option_and_then as_str (get_member (codes "kind") table))
@@ -44,7 +44,7 @@ sbo_timeout_key = record { name = codes "sbo_timeout_ms"; form = number 1 600000
 abbrev pub travel_key : Key
 travel_key = record { name = codes "travel_ms"; form = number 1 600000 }
 
--- the times that go with a kind of control; both where the control can't be read
+-- the keys for the times of a kind of control; both if the control can't be read
 abbrev pub time_keys : Option Control → List Key
 time_keys None = sbo_timeout_key ∷ travel_key ∷ []
 time_keys (Some Status) = []
@@ -56,7 +56,7 @@ time_keys (Some SboEnhanced) = sbo_timeout_key ∷ travel_key ∷ []
 abbrev pub switch_keys : Members → List Key
 switch_keys table = id_key ∷ kind_key ∷ control_key ∷ [] ++ time_keys (control_of table)
 
--- the switch of a table that is not refused
+-- the switch that a table describes, if it is not refused
 abbrev pub switch_in : Members → Switch
 switch_in table = record {
   id = text_in table (codes "id");

@@ -1,4 +1,4 @@
-// What a bay is.
+// The bay that a bay file describes.
 use bay_base::listing::Listing;
 pub use bay_base::point::{MeterField, Point, Source, SwitchPoint};
 use bay_base::text::Text;
@@ -19,9 +19,10 @@ pub struct Bay {
     pub revision: Text,
     /// The maximum age of a scan when a switch is operated, in milliseconds, 0 to 600,000.
     pub scan_max_age_ms: u32,
-    /// The rows of the tree in the order of its table, with their initial values.
+    /// The rows of the tree in their order, with their initial values.
     pub rows: Listing<Row>,
-    /// The points of the program: those of each switch, then the inputs, then those of each meter.
+    /// The points that the program reads and writes: those of each switch, then the inputs, then
+    /// those of each meter.
     pub points: Listing<Point>,
     /// The switches, 1 to 32, in the order of the file.
     pub switches: Listing<Switch>,

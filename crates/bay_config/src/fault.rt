@@ -1,4 +1,4 @@
-// Why a text is no bay.
+// Why a text is not a bay file.
 ghost use Rattle.std.specs.Prelude.{◌≡◌};
 ghost use Rattle.bay_config.specs.declared.fault.BayFault.TheVariants.{OutOfMemory};
 ghost use Rattle.bay_config.specs.Code.{code_of};
@@ -6,19 +6,20 @@ ghost use Rattle.bay_config.specs.Code.{code_of};
 use std::alloc::{AllocError, AllocFailed};
 use thiserror::Error;
 
-/// The first fault of a bay file. A refused file leaves nothing behind.
+/// The first fault of a bay file.
 #[derive(Clone, Copy, Debug, PartialEq, Eq, Error)]
 pub enum BayFault {
     /// The text is not a TOML document, or has more than 262,144 octets.
     #[error("the text is not a TOML document, or is too long")]
     BadToml,
-    /// A required section or key is missing.
+    /// A required section or key is missing, or the list of switches is empty.
     #[error("a section or a key is missing")]
     MissingKey,
     /// A key is unknown in its section, or the kind of control excludes it.
     #[error("a key is unknown, or the kind of control excludes it")]
     UnknownKey,
-    /// A value has a wrong kind or is out of its range, or a point has the name of a reserved word.
+    /// A section or a value has a wrong type, a value is out of its range, or a point has the name
+    /// of a reserved word.
     #[error("a value is of a wrong kind or out of its range")]
     BadValue,
     /// Two points have the same name.
@@ -33,7 +34,7 @@ pub enum BayFault {
 }
 
 impl BayFault {
-    /// Returns the number of the fault, 50 to 55. Out of memory has none.
+    /// Returns the number of the fault, 50 to 55; `None` for `OutOfMemory`.
     pub fn code(self) -> Option<u8>
         ensures { result ≡ code_of self }
     {

@@ -1,4 +1,4 @@
-// What a table holds at a key, and which keys it has.
+// The value at a key of a table, and the keys that a table may have.
 ghost use Rattle.std.specs.Prelude.{◌≡◌, not, map, option_map, string_bytes, IfOk, IfErr};
 ghost use Rattle.std.specs.BTreeMap.{keys};
 ghost use Rattle.std.specs.Int.{is_in_range};
@@ -16,14 +16,14 @@ use bay_base::text::Text;
 use std::alloc::Global;
 use toml::{Table, Value};
 
-/// Returns the value at a key.
+/// Returns the value at a key; `None` if the table does not have the key.
 pub fn find<'a>(table: &'a Table, key: &str) -> Option<&'a Value>
     ensures { option_map (λ v. view v.now) result ≡ get_member key.now (table_view table.now) }
 {
     table.get(key)
 }
 
-/// Returns whether a key is one of the known keys.
+/// Returns whether `known` has the key.
 pub fn is_known(known: &[&str], key: &str) -> bool
     ensures { result ≡ list_any (λ k. bytes_eq key.now k.now) known.now }
 {
@@ -39,7 +39,7 @@ fn has_unknown_key(table: &Table, known: &[&str]) -> bool
     table.keys().any(|key| !is_known(known, key.as_str()))
 }
 
-/// Refuses a table with an unknown key.
+/// Checks the keys of a table: `UnknownKey` if any of them is not in `known`.
 pub fn check_keys(table: &Table, known: &[&str]) -> Result<(), BayFault>
     ensures { result ≡ unless_refused
         (unknown_refusal (map (λ k. k.now) known.now) (table_view table.now))
@@ -51,7 +51,7 @@ pub fn check_keys(table: &Table, known: &[&str]) -> Result<(), BayFault>
     Ok(())
 }
 
-// Whether a text begins with a letter of ASCII.
+// Returns whether a text begins with an ASCII letter.
 fn begins_with_letter(text: &[u8]) -> bool
     ensures { result ≡ spec.begins_with_letter text.now }
 {
@@ -61,7 +61,7 @@ fn begins_with_letter(text: &[u8]) -> bool
     }
 }
 
-// Whether a character is a letter, a digit or `_`.
+// Returns whether a character is a letter, a digit or `_`.
 fn is_name_character(byte: u8) -> bool
     ensures { result ≡ spec.is_name_character byte }
 {
@@ -74,7 +74,8 @@ fn has_name_characters(text: &[u8]) -> bool
     text.iter().all(|byte| is_name_character(*byte))
 }
 
-// Whether a text is a name: a letter, then letters, digits and `_`, at most so many in all.
+// Returns whether a text is a name of at most `most` characters: a letter, then letters, digits and
+// `_`.
 fn is_identifier(text: &str, most: usize) -> bool
     ensures { result ≡ spec.is_identifier most text.now }
 {
@@ -88,7 +89,7 @@ fn has_printable_characters(text: &[u8]) -> bool
     text.iter().all(|byte| b' ' <= *byte && *byte <= b'~')
 }
 
-// Whether a text has 1 to 64 characters from space to `~`.
+// Returns whether a text has 1 to 64 characters from space to `~`.
 fn is_description(text: &str) -> bool
     ensures { result ≡ spec.is_description text.now }
 {
@@ -96,7 +97,9 @@ fn is_description(text: &str) -> bool
     1 <= bytes.len() && bytes.len() <= 64 && has_printable_characters(bytes)
 }
 
-/// Reads the identifier at a key, of at most `most` characters.
+/// Reads the identifier at a key, of at most `most` characters. `MissingKey` if the table does not
+/// have the key, `BadValue` if its value is not such an identifier, `OutOfMemory` if an allocation
+/// fails.
 pub fn identifier_at(alloc: Global, table: &Table, key: &str, most: usize) -> Result<Text, BayFault>
     ensures { let file = table_view table.now in
         Gives OutOfMemory (λ x. x) result
@@ -112,7 +115,9 @@ pub fn identifier_at(alloc: Global, table: &Table, key: &str, most: usize) -> Re
     }
 }
 
-/// Reads the description at a key.
+/// Reads the description at a key: 1 to 64 characters from space to `~`. `MissingKey` if the table
+/// does not have the key, `BadValue` if its value is not a description, `OutOfMemory` if an
+/// allocation fails.
 pub fn description_at(alloc: Global, table: &Table, key: &str) -> Result<Text, BayFault>
     ensures { let file = table_view table.now in
         Gives OutOfMemory (λ x. x) result
@@ -128,7 +133,8 @@ pub fn description_at(alloc: Global, table: &Table, key: &str) -> Result<Text, B
     }
 }
 
-/// Reads the number at a key, from `least` to `most`.
+/// Reads the number at a key, from `least` to `most`. `MissingKey` if the table does not have the
+/// key, `BadValue` if its value is not such a number.
 pub fn number_at(table: &Table, key: &str, least: u32, most: u32) -> Result<u32, BayFault>
     ensures { let file = table_view table.now in
         result ≡ unless_refused

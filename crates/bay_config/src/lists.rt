@@ -1,4 +1,4 @@
-// A section of a file that is a list of tables.
+// The checks of a section that is a list of tables.
 ghost use Rattle.std.specs.Prelude.{◌≡◌, is_some};
 ghost use Rattle.std.specs.List.{list_all};
 ghost use Rattle.toml.specs.Data.{as_table};
@@ -17,7 +17,8 @@ fn are_tables(values: &[Value]) -> bool
     values.iter().all(|value| value.is_table())
 }
 
-/// Refuses a list with too few values, with a value that is not a table, or with too many values.
+/// Checks a list: `MissingKey` if it has fewer than `least` values, then `BadValue` if a value is
+/// not a table, then `TooMany` if it has more than `most` values.
 pub fn check_list(values: &[Value], least: usize, most: usize) -> Result<(), BayFault>
     ensures { result ≡ unless_refused (first_of (list_checks least most (items_view values.now)))
         tt }

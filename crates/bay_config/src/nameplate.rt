@@ -12,7 +12,7 @@ use bay_nodes::nameplate::Nameplate;
 use std::alloc::Global;
 use toml::Table;
 
-// What the section `bay` says, once its keys are known ones.
+// Reads the nameplate from the table of the section `bay`, after a check of its keys.
 fn nameplate_from(alloc: Global, table: &Table) -> Result<Nameplate, BayFault>
     ensures { let t = table_view table.now in
         Gives OutOfMemory (λ x. x) result
@@ -36,7 +36,8 @@ fn nameplate_from(alloc: Global, table: &Table) -> Result<Nameplate, BayFault>
     })
 }
 
-/// Reads the section `bay`.
+/// Reads the section `bay`. `MissingKey` if the file has no such section, `BadValue` if it is not a
+/// table; otherwise the first fault of the table, or `OutOfMemory` if an allocation fails.
 pub fn nameplate_at(alloc: Global, file: &Table) -> Result<Nameplate, BayFault>
     ensures { let f = table_view file.now in
         Gives OutOfMemory (λ x. x) result

@@ -1,4 +1,4 @@
-// The sections `input` and `meter` of a file, which list names.
+// The sections `input` and `meter` of a file, which are lists of names.
 ghost use Rattle.std.specs.Prelude.{◌≡◌, ◌∷◌, [], map, IsErrOf, IsSome};
 ghost use Rattle.toml.specs.Data.{get_member};
 ghost use Rattle.toml.specs.View.{table_view, items_view};
@@ -46,7 +46,7 @@ impl NameSection {
         }
     }
 
-    // Returns the keys of each of its tables.
+    // Returns the known keys of each of its tables.
     fn keys(self) -> &'static [&'static str]
         ensures { map (λ k. k.now) result.now ≡ name_key self ∷ [] }
     {
@@ -56,7 +56,7 @@ impl NameSection {
         }
     }
 
-    // Returns the most tables that the section may have.
+    // Returns the maximum number of tables in the section.
     fn most(self) -> usize
         ensures { result ≡ most_names self }
     {
@@ -110,8 +110,9 @@ fn names_of(alloc: Global, values: &[Value], which: NameSection) -> Result<Listi
     names_from(alloc, values, which)
 }
 
-/// Reads the names in a section; none if the section is missing. Does not allocate for a value that
-/// is not a list.
+/// Reads the names in a section; none if the section is missing. `BadValue` if the section is not a
+/// list; otherwise its first fault, or `OutOfMemory` if an allocation fails. Does not allocate for
+/// a value that is not a list.
 pub fn names_at(alloc: Global, file: &Table, which: NameSection) -> Result<Listing<Text>, BayFault>
     ensures names { let f = table_view file.now in
         Gives OutOfMemory (λ x. x) result

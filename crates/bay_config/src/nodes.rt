@@ -9,7 +9,7 @@ use bay_nodes::names as names;
 use bay_nodes::names::{CONTROL, INTERLOCKING, METER, class_of, is_breaker, is_of};
 use std::alloc::{AllocError, Global};
 
-// Counts the switches that are breakers, or those that are not.
+// Counts the switches that are breakers, or if `breakers` is false those that are not.
 fn count_of(switches: &[Switch], breakers: bool) -> usize
     ensures counted { result ≡ length (filter (is_of breakers) switches.now) }
     ensures bounded { result ≤ length switches.now }
@@ -21,8 +21,8 @@ fn count_of(switches: &[Switch], breakers: bool) -> usize
 }
 
 /// Returns the name of the logical node of the switch at an index of the bay's switches, from 0:
-/// XCBR for a breaker or XSWI for any other switch, and its number among those, from 1 (IEC
-/// 61850-7-4).
+/// XCBR for a breaker or XSWI for any other switch, followed by its number among those, from 1 (IEC
+/// 61850-7-4). Fails only if an allocation fails.
 pub fn node_name(alloc: Global, bay: &Bay, place: usize) -> Result<Text, AllocError>
     requires { place < length bay.now.switches }
     ensures { IfOk result (NamesPosition bay.now place) }
@@ -35,7 +35,8 @@ pub fn node_name(alloc: Global, bay: &Bay, place: usize) -> Result<Text, AllocEr
 }
 
 /// Returns the name of the logical node of the interlocking of the switch at an index of the bay's
-/// switches, from 0: CILO and the number of the switch, from 1 (IEC 61850-7-4).
+/// switches, from 0: CILO and the number of the switch, from 1 (IEC 61850-7-4). Fails only if an
+/// allocation fails.
 pub fn interlocking_name(alloc: Global, bay: &Bay, place: usize) -> Result<Text, AllocError>
     requires { place < length bay.now.switches }
     ensures { IfOk result (NamesInterlocking bay.now place) }
@@ -46,7 +47,8 @@ pub fn interlocking_name(alloc: Global, bay: &Bay, place: usize) -> Result<Text,
 }
 
 /// Returns the name of the logical node of the control of the switch at an index of the bay's
-/// switches, from 0: CSWI and the number of the switch, from 1 (IEC 61850-7-4).
+/// switches, from 0: CSWI and the number of the switch, from 1 (IEC 61850-7-4). Fails only if an
+/// allocation fails.
 pub fn control_name(alloc: Global, bay: &Bay, place: usize) -> Result<Text, AllocError>
     requires { place < length bay.now.switches }
     ensures { IfOk result (NamesControl bay.now place) }
@@ -57,7 +59,7 @@ pub fn control_name(alloc: Global, bay: &Bay, place: usize) -> Result<Text, Allo
 }
 
 /// Returns the name of the logical node of the meter at an index of the bay's meters, from 0: MMXU
-/// and the number of the meter, from 1 (IEC 61850-7-4).
+/// and the number of the meter, from 1 (IEC 61850-7-4). Fails only if an allocation fails.
 pub fn meter_name(alloc: Global, bay: &Bay, place: usize) -> Result<Text, AllocError>
     requires { place < length bay.now.meters }
     ensures { IfOk result (NamesMeter bay.now place) }

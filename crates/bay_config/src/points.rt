@@ -45,7 +45,7 @@ fn push_point(
     Ok(())
 }
 
-// Adds the points with the position of a switch, which the program reads.
+// Adds the points with the position of a switch; the program reads them.
 fn push_position(
     alloc: Global,
     points: &mut Vec<Point>,
@@ -97,7 +97,7 @@ fn push_position(
     Ok(())
 }
 
-// Adds the points that allow a switch to move, which the program writes.
+// Adds the points that release the opening and the closing of a switch; the program writes them.
 fn push_enables(
     alloc: Global,
     points: &mut Vec<Point>,
@@ -165,7 +165,7 @@ fn push_switches(
     Ok(())
 }
 
-// Adds the points of the inputs, which the program reads.
+// Adds the points of the inputs; the program reads them.
 fn push_inputs(alloc: Global, points: &mut Vec<Point>, inputs: &[Text]) -> Result<(), AllocError>
     ensures { IfOk result (λ _. points.new.items ≡ points.old.items ++ inputs_from 0 inputs.now) }
 {
@@ -207,7 +207,7 @@ fn push_field(
     )
 }
 
-// Adds the points of the meter at an index, which the program reads.
+// Adds the points of the meter at an index; the program reads them.
 fn push_meter(
     alloc: Global,
     points: &mut Vec<Point>,
@@ -235,7 +235,8 @@ fn push_meters(alloc: Global, points: &mut Vec<Point>, meters: &[Text]) -> Resul
     Ok(())
 }
 
-/// Returns the points of the switches, the inputs and the meters, in their order.
+/// Returns the points of the switches, the inputs and the meters, in their order. Fails only if an
+/// allocation fails.
 pub fn points_of(
     alloc: Global,
     switches: &[Switch],
@@ -281,7 +282,8 @@ fn has_reserved_name(points: &[Point]) -> bool
         .any(|point| reserved_word(point.name.as_str()).is_some())
 }
 
-/// Refuses two points of the same name, and then a point with the name of a reserved word.
+/// Checks the names of the points: `DuplicateName` if two points have the same name, then
+/// `BadValue` if the name of a point is a reserved word.
 pub fn check_names(points: &[Point]) -> Result<(), BayFault>
     ensures { result ≡ unless_refused (names_refusal points.now) tt }
 {

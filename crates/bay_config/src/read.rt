@@ -1,4 +1,4 @@
-// Reads a bay.
+// Reads a bay from the text of its file.
 ghost use Rattle.std.specs.Prelude.{◌≡◌, ◌∷◌, map, IfOk};
 ghost use Rattle.std.specs.Option.{ok_or};
 ghost use Rattle.toml.specs.View.{table_view};
@@ -27,7 +27,7 @@ use bay_tree::row::Row;
 use std::alloc::Global;
 use toml::Table;
 
-// What the sections of a file say.
+// The contents of the sections of a file.
 #[derive(Drop)]
 struct Sections {
     nameplate: Nameplate,
@@ -62,14 +62,14 @@ fn sections_at(alloc: Global, file: &Table) -> Result<Sections, BayFault>
     })
 }
 
-// What is derived from the sections: the points of the program and the rows of the tree.
+// The lists derived from the sections: the points of the program and the rows of the tree.
 #[derive(Drop)]
 struct Lists {
     points: Listing<Point>,
     rows: Listing<Row>,
 }
 
-// Returns the points and the rows. Refuses two points of the same name, and a point with the name
+// Returns the points and the rows. Refuses two points with the same name, and a point with the name
 // of a reserved word.
 fn lists_of(alloc: Global, sections: &Sections) -> Result<Lists, BayFault>
     ensures { let s = sections.now in let points = points_of_all s.switches s.inputs s.meters in
@@ -85,7 +85,7 @@ fn lists_of(alloc: Global, sections: &Sections) -> Result<Lists, BayFault>
     Ok(Lists { points, rows })
 }
 
-// Makes a bay of sections and lists.
+// Makes a bay from its sections and its lists.
 fn bay_with(sections: Sections, lists: Lists) -> Bay
     ensures { let n = sections.nameplate in result ≡ record {
       domain = n.domain;
@@ -130,10 +130,10 @@ fn bay_from(alloc: Global, file: &Table) -> Result<Bay, BayFault>
     Ok(bay_with(sections, lists))
 }
 
-// The most octets of a bay file.
+// The maximum length of a bay file, in octets.
 const MAX_OCTETS: usize = 262_144;
 
-// Parses the table of a bay file. Does not parse a text that is too long.
+// Parses a bay file into its table. Does not parse a text that is too long.
 #[tactic(auto, unfolding(crate::specs::Bay::document_of))]
 fn document_at(alloc: Global, text: &str) -> Result<Table, BayFault>
     ensures { Gives OutOfMemory table_view result (ok_or (document_of text.now) BadToml) }
@@ -153,10 +153,10 @@ fn document_at(alloc: Global, text: &str) -> Result<Table, BayFault>
     }
 }
 
-/// Reads a bay from the text of its file, or returns why the text is not a bay.
+/// Reads a bay from the text of its file, or returns the first fault of the text.
 pub fn read_bay(alloc: Global, text: &str) -> Result<Bay, BayFault>
-    // The bay that the text describes, or its first refusal, unless memory ran out. A text of more
-    // than 262,144 octets is refused, whatever it says.
+    // The bay that the text describes, or its first refusal; `OutOfMemory` if an allocation fails.
+    // A text of more than 262,144 octets is refused, whatever its contents.
     ensures read { Gives OutOfMemory (λ x. x) result (bay_of text.now) }
     ensures sound { IfOk result IsBay }
 {

@@ -18,7 +18,7 @@ use bay_base::listing::Listing;
 use std::alloc::Global;
 use toml::{Table, Value};
 
-// Returns the kind of switch that a word names.
+// Returns the kind of switch that a word names; `None` for any other word.
 fn kind_named(word: &str) -> Option<SwitchKind>
     ensures { result ≡ value_named kinds word.now }
 {
@@ -30,7 +30,7 @@ fn kind_named(word: &str) -> Option<SwitchKind>
     }
 }
 
-// Returns the kind of control that a word names.
+// Returns the kind of control that a word names; `None` for any other word.
 fn control_named(word: &str) -> Option<Control>
     ensures { result ≡ value_named controls word.now }
 {
@@ -43,7 +43,7 @@ fn control_named(word: &str) -> Option<Control>
     }
 }
 
-// The kind of a switch: one of three words.
+// Reads the kind of a switch: one of three words.
 #[tactic(auto, using(crate::proofs::KeyLemmas::among_named))]
 fn kind_at(table: &Table) -> Result<SwitchKind, BayFault>
     ensures { let t = table_view table.now in
@@ -61,7 +61,7 @@ fn kind_at(table: &Table) -> Result<SwitchKind, BayFault>
     }
 }
 
-// Returns the kind of control in a table, if it can be read.
+// Returns the kind of control in a table; `None` if it is missing or invalid.
 fn readable_control(table: &Table) -> Option<Control>
     ensures { result ≡ control_of (table_view table.now) }
 {
@@ -74,7 +74,7 @@ fn readable_control(table: &Table) -> Option<Control>
     }
 }
 
-// The kind of a switch's control: one of four words.
+// Reads the kind of a switch's control: one of four words.
 #[tactic(auto, using(crate::proofs::KeyLemmas::among_named))]
 fn control_at(table: &Table) -> Result<Control, BayFault>
     ensures held { let t = table_view table.now in
@@ -111,7 +111,7 @@ fn switch_key_names(control: Option<Control>) -> &'static [&'static str]
     }
 }
 
-// Reads how long a selection lasts and how long the switch may travel.
+// Reads the time that a selection lasts and the time that the switch may travel, in milliseconds.
 fn both_times_at(table: &Table) -> Result<(u32, u32), BayFault>
     ensures { let t = table_view table.now in
         result ≡ unless_refused (first_of (map (key_refusal t) (sbo_timeout_key ∷ travel_key ∷ [])))
@@ -122,8 +122,8 @@ fn both_times_at(table: &Table) -> Result<(u32, u32), BayFault>
     Ok((sbo_timeout_ms, travel_ms))
 }
 
-// Reads how long a selection lasts and how long the switch may travel; 0 if the control excludes
-// the key.
+// Reads the time that a selection lasts and the time that the switch may travel, in milliseconds; 0
+// if the kind of control excludes the key.
 fn times_at(table: &Table, control: Control) -> Result<(u32, u32), BayFault>
     requires known { has_unknown (map (λ k. k.name) (switch_keys (table_view table.now)))
         (table_view table.now) ≡ false }
@@ -190,7 +190,8 @@ fn switches_of(alloc: Global, values: &[Value]) -> Result<Listing<Switch>, BayFa
     switches_from(alloc, values)
 }
 
-/// Reads the section `switch`.
+/// Reads the section `switch`. `MissingKey` if the file has no such section, `BadValue` if it is
+/// not a list; otherwise its first fault, or `OutOfMemory` if an allocation fails.
 pub fn switches_at(alloc: Global, file: &Table) -> Result<Listing<Switch>, BayFault>
     ensures { let f = table_view file.now in
         Gives OutOfMemory (λ x. x) result

@@ -10,33 +10,38 @@ use Rattle.bay_transport.specs.Doings.{Doing, Answers, Delivers, Ends, Fails, Le
 use Rattle.bay_transport.specs.Feeding as feeding
 use Rattle.bay_transport.specs.Feeding.{Received, doing_for, size_agreed, agreed_from, size_after, end_of_stream, broken, IsGoing, RefusesPiece}
 use Rattle.bay_transport.proofs.SizeLemmas.{after-size, delivers-size, quiet-going}
-use Rattle.bay_assoc.specs.declared.hearing.Phase.{Phase}
-use Rattle.bay_assoc.specs.declared.hearing.Phase.TheVariants as phases
-use Rattle.bay_connection.specs.Talk.{Talk, Indication, ends, fails, TalkStep, talk_over, talk_after, comes_to, indications, left_by}
-use Rattle.bay_connection.specs.Feeding.{CompletesIndication, Comes, Feeds, GoesOn}
+use Rattle.bay_assoc.specs.declared.receive.Phase.{Phase}
+use Rattle.bay_assoc.specs.declared.receive.Phase.TheVariants as phases
+use Rattle.bay_connection.specs.ConnectionStates.{ConnectionState, Indication, ends, fails, ConnectionStep, over_state, after_doings, connection_step, indications, connection_after}
+use Rattle.bay_connection.specs.Feeding.{CompletesIndication, Completes, Feeds, GoesOn}
 use Rattle.bay_connection.specs.Stack.{AreJoined, IsJoined, IsReady, TellsOf}
 use Rattle.bay_connection.proofs.CuttingLemmas.{indications-take, left_by-take}
 use Rattle.bay_connection.proofs.GoingLemmas.{told-none}
 
 -- ---- the law
 
-comes-does : (t : Talk) (piece : List ℕ) (used : ℕ) (i : Indication) → Comes t piece used i
+comes-does : (t : ConnectionState) (piece : List ℕ) (used : ℕ) (i : Indication)
+    → Completes t piece used i
     → indications t (take used piece) ≡ i ∷ []
 comes-does t piece used (fails code) h = h.1
 comes-does t piece used i h = h.does
 
-pub feeding-indications : (old new : Talk) (piece : List ℕ) (used : ℕ) (i : Indication)
-    → new ≡ left_by old (take used piece) → Comes old piece used i → GoesOn old new piece used i
+pub feeding-indications : (old new : ConnectionState) (piece : List ℕ) (used : ℕ) (i : Indication)
+    → new ≡ connection_after old (take used piece) → Completes old piece used i
+    → GoesOn old new piece used i
 feeding-indications old new piece used i is comes =
     indications-take old piece used
-    ∙ ap (λ (t : Talk). indications old (take used piece) ++ indications t (drop used piece))
+    ∙ ap (λ (t : ConnectionState). indications old (take used piece)
+    ++ indications t (drop used piece))
     (sym is) ∙ ap (λ (ds : List Indication). ds ++ indications new (drop used piece))
     (comes-does old piece used i comes)
 
-pub feeding-left : (old new : Talk) (piece : List ℕ) (used : ℕ)
-    → new ≡ left_by old (take used piece) → left_by old piece ≡ left_by new (drop used piece)
+pub feeding-left : (old new : ConnectionState) (piece : List ℕ) (used : ℕ)
+    → new ≡ connection_after old (take used piece)
+    → connection_after old piece ≡ connection_after new (drop used piece)
 feeding-left old new piece used is =
-    left_by-take old piece used ∙ ap (λ (t : Talk). left_by t (drop used piece)) (sym is)
+    left_by-take old piece used
+    ∙ ap (λ (t : ConnectionState). connection_after t (drop used piece)) (sym is)
 
 -- ---- what is ready
 
@@ -45,7 +50,7 @@ agreed-joined (Going connection rest) (phases.Open l) some = some
 agreed-joined (Going connection rest) phase some = tt
 agreed-joined left phase some = absurd (cc)
 
-pub sized-joined : (t : Talk) → IsSome (size_agreed t.stream) → IsJoined t
+pub sized-joined : (t : ConnectionState) → IsSome (size_agreed t.stream) → IsJoined t
 sized-joined t some = agreed-joined t.stream.left t.phase some
 
 going-joined : (old new : Left) (phase : Phase) → AreJoined old phase → IsGoing old → IsGoing new
@@ -65,78 +70,86 @@ quiet-joined s phase octets joined going quiet =
 -- ---- one doing
 
 told-some : (s : Stream) (d : Doing) (size : Option ℕ) (phase : Phase)
-    → (talk_after s (d ∷ []) size phase).indications ≡ [] → ⊥
+    → (after_doings s (d ∷ []) size phase).indications ≡ [] → ⊥
 told-some s d size phase e =
     let none : d ∷ [] ≡ [] = told-none s (d ∷ []) size phase e in
     cc
 
-one-done : (t : Talk) (octets : List ℕ) (d : Doing) → doings t.stream octets ≡ d ∷ []
-    → comes_to t octets ≡ talk_after (after t.stream octets) (d ∷ [])
+one-done : (t : ConnectionState) (octets : List ℕ) (d : Doing) → doings t.stream octets ≡ d ∷ []
+    → connection_step t octets ≡ after_doings (after t.stream octets) (d ∷ [])
     (size_agreed (after t.stream octets))
     t.phase
 one-done t octets (Delivers tsdu) e =
     let size : size_agreed (after t.stream octets) ≡ size_agreed t.stream =
     after-size t.stream octets ∙ ap (size_after (size_agreed t.stream)) e in
-    ap (λ (ds : List Doing). talk_after (after t.stream octets) ds (size_agreed t.stream) t.phase) e
-    ∙ ap (λ (z : Option ℕ). talk_after (after t.stream octets) (Delivers tsdu ∷ []) z t.phase)
+    ap (λ (ds : List Doing). after_doings (after t.stream octets) ds (size_agreed t.stream) t.phase)
+    e
+    ∙ ap (λ (z : Option ℕ). after_doings (after t.stream octets) (Delivers tsdu ∷ []) z t.phase)
     (sym size)
 one-done t octets d e =
-    ap (λ (ds : List Doing). talk_after (after t.stream octets) ds (size_agreed t.stream) t.phase) e
+    ap (λ (ds : List Doing). after_doings (after t.stream octets) ds (size_agreed t.stream) t.phase)
+    e
 
 -- ---- one feeding
 
 -- What is answered to a piece, and what is left.
-pub record FedSo (t : Talk) (piece : List ℕ) (used : ℕ) (heard : Option Indication) (new : Talk)
+pub record FedSo (t : ConnectionState) (piece : List ℕ) (used : ℕ) (heard : Option Indication)
+    (new : ConnectionState)
     : Type 0 where
   pub within : used ≤ length piece
   pub fed : Feeds t piece used heard
-  pub left : new ≡ left_by t (take used piece)
+  pub left : new ≡ connection_after t (take used piece)
 
-completes-comes : (t : Talk) (piece : List ℕ) (used : ℕ) (i : Indication)
-    → CompletesIndication t piece used i → Comes t piece used i
+completes-comes : (t : ConnectionState) (piece : List ℕ) (used : ℕ) (i : Indication)
+    → CompletesIndication t piece used i → Completes t piece used i
 completes-comes t piece used (fails code) h = (h.within, h.does)
 completes-comes t piece used i h = h
 
-quiet-told : (t : Talk) (octets : List ℕ) → doings t.stream octets ≡ []
-    → comes_to t octets ≡ record
+quiet-told : (t : ConnectionState) (octets : List ℕ) → doings t.stream octets ≡ []
+    → connection_step t octets ≡ record
     { indications = []; left = record { stream = after t.stream octets; phase = t.phase } }
 quiet-told t octets e =
-    ap (λ (ds : List Doing). talk_after (after t.stream octets) ds (size_agreed t.stream) t.phase) e
+    ap (λ (ds : List Doing). after_doings (after t.stream octets) ds (size_agreed t.stream) t.phase)
+    e
 
-record Done (t : Talk) (piece : List ℕ) (used : ℕ) (i : Indication) (new : Talk) : Type 0 where
-  comes : Comes t piece used i
-  left : new ≡ left_by t (take used piece)
+record Done (t : ConnectionState) (piece : List ℕ) (used : ℕ) (i : Indication)
+    (new : ConnectionState) : Type 0 where
+  comes : Completes t piece used i
+  left : new ≡ connection_after t (take used piece)
 
-going-done : (t : Talk) (piece : List ℕ) (used : ℕ) (d : Doing) (i : Indication) (new : Talk)
+going-done : (t : ConnectionState) (piece : List ℕ) (used : ℕ) (d : Doing) (i : Indication)
+    (new : ConnectionState)
     → feeding.CompletesDoing t.stream piece used d
-    → talk_after (after t.stream (take used piece)) (d ∷ [])
+    → after_doings (after t.stream (take used piece)) (d ∷ [])
     (size_agreed (after t.stream (take used piece)))
     t.phase ≡ record { indications = i ∷ []; left = new } → Done t piece used i new
 going-done t piece used d i new c e =
-    let all : comes_to t (take used piece) ≡ record { indications = i ∷ []; left = new } =
+    let all : connection_step t (take used piece) ≡ record { indications = i ∷ []; left = new } =
     one-done t (take used piece) d c.does ∙ e in
     record {
       comes =
           completes-comes t piece used i (record {
             moves = c.moves;
             within = c.within;
-            quiet = ap (λ (r : TalkStep). r.indications) (quiet-told t (take (used - 1) piece) c.quiet);
-            does = ap (λ (r : TalkStep). r.indications) all;
+            quiet = ap (λ (r : ConnectionStep). r.indications)
+                (quiet-told t (take (used - 1) piece) c.quiet);
+            does = ap (λ (r : ConnectionStep). r.indications) all;
           });
-      left = sym (ap (λ (r : TalkStep). r.left) all);
+      left = sym (ap (λ (r : ConnectionStep). r.left) all);
     }
 
-abbrev talk_with : ℕ → Left → Phase → Talk
+abbrev talk_with : ℕ → Left → Phase → ConnectionState
 talk_with number left phase =
     record { stream = record { number = number; left = left }; phase = phase }
 
 over-done : (number : ℕ) (phase : Phase) (piece : List ℕ) (used : ℕ) (d : Doing) (i : Indication)
-    (new : Talk) (s : Stream) → phase ≡ phases.Over → used ≡ 0 → d ≡ Ends → s.number ≡ number
-    → talk_after s (d ∷ []) (size_agreed s) phase ≡ record { indications = i ∷ []; left = new }
+    (new : ConnectionState) (s : Stream) → phase ≡ phases.Over → used ≡ 0 → d ≡ Ends
+    → s.number ≡ number
+    → after_doings s (d ∷ []) (size_agreed s) phase ≡ record { indications = i ∷ []; left = new }
     → (i ≡ ends) × (new ≡ talk_with number Over phase)
 over-done number phase piece used Ends i new s over none is same e =
-    let a : ends ∷ [] ≡ i ∷ [] = ap (λ (r : TalkStep). r.indications) e in
-    let b : talk_over s ≡ new = ap (λ (r : TalkStep). r.left) e in
+    let a : ends ∷ [] ≡ i ∷ [] = ap (λ (r : ConnectionStep). r.indications) e in
+    let b : over_state s ≡ new = ap (λ (r : ConnectionStep). r.left) e in
     let f : i ≡ ends = cc in (
       f,
       sym b ∙ ap (λ (n : ℕ). talk_with n Over phases.Over) same
@@ -145,20 +158,20 @@ over-done number phase piece used Ends i new s over none is same e =
 over-done number phase piece used d i new s over none is same e = absurd (cc)
 
 fed-some : (number : ℕ) (left : Left) (phase : Phase) (piece : List ℕ) (used : ℕ) (d : Doing)
-    (heard : Option Indication) (new : Talk) (s : Stream) → AreJoined left phase
+    (heard : Option Indication) (new : ConnectionState) (s : Stream) → AreJoined left phase
     → feeding.FeedsFrom left (record { number = number; left = left }) piece used (Some d)
     → s ≡ after (record { number = number; left = left }) (take used piece)
-    → talk_after s (d ∷ []) (size_agreed s) phase
+    → after_doings s (d ∷ []) (size_agreed s) phase
     ≡ record { indications = option_to_list heard; left = new }
     → FedSo (talk_with number left phase) piece used heard new
 fed-some number left phase piece used d None new s joined fed is e =
-    absurd (told-some s d (size_agreed s) phase (ap (λ (r : TalkStep). r.indications) e))
+    absurd (told-some s d (size_agreed s) phase (ap (λ (r : ConnectionStep). r.indications) e))
 fed-some number (Going connection rest) phase piece used d (Some i) new s joined fed is e =
-    let e' : talk_after (after (record { number = number; left = Going connection rest })
+    let e' : after_doings (after (record { number = number; left = Going connection rest })
     (take used piece)) (d ∷ [])
     (size_agreed (after (record { number = number; left = Going connection rest })
     (take used piece))) phase ≡ record { indications = i ∷ []; left = new } =
-    ap (λ (x : Stream). talk_after x (d ∷ []) (size_agreed x) phase) (sym is) ∙ e
+    ap (λ (x : Stream). after_doings x (d ∷ []) (size_agreed x) phase) (sym is) ∙ e
     in
     let done =
     going-done (talk_with number (Going connection rest) phase) piece used d i new fed e' in
@@ -175,7 +188,7 @@ fed-some number Over phase piece used d (Some i) new s joined fed is e =
 fed-some number Broken phase piece used d (Some i) new s joined fed is e = absurd joined
 
 fed-none : (number : ℕ) (left : Left) (phase : Phase) (piece : List ℕ) (used : ℕ)
-    (heard : Option Indication) (new : Talk) (s : Stream) → AreJoined left phase
+    (heard : Option Indication) (new : ConnectionState) (s : Stream) → AreJoined left phase
     → feeding.FeedsFrom left (record { number = number; left = left }) piece used None
     → s ≡ after (record { number = number; left = left }) (take used piece)
     → heard ≡ None → new ≡ record { stream = s; phase = phase }
@@ -186,16 +199,17 @@ fed-none number (Going connection rest) phase piece used heard new s joined fed 
     let quiet : doings t.stream (take used piece) ≡ [] = ap (doings t.stream) all ∙ fed.1 in
     rw none (record {
       within = omega (arith, fed.0);
-      fed = (fed.0, ap (λ (r : TalkStep). r.indications) (quiet-told t piece fed.1));
-      left = same ∙ ap (λ (x : Stream). let u : Talk = record { stream = x; phase = phase } in u) is
-          ∙ sym (ap (λ (r : TalkStep). r.left) (quiet-told t (take used piece) quiet));
+      fed = (fed.0, ap (λ (r : ConnectionStep). r.indications) (quiet-told t piece fed.1));
+      left = same ∙ ap (λ (x : Stream). let u : ConnectionState =
+          record { stream = x; phase = phase } in u) is
+          ∙ sym (ap (λ (r : ConnectionStep). r.left) (quiet-told t (take used piece) quiet));
     })
 fed-none number Over phase piece used heard new s joined fed is none same =
     absurd (let f : None ≡ Some Ends = fed.1 in cc)
 fed-none number Broken phase piece used heard new s joined fed is none same = absurd joined
 
-pub fed-got : (t : Talk) (r : Received) (got : Got) (piece : List ℕ) (used : ℕ)
-    (heard : Option Indication) (new : Talk) → IsJoined t
+pub fed-got : (t : ConnectionState) (r : Received) (got : Got) (piece : List ℕ) (used : ℕ)
+    (heard : Option Indication) (new : ConnectionState) → IsJoined t
     → feeding.Feeds t.stream piece used (doing_for got r)
     → r.stream ≡ after t.stream (take used piece)
     → TellsOf (record { stream = r.stream; phase = t.phase }) (doing_for got r) heard new
@@ -242,7 +256,8 @@ tsdu-ready number Over piece used tsdu fed =
     absurd (let f : Some (Delivers tsdu) ≡ Some Ends = fed.1 in cc)
 tsdu-ready number Broken piece used tsdu fed = absurd fed
 
-pub is-ready : (t : Talk) (r : Received) (got : Got) (piece : List ℕ) (used : ℕ) → IsJoined t
+pub is-ready : (t : ConnectionState) (r : Received) (got : Got) (piece : List ℕ) (used : ℕ)
+    → IsJoined t
     → feeding.Feeds t.stream piece used (doing_for got r)
     → r.stream ≡ after t.stream (take used piece)
     → IsReady got (record { stream = r.stream; phase = t.phase })
@@ -267,19 +282,19 @@ fault-done number (Going connection rest) phase piece fault code joined e k =
     let all : take (length piece) piece ≡ piece = take_all (length piece) piece (omega arith) in
     let q : doings t.stream (take (length piece) piece) ≡ Fails fault ∷ [] =
     ap (doings t.stream) all ∙ e in
-    let c : comes_to t (take (length piece) piece)
-    ≡ talk_after (after t.stream (take (length piece) piece)) (Fails fault ∷ [])
+    let c : connection_step t (take (length piece) piece)
+    ≡ after_doings (after t.stream (take (length piece) piece)) (Fails fault ∷ [])
     (size_agreed t.stream)
-    phase = ap (λ (ds : List Doing). talk_after (after t.stream (take (length piece) piece)) ds
+    phase = ap (λ (ds : List Doing). after_doings (after t.stream (take (length piece) piece)) ds
     (size_agreed t.stream) phase) q in
     record {
       within = omega arith;
       fed = (
         omega arith,
-        ap (λ (r : TalkStep). r.indications) c
+        ap (λ (r : ConnectionStep). r.indications) c
             ∙ ap (λ (o : Option ℕ). fails (unwrap_or o 0) ∷ []) k,
       );
-      left = sym (ap (λ (r : TalkStep). r.left) c);
+      left = sym (ap (λ (r : ConnectionStep). r.left) c);
     }
 fault-done number Over phase piece fault code joined e k = absurd (cc)
 fault-done number Broken phase piece fault code joined e k = absurd joined
@@ -288,9 +303,10 @@ joined-sound : (left : Left) (phase : Phase) → AreJoined left phase → left �
 joined-sound Broken phase joined e = joined
 joined-sound left phase joined e = cc
 
-pub fed-fault : (t : Talk) (piece : List ℕ) (fault : TransportFault) (code : ℕ) → IsJoined t
+pub fed-fault : (t : ConnectionState) (piece : List ℕ) (fault : TransportFault) (code : ℕ)
+    → IsJoined t
     → RefusesPiece t.stream piece fault → code_of fault ≡ Some code
-    → FedSo t piece (length piece) (Some (fails code)) (talk_over (broken t.stream))
+    → FedSo t piece (length piece) (Some (fails code)) (over_state (broken t.stream))
 fed-fault t piece Failed code joined refused k =
     absurd (joined-sound t.stream.left t.phase joined refused)
 fed-fault t piece OutOfMemory code joined refused k = absurd (cc)

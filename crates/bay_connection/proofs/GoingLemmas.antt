@@ -4,9 +4,9 @@ use Rattle.bay_transport.specs.Doings.{Doing, Answers, Delivers, Ends, Fails, Le
 use Rattle.bay_transport.specs.Feeding.{size_agreed, agreed_from, size_after, IsGoing}
 use Rattle.bay_transport.proofs.SizeLemmas.{after-size, delivers-size, quiet-going}
 use Rattle.bay_assoc.specs.declared.fault.AssocFault.{AssocFault}
-use Rattle.bay_assoc.specs.declared.hearing.Phase.{Phase}
-use Rattle.bay_assoc.specs.Hearing.{Hearing, answer, mms, released, aborted, hearing}
-use Rattle.bay_connection.specs.Talk.{Talk, Indication, ends, TalkStep, on_hearing, talk_after, indications, left_by}
+use Rattle.bay_assoc.specs.declared.receive.Phase.{Phase}
+use Rattle.bay_assoc.specs.Receiving.{TsduMeaning, answer, mms, released, aborted, tsdu_meaning}
+use Rattle.bay_connection.specs.ConnectionStates.{ConnectionState, Indication, ends, ConnectionStep, step_on_tsdu_result, after_doings, indications, connection_after}
 use Rattle.bay_connection.specs.Feeding.{IsContinued}
 
 -- a size is agreed only where octets are still taken
@@ -16,24 +16,25 @@ agreed-going left some = absurd (cc)
 
 -- ---- what comes to nothing has no doings
 
-hearing-some : (s : Stream) (r : Result (Hearing × Phase) AssocFault) (size : Option ℕ)
-    (later : Phase → TalkStep) → (on_hearing size s r later).indications ≡ [] → ⊥
+hearing-some : (s : Stream) (r : Result (TsduMeaning × Phase) AssocFault) (size : Option ℕ)
+    (later : Phase → ConnectionStep) → (step_on_tsdu_result size s r later).indications ≡ [] → ⊥
 hearing-some s (Ok (answer tsdu, phase)) size later e = cc
 hearing-some s r size later e = cc
 
 pub told-none : (s : Stream) (ds : List Doing) (size : Option ℕ) (phase : Phase)
-    → (talk_after s ds size phase).indications ≡ [] → ds ≡ []
+    → (after_doings s ds size phase).indications ≡ [] → ds ≡ []
 told-none s [] size phase e = refl
 told-none s (Delivers tsdu ∷ ds) size phase e =
-    absurd (hearing-some s (hearing phase tsdu) size (talk_after s ds size) e)
+    absurd (hearing-some s (tsdu_meaning phase tsdu) size (after_doings s ds size) e)
 told-none s ds size phase e = absurd (cc)
 
 quiet-left : (s : Stream) (ds : List Doing) (size : Option ℕ) (phase : Phase) → ds ≡ []
-    → (talk_after s ds size phase).left.stream ≡ s
+    → (after_doings s ds size phase).left.stream ≡ s
 quiet-left s ds size phase none = rw none refl
 
-pub nothing-going : (t : Talk) (octets : List ℕ) → IsGoing t.stream.left → indications t octets ≡ []
-    → IsGoing (left_by t octets).stream.left
+pub nothing-going : (t : ConnectionState) (octets : List ℕ) → IsGoing t.stream.left
+    → indications t octets ≡ []
+    → IsGoing (connection_after t octets).stream.left
 nothing-going t octets going none =
     let quiet : doings t.stream octets ≡ [] =
     told-none (after t.stream octets) (doings t.stream octets) (size_agreed t.stream) t.phase none
@@ -46,8 +47,8 @@ nothing-going t octets going none =
 
 -- What is left is the stream, of which a size is agreed, and so it goes on.
 going-left : (s : Stream) (ds : List Doing) (size : Option ℕ) (phase : Phase)
-    → (talk_after s ds size phase).indications ≡ [] → IsGoing s.left
-    → IsGoing (talk_after s ds size phase).left.stream.left
+    → (after_doings s ds size phase).indications ≡ [] → IsGoing s.left
+    → IsGoing (after_doings s ds size phase).left.stream.left
 going-left s ds size phase none going =
     rw (quiet-left s ds size phase (told-none s ds size phase none)) going
 
@@ -55,10 +56,12 @@ going-left s ds size phase none going =
 not-same : (j i : Indication) → j ∷ [] ≡ i ∷ [] → IsContinued i → (IsContinued j → ⊥) → ⊥
 not-same j i e goes ends_it = let same : i ≡ j = cc in ends_it (subst IsContinued same goes)
 
-hearing-going : (s : Stream) (r : Result (Hearing × Phase) AssocFault) (size : Option ℕ)
-    (later : Phase → TalkStep) (i : Indication) → (on_hearing size s r later).indications ≡ i ∷ []
+hearing-going : (s : Stream) (r : Result (TsduMeaning × Phase) AssocFault) (size : Option ℕ)
+    (later : Phase → ConnectionStep) (i : Indication)
+    → (step_on_tsdu_result size s r later).indications ≡ i ∷ []
     → IsContinued i → ((p : Phase) → (later p).indications ≡ []
-    → IsGoing (later p).left.stream.left) → IsGoing (on_hearing size s r later).left.stream.left
+    → IsGoing (later p).left.stream.left)
+    → IsGoing (step_on_tsdu_result size s r later).left.stream.left
 hearing-going s (Ok (answer tsdu, phase)) size later i e goes rest = rest phase (cc)
 hearing-going s (Ok (mms pdu, phase)) size later i e goes rest = rest phase (cc)
 hearing-going s (Ok (released tsdu, phase)) size later i e goes rest =
@@ -71,27 +74,30 @@ hearing-going s (Err fault) size later i e goes rest = absurd (not-same _ i e go
 one-going : (s : Stream) (ds : List Doing) (size : Option ℕ) (phase : Phase) (i : Indication)
     → size_agreed s ≡ size_after size ds
     → ((tsdu : List ℕ) (later : List Doing) → ds ≡ Delivers tsdu ∷ later → IsSome size)
-    → (talk_after s ds size phase).indications ≡ i ∷ [] → IsContinued i
-    → IsGoing (talk_after s ds size phase).left.stream.left
+    → (after_doings s ds size phase).indications ≡ i ∷ [] → IsContinued i
+    → IsGoing (after_doings s ds size phase).left.stream.left
 one-going s [] size phase i e delivers one goes = absurd (cc)
 one-going s (Answers n reply ∷ ds) size phase i e delivers one goes =
-    let none : (talk_after s ds (Some n) phase).indications ≡ [] = cc in
+    let none : (after_doings s ds (Some n) phase).indications ≡ [] = cc in
     let quiet : ds ≡ [] = told-none s ds (Some n) phase none in
     let size-is : size_agreed s ≡ Some n = e ∙ ap (size_after (Some n)) quiet in
     let some : IsSome (size_agreed s) = rw size-is refl in
     going-left s ds (Some n) phase none (agreed-going s.left some)
 one-going s (Delivers tsdu ∷ ds) size phase i e delivers one goes =
-    hearing-going s (hearing phase tsdu) size (talk_after s ds size) i one goes
+    hearing-going s (tsdu_meaning phase tsdu) size (after_doings s ds size) i one goes
     (λ p none.
     let quiet : ds ≡ [] = told-none s ds size p none in
     let size-is : size_agreed s ≡ size = e ∙ ap (size_after size) quiet in
     let some : IsSome (size_agreed s) = rw size-is (delivers tsdu ds refl) in
     going-left s ds size p none (agreed-going s.left some))
-one-going s (Ends ∷ ds) size phase i e delivers one goes = absurd (not-same ends i one goes (λ h. h))
-one-going s (Fails fault ∷ ds) size phase i e delivers one goes = absurd (not-same _ i one goes (λ h. h))
+one-going s (Ends ∷ ds) size phase i e delivers one goes =
+    absurd (not-same ends i one goes (λ h. h))
+one-going s (Fails fault ∷ ds) size phase i e delivers one goes =
+    absurd (not-same _ i one goes (λ h. h))
 
-pub heard-going : (t : Talk) (octets : List ℕ) (i : Indication) → indications t octets ≡ i ∷ []
-    → IsContinued i → IsGoing (left_by t octets).stream.left
+pub heard-going : (t : ConnectionState) (octets : List ℕ) (i : Indication)
+    → indications t octets ≡ i ∷ []
+    → IsContinued i → IsGoing (connection_after t octets).stream.left
 heard-going t octets i one goes =
     one-going (after t.stream octets) (doings t.stream octets) (size_agreed t.stream) t.phase i
     (after-size t.stream octets)

@@ -2,15 +2,15 @@
 use Rattle.std.proofs.Common.{◌≡◌, ℕ, ◌-◌, List, [], ◌∷◌, ◌++◌, length, drop, Option, Ok, refl, sym, ap, ◌∙◌, arith}
 use Rattle.std.proofs.lemmas.List.{length-append, drop_at}
 use Rattle.bay_transport.specs.Doings.{Delivers, Stream}
-use Rattle.bay_assoc.specs.declared.hearing.Phase.{Phase}
-use Rattle.bay_assoc.specs.Hearing.{mms, hearing}
-use Rattle.bay_connection.specs.Talk.{tells, talk_after}
+use Rattle.bay_assoc.specs.declared.receive.Phase.{Phase}
+use Rattle.bay_assoc.specs.Receiving.{mms, tsdu_meaning}
+use Rattle.bay_connection.specs.ConnectionStates.{tells, after_doings}
 
 -- ---- what is heard
 
 pub hears-pdu : (s : Stream) (size : Option ℕ) (phase next : Phase) (tsdu pdu : List ℕ)
-    → hearing phase tsdu ≡ Ok (mms pdu, next)
-    → talk_after s (Delivers tsdu ∷ []) size phase
+    → tsdu_meaning phase tsdu ≡ Ok (mms pdu, next)
+    → after_doings s (Delivers tsdu ∷ []) size phase
     ≡ record {
       indications = tells (record { size = size; phase = next }) pdu ∷ [];
       left = record { stream = s; phase = next };

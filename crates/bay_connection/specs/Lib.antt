@@ -1,20 +1,21 @@
--- Transport and association joined: what a client's bytes come to.
+-- Transport and association combined: what a client's octets complete.
 --
--- `Talk` is the main file. It takes each doing of the stream in its order, and a TSDU as the
--- association hears it in its phase. That gives an answer with the bytes to send, a PDU of MMS with
--- the terms on which it can be answered (the size of a TPDU, and the phase), a release, the end, or
--- the number of a fault. After a release, an end, an abort or a fault nothing follows. `Talk` also
--- says in which bytes a PDU is sent on such terms. A law says that what a list and a piece come to
--- is what the list comes to, and then what the piece comes to from what the list leaves.
+-- `ConnectionStates` is the main file. It maps each doing of the stream, in order, to an
+-- indication; a TSDU to that of its meaning for the association in its phase. An indication is an
+-- answer with the octets to send, a PDU of MMS with the terms on which it can be answered (the size
+-- of a TPDU, and the phase), a release, the end, or the number of a fault. Nothing follows a
+-- release, an end, an abort or a fault. `ConnectionStates` also defines the octets that send a PDU
+-- on such terms. A law proves that the indications of a list followed by a piece are those of the
+-- list, followed by those of the piece from the state after the list.
 --
--- `Feeding` ties one `feed` to this: what it answers, how many bytes it takes, what it leaves.
--- `Stack`: what the two layers hold.
+-- `Feeding` relates one `feed` to this: its indication, the number of octets it consumes, and the
+-- state after it. `Stack`: what the two layers hold.
 
--- What public clauses cite of the crates below.
-pub use Rattle.bay_assoc.specs.Hears
+-- Definitions of the crates below that public clauses cite.
+pub use Rattle.bay_assoc.specs.Receives
 pub use Rattle.bay_transport.specs.Doings
 pub use Rattle.bay_transport.specs.Feeding as StreamFeeding
--- Its own definitions.
-pub mod Talk
+-- The definitions of this crate.
+pub mod ConnectionStates
 pub mod Feeding
 pub mod Stack

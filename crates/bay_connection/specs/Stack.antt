@@ -1,66 +1,68 @@
--- What the layers of a connection hold.
+-- The layers of a connection: their state, and their invariant.
 use Rattle.std.specs.Prelude.{ℕ, ◌≡◌, ◌-◌, ◌≤◌, List, [], ◌∷◌, length, drop, Option, Some, None, option_to_list, IfSome, IsSome}
 use Rattle.bay_transport.specs.declared.fed.Got.{Got}
 use Rattle.bay_transport.specs.declared.fed.Got.TheVariants as got
 use Rattle.bay_transport.specs.Doings.{Doing, Left, Going, Over, Broken}
 use Rattle.bay_transport.specs.Feeding.{size_agreed}
-use Rattle.bay_assoc.specs.declared.hearing.Phase.{Phase}
-use Rattle.bay_assoc.specs.declared.hearing.Phase.TheVariants as phases
-use Rattle.bay_assoc.specs.Hears.{association_terms}
+use Rattle.bay_assoc.specs.declared.receive.Phase.{Phase}
+use Rattle.bay_assoc.specs.declared.receive.Phase.TheVariants as phases
+use Rattle.bay_assoc.specs.Receives.{association_terms}
 use Rattle.bay_connection.specs.declared.stack.Stack.{Stack}
-use Rattle.bay_connection.specs.Talk.{Talk, Indication, talk_after}
+use Rattle.bay_connection.specs.ConnectionStates.{ConnectionState, Indication, after_doings}
 use Rattle.bay_connection.specs.Feeding.{Client}
 
--- An open association has a size of TPDUs agreed; where the stream has ended the association is
--- over, and no stream has failed.
+-- If the association is open, a size of TPDUs is agreed; if the stream has ended, the association
+-- is over; and no stream has failed.
 abbrev pub AreJoined : Left → Phase → Type 0
 AreJoined (Going connection rest) phase =
     IfSome (association_terms phase) (λ _. IsSome connection.size)
 AreJoined Over phase = phase ≡ phases.Over
 AreJoined Broken phase = ⊥
 
--- The stream and the association of a connection fit each other.
-abbrev pub IsJoined : Talk → Type 0
+-- The stream and the association of a connection fit together.
+abbrev pub IsJoined : ConnectionState → Type 0
 IsJoined t = AreJoined t.stream.left t.phase
 
--- what the octets of a stack left
-abbrev pub talk_of : Stack → Talk
+-- the state of a stack
+abbrev pub talk_of : Stack → ConnectionState
 talk_of s = record { stream = s.transport.stream; phase = s.assoc }
 
--- a PDU of MMS stands last in the TSDU that was completed last
+-- the PDU of MMS: the last part of the TSDU that was completed last
 abbrev pub pdu_of : Stack → List ℕ
 pdu_of s = drop (length s.transport.shown - s.pdu) s.transport.shown
 
--- a stack as its user sees it
+-- the view of a stack
 abbrev pub client_of : Stack → Client
 client_of s = record { talk = talk_of s; pdu = pdu_of s }
 
--- What holds of a stack between pieces.
+-- The invariant of a stack.
 pub record IsKept (s : Stack) : Type 0 where
   pub within : s.pdu ≤ length s.transport.shown
   pub joined : IsJoined (talk_of s)
 
--- What the transport completed can be heard.
-abbrev pub IsReady : Got → Talk → Type 0
+-- What the transport completed can be handled in this state: for an answer or a TSDU, a size is
+-- agreed.
+abbrev pub IsReady : Got → ConnectionState → Type 0
 IsReady got.More t = IsJoined t
 IsReady got.Answer t = IsSome (size_agreed t.stream)
 IsReady got.Tsdu t = IsSome (size_agreed t.stream)
 IsReady got.Ended t = Unit {0}
 
--- Memory is taken for what is answered.
+-- Which results of the transport make the code allocate: those that may be answered.
 abbrev pub TakesMemory : Got → Type 0
 TakesMemory got.More = ⊥
 TakesMemory got.Answer = Unit {0}
 TakesMemory got.Tsdu = Unit {0}
 TakesMemory got.Ended = ⊥
 
--- A doing that left the first talk's stream comes to this, in its phase, and leaves the second.
-abbrev pub Tells : Talk → Doing → Option Indication → Talk → Type 0
-Tells old doing heard new =
-    talk_after old.stream (doing ∷ []) (size_agreed old.stream) old.phase
+-- A doing after which the stream is that of `old` has this indication, in the phase of `old`, and
+-- the state after it is `new`.
+abbrev pub Indicates : ConnectionState → Doing → Option Indication → ConnectionState → Type 0
+Indicates old doing heard new =
+    after_doings old.stream (doing ∷ []) (size_agreed old.stream) old.phase
     ≡ record { indications = option_to_list heard; left = new }
 
--- The same where the transport completed something; else nothing is heard, and nothing changes.
-abbrev pub TellsOf : Talk → Option Doing → Option Indication → Talk → Type 0
+-- The same, if the transport completed something; else there is no indication, and nothing changes.
+abbrev pub TellsOf : ConnectionState → Option Doing → Option Indication → ConnectionState → Type 0
 TellsOf old None heard new = (heard ≡ None) × (new ≡ old)
-TellsOf old (Some doing) heard new = Tells old doing heard new
+TellsOf old (Some doing) heard new = Indicates old doing heard new

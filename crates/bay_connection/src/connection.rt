@@ -1,23 +1,23 @@
-// A connection as its user sees it.
+// The connection of one client, for its user.
 ghost use Rattle.std.specs.Prelude.{◌≡◌, ◌<◌, ◌≤◌, ◌↔◌, [], IfOk, IfSome, IsSome, IsTrue, OnErr, length, take};
 ghost use Rattle.bay_transport.specs.Doings.{start};
 ghost use Rattle.bay_transport.specs.Feeding.{IsGoing, size_agreed};
-ghost use Rattle.bay_initiate.specs.Sizes.{IsPduSize};
-ghost use Rattle.bay_assoc.specs.Hears.{association_terms};
-ghost use Rattle.bay_connection.specs.Talk.{talk_over, terms_of, data_tpdus, left_by, sending};
+ghost use Rattle.bay_mms_initiate.specs.Sizes.{IsPduSize};
+ghost use Rattle.bay_assoc.specs.Receives.{association_terms};
+ghost use Rattle.bay_connection.specs.ConnectionStates.{over_state, terms_of, data_tpdus, connection_after, sending};
 ghost use Rattle.bay_connection.specs.Feeding.{Feeds, indication_of, IsOpenFor, LendsOnly};
 
-use crate::heard::Fed;
+use crate::indication::FeedResult;
 use crate::stack::Stack;
 use bay_assoc::assoc::Assoc;
-use bay_assoc::hearing::Phase;
+use bay_assoc::receive::Phase;
 use bay_ber::outgoing::Outgoing;
 use bay_transport::transport::Transport;
 use std::alloc::{AllocError, Global};
 use std::marker::Model;
 
-/// One client, on the association with a number. Contracts see it as what its octets leave (of the
-/// stream, and the phase of the association) and the last received PDU of MMS.
+/// The connection of one client, whose association has a number. Contracts view it as its state (of
+/// the stream, and the phase of the association) and the PDU of MMS that was received last.
 #[derive(Drop)]
 pub struct Connection {
     stack: Stack,
@@ -35,8 +35,8 @@ impl Model for Connection {
 }
 
 impl Connection {
-    /// Creates a connection before its first octet. The number is sent as the reference of this
-    /// side (X.224 13.4).
+    /// Creates a connection before its first octet. The number is the number of the association,
+    /// sent as the reference of this side (X.224 13.4).
     pub fn new(alloc: Global, number: u16) -> Connection
         ensures { result ≡ record {
           talk = record {
@@ -56,30 +56,30 @@ impl Connection {
         }
     }
 
-    /// Takes the octets of the piece up to the end of the first thing that they complete, and
-    /// returns what that is. The caller feeds the remaining octets again. Takes all octets if they
-    /// complete nothing.
+    /// Consumes octets of the piece up to the end of the first message that they complete, and
+    /// returns what it is. The caller feeds the remaining octets again. If the octets complete
+    /// nothing, consumes all of them. Fails only if an allocation fails.
     ///
-    /// A release, an end, an abort and a fault are final: the buffers are freed, and from then on
-    /// the connection takes no octet and returns `Ended`. The same holds after an allocation
-    /// failed. Until then it keeps at most 70,000 octets of an unfinished TSDU, an unfinished
-    /// frame, and 70,000 octets of the last complete TSDU.
-    pub fn feed(&mut self, piece: &[u8]) -> Result<Fed, AllocError>
+    /// A release, an end, an abort, a fault and a failed allocation are final: the buffers are
+    /// freed, and from then on the connection consumes no octet and returns `Ended`. Until then it
+    /// buffers at most 70,000 octets of an unfinished TSDU, an unfinished frame, and 70,000 octets
+    /// of the last complete TSDU.
+    pub fn feed(&mut self, piece: &[u8]) -> Result<FeedResult, AllocError>
         ensures within { IfOk result (λ fed. fed.used ≤ length piece.now) }
-        // What is answered is what the piece comes to first, and what is left is what the octets
-        // that were taken leave.
+        // The result is the first indication of the piece, and the new state is the one after the
+        // consumed octets.
         ensures fed { IfOk result
             (λ fed. Feeds self.old.talk piece.now fed.used (indication_of fed.heard self.new)) }
         ensures left { IfOk result
-            (λ fed. self.new.talk ≡ left_by self.old.talk (take fed.used piece.now)) }
-        // A PDU is heard where it can be answered.
+            (λ fed. self.new.talk ≡ connection_after self.old.talk (take fed.used piece.now)) }
+        // A PDU is returned only if the association is open, so that it can be answered.
         ensures open { IfOk result (λ fed. IsOpenFor fed.heard self.new.talk.phase) }
         ensures lent { IfOk result (λ fed. LendsOnly fed.heard self.new.pdu) }
-        // Memory is wanting only where octets are still taken and some came, and then the
-        // connection is over.
+        // An allocation fails only if octets are still accepted and the piece has some, and then
+        // the connection is over.
         ensures memory { OnErr result
             (IsGoing self.old.talk.stream.left × (0 < length piece.now)) }
-        ensures over { OnErr result (self.new.talk ≡ talk_over self.old.talk.stream) }
+        ensures over { OnErr result (self.new.talk ≡ over_state self.old.talk.stream) }
     {
         match self.stack.feed(piece) {
             Ok(fed) => Ok(fed),
@@ -90,7 +90,7 @@ impl Connection {
         }
     }
 
-    /// Returns the PDU of MMS that the last `feed` completed; empty if it completed something else.
+    /// Returns the PDU of MMS that the last `feed` completed; empty if it completed none.
     pub fn pdu(&self) -> &[u8]
         ensures { result.now ≡ self.now.pdu }
     {
@@ -116,8 +116,8 @@ impl Connection {
         self.stack.assoc.pdu_size()
     }
 
-    // The frames of a TSDU; where it is one frame and there is room, its header is written in
-    // front.
+    // Returns the frames of a TSDU. If one frame holds it and there is headroom, writes the header
+    // before it.
     fn frames(&self, mut tsdu: Outgoing) -> Result<Outgoing, AllocError>
         requires { IsSome (size_agreed self.now.talk.stream) }
         ensures { IfOk result (λ octets. octets
@@ -132,14 +132,14 @@ impl Connection {
         Ok(Outgoing::new(octets))
     }
 
-    /// Returns the octets that send a PDU of MMS: a TSDU in the context of MMS, in data TPDUs of
-    /// the agreed size. Copies nothing if one TPDU holds it and there is room in front of the PDU.
-    /// The association must be open.
+    /// Returns the octets to send for a PDU of MMS: a TSDU in the context of MMS, in data TPDUs of
+    /// the agreed size. Copies nothing if one TPDU holds the TSDU and the PDU has enough headroom.
+    /// The association must be open. Fails only if an allocation fails.
     pub fn send(&self, mut pdu: Outgoing) -> Result<Outgoing, AllocError>
         requires { IsSome (association_terms self.now.talk.phase) }
         ensures { IfOk result (λ octets. octets ≡ sending (terms_of self.now.talk) pdu) }
     {
-        let front = self.stack.assoc.front(pdu.as_slice());
+        let front = self.stack.assoc.data_prefix(pdu.as_slice());
         if pdu.front(front.as_slice()) {
             return self.frames(pdu);
         }

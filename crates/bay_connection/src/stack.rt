@@ -1,36 +1,37 @@
-// The layers of a connection: octets become TSDUs in the transport, and TSDUs are heard by the
-// association.
+// The layers of a connection: the transport assembles octets into TSDUs, and the association reads
+// TSDUs.
 ghost use Rattle.std.specs.Prelude.{◌≡◌, ◌<◌, ◌≤◌, [], Some, IfOk, IsSome, OnErr, OnOk, length, take};
 ghost use Rattle.bay_transport.specs.Doings.{Delivers};
 ghost use Rattle.bay_transport.specs.Feeding.{IsGoing, size_agreed, doing_for};
-ghost use Rattle.bay_connection.specs.Talk.{answers, talk_over, data_tpdus, left_by};
+ghost use Rattle.bay_connection.specs.ConnectionStates.{answers, over_state, data_tpdus, connection_after};
 ghost use Rattle.bay_connection.specs.Feeding.{Feeds, indication_of, IsOpenFor, LendsOnly};
-ghost use Rattle.bay_connection.specs.Stack.{talk_of, pdu_of, client_of, IsKept, IsReady, TakesMemory, Tells, TellsOf};
+ghost use Rattle.bay_connection.specs.Stack.{talk_of, pdu_of, client_of, IsKept, IsReady, TakesMemory, Indicates, TellsOf};
 
-use crate::heard::{Fed, Indication};
+use crate::indication::{FeedResult, Indication};
 use bay_assoc::assoc::Assoc;
 use bay_assoc::fault::AssocFault;
-use bay_assoc::hearing;
+use bay_assoc::receive;
 use bay_transport::fault::TransportFault;
 use bay_transport::fed::Got;
 use bay_transport::transport::Transport;
 use std::alloc::{AllocError, Global};
 
-/// The two layers, and what was received last.
+/// The two layers, and the length of the PDU that was received last.
 #[derive(Drop)]
 pub struct Stack {
     pub(crate) alloc: Global,
     pub(crate) transport: Transport,
     pub(crate) assoc: Assoc,
-    // How many octets of what the transport shows are a PDU of MMS; they are the last ones.
+    // The number of octets of the PDU of MMS, which is the last part of the TSDU that the transport
+    // shows; 0 if there is none.
     pub(crate) pdu: usize,
 }
 
 impl Stack {
-    /// Ends both layers: takes no more octets, and frees their buffers.
+    /// Closes both layers: accepts no more octets, and frees the buffers.
     pub(crate) fn close(&mut self)
         ensures kept { IsKept self.new }
-        ensures closed { talk_of self.new ≡ talk_over self.old.transport.stream }
+        ensures closed { talk_of self.new ≡ over_state self.old.transport.stream }
         ensures nothing { pdu_of self.new ≡ [] }
     {
         self.pdu = 0;
@@ -38,7 +39,7 @@ impl Stack {
         self.assoc.end();
     }
 
-    // What is answered to a request that the association heard, in the TPDUs of the transport.
+    // Returns the TPDUs of the association's answer to a request.
     fn wrapped(&self, tsdu: &[u8]) -> Result<Vec<u8>, AllocError>
         requires { IsSome (size_agreed self.now.transport.stream) }
         ensures { IfOk result (λ octets. octets.items
@@ -47,13 +48,13 @@ impl Stack {
         self.transport.wrap(&[], tsdu)
     }
 
-    // What the association hears of the TSDU that the transport shows.
+    // Passes the TSDU that the transport shows to the association, and returns its indication.
     fn hear(&mut self) -> Result<Indication, AllocError>
         requires agreed { IsSome (size_agreed self.old.transport.stream) }
         requires nothing { self.old.pdu ≡ 0 }
         ensures kept { OnOk result (IsKept self.new) }
         ensures told { IfOk result
-            (λ heard. Tells (talk_of self.old) (Delivers self.old.transport.shown)
+            (λ heard. Indicates (talk_of self.old) (Delivers self.old.transport.shown)
             (indication_of heard (client_of self.new)) (talk_of self.new)) }
         ensures number { self.new.transport.stream.number ≡ self.old.transport.stream.number }
         ensures open { IfOk result (λ heard. IsOpenFor heard self.new.assoc) }
@@ -61,20 +62,20 @@ impl Stack {
     {
         let tsdu = self.transport.shown();
         match self.assoc.on_tsdu(tsdu) {
-            Ok(hearing::Heard::Answer(octets)) => {
+            Ok(receive::Heard::Answer(octets)) => {
                 let frames = self.wrapped(octets.as_slice())?;
                 Ok(Indication::Answer(frames))
             }
-            Ok(hearing::Heard::Mms(pdu)) => {
+            Ok(receive::Heard::Mms(pdu)) => {
                 self.pdu = pdu.len();
                 Ok(Indication::Mms)
             }
-            Ok(hearing::Heard::Released(octets)) => {
+            Ok(receive::Heard::Released(octets)) => {
                 let frames = self.wrapped(octets.as_slice())?;
                 self.close();
                 Ok(Indication::Released(frames))
             }
-            Ok(hearing::Heard::Aborted) => {
+            Ok(receive::Heard::Aborted) => {
                 self.close();
                 Ok(Indication::Ended)
             }
@@ -89,7 +90,7 @@ impl Stack {
         }
     }
 
-    // The answer to a request for a connection.
+    // Returns the transport's answer to a request for a connection.
     fn answer(&self) -> Result<Indication, AllocError>
         requires { self.now.pdu ≡ 0 }
         ensures answer { IfOk result (λ heard. indication_of heard (client_of self.now)
@@ -100,7 +101,7 @@ impl Stack {
         Ok(Indication::Answer(octets))
     }
 
-    // What is heard of what the transport completed.
+    // Returns the indication of what the transport completed.
     fn heard(&mut self, got: Got) -> Result<Indication, AllocError>
         requires ready { IsReady got (talk_of self.old) }
         requires nothing { self.old.pdu ≡ 0 }
@@ -124,8 +125,9 @@ impl Stack {
         }
     }
 
-    /// Takes octets of the piece up to the end of what completes something, or all of them.
-    pub(crate) fn feed(&mut self, piece: &[u8]) -> Result<Fed, AllocError>
+    /// Consumes octets of the piece up to the end of the first thing that they complete, or all of
+    /// them.
+    pub(crate) fn feed(&mut self, piece: &[u8]) -> Result<FeedResult, AllocError>
         requires { IsKept self.old }
         ensures kept { OnOk result (IsKept self.new) }
         ensures within { IfOk result (λ fed. fed.used ≤ length piece.now) }
@@ -133,7 +135,8 @@ impl Stack {
             (λ fed. Feeds (talk_of self.old) piece.now fed.used
             (indication_of fed.heard (client_of self.new))) }
         ensures left { IfOk result
-            (λ fed. talk_of self.new ≡ left_by (talk_of self.old) (take fed.used piece.now)) }
+            (λ fed. talk_of self.new
+            ≡ connection_after (talk_of self.old) (take fed.used piece.now)) }
         ensures memory { OnErr result
             (IsGoing self.old.transport.stream.left × (0 < length piece.now)) }
         ensures number { self.new.transport.stream.number ≡ self.old.transport.stream.number }
@@ -144,7 +147,7 @@ impl Stack {
         match self.transport.feed(piece) {
             Ok(fed) => {
                 let heard = self.heard(fed.got)?;
-                Ok(Fed {
+                Ok(FeedResult {
                     used: fed.used,
                     heard,
                 })
@@ -155,7 +158,7 @@ impl Stack {
                     unreachable!();
                 };
                 self.close();
-                Ok(Fed {
+                Ok(FeedResult {
                     used: piece.len(),
                     heard: Indication::Fault(code),
                 })

@@ -1,8 +1,9 @@
--- What is seen of the controls of a bay from outside: what was done, and whether it was accepted.
+-- The requests on the controls of a bay as an outside observer sees them: what was done, and
+-- whether it was accepted.
 use Rattle.std.specs.Prelude.{ℕ, Bool}
 use Rattle.bay_control.specs.declared.request.Choice.{Choice}
 
--- ---- own: what is seen from outside
+-- ---- own: acts and entries
 
 -- an association a is opened or closed, or it selects, operates or cancels a switch k
 pub data Act : Type 0 where
@@ -13,7 +14,7 @@ pub data Act : Type 0 where
   Operate : (a k : ℕ) (choice : Choice) → Act
   Cancel : (a k : ℕ) → Act
 
--- an act, its moment, and whether it was accepted; so are openings and closings
+-- an act, its time, and whether it was accepted; opening and closing always are
 pub record Entry : Type 0 where
   pub now : ℕ
   pub act : Act

@@ -1,5 +1,5 @@
--- When an accepted operate is backed by a select (IEC 61850-7-2, 20). It is said of what is seen
--- from outside alone, and never of what the controls keep.
+-- When an accepted operate is backed by a select (IEC 61850-7-2, 20). The definitions use only what
+-- an outside observer sees, not the state of the controls.
 use Rattle.std.specs.Prelude.{ℕ, ◌+◌, ◌<◌, ◌≡◌, Bool, true, false, not, ◌&&◌, ◌==◌, List, [], ◌∷◌, ◌++◌, All, Option, None, Some}
 use Rattle.bay_control.specs.Acts.{Act, Opened, Closed, Select, SelectWith, Operate, Cancel, Entry}
 use Rattle.bay_control.specs.Requests.{control_of, is_enhanced, is_sbo}
@@ -17,7 +17,7 @@ selects a k (SelectWith b j choice) = a == b && k == j
 selects a k (Operate b j choice) = false
 selects a k (Cancel b j) = false
 
--- what a select with value asked for (own)
+-- the operation and the originator that a select with value requested (own)
 abbrev pub choice_of : Act → Option Choice
 choice_of (Opened b) = None
 choice_of (Closed b) = None
@@ -30,8 +30,8 @@ choice_of (Cancel b j) = None
 abbrev pub grants : ℕ → ℕ → Entry → Bool
 grants a k e = selects a k e.act && e.is_accepted
 
--- what undoes an earlier select of switch k by association a: a was opened or closed, a select of
--- another switch or by another association was granted, an operate of k by a was attempted, a
+-- the act undoes an earlier select of switch k by association a: a was opened or closed, a select
+-- of another switch or by another association was granted, an operate of k by a was attempted, or a
 -- cancel of k by a was accepted
 abbrev pub undoes_by : ℕ → ℕ → Bool → Act → Bool
 undoes_by a k is_accepted (Opened b) = a == b
@@ -41,19 +41,19 @@ undoes_by a k is_accepted (SelectWith b j choice) = is_accepted && not (a == b &
 undoes_by a k is_accepted (Operate b j choice) = a == b && k == j
 undoes_by a k is_accepted (Cancel b j) = is_accepted && (a == b && k == j)
 
--- the entry ends what an association had selected of the switch
+-- the entry undoes an earlier select of switch k by association a
 abbrev pub undoes : ℕ → ℕ → Entry → Bool
 undoes a k e = undoes_by a k e.is_accepted e.act
 
--- With enhanced security the select is the last one that was granted, and asked for the same
--- position and originator.
+-- With enhanced security the select is the last one that was granted to the association for the
+-- switch, and it requested the same operation and originator.
 pub record IsMatched (a k : ℕ) (choice : Choice) (select : Entry) (between : List Entry)
     : Type 0 where
   pub last : All (λ (e : Entry). grants a k e ≡ false) between
   pub same : choice_of select.act ≡ Some choice
 
--- An operate of switch k by association a at a moment is backed by what was before: a select of k
--- by a was granted, nothing between the two undid it, and its time is not over.
+-- An operate of switch k by association a at a time is backed by the entries before it: a select of
+-- k by a was granted, no later entry undid it, and it has not expired.
 pub record IsBacked (controls : List SwitchControl) (a k : ℕ) (choice : Choice) (now : ℕ)
     (before : List Entry) : Type 0 where
   pub earlier : List Entry
@@ -66,8 +66,8 @@ pub record IsBacked (controls : List SwitchControl) (a k : ℕ) (choice : Choice
   pub matched : is_enhanced (control_of controls k).model ≡ true
       → IsMatched a k choice select between
 
--- Each accepted operate of an SBO switch among these entries, which follow on a past, is backed by
--- what was before it.
+-- Each accepted operate of an SBO switch among these entries is backed by the entries before it,
+-- including those of the past.
 abbrev pub AreBackedAfter : List SwitchControl → List Entry → List Entry → Type 0
 AreBackedAfter controls past entries =
     (before after : List Entry) (now a k : ℕ) (choice : Choice)
@@ -75,6 +75,6 @@ AreBackedAfter controls past entries =
     → is_sbo (control_of controls k).model ≡ true
     → IsBacked controls a k choice now (past ++ before)
 
--- Each accepted operate of an SBO switch is backed by what was before it.
+-- Each accepted operate of an SBO switch is backed by the entries before it.
 abbrev pub AreBacked : List SwitchControl → List Entry → Type 0
 AreBacked controls entries = AreBackedAfter controls [] entries

@@ -1,5 +1,5 @@
--- The decisions on select, operate and cancel (IEC 61850-7-2, 20): their answers, and the controls
--- after them.
+-- The decisions on select, operate and cancel (IEC 61850-7-2, 20): their answers, and the state of
+-- the controls after them.
 use Rattle.std.specs.Prelude.{ℕ, ◌+◌, Bool, false, not, ◌&&◌, ◌||◌, ◌==◌, nat_le, if◌then◌else◌, List, [], ◌∷◌, map, Option, None, Some, Result, Ok, Err, is_ok}
 use Rattle.bay_nodes.specs.declared.switch.Operation.{Operation}
 use Rattle.bay_nodes.specs.declared.switch.Switch.{Switch}
@@ -17,19 +17,19 @@ use Rattle.bay_control.specs.declared.selection.Selection.{Selection}
 
 -- ---- own: the controls of a bay
 
--- the controls of a bay: what its file says of each switch, the selected switch and the operating
--- one
+-- the state of the controls of a bay: the settings of each switch from the bay file, the selected
+-- switch and the operating switch
 pub record State : Type 0 where
   pub controls : List SwitchControl
   pub selection : Option Selection
   pub execution : Option Execution
 
--- the controls of which the file says this, with what the code keeps of them
+-- the state with these settings and the selection and the execution of the code
 abbrev pub state_of : List SwitchControl → Controls → State
 state_of controls kept =
     record { controls = controls; selection = kept.selection; execution = kept.execution }
 
--- what the bay file says of a switch's control
+-- the settings of a switch's control, from the bay file
 abbrev pub control_in : Switch → SwitchControl
 control_in switch =
     record {
@@ -38,23 +38,23 @@ control_in switch =
       travel_ms = switch.travel_ms;
     }
 
--- what each switch has of its control
+-- the settings of each switch's control
 abbrev pub controls_of : List Switch → List SwitchControl
 controls_of switches = map control_in switches
 
--- nothing is selected, and no switch operates
+-- no selection and no execution
 abbrev pub initial : List SwitchControl → State
 initial controls = record { controls = controls; selection = None; execution = None }
 
--- ---- IEC 61850-7-2 20: what has run out
+-- ---- IEC 61850-7-2 20: expiry
 
--- the selection at a moment: it ends where its time is over
+-- the selection at a time: none if it has expired
 abbrev pub selection_at : ℕ → List SwitchControl → Option Selection → Option Selection
 selection_at now controls None = None
 selection_at now controls (Some s) =
     if nat_le (s.since + (control_of controls s.switch).sbo_timeout_ms) now then None else Some s
 
--- the execution's time is over
+-- the execution has expired
 abbrev pub is_over_at : ℕ → List SwitchControl → Execution → Bool
 is_over_at now controls e = nat_le (e.start + (control_of controls e.switch).travel_ms) now
 
@@ -62,12 +62,12 @@ abbrev pub execution_at : ℕ → List SwitchControl → Option Execution → Op
 execution_at now controls None = None
 execution_at now controls (Some e) = if is_over_at now controls e then None else Some e
 
--- the switch whose execution has run out
+-- the switch whose execution has expired
 abbrev pub run_out : ℕ → List SwitchControl → Option Execution → Option ℕ
 run_out now controls None = None
 run_out now controls (Some e) = if is_over_at now controls e then Some e.switch else None
 
--- the controls without what has run out
+-- the state without what has expired
 abbrev pub controls_at : ℕ → State → State
 controls_at now s =
     record s {
@@ -82,7 +82,7 @@ abbrev pub is_selected_by : ℕ → ℕ → Option Selection → Bool
 is_selected_by a k None = false
 is_selected_by a k (Some s) = s.association == a && s.switch == k
 
--- another association has
+-- another association has selected the switch
 abbrev pub is_selected_by_other : ℕ → ℕ → Option Selection → Bool
 is_selected_by_other a k None = false
 is_selected_by_other a k (Some s) = not (s.association == a) && s.switch == k
@@ -92,43 +92,44 @@ abbrev pub other_is_selected : ℕ → Option Selection → Bool
 other_is_selected k None = false
 other_is_selected k (Some s) = not (s.switch == k)
 
--- a select with value asked for the same
+-- a select with value requested the same operation and originator
 abbrev pub is_choice : Choice → Option Choice → Bool
 is_choice c None = false
 is_choice c (Some d) = same_choice c d
 
--- what is asked for is what was selected with it
+-- the selection was granted for this operation and originator
 abbrev pub is_chosen : Choice → Option Selection → Bool
 is_chosen c None = false
 is_chosen c (Some s) = is_choice c s.choice
 
--- this switch operates
+-- this switch is operating
 abbrev pub is_executing : ℕ → Option Execution → Bool
 is_executing k None = false
 is_executing k (Some e) = e.switch == k
 
--- another switch than this operates
+-- another switch is operating
 abbrev pub other_is_executing : ℕ → Option Execution → Bool
 other_is_executing k None = false
 other_is_executing k (Some e) = not (e.switch == k)
 
 -- ---- IEC 61850-7-2 20: the table of checks
 
--- a check that refuses where it holds, with its cause (own)
+-- a row of the table of checks: if its test is true, it refuses with its cause (own)
 pub record Row : Type 0 where
   pub refuses : Bool
   pub cause : AddCause
 
--- a row of a table of refusals: where its test is true it refuses with its cause (own)
+-- a row with this test and this cause (own)
 abbrev pub row : Bool → AddCause → Row
 row refuses cause = record { refuses = refuses; cause = cause }
 
--- the first row that refuses gives the answer; where none does, the request is accepted (own)
+-- the answer is the cause of the first row that refuses; if none does, the request is accepted
+-- (own)
 abbrev pub answer_of : List Row → Result (Unit {0}) AddCause
 answer_of [] = Ok tt
 answer_of (r ∷ rows) = if r.refuses then Err r.cause else answer_of rows
 
--- the rows that a select with value shares with one without
+-- the rows that a select and a select with value have in common, then more
 abbrev pub select_rows : Bool → ℕ → ℕ → State → List Row → List Row
 select_rows is_supported a k s more =
     row (not is_supported) NotSupported
@@ -137,23 +138,24 @@ select_rows is_supported a k s more =
     ∷ row (other_is_selected k s.selection) OneOfNControl
     ∷ more
 
--- what refuses a select, in the order of its judging
+-- the checks of a select, in their order
 abbrev pub rows_of_select : ℕ → ℕ → State → List Row
 rows_of_select a k s = select_rows (is_normal (control_of s.controls k).model) a k s []
 
--- what refuses a select with value
+-- the checks of a select with value
 abbrev pub rows_of_select_with : ℕ → ℕ → Ask → State → List Row
 rows_of_select_with a k ask s =
     select_rows (is_enhanced (control_of s.controls k).model) a k s
     (row ask.test BlockedByMode ∷ [])
 
--- the association has not selected the switch, or has selected it with value for something else
+-- a client must select the switch first, and the association has not selected it, or has selected
+-- it with value for another operation or originator
 abbrev pub is_unselected : SwitchControl → ℕ → ℕ → Choice → Option Selection → Bool
 is_unselected c a k choice selection =
     is_sbo c.model && not (is_selected_by a k selection
     && (not (is_enhanced c.model) || is_chosen choice selection))
 
--- what refuses an operate
+-- the checks of an operate
 abbrev pub rows_of_operate : ℕ → ℕ → Ask → View → State → List Row
 rows_of_operate a k ask view s =
     let c = control_of s.controls k in
@@ -168,7 +170,7 @@ rows_of_operate a k ask view s =
     ∷ row (not (is_released ask.operation view)) BlockedByInterlocking
     ∷ []
 
--- what refuses a cancel
+-- the checks of a cancel
 abbrev pub rows_of_cancel : ℕ → ℕ → State → List Row
 rows_of_cancel a k s =
     row (not (is_sbo (control_of s.controls k).model)) NotSupported
@@ -176,14 +178,14 @@ rows_of_cancel a k s =
     ∷ row (not (is_selected_by a k s.selection)) ObjectNotSelected
     ∷ []
 
--- ---- IEC 61850-7-2 20: answers, and the controls after them: what has run out counts as ended
+-- ---- IEC 61850-7-2 20: answers, and the state after them; what has expired counts as ended
 
--- a decision: what it answers, and the controls after it (own)
+-- a decision: its answer, and the state after it (own)
 pub record Outcome : Type 0 where
   pub answer : Result (Unit {0}) AddCause
   pub after : State
 
--- a select of either kind, which where it is not refused begins a selection
+-- a select of either kind; if it is accepted, a selection begins
 abbrev pub select_of : ℕ → ℕ → ℕ → Option Choice → Result (Unit {0}) AddCause → State → Outcome
 select_of a k now choice answer s = record {
   answer = answer;
@@ -219,7 +221,7 @@ abbrev pub operate_outcome : ℕ → ℕ → Ask → View → ℕ → State → 
 operate_outcome a k ask view now s = let t = controls_at now s in
     operate_of a k ask.operation now (answer_of (rows_of_operate a k ask view t)) t
 
--- a cancel, which where it is not refused ends the selection
+-- a cancel; if it is accepted, it ends the selection
 abbrev pub cancel_of : Result (Unit {0}) AddCause → State → Outcome
 cancel_of answer s =
     record {
@@ -231,28 +233,28 @@ abbrev pub cancel_outcome : ℕ → ℕ → ℕ → State → Outcome
 cancel_outcome a k now s = let t =
     controls_at now s in cancel_of (answer_of (rows_of_cancel a k t)) t
 
--- ---- IEC 61850-7-2 20: what ends without a request
+-- ---- IEC 61850-7-2 20: ends without a request
 
--- the selection without that of an association
+-- the selection, unless it is that of this association
 abbrev pub selection_without : ℕ → Option Selection → Option Selection
 selection_without a None = None
 selection_without a (Some s) = if s.association == a then None else Some s
 
--- an association is closed, which ends its selection
+-- the closing of an association ends its selection
 abbrev pub without_association : ℕ → State → State
 without_association a s = record s { selection = selection_without a s.selection }
 
--- a contact tells that the execution is done
+-- a reported position completes the execution
 abbrev pub is_done : ℕ → Dbpos → Option Execution → Bool
 is_done k position None = false
 is_done k position (Some e) = e.switch == k && is_reached e.operation position
 
--- a switch that reaches the position which it was told to reach operates no more
+-- if a switch reaches the position that its operation leads to, its execution ends
 abbrev pub after_contact : ℕ → Dbpos → State → State
 after_contact k position s =
     record s { execution = if is_done k position s.execution then None else s.execution }
 
--- ---- IEC 61850-7-3 stSeld: what is shown
+-- ---- IEC 61850-7-3 stSeld: the selected switch
 
 -- the switch of a selection
 abbrev pub selected_switch : Option Selection → Option ℕ

@@ -1,4 +1,4 @@
--- What happens to the controls of a bay, what it comes to, and what of it is seen from outside.
+-- Calls of the controls of a bay, their decisions, and the entries that an outside observer sees.
 use Rattle.std.specs.Prelude.{ℕ, ◌≡◌, Bool, true, not, ◌&&◌, ◌||◌, ◌==◌, List, [], ◌∷◌, ◌++◌, Option, None, Some, Ok, is_ok}
 use Rattle.bay_tree.specs.declared.leaf.Dbpos.{Dbpos}
 use Rattle.bay_control.specs.Acts.{Act, Entry}
@@ -8,10 +8,10 @@ use Rattle.bay_control.specs.Requests.{asked_choice}
 use Rattle.bay_control.specs.declared.request.Ask.{Ask}
 use Rattle.bay_control.specs.declared.request.View.{View}
 
--- ---- own: what happens to controls
+-- ---- own: calls and their entries
 
--- the calls of the controls: an association a is opened or closed, or asks for something on a
--- switch k; a contact of a switch comes; time alone passes
+-- the calls of the controls: an association a is opened or closed, or it requests something of a
+-- switch k; the process reports the position of a switch; time passes
 pub data Call : Type 0 where
   Open : (a : ℕ) → Call
   Close : (a : ℕ) → Call
@@ -22,12 +22,12 @@ pub data Call : Type 0 where
   Contact : (k : ℕ) (position : Dbpos) → Call
   Advance : Call
 
--- a call at a moment
+-- a call at a time
 pub record Happening : Type 0 where
   pub now : ℕ
   pub call : Call
 
--- what is no request is accepted
+-- a call that is not a request is accepted
 abbrev pub no_request : State → Outcome
 no_request s = record { answer = Ok tt; after = s }
 
@@ -42,7 +42,8 @@ outcome_of (Cancel a k) now s = cancel_outcome a k now s
 outcome_of (Contact k position) now s = no_request (after_contact k position s)
 outcome_of Advance now s = no_request (controls_at now s)
 
--- what is seen of a call: neither what the decision sees of the switch, nor contacts and time
+-- what an outside observer sees of a call: neither the view on which the decision depends, nor
+-- positions and time
 abbrev pub act_of : Call → Option Act
 act_of (Open a) = Some (act.Opened a)
 act_of (Close a) = Some (act.Closed a)
@@ -53,27 +54,27 @@ act_of (Cancel a k) = Some (act.Cancel a k)
 act_of (Contact k position) = None
 act_of Advance = None
 
--- what a call that asks for something tells, accepted or not
+-- the entries of a call: one if it has an act, accepted or not
 abbrev pub entries_of : ℕ → Option Act → Bool → List Entry
 entries_of now None is_accepted = []
 entries_of now (Some act) is_accepted =
     record { now = now; act = act; is_accepted = is_accepted } ∷ []
 
--- what is seen of a list of happenings
+-- the entries of a list of happenings
 abbrev pub history : List Happening → State → List Entry
 history [] s = []
 history (h ∷ hs) s =
     let o = outcome_of h.call h.now s in
     entries_of h.now (act_of h.call) (is_ok o.answer) ++ history hs o.after
 
--- the controls after a list of happenings
+-- the state after a list of happenings
 abbrev pub after_all : List Happening → State → State
 after_all [] s = s
 after_all (h ∷ hs) s = after_all hs (outcome_of h.call h.now s).after
 
 -- ---- own: which associations are open
 
--- only a closed association is opened, and only an open one is closed or asks for something
+-- only a closed association is opened, and only an open one is closed or requests something
 abbrev pub is_orderly_call : (ℕ → Bool) → Call → Bool
 is_orderly_call is_open (Open a) = not (is_open a)
 is_orderly_call is_open (Close a) = is_open a
@@ -100,15 +101,15 @@ AreOrderly is_open [] = Unit {0}
 AreOrderly is_open (h ∷ hs) =
     (is_orderly_call is_open h.call ≡ true) × AreOrderly (is_open_after is_open h.call) hs
 
--- the association is open behind these
+-- whether an association is open after these happenings
 abbrev pub is_open_after_all : (ℕ → Bool) → List Happening → ℕ → Bool
 is_open_after_all is_open [] b = is_open b
 is_open_after_all is_open (h ∷ hs) b = is_open_after_all (is_open_after is_open h.call) hs b
 
 -- ---- own: runs of the controls
 
--- Some happenings lead controls from one state to another, and these entries are seen of them;
--- which associations are open before and after goes with them.
+-- Some list of happenings leads the controls from one state to another and has these entries; it
+-- also leads from the associations that are open before to those that are open after.
 pub record Leads (entries : List Entry) (open_before : ℕ → Bool) (before : State)
     (open_after : ℕ → Bool) (after : State) : Type 0 where
   pub happened : List Happening

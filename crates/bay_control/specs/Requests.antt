@@ -1,5 +1,5 @@
--- What a bay file says of a switch's control, what is asked for and what is seen, as tests (IEC
--- 61850-7-2, 20; IEC 61850-7-3: ctlModel, Originator, Dbpos).
+-- The tests of a switch's control, of a request and of a view (IEC 61850-7-2, 20; IEC 61850-7-3:
+-- ctlModel, Originator, Dbpos).
 use Rattle.std.specs.Prelude.{ℕ, Bool, true, false, ◌&&◌, List, nat_eq, slice_get, Option, None, Some}
 use Rattle.std.specs.Cmp.Lexicographic.{pointwise}
 use Rattle.std.specs.Ordering.{int_eq}
@@ -15,54 +15,54 @@ use Rattle.bay_control.specs.declared.request.Choice.{Choice}
 use Rattle.bay_control.specs.declared.request.Originator.{Originator}
 use Rattle.bay_control.specs.declared.request.View.{View}
 
--- ---- own: what the bay file says of a switch's control
+-- ---- own: the control of a switch
 
--- what stands in the place of a switch that is not there
+-- the control of a switch that does not exist
 abbrev pub no_control : SwitchControl
 no_control = record { model = Status; sbo_timeout_ms = 0; travel_ms = 0 }
 
--- a switch that is not there has no control
+-- a switch that does not exist has no control
 abbrev pub control_or_none : Option SwitchControl → SwitchControl
 control_or_none None = no_control
 control_or_none (Some c) = c
 
--- the control of the switch at a place
+-- the control of the switch at an index
 abbrev pub control_of : List SwitchControl → ℕ → SwitchControl
 control_of controls k = control_or_none (slice_get controls k)
 
 -- ---- IEC 61850-7-3 ctlModel: control models
 
--- there is a control
+-- a client may operate the switch
 abbrev pub is_controlled : Control → Bool
 is_controlled Status = false
 is_controlled Direct = true
 is_controlled Sbo = true
 is_controlled SboEnhanced = true
 
--- selected without a value before it is operated
+-- a client must select the switch, without value, before it operates it
 abbrev pub is_normal : Control → Bool
 is_normal Status = false
 is_normal Direct = false
 is_normal Sbo = true
 is_normal SboEnhanced = false
 
--- selected with a value before it is operated
+-- a client must select the switch with value before it operates it
 abbrev pub is_enhanced : Control → Bool
 is_enhanced Status = false
 is_enhanced Direct = false
 is_enhanced Sbo = false
 is_enhanced SboEnhanced = true
 
--- selected before it is operated, either way
+-- a client must select the switch, either way, before it operates it
 abbrev pub is_sbo : Control → Bool
 is_sbo Status = false
 is_sbo Direct = false
 is_sbo Sbo = true
 is_sbo SboEnhanced = true
 
--- ---- own: what is asked for
+-- ---- own: requests
 
--- the operation and the originator that are asked for
+-- the operation and the originator of a request
 abbrev pub asked_choice : Ask → Choice
 asked_choice ask = record { operation = ask.operation; origin = ask.origin }
 
@@ -74,13 +74,13 @@ same_operation c d = false
 abbrev pub same_origin : Originator → Originator → Bool
 same_origin c d = int_eq c.cat d.cat && pointwise nat_eq c.ident d.ident
 
--- what is asked for twice is the same: operation and originator
+-- the operation and the originator are the same
 abbrev pub same_choice : Choice → Choice → Bool
 same_choice c d = same_operation c.operation d.operation && same_origin c.origin d.origin
 
--- ---- own: what is seen
+-- ---- own: views
 
--- the position is the one that the operation leads to (IEC 61850-7-3, Dbpos)
+-- the operation leads to this position (IEC 61850-7-3, Dbpos)
 abbrev pub is_reached : Operation → Dbpos → Bool
 is_reached Open Off = true
 is_reached Close On = true

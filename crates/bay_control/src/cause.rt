@@ -4,7 +4,7 @@ ghost use Rattle.bay_control.specs.Causes.{code_of};
 
 use thiserror::Error;
 
-/// Why a control is refused, or why an accepted one ended without its effect (IEC 61850-7-2, 20:
+/// Why a control is refused, or why an accepted one ended without effect (IEC 61850-7-2, 20:
 /// AddCause).
 #[derive(Clone, Copy, Debug, PartialEq, Eq, Error)]
 pub enum AddCause {
@@ -20,10 +20,10 @@ pub enum AddCause {
     /// The request is a test.
     #[error("the request is a trial, which moves nothing")]
     BlockedByMode,
-    /// Nothing was heard of the process since it was lost.
+    /// The process is lost: nothing was received from it since.
     #[error("the process is lost")]
     BlockedByProcess,
-    /// The interlocking does not release the operation, or is out of date.
+    /// The interlocking does not release the operation, or the last scan is not fresh.
     #[error("the interlocking does not release the operation")]
     BlockedByInterlocking,
     /// The switch is operating.
@@ -32,16 +32,18 @@ pub enum AddCause {
     /// Another switch of the bay is selected or operating.
     #[error("another switch is selected or operating")]
     OneOfNControl,
-    /// The switch did not reach its position in time. No request is refused for this.
+    /// The switch did not reach the requested position in time. This ends an execution; it never
+    /// refuses a request.
     #[error("the switch did not reach its position in time")]
     TimeLimitOver,
-    /// The association has not selected the switch, or has selected it for something else.
+    /// The association has not selected the switch, or has selected it for another operation or
+    /// originator.
     #[error("the association has not selected the switch for this")]
     ObjectNotSelected,
 }
 
 impl AddCause {
-    /// Returns the number that the standard gives the cause.
+    /// Returns the number of the cause in the standard.
     pub fn code(self) -> u8
         ensures { result ≡ code_of self }
     {

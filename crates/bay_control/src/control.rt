@@ -1,4 +1,4 @@
-// What the bay file says of the switches' controls.
+// The settings of the switches' controls, from the bay file.
 ghost use Rattle.std.specs.Prelude.{◌≡◌, ◌≤◌, ◌+◌, length, nat_le};
 ghost use Rattle.bay_control.specs.Decisions.{controls_of};
 ghost use Rattle.bay_control.specs.Requests.{control_of, no_control};
@@ -8,20 +8,20 @@ use arrayvec::ArrayVec;
 use bay_config::bay::{Bay, Control};
 use std::marker::Model;
 
-/// The control of a switch as the bay file defines it.
+/// The control of a switch, as the bay file defines it.
 #[derive(Clone, Copy, Debug)]
 pub struct SwitchControl {
     /// The control model (IEC 61850-7-3, ctlModel).
     pub model: Control,
-    /// How long a selection lasts, in milliseconds (IEC 61850-7-3, sboTimeout).
+    /// The time that a selection lasts, in milliseconds (IEC 61850-7-3, sboTimeout).
     pub sbo_timeout_ms: u32,
-    /// How long an execution lasts, in milliseconds.
+    /// The time that an execution lasts, in milliseconds.
     pub travel_ms: u32,
 }
 
 impl SwitchControl {
-    /// Returns whether the switch must be selected before it is operated, with normal or enhanced
-    /// security.
+    /// Returns whether a client must select the switch before it operates it, with normal or
+    /// enhanced security.
     pub(crate) fn is_sbo(self) -> bool
         ensures { result ≡ spec.is_sbo self.model }
     {
@@ -42,7 +42,7 @@ impl Default for SwitchControl {
     }
 }
 
-/// What the bay file says of the control of each switch, in its order. It never changes.
+/// The control of each switch, in the order of the bay file. It never changes.
 #[derive(Drop)]
 pub struct ControlTable {
     controls: ArrayVec<SwitchControl, 32>,
@@ -58,7 +58,7 @@ impl Model for ControlTable {
 }
 
 impl ControlTable {
-    /// Makes the table of a bay's switches, of which there may be at most 32.
+    /// Makes the table of a bay's switches, at most 32.
     pub fn new(bay: &Bay) -> Self
         requires { length bay.now.switches ≤ 32 }
         ensures { result ≡ controls_of bay.now.switches }
@@ -74,7 +74,7 @@ impl ControlTable {
         ControlTable { controls }
     }
 
-    /// Returns the control of a switch.
+    /// Returns the control of a switch; if there is no such switch, one of status only.
     pub(crate) fn of(&self, switch: usize) -> SwitchControl
         ensures { result ≡ control_of self.now switch }
     {
@@ -84,8 +84,8 @@ impl ControlTable {
         }
     }
 
-    /// Returns whether the control of a switch has enhanced security, so that its client is told
-    /// the outcome of its requests.
+    /// Returns whether the control of a switch has enhanced security: its client receives reports
+    /// of refused requests and of the end of an operate.
     pub fn is_enhanced(&self, switch: usize) -> bool
         ensures { result ≡ spec.is_enhanced (control_of self.now switch).model }
     {
@@ -93,7 +93,7 @@ impl ControlTable {
     }
 }
 
-/// Returns whether `span` milliseconds from `since` are over.
+/// Returns whether at least `span` milliseconds have passed since `since`.
 pub(crate) fn is_over(since: u64, span: u32, now: u64) -> bool
     ensures { result ≡ nat_le (since + span) now }
 {

@@ -1,4 +1,4 @@
-// What is selected and operating in one bay, and how requests are decided on it.
+// The selection and the execution in one bay, and the decisions on requests.
 ghost use Rattle.std.specs.Prelude.{◌≡◌, [], if◌then◌else◌, None};
 ghost use Rattle.bay_control.specs.Decisions.{controls_at, answer_of, cancel_outcome, execution_at, operate_outcome, rows_of_operate, run_out, select_outcome, select_rows, select_with_outcome, selected_switch, selection_at, selection_without, state_of};
 ghost use Rattle.bay_control.specs.Decisions as spec;
@@ -11,23 +11,23 @@ use crate::selection::{Execution, Selection};
 use bay_config::bay::Control;
 use bay_tree::leaf::Dbpos;
 
-/// What is selected and what is operating in a bay: at most one switch each. With a table of what
-/// the bay file says of each switch, contracts see it as the bay's controls.
+/// The selected and the operating switch of a bay, at most one each. Contracts join it with the
+/// table of the switches' controls to the state of the bay's controls.
 ///
-/// Switches are named by their index in the bay file, from 0; a missing switch has no control.
-/// Times are in milliseconds since 1970. Whatever expires at a time counts as ended at that time: a
-/// selection after `sbo_timeout_ms`, an execution after `travel_ms`. Each request first ends what
-/// has expired; `advance` reports it.
+/// A switch is its index in the bay file, from 0; an index without a switch has no control. Times
+/// are in milliseconds since 1970. A selection expires after `sbo_timeout_ms`, an execution after
+/// `travel_ms`; at that time it counts as ended. Each request first ends what has expired, as
+/// `advance` does.
 #[derive(Drop)]
 pub struct Controls {
-    /// The selected switch, by one association.
+    /// The selected switch, and the association that selected it.
     pub selection: Option<Selection>,
     /// The operating switch.
     pub execution: Option<Execution>,
 }
 
 impl Controls {
-    /// Nothing is selected, and nothing is operating.
+    /// Returns the initial state: no selection and no execution.
     pub fn new() -> Self
         ensures { result ≡ record { selection = None; execution = None } }
     {
@@ -37,7 +37,7 @@ impl Controls {
         }
     }
 
-    /// Returns a copy, on which a request is tried. Takes no memory.
+    /// Returns a copy on which a request can be tried. Does not allocate.
     pub fn duplicate(&self) -> Self
         ensures { result ≡ self.now }
     {
@@ -56,7 +56,8 @@ impl Controls {
             .is_some_and(|s| s.association == association && s.switch == switch)
     }
 
-    // Returns whether a select with value was granted for what is asked for.
+    // Returns whether a select with value was granted for the operation and the originator of a
+    // request.
     fn is_chosen(&self, ask: &Ask) -> bool
         ensures { result ≡ spec.is_chosen (asked_choice ask.now) self.now.selection }
     {
@@ -92,7 +93,7 @@ impl Controls {
         }
     }
 
-    // Returns the execution that still lasts at a time.
+    // Returns the execution if it has not expired.
     fn lasting_execution(&self, table: &ControlTable, now: u64) -> Option<Execution>
         ensures { result ≡ execution_at now table.now self.now.execution }
     {
@@ -105,8 +106,8 @@ impl Controls {
         }
     }
 
-    /// Ends what has expired, and returns the switch whose execution has. Returns at once in the
-    /// usual case that nothing is selected and nothing is operating.
+    /// Ends what has expired, and returns the switch whose execution has expired; `None` if none
+    /// has. Returns at once in the usual case that there is no selection and no execution.
     #[inline(always)]
     pub fn advance(&mut self, table: &ControlTable, now: u64) -> Option<usize>
         ensures run_out { result ≡ run_out now table.now self.old.execution }
@@ -119,7 +120,7 @@ impl Controls {
         self.end(table, now)
     }
 
-    // Ends what has expired, and returns the switch whose execution has.
+    // Ends what has expired, and returns the switch whose execution has expired.
     #[inline(never)]
     fn end(&mut self, table: &ControlTable, now: u64) -> Option<usize>
         ensures run_out { result ≡ run_out now table.now self.old.execution }
@@ -161,12 +162,12 @@ impl Controls {
         }
     }
 
-    /// Selects a switch whose control has normal security (Select). The association that has
-    /// already selected it renews its time.
+    /// Selects a switch whose control has normal security (Select). If the association has already
+    /// selected the switch, the time of the selection starts again.
     ///
-    /// The first of these refuses: the switch has no such control, 1; it is operating, 12; another
-    /// association has selected it, 3; another switch is selected, 14. A refused select does not
-    /// change the selection.
+    /// Returns the first of these causes that applies: the switch has no such control, 1; it is
+    /// operating, 12; another association has selected it, 3; another switch is selected, 14. A
+    /// refused select does not change the selection, unless it has expired.
     pub fn select(
         &mut self,
         table: &ControlTable,
@@ -191,11 +192,12 @@ impl Controls {
         Ok(())
     }
 
-    /// Selects a switch whose control has enhanced security, for the requested position and
-    /// originator (SelectWithValue). The association that has already selected it renews its time,
-    /// and its previous request is forgotten.
+    /// Selects a switch whose control has enhanced security, for the requested operation and
+    /// originator (SelectWithValue). If the association has already selected the switch, the time
+    /// of the selection starts again, for the new request.
     ///
-    /// Refuses like `select`, and then a test, 8.
+    /// Returns the first of the causes of `select` that applies, and then 8 if the request is a
+    /// test.
     pub fn select_with(
         &mut self,
         table: &ControlTable,
@@ -270,14 +272,14 @@ impl Controls {
     }
 
     /// Operates a switch if the view allows it (Operate). An operate by the association that has
-    /// selected the switch ends the selection, accepted or not. An accepted operate starts the
-    /// execution.
+    /// selected the switch ends the selection, whether accepted or not. An accepted operate starts
+    /// the execution.
     ///
-    /// The first of these refuses: the switch has no control, 1; it must be selected first, and the
-    /// association has not selected it, or has selected it with enhanced security for something
-    /// else, 18; a test, 8; the switch is operating, 12; another switch is operating, 14; the
-    /// position is reached, 5; the process is lost, 9; the scan is not fresh, or the interlocking
-    /// does not release the operation, 10.
+    /// Returns the first of these causes that applies: the switch has no control, 1; it must be
+    /// selected first, and the association has not selected it, or has selected it with enhanced
+    /// security for another operation or originator, 18; the request is a test, 8; the switch is
+    /// operating, 12; another switch is operating, 14; the position is reached, 5; the process is
+    /// lost, 9; the scan is not fresh, or the interlocking does not release the operation, 10.
     pub fn operate(
         &mut self,
         table: &ControlTable,
@@ -308,9 +310,9 @@ impl Controls {
 
     /// Ends the association's selection of a switch (Cancel).
     ///
-    /// The first of these refuses: the switch need not be selected before it is operated, 1; it is
-    /// operating, 12; the association has not selected it, 18. A refused cancel does not change the
-    /// selection.
+    /// Returns the first of these causes that applies: the switch need not be selected before it is
+    /// operated, 1; it is operating, 12; the association has not selected it, 18. A refused cancel
+    /// does not change the selection, unless it has expired.
     pub fn cancel(
         &mut self,
         table: &ControlTable,
@@ -337,7 +339,7 @@ impl Controls {
         Ok(())
     }
 
-    /// Ends the selection of a closed association.
+    /// Ends the selection of a closed association, if it has one.
     pub fn drop_owner(&mut self, association: u16)
         ensures { self.new ≡ record self.old {
           selection = selection_without association self.old.selection;
@@ -352,7 +354,8 @@ impl Controls {
         }
     }
 
-    /// Takes the position of a switch. Returns whether it ends the execution of the switch.
+    /// Applies the reported position of a switch. Returns whether this ends the execution of the
+    /// switch.
     pub fn contact(&mut self, switch: usize, position: Dbpos) -> bool
         ensures ended { result ≡ spec.is_done switch position self.old.execution }
         ensures after { self.new ≡ record self.old {
@@ -367,7 +370,8 @@ impl Controls {
         is_ended
     }
 
-    /// Returns the selected switch, as of the last `advance` (IEC 61850-7-3, stSeld).
+    /// Returns the selected switch, as of the last `advance` (IEC 61850-7-3, stSeld); `None` if
+    /// there is none.
     pub fn selected(&self) -> Option<usize>
         ensures { result ≡ selected_switch self.now.selection }
     {

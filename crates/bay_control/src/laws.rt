@@ -1,19 +1,19 @@
-// Laws of the decisions, over whole runs. Each function does nothing, and its contract is the law.
+// Laws of the decisions, over whole runs. Each function does nothing; its contract is the law.
 ghost use Rattle.std.specs.Prelude.{◌≡◌, ℕ, Bool, true, List, [], ◌++◌, None, is_ok};
 ghost use Rattle.bay_control.specs.Acts.{Entry};
 ghost use Rattle.bay_control.specs.Backing.{AreBacked};
 ghost use Rattle.bay_control.specs.Decisions.{State};
 ghost use Rattle.bay_control.specs.Happenings.{Call, Leads, act_of, entries_of, is_open_after, is_orderly_call, outcome_of};
 
-/// Whatever happens to controls that start without a selection, and whichever associations are
-/// open: each accepted operate of an SBO switch is backed by a select.
+/// In every run of controls that starts without a selection, whichever associations are open: each
+/// accepted operate of an SBO switch is backed by a select.
 pub fn operates_are_backed()
     ensures { (entries : List Entry) (open_before open_after : ℕ → Bool) (before after : State) →
         Leads entries open_before before open_after after → before.selection ≡ None
         → AreBacked before.controls entries }
 {}
 
-/// Runs consist of calls: no call, one call, or the calls of two runs.
+/// A run consists of calls: no call, one call, or the calls of two runs.
 pub fn calls_lead()
     ensures none { (is_open : ℕ → Bool) (s : State) → Leads [] is_open s is_open s }
     ensures one { (call : Call) (now : ℕ) (open_before open_after : ℕ → Bool) (s : State)

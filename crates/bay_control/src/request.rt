@@ -1,4 +1,4 @@
-// What a client asks for, and what a decision sees of the switch.
+// A client's request, and the view of a switch on which a decision depends.
 ghost use Rattle.std.specs.Prelude.{◌≡◌, ◌≤◌, length};
 ghost use Rattle.bay_control.specs.Requests.{asked_choice, same_choice, same_origin};
 ghost use Rattle.bay_control.specs.Requests as spec;
@@ -24,7 +24,7 @@ impl Model for Identity {
 }
 
 impl Identity {
-    /// Makes the identity of its octets.
+    /// Makes an identity from its octets.
     pub fn new(octets: &[u8]) -> Self
         requires { length octets.now ≤ 64 }
         ensures { result ≡ octets.now }
@@ -42,7 +42,7 @@ impl Identity {
     }
 }
 
-/// The originator of a control (IEC 61850-7-3, Originator), as a selection keeps it. bay_mms has
+/// The originator of a control (IEC 61850-7-3, Originator), as a selection stores it. bay_mms has
 /// the one that borrows from a request.
 #[derive(Debug, Drop)]
 pub struct Originator {
@@ -60,23 +60,23 @@ impl Originator {
     }
 }
 
-/// What a select with value is granted for: an operation and the originator.
+/// The request for which a select with value was granted: the operation and the originator.
 #[derive(Debug, Drop)]
 pub struct Choice {
-    /// What the switch is told to do (ctlVal).
+    /// The requested operation (ctlVal).
     pub operation: Operation,
     pub origin: Originator,
 }
 
 impl Choice {
-    /// Returns whether this is what a request asks for.
+    /// Returns whether a request is for this operation, by this originator.
     pub(crate) fn is_asked(&self, ask: &Ask) -> bool
         ensures { result ≡ same_choice (asked_choice ask.now) self.now }
     {
         ask.operation == self.operation && ask.origin.is_same(&self.origin)
     }
 
-    // Returns a copy, which takes no memory.
+    // Returns a copy. Does not allocate.
     pub(crate) fn duplicate(&self) -> Self
         ensures { result ≡ self.now }
     {
@@ -92,19 +92,19 @@ impl Choice {
 /// A request to operate a switch, or to select it with value (IEC 61850-7-2, 20: Oper and SBOw).
 #[derive(Debug, Drop)]
 pub struct Ask {
-    /// What the switch is told to do (ctlVal).
+    /// The requested operation (ctlVal).
     pub operation: Operation,
-    /// Whether it is a test, which moves nothing (Test).
+    /// Whether the request is a test, which moves nothing (Test).
     pub test: bool,
     pub origin: Originator,
 }
 
-/// What a decision knows of the switch.
+/// The view of a switch on which a decision depends.
 #[derive(Clone, Copy, Debug)]
 pub struct View {
     /// The position.
     pub pos: Dbpos,
-    /// Whether the process is lost: nothing was heard of it since it was.
+    /// Whether the process is lost: nothing has been received from it since.
     pub lost: bool,
     /// Whether the last scan is fresh: no input has changed since, and it is not too old.
     pub fresh: bool,
@@ -126,7 +126,7 @@ impl View {
     }
 }
 
-/// Returns whether the position is the one that the operation leads to.
+/// Returns whether the operation leads to this position.
 pub(crate) fn is_reached(operation: Operation, position: Dbpos) -> bool
     ensures { result ≡ spec.is_reached operation position }
 {

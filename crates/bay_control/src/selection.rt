@@ -1,4 +1,4 @@
-// Which switch is selected, and which is operating.
+// The selected switch, and the operating switch.
 ghost use Rattle.std.specs.Prelude.{◌≡◌};
 
 use crate::request::Choice;
@@ -12,12 +12,12 @@ pub struct Selection {
     pub association: u16,
     /// The time of the last select, in milliseconds since 1970.
     pub since: u64,
-    /// What a select with value was granted for.
+    /// The operation and the originator of the select, if it was a select with value.
     pub choice: Option<Choice>,
 }
 
 impl Selection {
-    // Returns a copy, which takes no memory.
+    // Returns a copy. Does not allocate.
     pub(crate) fn duplicate(&self) -> Self
         ensures { result ≡ self.now }
     {
@@ -33,6 +33,6 @@ pub struct Execution {
     pub switch: usize,
     /// The time of the operate, in milliseconds since 1970.
     pub start: u64,
-    /// What it is doing.
+    /// The operation that it carries out.
     pub operation: Operation,
 }

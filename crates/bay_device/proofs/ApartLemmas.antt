@@ -18,12 +18,12 @@ use Rattle.il_image.specs.declared.value.Value.{Value}
 use Rattle.bay_process.specs.Layout.{Layout, status_in, switch_in}
 use Rattle.bay_process.specs.Names.{field_names}
 use Rattle.bay_process.specs.Scans.{outputs_put}
-use Rattle.bay_process.specs.Told.{AreEnabling, AreInterlocked}
+use Rattle.bay_process.specs.ReportedRows.{AreEnabling, AreInterlocked}
 use Rattle.bay_process.specs.declared.rows.SwitchRows.{SwitchRows}
 use Rattle.bay_process.specs.declared.switch.BoundSwitch.{BoundSwitch}
-use Rattle.bay_process.specs.Values.{with_count, is_operation, operation_counted, position_quality, rows_after_change, rows_after_contact, rows_after_doubt, rows_after_measure, tells, tells_doubt, tells_measure, with_enabled, with_output, with_status}
-use Rattle.bay_services.specs.Bay.{ShowNone}
-use Rattle.bay_services.proofs.ShownLemmas.{shown-kept}
+use Rattle.bay_process.specs.Values.{with_count, is_operation, operation_counted, position_quality, rows_after_change, rows_after_contact, rows_after_doubt, rows_after_measure, has_position, tells_doubt, tells_measure, with_enabled, with_output, with_status}
+use Rattle.bay_mms_services.specs.Bay.{ShowNone}
+use Rattle.bay_mms_services.proofs.ShownLemmas.{shown-kept}
 
 -- ---- names: that of a selection ends with a `d`
 
@@ -183,7 +183,8 @@ module _ (count : ℕ) where
       (shows-status names.position _ _ now rows (position-apart (node_of switches j switch))
       shows) in
       let with_count = operation_counted names.operations now after in
-      shows-if (tells names.position position rows) rows (rows_after_change names position now rows)
+      shows-if (has_position names.position position rows) rows
+      (rows_after_change names position now rows)
       shows
       (shows-if (is_operation position (leaf_of names.position.value rows)) with_count after
       (shows-counted names.operations (leaf_of names.operations.value after) now after

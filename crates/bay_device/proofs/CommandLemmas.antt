@@ -5,15 +5,15 @@ use Rattle.bay_tree.specs.declared.leaf.Dbpos.{Dbpos}
 use Rattle.bay_nodes.specs.declared.switch.Switch.{Switch}
 use Rattle.bay_base.specs.declared.point.MeterField.{MeterField}
 use Rattle.bay_control.specs.Decisions as control
-use Rattle.bay_connection.specs.Talk.{Indication, answers, tells, releases, ends as ends-heard, fails, Talk, Terms, indications, sending}
-use Rattle.bay_services.specs.Answers.{pdu_answer}
-use Rattle.bay_services.specs.Released.{AreTimed, Leaves}
-use Rattle.bay_services.specs.Released as services
-use Rattle.bay_services.specs.declared.answer.Command.{Command}
-use Rattle.bay_services.proofs.ReleaseLemmas.{Sole, all-of, answer-sent, at-most-one, busy-still, commands-each, idle-now, leaves-then, leaves-with, request-leaves, sole-said}
+use Rattle.bay_connection.specs.ConnectionStates.{Indication, answers, tells, releases, ends as ends-heard, fails, ConnectionState, Terms, indications, sending}
+use Rattle.bay_mms_services.specs.Answers.{pdu_answer}
+use Rattle.bay_mms_services.specs.Released.{AreTimed, Leaves}
+use Rattle.bay_mms_services.specs.Released as services
+use Rattle.bay_mms_services.specs.declared.answer.Command.{Command}
+use Rattle.bay_mms_services.proofs.ReleaseLemmas.{Sole, all-of, answer-sent, at-most-one, busy-still, commands-each, idle-now, leaves-then, leaves-with, request-leaves, sole-said}
 use Rattle.bay_device.specs.Commands.{AreCommanded, CommandedAt, IsReleasedAt, IsSingle}
 use Rattle.bay_device.specs.Device.{State, device_at, bay_of, ended_at, is_recent}
-use Rattle.bay_device.specs.Hearing.{Done, AllHeard, client_at, after_indications, on_heard, after_pdu, sent_on, with_sent}
+use Rattle.bay_device.specs.Receiving.{Done, ReceiveResult, client_at, after_indications, on_indication, after_pdu, sent_on, with_sent}
 use Rattle.bay_device.specs.Outcomes.{Outcome, close_outcome, connection_at, contact_outcome, doubt_outcome, event_outcome, input_outcome, last_moment, measure_outcome, nothing_done, octets_outcome, open_outcome, place_of, quiet_step, recv_outcome}
 use Rattle.bay_device.specs.Steps.{Steps}
 use Rattle.bay_device.specs.declared.event.Event.{Event}
@@ -128,9 +128,9 @@ makes-sent now a octets s d makes =
       sole = makes.sole;
     }
 
-makes-one : (now a : ℕ) (i : Indication) (s : State) (d : Done) (later : Done → AllHeard)
+makes-one : (now a : ℕ) (i : Indication) (s : State) (d : Done) (later : Done → ReceiveResult)
     → Makes now s d → ((e : Done) → Makes now s e → Makes now s (later e).done)
-    → Makes now s (on_heard now a i d later).done
+    → Makes now s (on_indication now a i d later).done
 makes-one now a (answers octets) s d later makes rest = rest _ (makes-sent now a octets s d makes)
 makes-one now a (tells terms pdu) s d later makes rest =
     rest _ (makes-said now a terms pdu s d makes)
@@ -161,7 +161,8 @@ none-commanded : (now : ℕ) (s : State) (ended : Option Sent) (scan : Option �
 none-commanded now s ended scan =
     record { released = λ k d lt. absurd (omega (arith, lt)); replied = λ some. absurd (some refl) }
 
-octets-commanded : (choice : Option ℕ) (now a : ℕ) (s : State) (talk : Talk) (octets : List ℕ)
+octets-commanded : (choice : Option ℕ) (now a : ℕ) (s : State) (talk : ConnectionState)
+    (octets : List ℕ)
     → Commanded now s (octets_outcome choice now a s talk octets).answer
 octets-commanded choice now a s talk [] = none-commanded now s (ended_at now s) None
 octets-commanded choice now a s talk (octet ∷ octets) =
@@ -170,18 +171,19 @@ octets-commanded choice now a s talk (octet ∷ octets) =
     (nothing_done (device_at now s)) (begins now s) in
     record { released = all-of (IsReleasedAt now s) _ makes.released; replied = makes.replied }
 
-recv-commanded : (choice : Option ℕ) (now a : ℕ) (octets : List ℕ) (s : State) (talk : Option Talk)
+recv-commanded : (choice : Option ℕ) (now a : ℕ) (octets : List ℕ) (s : State)
+    (talk : Option ConnectionState)
     → Commanded now s (recv_outcome choice now a octets s talk).answer
 recv-commanded choice now a octets s None = tt
 recv-commanded choice now a octets s (Some talk) = octets-commanded choice now a s talk octets
 
-open-commanded : (now a : ℕ) (s : State) (o : Option ℕ) (talk : Option Talk)
+open-commanded : (now a : ℕ) (s : State) (o : Option ℕ) (talk : Option ConnectionState)
     → Commanded now s (open_outcome now a s o talk).answer
 open-commanded now a s None talk = tt
 open-commanded now a s (Some place) (Some talk) = tt
 open-commanded now a s (Some place) None = none-commanded now s (ended_at now s) None
 
-close-commanded : (now a : ℕ) (s : State) (talk : Option Talk)
+close-commanded : (now a : ℕ) (s : State) (talk : Option ConnectionState)
     → Commanded now s (close_outcome now a s talk).answer
 close-commanded now a s None = tt
 close-commanded now a s (Some talk) = none-commanded now s (ended_at now s) None
@@ -242,7 +244,8 @@ step-commanded now event old answer new steps =
 none-single : 0 ≤ 1
 none-single = omega arith
 
-octets-single : (choice : Option ℕ) (now a : ℕ) (s : State) (talk : Talk) (octets : List ℕ)
+octets-single : (choice : Option ℕ) (now a : ℕ) (s : State) (talk : ConnectionState)
+    (octets : List ℕ)
     → AreTimed s.controls.controls → IsSingle (octets_outcome choice now a s talk octets).answer
 octets-single choice now a s talk [] timed = none-single
 octets-single choice now a s talk (octet ∷ octets) timed =
@@ -254,18 +257,19 @@ octets-single choice now a s talk (octet ∷ octets) timed =
     (nothing_done (device_at now s)) (begins now s) in
     at-most-one now made.done.commands made.done.state.controls (makes.sole timed).single
 
-recv-single : (choice : Option ℕ) (now a : ℕ) (octets : List ℕ) (s : State) (talk : Option Talk)
+recv-single : (choice : Option ℕ) (now a : ℕ) (octets : List ℕ) (s : State)
+    (talk : Option ConnectionState)
     → AreTimed s.controls.controls → IsSingle (recv_outcome choice now a octets s talk).answer
 recv-single choice now a octets s None timed = tt
 recv-single choice now a octets s (Some talk) timed = octets-single choice now a s talk octets timed
 
-open-single : (now a : ℕ) (s : State) (o : Option ℕ) (talk : Option Talk)
+open-single : (now a : ℕ) (s : State) (o : Option ℕ) (talk : Option ConnectionState)
     → IsSingle (open_outcome now a s o talk).answer
 open-single now a s None talk = tt
 open-single now a s (Some place) (Some talk) = tt
 open-single now a s (Some place) None = none-single
 
-close-single : (now a : ℕ) (s : State) (talk : Option Talk)
+close-single : (now a : ℕ) (s : State) (talk : Option ConnectionState)
     → IsSingle (close_outcome now a s talk).answer
 close-single now a s None = tt
 close-single now a s (Some talk) = none-single

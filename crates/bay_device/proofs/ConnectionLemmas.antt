@@ -3,29 +3,32 @@ use Rattle.std.proofs.Common.{◌≡◌, ℕ, zero, suc, ◌+◌, not, List, [],
 use Rattle.std.specs.List.{prefix_len}
 use Rattle.bay_transport.specs.Feeding.{IsGoing}
 use Rattle.bay_connection.specs.Feeding.{Client}
-use Rattle.bay_connection.specs.Talk.{Talk}
-use Rattle.bay_device.specs.Connections.{AreEight, AreGoing, talk_in, talks}
+use Rattle.bay_connection.specs.ConnectionStates.{ConnectionState}
+use Rattle.bay_device.specs.Connections.{AreEight, AreGoing, talk_in, connection_states}
 
 -- a place that is set
 pub talks-set : (clients : List (Option Client)) (place : ℕ) (c : Option Client)
-    → talks (slice_set clients place c) ≡ slice_set (talks clients) place (talk_in c)
+    → connection_states (slice_set clients place c)
+    ≡ slice_set (connection_states clients) place (talk_in c)
 talks-set [] place c = refl
 talks-set (x ∷ clients) zero c = refl
-talks-set (x ∷ clients) (suc place) c = ap (λ ts. talk_in x ∷ ts) (talks-set clients place c)
+talks-set (x ∷ clients) (suc place) c =
+    ap (λ ts. talk_in x ∷ ts) (talks-set clients place c)
 
 pub talk-at : (clients : List (Option Client)) (place : ℕ)
-    → talk_in (slice_index_or clients place None) ≡ unwrap_or (slice_get (talks clients) place) None
+    → talk_in (slice_index_or clients place None)
+    ≡ unwrap_or (slice_get (connection_states clients) place) None
 talk-at [] place = refl
 talk-at (x ∷ clients) zero = refl
 talk-at (x ∷ clients) (suc place) = talk-at clients place
 
-sized : (ts : List (Option Talk)) (place : ℕ) (t : Option Talk)
+sized : (ts : List (Option ConnectionState)) (place : ℕ) (t : Option ConnectionState)
     → length (slice_set ts place t) ≡ length ts
 sized [] place t = refl
 sized (x ∷ ts) zero t = refl
 sized (x ∷ ts) (suc place) t = ap (λ n. suc n) (sized ts place t)
 
-going : (ts : List (Option Talk)) (place : ℕ) (t : Option Talk) → AreGoing ts
+going : (ts : List (Option ConnectionState)) (place : ℕ) (t : Option ConnectionState) → AreGoing ts
     → IfSome t (λ u. IsGoing u.stream.left) → AreGoing (slice_set ts place t)
 going [] place t all own k u here = absurd (cc)
 going (x ∷ ts) zero t all own zero u here = let is : t ≡ Some u = cc in rw is at own
@@ -35,22 +38,22 @@ going (x ∷ ts) (suc place) t all own (suc k) u here =
     going ts place t (λ j v h. all (suc j) v h) own k u here
 
 pub are-eight : (clients : List (Option Client)) (place : ℕ) (c : Option Client)
-    → AreEight (talks clients) → IfSome c (λ x. IsGoing x.talk.stream.left)
-    → AreEight (talks (slice_set clients place c))
+    → AreEight (connection_states clients) → IfSome c (λ x. IsGoing x.talk.stream.left)
+    → AreEight (connection_states (slice_set clients place c))
 are-eight clients place None all own =
     rw (talks-set clients place None)
     (record {
-      sized = sized (talks clients) place None ∙ all.sized;
-      going = going (talks clients) place None all.going tt;
+      sized = sized (connection_states clients) place None ∙ all.sized;
+      going = going (connection_states clients) place None all.going tt;
     })
 are-eight clients place (Some x) all own =
     rw (talks-set clients place (Some x))
     (record {
-      sized = sized (talks clients) place (Some x.talk) ∙ all.sized;
-      going = going (talks clients) place (Some x.talk) all.going own;
+      sized = sized (connection_states clients) place (Some x.talk) ∙ all.sized;
+      going = going (connection_states clients) place (Some x.talk) all.going own;
     })
 
-taken-going : (ts : List (Option Talk)) (place : ℕ) (u : Talk) → AreGoing ts
+taken-going : (ts : List (Option ConnectionState)) (place : ℕ) (u : ConnectionState) → AreGoing ts
     → unwrap_or (slice_get ts place) None ≡ Some u → slice_get ts place ≡ Some (Some u)
 taken-going [] place u all e = absurd (cc)
 taken-going (x ∷ ts) zero u all e = ap (λ o. Some o) e
@@ -58,24 +61,26 @@ taken-going (x ∷ ts) (suc place) u all e = taken-going ts place u (λ j v h. a
 
 -- a connection that is taken from its place can go on
 pub taken : (clients : List (Option Client)) (place : ℕ) (c : Option Client)
-    → AreEight (talks clients) → c ≡ slice_index_or clients place None
+    → AreEight (connection_states clients) → c ≡ slice_index_or clients place None
     → IfSome c (λ x. IsGoing x.talk.stream.left)
 taken clients place None all is = tt
 taken clients place (Some x) all is =
-    all.going place x.talk (taken-going (talks clients) place x.talk all.going
+    all.going place x.talk (taken-going (connection_states clients) place x.talk all.going
     (sym (talk-at clients place) ∙ ap talk_in (sym is)))
 
 prefix-talks : (clients : List (Option Client))
-    → prefix_len (λ t. not (is_none t)) (talks clients) ≡ prefix_len (λ c. not (is_none c)) clients
+    → prefix_len (λ t. not (is_none t)) (connection_states clients)
+    ≡ prefix_len (λ c. not (is_none c)) clients
 prefix-talks [] = refl
 prefix-talks (None ∷ clients) = refl
 prefix-talks (Some c ∷ clients) = ap (λ n. 1 + n) (prefix-talks clients)
 
-talks-length : (clients : List (Option Client)) → length (talks clients) ≡ length clients
+talks-length : (clients : List (Option Client))
+    → length (connection_states clients) ≡ length clients
 talks-length [] = refl
 talks-length (c ∷ clients) = ap (λ n. suc n) (talks-length clients)
 
 -- the lowest place that is free
 pub talks-free : (clients : List (Option Client))
-    → position is_none (talks clients) ≡ position is_none clients
+    → position is_none (connection_states clients) ≡ position is_none clients
 talks-free clients = rw (prefix-talks clients, talks-length clients) refl

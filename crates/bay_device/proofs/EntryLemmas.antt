@@ -11,13 +11,13 @@ use Rattle.bay_control.specs.Acts.{Entry}
 use Rattle.bay_control.specs.Happenings as call
 use Rattle.bay_control.specs.Happenings.{Leads, act_of, entries_of, is_open_after, is_orderly_call, outcome_of}
 use Rattle.bay_control.proofs.LeadsLemmas.{none-leads, two-lead}
-use Rattle.bay_connection.specs.Talk.{Indication, Talk, answers, tells, releases, ends as ends-heard, fails, indications, left_by}
-use Rattle.bay_services.proofs.EntryLemmas.{request-leads}
-use Rattle.bay_services.specs.Entries.{entries_in}
+use Rattle.bay_connection.specs.ConnectionStates.{Indication, ConnectionState, answers, tells, releases, ends as ends-heard, fails, indications, connection_after}
+use Rattle.bay_mms_services.proofs.EntryLemmas.{request-leads}
+use Rattle.bay_mms_services.specs.Entries.{entries_in}
 use Rattle.bay_device.specs.Device.{State, device_at, bay_of, contact_taken}
 use Rattle.bay_device.specs.Entries.{Leading, entries_at, entries_close, entries_closed, entries_heard, entries_octets, entries_of_event, entries_on, entries_open, entries_recv, opens, entries_of_act}
-use Rattle.bay_device.specs.Hearing.{Done, AllHeard, client_at, after_indications, on_heard, after_pdu}
-use Rattle.bay_device.specs.Outcomes.{Outcome, close_outcome, without_connection, connection_at, contact_outcome, doubt_outcome, event_outcome, first_talk, input_outcome, last_moment, lost_outcome, measure_outcome, nothing_done, octets_outcome, open_outcome, outcome, place_of, refusal_of, recv_after, recv_outcome, with_connection, without_owner}
+use Rattle.bay_device.specs.Receiving.{Done, ReceiveResult, client_at, after_indications, on_indication, after_pdu}
+use Rattle.bay_device.specs.Outcomes.{Outcome, close_outcome, without_connection, connection_at, contact_outcome, doubt_outcome, event_outcome, initial_connection, input_outcome, last_moment, lost_outcome, measure_outcome, nothing_done, octets_outcome, open_outcome, outcome, place_of, refusal_of, recv_after, recv_outcome, with_connection, without_owner}
 use Rattle.bay_device.specs.Steps.{Steps}
 use Rattle.bay_device.specs.declared.event.Event.{Event}
 use Rattle.bay_device.specs.declared.event.Event.TheVariants.{Open, Recv, Close, Contact, Input, Measure, BadMeasure, Lost, Scan}
@@ -33,10 +33,11 @@ connections-at : (o : Option ℕ) (s t : State) → t.connections ≡ s.connecti
     → connection_at o t ≡ connection_at o s
 connections-at None s t same = refl
 connections-at (Some place) s t same =
-    ap (λ (cs : List (Option Talk)). unwrap_or (slice_get cs place) None) same
+    ap (λ (cs : List (Option ConnectionState)). unwrap_or (slice_get cs place) None) same
 
 opens-same : (s t : State) (a : ℕ) → t.connections ≡ s.connections → opens t a ≡ opens s a
-opens-same s t a same = ap (λ (o : Option Talk). is_some o) (connections-at (place_of a) s t same)
+opens-same s t a same =
+    ap (λ (o : Option ConnectionState). is_some o) (connections-at (place_of a) s t same)
 
 -- an association of the eight, by its place
 record IsPlaced (a place : ℕ) : Type 0 where
@@ -53,13 +54,13 @@ placed : (a place : ℕ) → place_of a ≡ Some place → IsPlaced a place
 placed a place is = placed-if (nat_lt 0 a && nat_lt a 9) a place refl is
 
 -- a place that is set, and another one
-at-set : (cs : List (Option Talk)) (i : ℕ) (x : Option Talk) → i < length cs
+at-set : (cs : List (Option ConnectionState)) (i : ℕ) (x : Option ConnectionState) → i < length cs
     → unwrap_or (slice_get (slice_set cs i x) i) None ≡ x
 at-set [] i x within = absurd (omega arith)
 at-set (c ∷ cs) zero x within = refl
 at-set (c ∷ cs) (suc i) x within = at-set cs i x (omega arith)
 
-beside-set : (cs : List (Option Talk)) (i j : ℕ) (x : Option Talk) → i ≢ j
+beside-set : (cs : List (Option ConnectionState)) (i j : ℕ) (x : Option ConnectionState) → i ≢ j
     → slice_get (slice_set cs i x) j ≡ slice_get cs j
 beside-set [] i j x apart = refl
 beside-set (c ∷ cs) zero zero x apart = absurd (apart refl)
@@ -68,18 +69,20 @@ beside-set (c ∷ cs) (suc i) zero x apart = refl
 beside-set (c ∷ cs) (suc i) (suc j) x apart = beside-set cs i j x (λ e. apart (ap (λ n. suc n) e))
 
 -- another association's connection, when one is set
-others-at : (a b place : ℕ) (x : Option Talk) (s : State) (o : Option ℕ) → place_of a ≡ Some place
+others-at : (a b place : ℕ) (x : Option ConnectionState) (s : State) (o : Option ℕ)
+    → place_of a ≡ Some place
     → place_of b ≡ o → (b ≡ a → ⊥)
     → connection_at o (with_connection (Some place) x s) ≡ connection_at o s
 others-at a b place x s None here there apart = refl
 others-at a b place x s (Some other) here there apart =
     let p = placed a place here in
     let q = placed b other there in
-    ap (λ (c : Option (Option Talk)). unwrap_or c None)
+    ap (λ (c : Option (Option ConnectionState)). unwrap_or c None)
     (beside-set s.connections place other x
     (λ e. apart (q.is ∙ ap (λ n. n + 1) (sym e) ∙ sym p.is)))
 
-opens-set-if : (is : Bool) (a b place : ℕ) (x : Option Talk) (s : State) → length s.connections ≡ 8
+opens-set-if : (is : Bool) (a b place : ℕ) (x : Option ConnectionState) (s : State)
+    → length s.connections ≡ 8
     → place_of a ≡ Some place → (b == a) ≡ is
     → opens (with_connection (Some place) x s) b ≡ cond is (is_some x) (opens s b)
 opens-set-if true a b place x s sized here is =
@@ -87,14 +90,14 @@ opens-set-if true a b place x s sized here is =
     let within : place < length s.connections =
     (let p = placed a place here in omega (arith, p.within, sized)) in
     ap (λ (o : Option ℕ). is_some (connection_at o (with_connection (Some place) x s))) same
-    ∙ ap (λ (o : Option Talk). is_some o) (at-set s.connections place x within)
+    ∙ ap (λ (o : Option ConnectionState). is_some o) (at-set s.connections place x within)
 opens-set-if false a b place x s sized here is =
-    ap (λ (o : Option Talk). is_some o)
+    ap (λ (o : Option ConnectionState). is_some o)
     (others-at a b place x s (place_of b) here refl
     (λ e. let yes : (b == a) ≡ true = eq-eqb b a e in
     absurd (let no : true ≡ false = sym yes ∙ is in cc)))
 
-opens-set : (a b place : ℕ) (x : Option Talk) (s : State) → length s.connections ≡ 8
+opens-set : (a b place : ℕ) (x : Option ConnectionState) (s : State) → length s.connections ≡ 8
     → place_of a ≡ Some place
     → opens (with_connection (place_of a) x s) b ≡ cond (b == a) (is_some x) (opens s b)
 opens-set a b place x s sized here =
@@ -102,12 +105,12 @@ opens-set a b place x s sized here =
     ∙ opens-set-if (b == a) a b place x s sized here refl
 
 -- what an association's connection leaves
-sized-with : (o : Option ℕ) (x : Option Talk) (s : State)
+sized-with : (o : Option ℕ) (x : Option ConnectionState) (s : State)
     → length (with_connection o x s).connections ≡ length s.connections
 sized-with None x s = refl
 sized-with (Some place) x s = length-set s.connections place x
 
-controls-with : (o : Option ℕ) (x : Option Talk) (s : State)
+controls-with : (o : Option ℕ) (x : Option ConnectionState) (s : State)
     → (with_connection o x s).controls ≡ s.controls
 controls-with None x s = refl
 controls-with (Some place) x s = refl
@@ -184,13 +187,13 @@ kept-if : (t : Bool) (f : ℕ → Bool) (a b : ℕ) → (b == a) ≡ t → f a �
 kept-if true f a b is opened = sym (ap f (eqb-true b a is) ∙ opened)
 kept-if false f a b is opened = refl
 
-led-opened : (now a place : ℕ) (x : Talk) (s : State) → length s.connections ≡ 8
+led-opened : (now a place : ℕ) (x : ConnectionState) (s : State) → length s.connections ≡ 8
     → place_of a ≡ Some place → connection_at (Some place) s ≡ None
     → Led (entries_of_act now (act.Opened a)) s (with_connection (place_of a) (Some x) s)
 led-opened now a place x s sized here none =
     called (call.Open a) now s (with_connection (place_of a) (Some x) s)
     (ap (λ (o : Option ℕ). not (is_some (connection_at o s))) here
-    ∙ ap (λ (o : Option Talk). not (is_some o)) none)
+    ∙ ap (λ (o : Option ConnectionState). not (is_some o)) none)
     (controls-with (place_of a) (Some x) s)
     (λ b. opens-set a b place (Some x) s sized here ∙ or-if (b == a) (opens s b))
     (sized-with (place_of a) (Some x) s)
@@ -205,14 +208,15 @@ led-closed now a place s sized here opened =
     ∙ and-if (b == a) (opens s b))
     (sized-with (place_of a) None (without_owner a s))
 
-led-kept : (a place : ℕ) (x : Talk) (s : State) → length s.connections ≡ 8 → place_of a ≡ Some place
+led-kept : (a place : ℕ) (x : ConnectionState) (s : State) → length s.connections ≡ 8
+    → place_of a ≡ Some place
     → opens s a ≡ true → Led [] s (with_connection (place_of a) (Some x) s)
 led-kept a place x s sized here opened =
     quiet s (with_connection (place_of a) (Some x) s) (controls-with (place_of a) (Some x) s)
     (λ b. opens-set a b place (Some x) s sized here ∙ kept-if (b == a) (opens s) a b refl opened)
     (sized-with (place_of a) (Some x) s)
 
-led-after : (now a place : ℕ) (left : Talk) (s : State) (why : Option Why)
+led-after : (now a place : ℕ) (left : ConnectionState) (s : State) (why : Option Why)
     → length s.connections ≡ 8 → place_of a ≡ Some place → opens s a ≡ true
     → Led (entries_closed now a why) s (recv_after a left s why)
 led-after now a place left s None sized here opened = led-kept a place left s sized here opened
@@ -223,11 +227,11 @@ led-after now a place left s (Some why) sized here opened =
 
 module _ (now a : ℕ) (is_open : ℕ → Bool) (opened : is_open a ≡ true) where
   on-heard-leads : (i : Indication) (d : Done) (entries : Done → List Entry)
-      (later : Done → AllHeard)
+      (later : Done → ReceiveResult)
       → ((e : Done) → Leads (entries e) is_open e.state.controls is_open
       (later e).done.state.controls)
       → Leads (entries_on now a i d entries) is_open d.state.controls is_open
-      (on_heard now a i d later).done.state.controls
+      (on_indication now a i d later).done.state.controls
   on-heard-leads (answers octets) d entries later rest = rest _
   on-heard-leads (tells terms pdu) d entries later rest =
       let e : Done = after_pdu now a terms pdu d in
@@ -253,9 +257,9 @@ module _ (now a : ℕ) (is_open : ℕ → Bool) (opened : is_open a ≡ true) wh
       on-heard-leads i d (entries_heard (Some n) now a is) (after_indications (Some n) now a is)
       (λ e. heard-leads (Some n) is e)
 
-on-heard-connected : (now a : ℕ) (i : Indication) (d : Done) (later : Done → AllHeard)
+on-heard-connected : (now a : ℕ) (i : Indication) (d : Done) (later : Done → ReceiveResult)
     → ((e : Done) → (later e).done.state.connections ≡ e.state.connections)
-    → (on_heard now a i d later).done.state.connections ≡ d.state.connections
+    → (on_indication now a i d later).done.state.connections ≡ d.state.connections
 on-heard-connected now a (answers octets) d later rest = rest _
 on-heard-connected now a (tells terms pdu) d later rest = rest (after_pdu now a terms pdu d)
 on-heard-connected now a (releases octets) d later rest = refl
@@ -279,7 +283,7 @@ led-heard : (choice : Option ℕ) (now a : ℕ) (is : List Indication) (d : Done
     → opens d.state a ≡ true
     → Led (entries_heard choice now a is d) d.state (after_indications choice now a is d).done.state
 led-heard choice now a is d opened =
-    let h : AllHeard = after_indications choice now a is d in
+    let h : ReceiveResult = after_indications choice now a is d in
     let same : h.done.state.connections ≡ d.state.connections = heard-connected choice now a is d in
     let leads : Leads (entries_heard choice now a is d) (opens d.state) d.state.controls
     (opens d.state) h.done.state.controls =
@@ -292,17 +296,17 @@ led-heard choice now a is d opened =
         ends = leads.ends;
         opens = λ b. opens-same d.state h.done.state b same ∙ leads.opens b;
       };
-      sized = ap (λ (cs : List (Option Talk)). length cs) same;
+      sized = ap (λ (cs : List (Option ConnectionState)). length cs) same;
     }
 
 -- ---- a Recv
 
-place-at : (a : ℕ) (o : Option ℕ) (s : State) (talk : Talk) → place_of a ≡ o
+place-at : (a : ℕ) (o : Option ℕ) (s : State) (talk : ConnectionState) → place_of a ≡ o
     → connection_at o s ≡ Some talk → (place : ℕ) × (place_of a ≡ Some place)
 place-at a None s talk here is = absurd cc
 place-at a (Some place) s talk here is = (place, here)
 
-led-octets : (choice : Option ℕ) (now a : ℕ) (s : State) (talk : Talk) (octets : List ℕ)
+led-octets : (choice : Option ℕ) (now a : ℕ) (s : State) (talk : ConnectionState) (octets : List ℕ)
     → length s.connections ≡ 8 → connection_at (place_of a) s ≡ Some talk
     → Led (entries_octets choice now a s talk octets) s
     (octets_outcome choice now a s talk octets).after
@@ -310,11 +314,11 @@ led-octets choice now a s talk [] sized is = led-advanced now s
 led-octets choice now a s talk (octet ∷ octets) sized is =
     let place = place-at a (place_of a) s talk refl is in
     let t : State = device_at now s in
-    let left : Talk = left_by talk (octet ∷ octets) in
+    let left : ConnectionState = connection_after talk (octet ∷ octets) in
     let is-heard : List Indication = indications talk (octet ∷ octets) in
-    let h : AllHeard = after_indications choice now a is-heard (nothing_done t) in
+    let h : ReceiveResult = after_indications choice now a is-heard (nothing_done t) in
     let opened : opens t a ≡ true =
-    opens-same s t a refl ∙ ap (λ (o : Option Talk). is_some o) is in
+    opens-same s t a refl ∙ ap (λ (o : Option ConnectionState). is_some o) is in
     let first : Led [] s t = led-advanced now s in
     let heard-so : Led (entries_heard choice now a is-heard (nothing_done t)) t h.done.state =
     led-heard choice now a is-heard (nothing_done t) opened in
@@ -329,7 +333,8 @@ led-octets choice now a s talk (octet ∷ octets) sized is =
     (behind (entries_heard choice now a is-heard (nothing_done t)) (entries_closed now a h.why) t
     h.done.state (recv_after a left h.done.state h.why) heard-so last)
 
-led-recv : (choice : Option ℕ) (now a : ℕ) (octets : List ℕ) (s : State) (talk : Option Talk)
+led-recv : (choice : Option ℕ) (now a : ℕ) (octets : List ℕ) (s : State)
+    (talk : Option ConnectionState)
     → length s.connections ≡ 8 → connection_at (place_of a) s ≡ talk
     → Led (entries_recv choice now a octets s talk) s
     (recv_outcome choice now a octets s talk).after
@@ -339,23 +344,25 @@ led-recv choice now a octets s (Some talk) sized is = led-octets choice now a s 
 -- ---- an event
 
 module _ (now : ℕ) (s : State) (sized : length s.connections ≡ 8) where
-  led-open : (a : ℕ) (o : Option ℕ) (talk : Option Talk) → place_of a ≡ o → connection_at o s ≡ talk
+  led-open : (a : ℕ) (o : Option ℕ) (talk : Option ConnectionState) → place_of a ≡ o
+      → connection_at o s ≡ talk
       → Led (entries_open now a o talk) s (open_outcome now a s o talk).after
   led-open a None talk here is = nothing s
   led-open a (Some place) (Some talk) here is = nothing s
   led-open a (Some place) None here is =
       behind [] (entries_of_act now (act.Opened a)) s (device_at now s)
-      (with_connection (place_of a) (Some (first_talk a)) (device_at now s)) (led-advanced now s)
-      (led-opened now a place (first_talk a) (device_at now s) sized here
+      (with_connection (place_of a) (Some (initial_connection a)) (device_at now s))
+      (led-advanced now s)
+      (led-opened now a place (initial_connection a) (device_at now s) sized here
       (connections-at (Some place) s (device_at now s) refl ∙ is))
 
-  led-close : (a : ℕ) (talk : Option Talk) → connection_at (place_of a) s ≡ talk
+  led-close : (a : ℕ) (talk : Option ConnectionState) → connection_at (place_of a) s ≡ talk
       → Led (entries_close now a talk) s (close_outcome now a s talk).after
   led-close a None is = nothing s
   led-close a (Some talk) is =
       let place = place-at a (place_of a) s talk refl is in
       let opened : opens (device_at now s) a ≡ true =
-      opens-same s (device_at now s) a refl ∙ ap (λ (o : Option Talk). is_some o) is in
+      opens-same s (device_at now s) a refl ∙ ap (λ (o : Option ConnectionState). is_some o) is in
       behind [] (entries_of_act now (act.Closed a)) s (device_at now s)
       (without_connection a (device_at now s))
       (led-advanced now s) (led-closed now a place.0 (device_at now s) sized place.1 opened)
@@ -373,7 +380,7 @@ module _ (now : ℕ) (s : State) (sized : length s.connections ≡ 8) where
   led-beside t controls connections =
       behind [] [] s (device_at now s) t (led-advanced now s)
       (quiet (device_at now s) t controls (λ a. opens-same (device_at now s) t a connections)
-      (ap (λ (cs : List (Option Talk)). length cs) connections))
+      (ap (λ (cs : List (Option ConnectionState)). length cs) connections))
 
   led-input : (k : ℕ) (value : Bool) (o : Option Bool)
       → Led [] s (input_outcome now k value s o).after

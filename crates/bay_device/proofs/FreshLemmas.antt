@@ -14,9 +14,9 @@ use Rattle.bay_nodes.specs.Names.{switch_names, meter_names}
 use Rattle.bay_nodes.specs.Node.{node_number}
 use Rattle.bay_nodes.specs.declared.switch.Switch.{Switch}
 use Rattle.bay_process.specs.Names.{field_names}
-use Rattle.bay_process.specs.Values.{measure_leaf, number_of_leaf, position_leaf, position_value, rows_after_change, tells, tells_doubt, tells_measure, with_status}
-use Rattle.bay_services.specs.declared.answer.Command.{Command}
-use Rattle.bay_services.proofs.ReleaseLemmas.{all-of}
+use Rattle.bay_process.specs.Values.{measure_leaf, number_of_leaf, position_leaf, position_value, rows_after_change, has_position, tells_doubt, tells_measure, with_status}
+use Rattle.bay_mms_services.specs.declared.answer.Command.{Command}
+use Rattle.bay_mms_services.proofs.ReleaseLemmas.{all-of}
 use Rattle.bay_tree.specs.Rows.{leaf_of, with_leaf_of}
 use Rattle.bay_tree.specs.declared.leaf.Dbpos.{Dbpos}
 use Rattle.bay_tree.specs.declared.leaf.Dbpos.TheVariants.{Bad}
@@ -24,7 +24,7 @@ use Rattle.bay_tree.specs.declared.leaf.Leaf.TheVariants as leaf
 use Rattle.bay_tree.specs.declared.leaf.Quality.TheVariants.{Good, Invalid}
 use Rattle.bay_device.specs.Commands.{AreCommanded, IsReleasedAt}
 use Rattle.bay_device.specs.Device.{State, contact_taken, device_at, doubt_taken, inputs_lost, inputs_of, lost_taken, is_fresh, is_recent, point_value, after_scan}
-use Rattle.bay_device.specs.Fresh.{Came, FreshAt, HasScan, IsFresh, IsSameProcess, Past, heard_after, is_heard}
+use Rattle.bay_device.specs.Fresh.{Came, FreshAt, HasScan, IsFresh, IsSameProcess, Past, is_heard_after, is_heard}
 use Rattle.bay_device.specs.Outcomes.{Outcome, contact_outcome, doubt_outcome, event_outcome, input_outcome, last_moment, measure_outcome, outcome, refusal_of}
 use Rattle.bay_device.specs.Steps.{OfAssociation, Steps}
 use Rattle.bay_device.specs.declared.event.Event.{Event}
@@ -79,7 +79,7 @@ module _ (now : ℕ) (s : State) where
   still-contact k position None = still-none
   still-contact k position (Some switch) =
       let names = switch_names s.switches k switch in
-      let told : Bool = tells names.position position s.rows in
+      let told : Bool = has_position names.position position s.rows in
       record {
         scans = refl;
         stale = λ h. (or_parts s.is_stale (not told) h).0;
@@ -232,7 +232,7 @@ module _ (past : List Past) (s : State) (tracks : Tracks past s) (now : ℕ) whe
   -- what is noted of the process
   abbrev Hears : Event → Outcome → Type 0
   Hears event o =
-      cond (is_ok o.answer) (heard_after event (is_heard past)) (is_heard past)
+      cond (is_ok o.answer) (is_heard_after event (is_heard past)) (is_heard past)
       ≡ not o.after.is_lost
 
   led-still : (event : Event) (o : Outcome) → Still s o.after → Hears event o → Led event o
@@ -287,7 +287,7 @@ module _ (past : List Past) (s : State) (tracks : Tracks past s) (now : ℕ) whe
   }
 
   led-same : (choice : Option ℕ) (event : Event) → OfAssociation event
-      → heard_after event (is_heard past) ≡ is_heard past
+      → is_heard_after event (is_heard past) ≡ is_heard past
       → Led event (event_outcome choice now event s)
   led-same choice event of stays =
       let o : Outcome = event_outcome choice now event s in

@@ -15,7 +15,7 @@ use Rattle.bay_tree.specs.declared.leaf.Dbpos.{Dbpos}
 use Rattle.bay_tree.specs.declared.row.Row.{Row}
 use Rattle.bay_process.specs.Layout.{layout_of, switches_of}
 use Rattle.bay_process.specs.Scans.{HasPoints, bound_value, outputs_put}
-use Rattle.bay_process.specs.Told.{AreInterlocked}
+use Rattle.bay_process.specs.ReportedRows.{AreInterlocked}
 use Rattle.bay_process.specs.Values.{rows_after_contact}
 use Rattle.bay_process.specs.declared.switch.BoundSwitch.{BoundSwitch}
 use Rattle.bay_process.proofs.ReadLemmas.{contact-same, scan-same}
@@ -68,7 +68,8 @@ nothing-noted span f g reads held is same n v out e =
 -- what a contact of a switch leaves held
 pub contact-held : (d : DeviceState) (tree : List Row) (switches : List BoundSwitch) (k : ℕ)
     (s : Switch) (position : Dbpos) (now : ℕ) (spans : List Span) (with_own : Span)
-    → k < length d.bay.switches → spans ≡ d.spans → slice_get (switches_of d.bay.switches) k ≡ Some s
+    → k < length d.bay.switches → spans ≡ d.spans
+    → slice_get (switches_of d.bay.switches) k ≡ Some s
     → tree ≡ rows_after_contact (switch_names (switches_of d.bay.switches) k s) position now
     d.bay.tree
     → layout_of tree ≡ layout_of d.bay.tree → switches ≡ d.bay.switches

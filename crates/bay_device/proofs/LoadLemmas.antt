@@ -7,7 +7,7 @@ use Rattle.bay_process.specs.Parts.{AreBoundSwitches}
 use Rattle.bay_process.specs.declared.nodes.Nodes.{Nodes}
 use Rattle.bay_process.proofs.BoundLemmas.{are-bound, bound-switches}
 use Rattle.bay_process.specs.declared.switch.BoundSwitch.{BoundSwitch}
-use Rattle.bay_services.specs.Bay as services
+use Rattle.bay_mms_services.specs.Bay as services
 use Rattle.bay_config.specs.declared.bay.Bay.{Bay}
 use Rattle.bay_base.specs.declared.point.Source.{Source}
 use Rattle.bay_nodes.specs.declared.switch.Switch.{Switch}

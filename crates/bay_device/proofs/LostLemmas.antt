@@ -16,10 +16,10 @@ use Rattle.bay_control.specs.Decisions as control
 use Rattle.bay_control.specs.Decisions.{after_contact, is_done}
 use Rattle.bay_control.specs.Requests.{is_reached}
 use Rattle.bay_control.specs.declared.selection.Execution.{Execution}
-use Rattle.bay_connection.specs.Talk.{Talk}
+use Rattle.bay_connection.specs.ConnectionStates.{ConnectionState}
 use Rattle.il_scan.specs.Scans.{Held}
 use Rattle.bay_device.specs.Device.{State, contact_taken, doubt_taken, inputs_lost, lost_taken, measures_lost, meter_lost, positions_lost}
-use Rattle.bay_device.specs.declared.due.Due.{Due}
+use Rattle.bay_device.specs.declared.termination.PendingTermination.{PendingTermination}
 
 -- What a bad position, inputs that become FALSE and a doubt pass on, the loss passes on.
 module _ (P : State → Type 0) (now : ℕ)
@@ -69,7 +69,7 @@ pub record Fixed : Type 0 where
   pub age : ℕ
   pub moment : ℕ
   pub scans : Option ℕ
-  pub connections : List (Option Talk)
+  pub connections : List (Option ConnectionState)
 
 abbrev pub fixed_of : State → Fixed
 fixed_of s = record {
@@ -118,7 +118,7 @@ never-done k (Some e) = not-reached (nat_eq e.switch k) e.operation
 -- the controls, and what is due of what operates
 pub record Operating : Type 0 where
   pub controls : control.State
-  pub due : Option Due
+  pub due : Option PendingTermination
 
 abbrev pub operating_of : State → Operating
 operating_of s = record { controls = s.controls; due = s.due }

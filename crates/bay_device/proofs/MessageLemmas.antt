@@ -1,15 +1,15 @@
 -- What is made of an answer.
 use Rattle.std.proofs.Common.{◌≡◌, ℕ, List, [], ◌∷◌, ◌++◌, length, map, take, Option, Some, None, IsSome, IfSome, Result, Ok, Err, refl, ap, ap₂, ◌∙◌}
 use Rattle.std.specs.Result.{IfOk, OnOk}
-use Rattle.bay_assoc.specs.declared.hearing.AssociationTerms.{AssociationTerms}
-use Rattle.bay_connection.specs.Talk.{Terms, sending}
-use Rattle.bay_services.specs.Answers.{Answered}
-use Rattle.bay_services.specs.Bay.{Bay}
-use Rattle.bay_services.specs.declared.answer.Command.{Command}
-use Rattle.bay_services.specs.declared.answer.Decision.{Decision}
+use Rattle.bay_assoc.specs.declared.receive.AssociationTerms.{AssociationTerms}
+use Rattle.bay_connection.specs.ConnectionStates.{Terms, sending}
+use Rattle.bay_mms_services.specs.Answers.{Answered}
+use Rattle.bay_mms_services.specs.Bay.{Bay}
+use Rattle.bay_mms_services.specs.declared.answer.Command.{Command}
+use Rattle.bay_mms_services.specs.declared.answer.ControlDecision.{ControlDecision}
 use Rattle.bay_device.specs.Device.{State, with_bay}
-use Rattle.bay_device.specs.Hearing.{Done, answered_with, due_if, later_due, sent_on, size_of}
-use Rattle.bay_device.specs.declared.due.Due.{Due}
+use Rattle.bay_device.specs.Receiving.{Done, answered_with, due_if, later_due, sent_on, size_of}
+use Rattle.bay_device.specs.declared.termination.PendingTermination.{PendingTermination}
 use Rattle.bay_device.specs.declared.event.Sent.{Sent}
 
 -- a front stays a front
@@ -31,14 +31,15 @@ pub front-of : {A : Type 0} (xs ys : List A) → take (length xs) (xs ++ ys) ≡
 front-of xs ys = front-kept xs xs ys (front-whole xs)
 
 -- a device, and what is made of it
-abbrev done : State → List Sent → List Command → List Decision → Done
+abbrev done : State → List Sent → List Command → List ControlDecision → Done
 done s sent commands decisions =
     record { state = s; sent = sent; commands = commands; decisions = decisions }
 
 -- what an answer comes to
 pub answered-done : (a : ℕ) (terms : Terms) (x : Answered) (s : State) (sent made : List Sent)
-    (commands obeyed : List Command) (before decisions : List Decision) (b : Bay)
-    (due : Option Due) → b ≡ x.after → due ≡ later_due s.due (due_if a terms x.ending)
+    (commands obeyed : List Command) (before decisions : List ControlDecision) (b : Bay)
+    (due : Option PendingTermination) → b ≡ x.after
+    → due ≡ later_due s.due (due_if a terms x.ending)
     → made ≡ sent ++ map (λ pdu. sent_on a (sending terms pdu)) x.sent
     → obeyed ≡ commands ++ x.commands → decisions ≡ before ++ x.decisions
     → done (record (with_bay b s) { due = due }) made obeyed decisions
@@ -46,7 +47,8 @@ pub answered-done : (a : ℕ) (terms : Terms) (x : Answered) (s : State) (sent m
 answered-done a terms x s sent made commands obeyed before decisions b due after is sends does
     decides =
     ap (λ (y : Bay). done (record (with_bay y s) { due = due }) made obeyed decisions) after
-    ∙ ap (λ (y : Option Due). done (record (with_bay x.after s) { due = y }) made obeyed decisions)
+    ∙ ap (λ (y : Option PendingTermination). done (record (with_bay x.after s) { due = y }) made
+    obeyed decisions)
     is
     ∙ ap (λ (y : List Sent). done
     (record (with_bay x.after s) { due = later_due s.due (due_if a terms x.ending) }) y obeyed

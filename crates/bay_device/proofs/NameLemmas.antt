@@ -16,9 +16,9 @@ use Rattle.bay_tree.specs.declared.leaf.Quality.{Quality}
 use Rattle.bay_tree.specs.declared.leaf.Quality.TheVariants.{Good, Invalid}
 use Rattle.bay_tree.specs.declared.row.Row.{Row}
 use Rattle.bay_process.specs.Names.{field_names}
-use Rattle.bay_process.specs.Values.{with_count, is_operation, operation_counted, output_of, position_quality, rows_after_change, rows_after_contact, rows_after_doubt, rows_after_measure, tells, tells_doubt, tells_measure, with_enabled, with_output, with_outputs, with_status}
-use Rattle.bay_services.specs.Accepted.{AreNamedAlike}
-use Rattle.bay_services.specs.Bay.{Bay}
+use Rattle.bay_process.specs.Values.{with_count, is_operation, operation_counted, output_of, position_quality, rows_after_change, rows_after_contact, rows_after_doubt, rows_after_measure, has_position, tells_doubt, tells_measure, with_enabled, with_output, with_outputs, with_status}
+use Rattle.bay_mms_services.specs.Accepted.{AreNamedAlike}
+use Rattle.bay_mms_services.specs.Bay.{Bay}
 use Rattle.bay_device.specs.Device.{State, bay_of, lost_taken}
 use Rattle.bay_device.proofs.LostLemmas.{loss-passes}
 
@@ -84,7 +84,7 @@ change-names names position now rows =
 pub contact-names : (names : SwitchNames) (position : Dbpos) (now : ℕ) (rows : List Row)
     → names_of (rows_after_contact names position now rows) ≡ names_of rows
 contact-names names position now rows =
-    names-if (tells names.position position rows) (names_of rows) rows
+    names-if (has_position names.position position rows) (names_of rows) rows
     (rows_after_change names position now rows) refl (change-names names position now rows)
 
 pub measure-names : (names : StatusNames) (value : ℤ) (now : ℕ) (rows : List Row)

@@ -3,24 +3,24 @@ use Rattle.std.proofs.Common.{◌≡◌, ℕ, ℤ, zero, suc, Bool, true, false,
 use Rattle.std.specs.List.{Contains}
 use Rattle.std.proofs.lemmas.List.Elements.{Contains-append_cases, Contains-append_left, Contains-append_right}
 use Rattle.bay_base.specs.declared.point.MeterField.{MeterField}
-use Rattle.bay_connection.specs.Talk.{Indication, Talk, Terms, answers, tells, releases, ends as ends-heard, fails, indications}
+use Rattle.bay_connection.specs.ConnectionStates.{Indication, ConnectionState, Terms, answers, tells, releases, ends as ends-heard, fails, indications}
 use Rattle.bay_control.specs.Acts.{Entry}
 use Rattle.bay_mms.specs.Grammar.{answer_to}
 use Rattle.bay_nodes.specs.declared.switch.Switch.{Switch}
-use Rattle.bay_services.specs.Accepted.{AreNamedAlike, accepted_in, first_response, is_report, may_be_reported}
-use Rattle.bay_services.specs.Bay.{Bay}
-use Rattle.bay_services.specs.Entries.{entries_in, operates_in}
-use Rattle.bay_services.specs.declared.answer.Command.{Command}
-use Rattle.bay_services.specs.declared.client.Client.{Client}
-use Rattle.bay_services.proofs.OperateLemmas.{answer-operates, operates-append}
+use Rattle.bay_mms_services.specs.Accepted.{AreNamedAlike, accepted_in, first_response, is_report, may_be_reported}
+use Rattle.bay_mms_services.specs.Bay.{Bay}
+use Rattle.bay_mms_services.specs.Entries.{entries_in, operates_in}
+use Rattle.bay_mms_services.specs.declared.answer.Command.{Command}
+use Rattle.bay_mms_services.specs.declared.client.ClientContext.{ClientContext}
+use Rattle.bay_mms_services.proofs.OperateLemmas.{answer-operates, operates-append}
 use Rattle.bay_tree.specs.declared.leaf.Dbpos.{Dbpos}
 use Rattle.bay_device.specs.Device.{State, device_at, bay_of}
 use Rattle.bay_device.specs.Entries.{entries_at, entries_close, entries_closed, entries_heard, entries_octets, entries_of_event, entries_on, entries_open, entries_recv}
-use Rattle.bay_device.specs.Hearing.{Done, AllHeard, client_at, after_indications, on_heard, after_pdu, with_sent}
+use Rattle.bay_device.specs.Receiving.{Done, ReceiveResult, client_at, after_indications, on_indication, after_pdu, with_sent}
 use Rattle.bay_device.specs.Operates.{AreOperates, AreReplied, AreRepliedAt, IsReplied}
 use Rattle.bay_device.specs.Outcomes.{Outcome, close_outcome, connection_at, contact_outcome, doubt_outcome, event_outcome, input_outcome, last_moment, measure_outcome, nothing_done, octets_outcome, open_outcome, outcome, place_of, recv_outcome, refusal_of}
 use Rattle.bay_device.specs.Steps.{Steps}
-use Rattle.bay_device.specs.Told.{AreTalks, behind_one, of_answer, pdus_in, talk_at, told_closed, told_heard, told_recv, told_step}
+use Rattle.bay_device.specs.EntriesTold.{AreAgreed, behind_one, of_answer, pdus_in, connection_state_at, entries_of_close, entries_of_pdus, entries_of_recv, entries_of_step}
 use Rattle.bay_device.specs.declared.event.Event.{Event}
 use Rattle.bay_device.specs.declared.event.Event.TheVariants.{Open, Recv, Close, Contact, Input, Measure, BadMeasure, Lost, Scan}
 use Rattle.bay_device.specs.declared.event.Step.{Step}
@@ -40,15 +40,15 @@ only x = (0, omega arith, refl)
 -- ---- what was heard
 
 -- the commands then are those before, and those of these entries
-abbrev Adds : Done → List Entry → AllHeard → Type 0
+abbrev Adds : Done → List Entry → ReceiveResult → Type 0
 Adds d entries h = h.done.commands ≡ d.commands ++ operates_in entries
 
-on-adds : (now a : ℕ) (i : Indication) (d : Done) (later : Done → AllHeard)
+on-adds : (now a : ℕ) (i : Indication) (d : Done) (later : Done → ReceiveResult)
     (entries : Done → List Entry) → ((e : Done) → Adds e (entries e) (later e))
-    → Adds d (entries_on now a i d entries) (on_heard now a i d later)
+    → Adds d (entries_on now a i d entries) (on_indication now a i d later)
 on-adds now a (answers octets) d later entries rest = rest (with_sent a octets d)
 on-adds now a (tells terms pdu) d later entries rest =
-    let c : Client = client_at now a terms d.state in
+    let c : ClientContext = client_at now a terms d.state in
     let b : Bay = bay_of d.state in
     let e : Done = after_pdu now a terms pdu d in
     let own : List Entry = entries_in c pdu b in
@@ -83,7 +83,8 @@ closed-none : (now a : ℕ) (why : Option Why) → operates_in (entries_closed n
 closed-none now a None = refl
 closed-none now a (Some why) = refl
 
-octets-gives : (choice : Option ℕ) (now a : ℕ) (s : State) (talk : Talk) (octets : List ℕ)
+octets-gives : (choice : Option ℕ) (now a : ℕ) (s : State) (talk : ConnectionState)
+    (octets : List ℕ)
     → Gives (entries_octets choice now a s talk octets)
     (octets_outcome choice now a s talk octets).answer
 octets-gives choice now a s talk [] = refl
@@ -96,19 +97,20 @@ octets-gives choice now a s talk (octet ∷ octets) =
     ∙ ap (λ cs. operates_in own ++ cs) (sym (closed-none now a why))
     ∙ sym (operates-append own (entries_closed now a why))
 
-recv-gives : (choice : Option ℕ) (now a : ℕ) (octets : List ℕ) (s : State) (talk : Option Talk)
+recv-gives : (choice : Option ℕ) (now a : ℕ) (octets : List ℕ) (s : State)
+    (talk : Option ConnectionState)
     → Gives (entries_recv choice now a octets s talk)
     (recv_outcome choice now a octets s talk).answer
 recv-gives choice now a octets s None = tt
 recv-gives choice now a octets s (Some talk) = octets-gives choice now a s talk octets
 
-open-gives : (now a : ℕ) (s : State) (o : Option ℕ) (talk : Option Talk)
+open-gives : (now a : ℕ) (s : State) (o : Option ℕ) (talk : Option ConnectionState)
     → Gives (entries_open now a o talk) (open_outcome now a s o talk).answer
 open-gives now a s None talk = tt
 open-gives now a s (Some place) (Some talk) = tt
 open-gives now a s (Some place) None = refl
 
-close-gives : (now a : ℕ) (s : State) (talk : Option Talk)
+close-gives : (now a : ℕ) (s : State) (talk : Option ConnectionState)
     → Gives (entries_close now a talk) (close_outcome now a s talk).answer
 close-gives now a s None = tt
 close-gives now a s (Some talk) = refl
@@ -231,7 +233,7 @@ replied-own now a n terms pdu is response pdus x (inr found) own = record {
 }
 
 replied-heard : (now a : ℕ) (n : Bay) (is : List Indication) (pdus : List (List ℕ)) (x : Command)
-    → Contains (operates_in (told_heard now a n is pdus)) x → IsReplied now a n is pdus x
+    → Contains (operates_in (entries_of_pdus now a n is pdus)) x → IsReplied now a n is pdus x
 replied-heard now a n [] pdus x found = absurd (none-in x found)
 replied-heard now a n (answers octets ∷ is) pdus x found =
     replied-later now a n (answers octets) is (behind_one pdus) pdus x (behind-one-in pdus)
@@ -240,7 +242,7 @@ replied-heard now a n (tells terms pdu ∷ is) pdus x found =
     let may : Bool = may_be_reported (answer_to pdu) in
     let response = first_response may pdus in
     let own : List Entry = accepted_in now a pdu n response.0 in
-    let rest : List Entry = told_heard now a n is response.1 in
+    let rest : List Entry = entries_of_pdus now a n is response.1 in
     elim (Contains-append_cases (operates_in own) (operates_in rest) x
     (subst (λ (cs : List Command). Contains cs x) (operates-append own rest) found)) [
       | inl here ↦ replied-own now a n terms pdu is response.0 pdus x (first-in may pdus) here
@@ -253,28 +255,30 @@ replied-heard now a n (ends-heard ∷ is) pdus x found = absurd (none-in x found
 replied-heard now a n (fails code ∷ is) pdus x found = absurd (none-in x found)
 
 told-closed-none : (now : ℕ) (entries : List Entry) (closed : Option (ℕ × Why))
-    → operates_in (entries ++ told_closed now closed) ≡ operates_in entries
+    → operates_in (entries ++ entries_of_close now closed) ≡ operates_in entries
 told-closed-none now entries None = ap operates_in (append-nil entries)
 told-closed-none now entries (Some closed) =
-    operates-append entries (told_closed now (Some closed)) ∙ append-nil (operates_in entries)
+    operates-append entries (entries_of_close now (Some closed)) ∙ append-nil (operates_in entries)
 
-replied-recv : (now a : ℕ) (n : Bay) (octets : List ℕ) (talk : Option Talk) (step : Step)
+replied-recv : (now a : ℕ) (n : Bay) (octets : List ℕ) (talk : Option ConnectionState) (step : Step)
     → step.commands
-    ≡ operates_in (told_recv now a n octets talk step.sent ++ told_closed now step.closed)
+    ≡ operates_in (entries_of_recv now a n octets talk step.sent
+    ++ entries_of_close now step.closed)
     → AreReplied now a n octets talk step
 replied-recv now a n octets None step is = is ∙ told-closed-none now [] step.closed
 replied-recv now a n octets (Some talk) step is = λ x found.
-    let told : List Entry = told_heard now a n (indications talk octets) (pdus_in step.sent) in
+    let told : List Entry = entries_of_pdus now a n (indications talk octets) (pdus_in step.sent) in
     replied-heard now a n (indications talk octets) (pdus_in step.sent) x
     (subst (λ (cs : List Command). Contains cs x)
     (is ∙ told-closed-none now told step.closed) found)
 
-replied-step : (now : ℕ) (event : Event) (n : Bay) (talks : List (Option Talk)) (step : Step)
-    → step.commands ≡ operates_in (told_step now event n talks step)
+replied-step : (now : ℕ) (event : Event) (n : Bay) (talks : List (Option ConnectionState))
+    (step : Step)
+    → step.commands ≡ operates_in (entries_of_step now event n talks step)
     → AreRepliedAt now event n talks step
 replied-step now (Open a) n talks step is = is
 replied-step now (Recv a octets) n talks step is =
-    replied-recv now a n octets.now (talk_at (place_of a) talks) step is
+    replied-recv now a n octets.now (connection_state_at (place_of a) talks) step is
 replied-step now (Close a) n talks step is = is
 replied-step now (Contact k position) n talks step is = is
 replied-step now (Input k value) n talks step is = is
@@ -286,17 +290,18 @@ replied-step now Scan n talks step is = is
 -- ---- steps
 
 told-gives : (answer : Result Step StepFault) (entries : List Entry) (now : ℕ) (event : Event)
-    (n : Bay) (talks : List (Option Talk)) → Gives entries answer
-    → of_answer [] (told_step now event n talks) answer ≡ entries
+    (n : Bay) (talks : List (Option ConnectionState)) → Gives entries answer
+    → of_answer [] (entries_of_step now event n talks) answer ≡ entries
     → IfOk answer (AreOperates now event n talks)
 told-gives (Ok step) entries now event n talks gives told =
-    let is : step.commands ≡ operates_in (told_step now event n talks step) =
+    let is : step.commands ≡ operates_in (entries_of_step now event n talks step) =
     gives ∙ ap operates_in (sym told) in
     record { operated = is; replied = replied-step now event n talks step is }
 told-gives (Err fault) entries now event n talks gives told = tt
 
-pub step-operates : (n : Bay) (now : ℕ) (event : Event) (old : State) (answer : Result Step StepFault)
-    (new : State) → AreNamedAlike n (bay_of old) → AreTalks old.connections
+pub step-operates : (n : Bay) (now : ℕ) (event : Event) (old : State)
+    (answer : Result Step StepFault)
+    (new : State) → AreNamedAlike n (bay_of old) → AreAgreed old.connections
     → Steps now event old answer new → IfOk answer (AreOperates now event n old.connections)
 step-operates n now event old answer new alike sized steps =
     subst (λ (r : Result Step StepFault). IfOk r (AreOperates now event n old.connections))

@@ -6,7 +6,7 @@ use Rattle.bay_nodes.specs.declared.switch.Switch.{Switch}
 use Rattle.bay_nodes.specs.Names.{switch_names}
 use Rattle.bay_process.specs.Layout.{Layout, switch_in, switches_of}
 use Rattle.bay_process.specs.declared.switch.BoundSwitch.{BoundSwitch}
-use Rattle.bay_services.specs.Places.{ArePlaced}
+use Rattle.bay_mms_services.specs.Places.{ArePlaced}
 
 -- the rows of the switch at a place have its names
 pub named-there : (layout : Layout) (switches : List BoundSwitch) (k : ℕ) (bound : BoundSwitch)

@@ -2,12 +2,12 @@
 use Rattle.std.proofs.Common.{◌≡◌, ◌<◌, ℕ, List, [], ◌∷◌, length, Option, None, Some, is_some, Result, Ok, Err, refl, ap, sym, ◌∙◌, true, false, cond, nat_lt, slice_set, arith}
 use Rattle.std.proofs.lemmas.List.{set-set}
 use Rattle.std.specs.Result.{OnOk, IfErr, result_err}
-use Rattle.bay_connection.specs.Talk.{Talk, left_by}
+use Rattle.bay_connection.specs.ConnectionStates.{ConnectionState, connection_after}
 use Rattle.bay_device.specs.Device.{State, device_at, ended_at}
-use Rattle.bay_device.specs.Hearing.{Done}
-use Rattle.bay_device.specs.HearingViews.{ComesTo}
+use Rattle.bay_device.specs.Receiving.{Done}
+use Rattle.bay_device.specs.ReceivingViews.{ComesTo}
 use Rattle.bay_device.specs.Outcomes.{Outcome, closed_by, connection_at, event_outcome, last_moment, nothing_done, outcome, place_of, quiet_step, refusal_of, recv_after, recv_done, recv_outcome, with_connection, without_owner}
-use Rattle.bay_device.specs.Steps.{IsOutcome, HearsFrom, IsWithoutOctets, Receives, Steps}
+use Rattle.bay_device.specs.Steps.{IsOutcome, HandlesOctetsFrom, IsWithoutOctets, Receives, Steps}
 use Rattle.bay_device.specs.declared.event.Event.{Event}
 use Rattle.bay_device.specs.declared.event.Event.TheVariants.{Open, Recv, Close, Contact, Input, Measure, BadMeasure, Lost, Scan}
 use Rattle.bay_device.specs.declared.fault.StepFault.TheVariants.{MomentTooLarge, TimeWentBack}
@@ -22,21 +22,21 @@ ended (Ok x) P ok err = ok
 ended (Err why) P ok err = err
 
 -- what is left is asked only where the association goes on
-pub left-if : {T : Type 0} (r : Result T Why) (a : ℕ) (s : State) (left wanted : Talk)
+pub left-if : {T : Type 0} (r : Result T Why) (a : ℕ) (s : State) (left wanted : ConnectionState)
     → OnOk r (left ≡ wanted)
     → recv_after a left s (result_err r) ≡ recv_after a wanted s (result_err r)
-left-if (Ok x) a s left wanted is = ap (λ (t : Talk). recv_after a t s None) is
+left-if (Ok x) a s left wanted is = ap (λ (t : ConnectionState). recv_after a t s None) is
 left-if (Err why) a s left wanted is = refl
 
 -- the connection may have been taken out before
-one : (place : ℕ) (x : Option Talk) (s : State)
+one : (place : ℕ) (x : Option ConnectionState) (s : State)
     → with_connection (Some place) x (record s { connections = slice_set s.connections place None })
     ≡ with_connection (Some place) x s
 one place x s =
-    ap (λ (cs : List (Option Talk)). record s { connections = cs })
+    ap (λ (cs : List (Option ConnectionState)). record s { connections = cs })
     (set-set s.connections place None x)
 
-placed : (a place : ℕ) (x : Option Talk) (s : State) → place_of a ≡ Some place
+placed : (a place : ℕ) (x : Option ConnectionState) (s : State) → place_of a ≡ Some place
     → with_connection (place_of a) x (record s { connections = slice_set s.connections place None })
     ≡ with_connection (place_of a) x s
 placed a place x s here =
@@ -44,7 +44,7 @@ placed a place x s here =
     (record s { connections = slice_set s.connections place None })) here ∙ one place x s
     ∙ sym (ap (λ (o : Option ℕ). with_connection o x s) here)
 
-pub after-taken : (a place : ℕ) (s : State) (left : Talk) (why : Option Why)
+pub after-taken : (a place : ℕ) (s : State) (left : ConnectionState) (why : Option Why)
     → place_of a ≡ Some place
     → recv_after a left (record s { connections = slice_set s.connections place None }) why
     ≡ recv_after a left s why
@@ -52,10 +52,11 @@ after-taken a place s left None here = placed a place (Some left) s here
 after-taken a place s left (Some why) here = placed a place None (without_owner a s) here
 
 -- the device and its answer, from what the octets come to
-pub heard-from : (now a : ℕ) (octets : List ℕ) (told : Option Sent) (s new : State) (talk : Talk)
+pub heard-from : (now a : ℕ) (octets : List ℕ) (told : Option Sent) (s new : State)
+    (talk : ConnectionState)
     (why : Option Why) (e : Done) → ComesTo now a talk octets (nothing_done s) why e
-    → new ≡ recv_after a (left_by talk octets) e.state why
-    → HearsFrom now a octets told s talk
+    → new ≡ recv_after a (connection_after talk octets) e.state why
+    → HandlesOctetsFrom now a octets told s talk
     (record {
       ended = told;
       sent = e.sent;
@@ -65,7 +66,7 @@ pub heard-from : (now a : ℕ) (octets : List ℕ) (told : Option Sent) (s new :
       scan = None;
     }) new
 heard-from now a octets told s new talk why e comes is =
-    let whole = ap (recv_done a (left_by talk octets) told) comes.is in
+    let whole = ap (recv_done a (connection_after talk octets) told) comes.is in
     record {
       choice = comes.choice;
       answered = sym (ap (λ (o : Outcome). o.answer) whole);
@@ -75,9 +76,10 @@ heard-from now a octets told s new talk why e comes is =
 -- ---- a Recv
 
 -- octets that an open association hears are an event that is received
-pub received : (now a : ℕ) (octets : List ℕ) (old new : State) (talk : Talk) (step : Step)
+pub received : (now a : ℕ) (octets : List ℕ) (old new : State) (talk : ConnectionState)
+    (step : Step)
     → connection_at (place_of a) old ≡ Some talk → 0 < length octets
-    → HearsFrom now a octets (ended_at now old) (device_at now old) talk step new
+    → HandlesOctetsFrom now a octets (ended_at now old) (device_at now old) talk step new
     → Receives now a octets old (Ok step) new
 received now a [] old new talk step here some hears = absurd (omega arith)
 received now a (octet ∷ octets) old new talk step here some hears =
@@ -89,7 +91,7 @@ received now a (octet ∷ octets) old new talk step here some hears =
     }
 
 -- without octets, which need no choice
-pub received-none : (now a : ℕ) (old : State) (talk : Talk)
+pub received-none : (now a : ℕ) (old : State) (talk : ConnectionState)
     → connection_at (place_of a) old ≡ Some talk
     → Receives now a [] old (Ok (quiet_step (ended_at now old))) (device_at now old)
 received-none now a old talk here =
@@ -101,28 +103,32 @@ received-none now a old talk here =
     }
 
 -- an association that is open has a connection
-pub opened : (o : Option Talk) → is_some o ≡ true → (talk : Talk) × (o ≡ Some talk)
+pub opened : (o : Option ConnectionState) → is_some o ≡ true
+    → (talk : ConnectionState) × (o ≡ Some talk)
 opened (Some talk) is = (talk, refl)
 opened None is = absurd (cc)
 
-pub not-opened : (o : Option Talk) → is_some o ≡ false → o ≡ None
+pub not-opened : (o : Option ConnectionState) → is_some o ≡ false → o ≡ None
 not-opened None is = refl
 not-opened (Some talk) is = absurd (cc)
 
 -- what octets come to, whichever it is
-pub ended-at : {T : Type 0} (r : Result T Why) (P : List (Option Talk) → Option Why → Type 0)
-    → OnOk r ((cs : List (Option Talk)) → P cs None)
-    → IfErr r (λ why. (cs : List (Option Talk)) → P cs (Some why)) → (cs : List (Option Talk))
+pub ended-at : {T : Type 0} (r : Result T Why)
+    (P : List (Option ConnectionState) → Option Why → Type 0)
+    → OnOk r ((cs : List (Option ConnectionState)) → P cs None)
+    → IfErr r (λ why. (cs : List (Option ConnectionState)) → P cs (Some why))
+    → (cs : List (Option ConnectionState))
     → P cs (result_err r)
 ended-at (Ok x) P ok err = ok
 ended-at (Err why) P ok err = err
 
-pub same-talk : (t u : Talk) (o : Option Talk) → Some t ≡ o → o ≡ Some u → t ≡ u
+pub same-talk : (t u : ConnectionState) (o : Option ConnectionState) → Some t ≡ o → o ≡ Some u
+    → t ≡ u
 same-talk t u o a b = let e : Some t ≡ Some u = a ∙ b in cc
 
 -- ---- an event without octets has one outcome
 
-none-heard : (choice : Option ℕ) (now a : ℕ) (s : State) (o : Option Talk)
+none-heard : (choice : Option ℕ) (now a : ℕ) (s : State) (o : Option ConnectionState)
     → recv_outcome choice now a [] s o ≡ recv_outcome None now a [] s o
 none-heard choice now a s None = refl
 none-heard choice now a s (Some talk) = refl

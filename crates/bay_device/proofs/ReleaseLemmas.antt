@@ -2,7 +2,7 @@
 use Rattle.std.proofs.Common.{◌≡◌, ℕ, ◌+◌, List, [], ◌∷◌, ◌++◌, codes, Some, refl, ap, ◌∙◌}
 use Rattle.bay_nodes.specs.declared.switch.Switch.{Switch}
 use Rattle.bay_process.specs.Releases.{released_text}
-use Rattle.bay_process.specs.Told.{AreKept, enabled_from}
+use Rattle.bay_process.specs.ReportedRows.{AreKept, enabled_from}
 use Rattle.bay_process.specs.declared.releases.Releases.{Releases}
 use Rattle.bay_device.specs.Device.{State}
 use Rattle.bay_device.specs.LookUps.{switch_part, switches_text}

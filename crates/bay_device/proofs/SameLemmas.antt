@@ -2,15 +2,15 @@
 -- device notes of its scans.
 use Rattle.std.proofs.Common.{◌≡◌, ℕ, zero, suc, Bool, true, false, cond, nat_lt, List, [], ◌∷◌, Option, Some, None, refl, ap₂, ◌∙◌}
 use Rattle.bay_base.specs.declared.point.Source.{Source}
-use Rattle.bay_connection.specs.Talk.{Indication, Talk, Terms, answers, tells, releases, ends, fails, indications, left_by}
+use Rattle.bay_connection.specs.ConnectionStates.{Indication, ConnectionState, Terms, answers, tells, releases, ends, fails, indications, connection_after}
 use Rattle.bay_nodes.specs.declared.switch.Switch.{Switch}
-use Rattle.bay_services.proofs.AcceptedLemmas.{alike-after}
-use Rattle.bay_services.proofs.ReleaseLemmas.{request-leaves}
+use Rattle.bay_mms_services.proofs.AcceptedLemmas.{alike-after}
+use Rattle.bay_mms_services.proofs.ReleaseLemmas.{request-leaves}
 use Rattle.bay_tree.specs.declared.row.Row.{Row}
 use Rattle.il_scan.specs.Scans.{Held}
 use Rattle.bay_device.specs.Device.{State, bay_of, device_at}
-use Rattle.bay_device.specs.Hearing.{AllHeard, Done, after_indications, after_pdu, client_at, on_heard, with_sent}
-use Rattle.bay_device.specs.Outcomes.{Outcome, close_outcome, connection_at, event_outcome, first_talk, last_moment, nothing_done, octets_outcome, open_outcome, outcome, place_of, recv_after, recv_outcome, refusal_of, with_connection, without_owner}
+use Rattle.bay_device.specs.Receiving.{ReceiveResult, Done, after_indications, after_pdu, client_at, on_indication, with_sent}
+use Rattle.bay_device.specs.Outcomes.{Outcome, close_outcome, connection_at, event_outcome, initial_connection, last_moment, nothing_done, octets_outcome, open_outcome, outcome, place_of, recv_after, recv_outcome, refusal_of, with_connection, without_owner}
 use Rattle.bay_device.specs.Steps.{OfAssociation}
 use Rattle.bay_device.specs.declared.event.Event.{Event}
 use Rattle.bay_device.specs.declared.event.Event.TheVariants.{Open, Recv, Close, Contact, Input, Measure, BadMeasure, Lost, Scan}
@@ -49,7 +49,7 @@ parts_of s = record {
 abbrev pub Same : State → State → Type 0
 Same s t = parts_of t ≡ parts_of s
 
-same-with : (s : State) (o : Option ℕ) (x : Option Talk) (t : State) → Same s t
+same-with : (s : State) (o : Option ℕ) (x : Option ConnectionState) (t : State) → Same s t
     → Same s (with_connection o x t)
 same-with s None x t same = same
 same-with s (Some place) x t same = same
@@ -66,9 +66,9 @@ same-said now a terms pdu d =
     (alike-after b c pdu b (record { domain = refl; switches = refl; names = refl })).switches
     (request-leaves c pdu b).rows
 
-same-one : (now a : ℕ) (i : Indication) (s : State) (d : Done) (later : Done → AllHeard)
+same-one : (now a : ℕ) (i : Indication) (s : State) (d : Done) (later : Done → ReceiveResult)
     → Same s d.state → ((e : Done) → Same s e.state → Same s (later e).done.state)
-    → Same s (on_heard now a i d later).done.state
+    → Same s (on_indication now a i d later).done.state
 same-one now a (answers octets) s d later same rest = rest (with_sent a octets d) same
 same-one now a (tells terms pdu) s d later same rest =
     rest (after_pdu now a terms pdu d) (same-said now a terms pdu d ∙ same)
@@ -89,7 +89,7 @@ same-indications (Some (suc n)) now a (i ∷ is) s d same =
     same-one now a i s d (after_indications (Some n) now a is) same
     (λ e p. same-indications (Some n) now a is s e p)
 
-same-left : (a : ℕ) (left : Talk) (s t : State) (why : Option Why) → Same s t
+same-left : (a : ℕ) (left : ConnectionState) (s t : State) (why : Option Why) → Same s t
     → Same s (recv_after a left t why)
 same-left a left s t None same = same-with s (place_of a) (Some left) t same
 same-left a left s t (Some why) same = same-with s (place_of a) None (without_owner a t) same
@@ -97,28 +97,28 @@ same-left a left s t (Some why) same = same-with s (place_of a) None (without_ow
 -- ---- events
 
 module _ (now : ℕ) (s : State) where
-  same-open : (a : ℕ) (o : Option ℕ) (talk : Option Talk)
+  same-open : (a : ℕ) (o : Option ℕ) (talk : Option ConnectionState)
       → Same s (open_outcome now a s o talk).after
   same-open a None talk = refl
   same-open a (Some place) (Some talk) = refl
   same-open a (Some place) None =
-      same-with s (place_of a) (Some (first_talk a)) (device_at now s) refl
+      same-with s (place_of a) (Some (initial_connection a)) (device_at now s) refl
 
-  same-close : (a : ℕ) (talk : Option Talk) → Same s (close_outcome now a s talk).after
+  same-close : (a : ℕ) (talk : Option ConnectionState) → Same s (close_outcome now a s talk).after
   same-close a None = refl
   same-close a (Some talk) =
       same-with s (place_of a) None (without_owner a (device_at now s)) refl
 
-  same-octets : (choice : Option ℕ) (a : ℕ) (talk : Talk) (octets : List ℕ)
+  same-octets : (choice : Option ℕ) (a : ℕ) (talk : ConnectionState) (octets : List ℕ)
       → Same s (octets_outcome choice now a s talk octets).after
   same-octets choice a talk [] = refl
   same-octets choice a talk (octet ∷ octets) =
       let is : List Indication = indications talk (octet ∷ octets) in
-      let h : AllHeard = after_indications choice now a is (nothing_done (device_at now s)) in
-      same-left a (left_by talk (octet ∷ octets)) s h.done.state h.why
+      let h : ReceiveResult = after_indications choice now a is (nothing_done (device_at now s)) in
+      same-left a (connection_after talk (octet ∷ octets)) s h.done.state h.why
       (same-indications choice now a is s (nothing_done (device_at now s)) refl)
 
-  same-heard : (choice : Option ℕ) (a : ℕ) (octets : List ℕ) (talk : Option Talk)
+  same-heard : (choice : Option ℕ) (a : ℕ) (octets : List ℕ) (talk : Option ConnectionState)
       → Same s (recv_outcome choice now a octets s talk).after
   same-heard choice a octets None = refl
   same-heard choice a octets (Some talk) = same-octets choice a talk octets

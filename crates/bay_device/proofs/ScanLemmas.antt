@@ -13,7 +13,7 @@ use Rattle.il_image.specs.declared.value.Value.{Value}
 use Rattle.il_image.specs.declared.value.Value.TheVariants.{Long}
 use Rattle.il_scan.specs.Places.{is_true}
 use Rattle.il_scan.specs.Scans.{Held, Scans, outputs_of, scan_start}
-use Rattle.bay_connection.specs.Talk.{Talk}
+use Rattle.bay_connection.specs.ConnectionStates.{ConnectionState}
 use Rattle.bay_device.specs.Device.{State, Ran, after_run, ending_at, inputs_of, point_value, ran_at, ran_of, after_scan}
 use Rattle.bay_process.specs.Values.{measure_leaf, number_of_leaf, output_at, position_leaf, position_value, with_output, with_outputs}
 use Rattle.bay_process.specs.Layout.{Layout, layout_of, switches_of, IsBound, AreBound, AreLeafTyped, AreMetersBound, AreMetersLeafTyped}
@@ -22,7 +22,7 @@ use Rattle.bay_nodes.specs.Names.{StatusNames, SwitchNames, switch_names}
 use Rattle.bay_process.specs.Names.{field_names}
 use Rattle.bay_process.specs.Scans.{bound_value, meter_value, outputs_put, switch_value}
 use Rattle.bay_device.specs.StateView.{state_view}
-use Rattle.bay_process.specs.Told.{AreInterlocked}
+use Rattle.bay_process.specs.ReportedRows.{AreInterlocked}
 use Rattle.bay_process.specs.declared.meter.BoundMeter.{BoundMeter}
 use Rattle.bay_device.specs.declared.state.DeviceState.{DeviceState}
 use Rattle.bay_process.specs.declared.switch.BoundSwitch.{BoundSwitch}
@@ -53,7 +53,7 @@ interlocked layout writes bound all k b here =
     }
 
 -- what is read at handles is read by names
-module _ (connections : List (Option Talk)) (d : DeviceState) where
+module _ (connections : List (Option ConnectionState)) (d : DeviceState) where
   switch-named : (k : ℕ) (point : SwitchPoint) (b : Option BoundSwitch)
       → slice_get d.bay.switches k ≡ b
       → switch_value d.bay.tree point b
@@ -132,7 +132,8 @@ held-as old new e =
     ap (λ i. let h : Held = record { image = i; slots = new.slots; timers = new.timers } in h) e
 
 -- a scan of the machine
-module _ (connections : List (Option Talk)) (d : DeviceState) (now : ℕ) (inputs : List Value)
+module _ (connections : List (Option ConnectionState)) (d : DeviceState) (now : ℕ)
+    (inputs : List Value)
     (read : inputs ≡ inputs_of (state_view connections d)) (new : Held) (steps : ℕ)
     (outputs : List Value) (did : Scans d.machine inputs now new steps outputs) where
   pub ended : ending_at now (state_view connections d) ≡ Halted new.slots new.timers steps

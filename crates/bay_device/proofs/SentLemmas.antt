@@ -12,15 +12,15 @@ use Rattle.bay_ber.specs.Tags.{constructed, int_tag, sequence}
 use Rattle.bay_transport.specs.Doings.{Run}
 use Rattle.bay_transport.specs.Wrap.{full_before, tpdus_of}
 use Rattle.bay_transport.proofs.WrapLemmas.{run-data_frames}
-use Rattle.bay_assoc.specs.Hears.{association_terms}
+use Rattle.bay_assoc.specs.Receives.{association_terms}
 use Rattle.bay_assoc.specs.Session.{Spdu, spdu, spdu_in, transfer}
 use Rattle.bay_assoc.specs.Tags.{application}
 use Rattle.bay_assoc.specs.Texts.{transfer_text, user_text}
-use Rattle.bay_assoc.specs.declared.hearing.Phase.{Phase}
-use Rattle.bay_assoc.specs.declared.hearing.Phase.TheVariants.{Idle, Open, Over, Failed}
-use Rattle.bay_connection.specs.Talk.{Terms, sending, sending_in}
-use Rattle.bay_services.specs.Accepted.{behind_id}
-use Rattle.bay_device.specs.Told.{only_tsdu, pdu_in, tsdu_in, user_data, value_of}
+use Rattle.bay_assoc.specs.declared.receive.Phase.{Phase}
+use Rattle.bay_assoc.specs.declared.receive.Phase.TheVariants.{Idle, Open, Over, Failed}
+use Rattle.bay_connection.specs.ConnectionStates.{Terms, sending, sending_in}
+use Rattle.bay_mms_services.specs.Accepted.{behind_id}
+use Rattle.bay_device.specs.EntriesTold.{only_tsdu, pdu_in, tsdu_in, user_data, value_of}
 use Rattle.bay_device.proofs.TalkLemmas.{IsOpen}
 
 -- the TSDU in data TPDUs of any size

@@ -2,28 +2,28 @@
 -- at most 65,000 octets.
 use Rattle.std.proofs.Common.{◌≡◌, ◌≤◌, ℕ, ℤ, pos, negsuc, Bool, true, false, cond, nat_lt, min, List, [], ◌∷◌, Option, Some, None, Result, Ok, Err, IsSome, refl, arith}
 use Rattle.bay_base.specs.Options.{◌>>=◌}
-use Rattle.bay_initiate.specs.declared.initiate.Proposal.{Proposal}
-use Rattle.bay_initiate.specs.declared.initiate.Agreed.{Agreed}
-use Rattle.bay_initiate.specs.Initiate.{initiate_in}
+use Rattle.bay_mms_initiate.specs.declared.initiate.Proposal.{Proposal}
+use Rattle.bay_mms_initiate.specs.declared.initiate.Agreed.{Agreed}
+use Rattle.bay_mms_initiate.specs.Initiate.{initiate_in}
 use Rattle.bay_base.specs.Results.{◌>>=◌ as ◌>>◌}
 use Rattle.bay_transport.specs.Doings.{Doing, Answers, Delivers, Ends, Fails, Stream, doings, after}
 use Rattle.bay_transport.specs.Feeding.{size_agreed}
 use Rattle.bay_transport.proofs.SizeLemmas.{AreSized, doings-sized}
 use Rattle.bay_assoc.specs.declared.fault.AssocFault.{AssocFault}
 use Rattle.bay_assoc.specs.declared.fault.AssocFault.TheVariants as fault
-use Rattle.bay_assoc.specs.declared.hearing.Accepted.{Accepted}
-use Rattle.bay_assoc.specs.declared.hearing.AssociationTerms.{AssociationTerms}
-use Rattle.bay_assoc.specs.declared.hearing.Phase.{Phase}
-use Rattle.bay_assoc.specs.declared.hearing.Phase.TheVariants as phases
+use Rattle.bay_assoc.specs.declared.receive.Accepted.{Accepted}
+use Rattle.bay_assoc.specs.declared.receive.AssociationTerms.{AssociationTerms}
+use Rattle.bay_assoc.specs.declared.receive.Phase.{Phase}
+use Rattle.bay_assoc.specs.declared.receive.Phase.TheVariants as phases
 use Rattle.bay_assoc.specs.declared.presentation.Context.{Context}
 use Rattle.bay_ber.specs.Judged.{or_fault}
 use Rattle.bay_assoc.specs.Acse.{associate, release}
-use Rattle.bay_assoc.specs.Hearing.{Hearing, answer, mms, released, aborted, accepted_of, acse_value, agreed_of, agreement, connection_request, release_request, heard_idle, heard_open, verdict, hearing, mms_value, data_transfer}
+use Rattle.bay_assoc.specs.Receiving.{TsduMeaning, answer, mms, released, aborted, accepted_of, acse_value, agreed_of, agreement, connection_request, release_request, idle_meaning, open_meaning, verdict, tsdu_meaning, mms_value, data_transfer}
 use Rattle.bay_assoc.specs.Presentation.{Carried, user_data, request}
 use Rattle.bay_assoc.specs.Session.{Spdu, connect, accept, finish, disconnect, abort, transfer, spdu_in}
-use Rattle.bay_initiate.specs.Sizes.{IsPduSize, agreed_size}
+use Rattle.bay_mms_initiate.specs.Sizes.{IsPduSize, agreed_size}
 use Rattle.bay_assoc.specs.Sized.{IsSized}
-use Rattle.bay_connection.specs.Talk.{Indication, Talk, TalkStep, answers, tells, releases, ends, fails, comes_to, indications, left_by, on_heard, on_hearing, talk_after}
+use Rattle.bay_connection.specs.ConnectionStates.{Indication, ConnectionState, ConnectionStep, answers, tells, releases, ends, fails, connection_step, indications, connection_after, step_on_tsdu, step_on_tsdu_result, after_doings}
 
 -- ---- what is heard leaves a size of PDUs
 
@@ -87,13 +87,13 @@ IsOpen (phases.Open terms) = IsPduSize terms.size
 IsOpen phases.Over = ⊥
 IsOpen phases.Failed = ⊥
 
-abbrev HeardOpen : Hearing → Phase → Type 0
+abbrev HeardOpen : TsduMeaning → Phase → Type 0
 HeardOpen (answer tsdu) phase = Unit {0}
 HeardOpen (mms pdu) phase = IsOpen phase
 HeardOpen (released tsdu) phase = Unit {0}
 HeardOpen aborted phase = Unit {0}
 
-abbrev IsHeard : Hearing × Phase → Type 0
+abbrev IsHeard : TsduMeaning × Phase → Type 0
 IsHeard x = IsSized x.1 × HeardOpen x.0 x.1
 
 connected-sized : (user : List ℕ) → OkIs IsHeard (connection_request user).answers
@@ -120,7 +120,7 @@ transferred-sized terms user is =
     bound IsHeard (or_fault fault.BadPresentation (user_data.reads user)) _ (λ c.
     bound IsHeard (mms_value terms.contexts c) _ (λ pdu. (is, is)))
 
-idle-sized : (s : Spdu) → OkIs IsHeard (heard_idle s).answers
+idle-sized : (s : Spdu) → OkIs IsHeard (idle_meaning s).answers
 idle-sized (connect user) = connected-sized user
 idle-sized accept = tt
 idle-sized (finish user) = tt
@@ -129,7 +129,7 @@ idle-sized abort = (tt, tt)
 idle-sized (transfer user) = tt
 
 open-sized : (terms : AssociationTerms) (s : Spdu) → IsPduSize terms.size
-    → OkIs IsHeard (heard_open terms s).answers
+    → OkIs IsHeard (open_meaning terms s).answers
 open-sized terms (connect user) is = tt
 open-sized terms accept is = tt
 open-sized terms (finish user) is = finished-sized terms user
@@ -137,13 +137,14 @@ open-sized terms disconnect is = tt
 open-sized terms abort is = (tt, tt)
 open-sized terms (transfer user) is = transferred-sized terms user is
 
-hearing-sized : (phase : Phase) (tsdu : List ℕ) → IsSized phase → OkIs IsHeard (hearing phase tsdu)
+hearing-sized : (phase : Phase) (tsdu : List ℕ) → IsSized phase
+    → OkIs IsHeard (tsdu_meaning phase tsdu)
 unfolding verdict
 hearing-sized phases.Idle tsdu is =
-    bound IsHeard (or_fault fault.BadSession (spdu_in tsdu)) (λ s. (heard_idle s).answers)
+    bound IsHeard (or_fault fault.BadSession (spdu_in tsdu)) (λ s. (idle_meaning s).answers)
     idle-sized
 hearing-sized (phases.Open terms) tsdu is =
-    bound IsHeard (or_fault fault.BadSession (spdu_in tsdu)) (λ s. (heard_open terms s).answers)
+    bound IsHeard (or_fault fault.BadSession (spdu_in tsdu)) (λ s. (open_meaning terms s).answers)
     (λ s. open-sized terms s is)
 hearing-sized phases.Over tsdu is = tt
 hearing-sized phases.Failed tsdu is = tt
@@ -163,13 +164,14 @@ abbrev pub CanAnswerAll : List Indication → Type 0
 CanAnswerAll [] = Unit {0}
 CanAnswerAll (i ∷ is) = CanAnswer i × CanAnswerAll is
 
-record IsTold (t : TalkStep) : Type 0 where
+record IsTold (t : ConnectionStep) : Type 0 where
   all : CanAnswerAll t.indications
   left : IsSized t.left.phase
 
-heard-told : (s : Stream) (h : Hearing) (size : Option ℕ) (phase : Phase) (later : TalkStep)
+heard-told : (s : Stream) (h : TsduMeaning) (size : Option ℕ) (phase : Phase)
+    (later : ConnectionStep)
     → IsSome size → HeardOpen h phase → IsTold later
-    → IsTold (on_heard s h (record { size = size; phase = phase }) later)
+    → IsTold (step_on_tsdu s h (record { size = size; phase = phase }) later)
 heard-told s (answer tsdu) size phase later some is rest =
     record { all = (tt, rest.all); left = rest.left }
 heard-told s (mms pdu) size phase later some is rest =
@@ -177,35 +179,37 @@ heard-told s (mms pdu) size phase later some is rest =
 heard-told s (released tsdu) size phase later some is rest = record { all = (tt, tt); left = tt }
 heard-told s aborted size phase later some is rest = record { all = (tt, tt); left = tt }
 
-hearing-told : (s : Stream) (r : Result (Hearing × Phase) AssocFault) (size : Option ℕ)
-    (later : Phase → TalkStep) → IsSome size → OkIs IsHeard r
+hearing-told : (s : Stream) (r : Result (TsduMeaning × Phase) AssocFault) (size : Option ℕ)
+    (later : Phase → ConnectionStep) → IsSome size → OkIs IsHeard r
     → ((p : Phase) → IsSized p → IsTold (later p))
-    → IsTold (on_hearing size s r later)
+    → IsTold (step_on_tsdu_result size s r later)
 hearing-told s (Ok x) size later some is rest =
     heard-told s x.0 size x.1 (later x.1) some is.1 (rest x.1 is.0)
 hearing-told s (Err e) size later some is rest = record { all = (tt, tt); left = tt }
 
 told-so : (s : Stream) (ds : List Doing) (size : Option ℕ) (phase : Phase) → AreSized size ds
-    → IsSized phase → IsTold (talk_after s ds size phase)
+    → IsSized phase → IsTold (after_doings s ds size phase)
 told-so s [] size phase sized is = record { all = tt; left = is }
 told-so s (Answers n reply ∷ ds) size phase sized is =
-    let rest : IsTold (talk_after s ds (Some n) phase) =
+    let rest : IsTold (after_doings s ds (Some n) phase) =
     told-so s ds (Some n) phase sized is in record { all = (tt, rest.all); left = rest.left }
 told-so s (Delivers tsdu ∷ ds) size phase sized is =
-    hearing-told s (hearing phase tsdu) size (talk_after s ds size) sized.0
+    hearing-told s (tsdu_meaning phase tsdu) size (after_doings s ds size) sized.0
     (hearing-sized phase tsdu is)
     (λ p q. told-so s ds size p sized.1 q)
 told-so s (Ends ∷ ds) size phase sized is = record { all = (tt, tt); left = tt }
 told-so s (Fails fault ∷ ds) size phase sized is = record { all = (tt, tt); left = tt }
 
-comes-told : (t : Talk) (octets : List ℕ) → IsSized t.phase → IsTold (comes_to t octets)
+comes-told : (t : ConnectionState) (octets : List ℕ) → IsSized t.phase
+    → IsTold (connection_step t octets)
 comes-told t octets is =
     told-so (after t.stream octets) (doings t.stream octets) (size_agreed t.stream) t.phase
     (doings-sized t.stream octets) is
 
-pub can-answer : (t : Talk) (octets : List ℕ) → IsSized t.phase
+pub can-answer : (t : ConnectionState) (octets : List ℕ) → IsSized t.phase
     → CanAnswerAll (indications t octets)
 can-answer t octets is = (comes-told t octets is).all
 
-pub sized-behind : (t : Talk) (octets : List ℕ) → IsSized t.phase → IsSized (left_by t octets).phase
+pub sized-behind : (t : ConnectionState) (octets : List ℕ) → IsSized t.phase
+    → IsSized (connection_after t octets).phase
 sized-behind t octets is = (comes-told t octets is).left

@@ -14,27 +14,27 @@ use Rattle.bay_mms.specs.Grammar.{answer_to}
 use Rattle.bay_mms.specs.Requests.{identify, names, attributes, read, write, Message, initiate, conclude, confirmed}
 use Rattle.bay_ber.specs.Tags.{constructed}
 use Rattle.bay_mms.specs.declared.fault.MmsFault.{MmsFault}
-use Rattle.bay_assoc.specs.Hears.{association_terms}
+use Rattle.bay_assoc.specs.Receives.{association_terms}
 use Rattle.bay_assoc.specs.Sized.{IsSized}
-use Rattle.bay_assoc.specs.declared.hearing.Phase.{Phase}
-use Rattle.bay_assoc.specs.declared.hearing.Phase.TheVariants as phases
-use Rattle.bay_connection.specs.Talk.{Indication, Talk, Terms, answers, tells, releases, ends as ends-heard, fails, indications, left_by, sending}
+use Rattle.bay_assoc.specs.declared.receive.Phase.{Phase}
+use Rattle.bay_assoc.specs.declared.receive.Phase.TheVariants as phases
+use Rattle.bay_connection.specs.ConnectionStates.{Indication, ConnectionState, Terms, answers, tells, releases, ends as ends-heard, fails, indications, connection_after, sending}
 use Rattle.bay_control.specs.Acts.{Entry}
 use Rattle.bay_control.specs.Decisions as control
 use Rattle.bay_control.specs.Decisions.{without_association}
 use Rattle.bay_control.specs.Happenings.{Leads}
-use Rattle.bay_services.specs.Accepted.{AreNamedAlike, accepted_in, behind_id, first_response, may_be_reported, message_accepted, read_accepted, read_results, write_accepted, write_results}
-use Rattle.bay_services.specs.Answers.{Answered, pdu_answer}
-use Rattle.bay_services.specs.Bay.{Bay}
-use Rattle.bay_services.specs.Entries.{entries_in}
-use Rattle.bay_services.specs.declared.client.Client.{Client}
-use Rattle.bay_services.proofs.AcceptedLemmas.{alike-after, alike-still, none-read, none-written, response-tells}
-use Rattle.bay_services.proofs.ShortLemmas.{AreShort, answer-short}
+use Rattle.bay_mms_services.specs.Accepted.{AreNamedAlike, accepted_in, behind_id, first_response, may_be_reported, message_accepted, read_accepted, read_results, write_accepted, write_results}
+use Rattle.bay_mms_services.specs.Answers.{Answered, pdu_answer}
+use Rattle.bay_mms_services.specs.Bay.{Bay}
+use Rattle.bay_mms_services.specs.Entries.{entries_in}
+use Rattle.bay_mms_services.specs.declared.client.ClientContext.{ClientContext}
+use Rattle.bay_mms_services.proofs.AcceptedLemmas.{alike-after, alike-still, none-read, none-written, response-tells}
+use Rattle.bay_mms_services.proofs.ShortLemmas.{AreShort, answer-short}
 use Rattle.bay_device.specs.Device.{State, device_at, bay_of, lost_taken, ran_at}
 use Rattle.bay_device.specs.Entries.{IsIdle, Leading, opens, entries_at, entries_close, entries_closed, entries_heard, entries_octets, entries_of_event, entries_on, entries_open, entries_recv}
-use Rattle.bay_device.specs.Hearing.{Done, AllHeard, client_at, after_indications, on_heard, after_pdu, sent_on, size_of, with_sent}
-use Rattle.bay_device.specs.Outcomes.{Outcome, close_outcome, without_connection, closed_by, connection_at, contact_outcome, doubt_outcome, event_outcome, first_talk, input_outcome, last_moment, lost_outcome, measure_outcome, nothing_done, octets_outcome, open_outcome, outcome, place_of, refusal_of, recv_after, recv_outcome, with_connection, without_owner}
-use Rattle.bay_device.specs.Told.{AreTalks, Telling, of_answer, pdus_in, talk_at, talk_behind, talks_answer, talks_heard, talks_step, told_answer, told_closed, told_heard, told_recv, told_step, with_talk}
+use Rattle.bay_device.specs.Receiving.{Done, ReceiveResult, client_at, after_indications, on_indication, after_pdu, sent_on, size_of, with_sent}
+use Rattle.bay_device.specs.Outcomes.{Outcome, close_outcome, without_connection, closed_by, connection_at, contact_outcome, doubt_outcome, event_outcome, initial_connection, input_outcome, last_moment, lost_outcome, measure_outcome, nothing_done, octets_outcome, open_outcome, outcome, place_of, refusal_of, recv_after, recv_outcome, with_connection, without_owner}
+use Rattle.bay_device.specs.EntriesTold.{AreAgreed, EntriesLead, of_answer, pdus_in, connection_state_at, state_after_octets, states_after_answer, states_after_recv, states_after_step, entries_of_answer, entries_of_close, entries_of_pdus, entries_of_recv, entries_of_step, with_connection_state}
 use Rattle.bay_device.specs.declared.event.Event.{Event}
 use Rattle.bay_device.specs.declared.event.Event.TheVariants.{Open, Recv, Close, Contact, Input, Measure, BadMeasure, Lost, Scan}
 use Rattle.bay_device.specs.declared.event.Sent.{Sent}
@@ -78,7 +78,7 @@ none-accepted now a n (Ok (confirmed id (write ns values))) =
     none-written-in ∙ none-written now a n ns values
 none-accepted now a n (Err fault) = refl
 
-nothing-told : (now a : ℕ) (n : Bay) (is : List Indication) → told_heard now a n is [] ≡ []
+nothing-told : (now a : ℕ) (n : Bay) (is : List Indication) → entries_of_pdus now a n is [] ≡ []
 nothing-told now a n [] = refl
 nothing-told now a n (answers octets ∷ is) = nothing-told now a n is
 nothing-told now a n (tells terms pdu ∷ is) =
@@ -106,18 +106,18 @@ pdus-back a terms (pdu ∷ pdus) later some is short =
     (pdus-back a terms pdus later some is (λ k d lt. short (suc k) d (omega arith)))
 
 -- What was heard has sent more, which tells what is seen, and leaves the names as they are.
-record Walks (now a : ℕ) (n : Bay) (is : List Indication) (h : AllHeard) (d : Done)
+record Walks (now a : ℕ) (n : Bay) (is : List Indication) (h : ReceiveResult) (d : Done)
     (entries : List Entry) : Type 0 where
   more : List Sent
   sent : h.done.sent ≡ d.sent ++ more
-  told : told_heard now a n is (pdus_in more) ≡ entries
+  told : entries_of_pdus now a n is (pdus_in more) ≡ entries
   alike : AreNamedAlike n (bay_of h.done.state)
 
 on-walks : (now a : ℕ) (n : Bay) (i : Indication) (is : List Indication) (d : Done)
-    (later : Done → AllHeard) (entries : Done → List Entry) → CanAnswer i
+    (later : Done → ReceiveResult) (entries : Done → List Entry) → CanAnswer i
     → AreNamedAlike n (bay_of d.state)
     → ((e : Done) → AreNamedAlike n (bay_of e.state) → Walks now a n is (later e) e (entries e))
-    → Walks now a n (i ∷ is) (on_heard now a i d later) d (entries_on now a i d entries)
+    → Walks now a n (i ∷ is) (on_indication now a i d later) d (entries_on now a i d entries)
 on-walks now a n (answers octets) is d later entries can alike rest =
     let e : Done = with_sent a octets d in
     let w : Walks now a n is (later e) e (entries e) = rest e alike in
@@ -128,7 +128,7 @@ on-walks now a n (answers octets) is d later entries can alike rest =
       alike = w.alike;
     }
 on-walks now a n (tells terms pdu) is d later entries can alike rest =
-    let c : Client = client_at now a terms d.state in
+    let c : ClientContext = client_at now a terms d.state in
     let b : Bay = bay_of d.state in
     let x : Answered = pdu_answer c pdu b in
     let e : Done = after_pdu now a terms pdu d in
@@ -144,8 +144,8 @@ on-walks now a n (tells terms pdu) is d later entries can alike rest =
       sent = w.sent ∙ append_assoc d.sent sents w.more;
       told =
           ap (λ (pdus : List (List ℕ)). accepted_in now a pdu n (first_response may pdus).0
-          ++ told_heard now a n is (first_response may pdus).1) back
-          ∙ ap₂ (λ (xs : List Entry) (pdus : List (List ℕ)). xs ++ told_heard now a n is pdus)
+          ++ entries_of_pdus now a n is (first_response may pdus).1) back
+          ∙ ap₂ (λ (xs : List Entry) (pdus : List (List ℕ)). xs ++ entries_of_pdus now a n is pdus)
           response.0 response.1
           ∙ ap (λ (ys : List Entry). entries_in c pdu b ++ ys) w.told;
       alike = w.alike;
@@ -184,30 +184,34 @@ walks (Some (suc k)) now a n (i ∷ is) d can alike =
 
 -- ---- talks
 
-at-talk : (o : Option ℕ) (s : State) → connection_at o s ≡ talk_at o s.connections
+at-talk : (o : Option ℕ) (s : State) → connection_at o s ≡ connection_state_at o s.connections
 at-talk None s = refl
 at-talk (Some place) s = refl
 
-with-one : (o : Option ℕ) (x : Option Talk) (s : State)
-    → (with_connection o x s).connections ≡ with_talk o x s.connections
+with-one : (o : Option ℕ) (x : Option ConnectionState) (s : State)
+    → (with_connection o x s).connections ≡ with_connection_state o x s.connections
 with-one None x s = refl
 with-one (Some place) x s = refl
 
-alike-with : (n : Bay) (o : Option ℕ) (x : Option Talk) (s : State) → AreNamedAlike n (bay_of s)
+alike-with : (n : Bay) (o : Option ℕ) (x : Option ConnectionState) (s : State)
+    → AreNamedAlike n (bay_of s)
     → AreNamedAlike n (bay_of (with_connection o x s))
 alike-with n None x s alike = alike
 alike-with n (Some place) x s alike = alike
 
-abbrev IsTalk : Option Talk → Type 0
+abbrev IsTalk : Option ConnectionState → Type 0
 IsTalk None = Unit {0}
 IsTalk (Some t) = IsSized t.phase
 
-talk-set : (x : Option Talk) (t : Talk) → IsTalk x → x ≡ Some t → IsSized t.phase
+talk-set : (x : Option ConnectionState) (t : ConnectionState) → IsTalk x → x ≡ Some t
+    → IsSized t.phase
 talk-set None t is e = absurd cc
-talk-set (Some u) t is e = let same : u ≡ t = cc in subst (λ (v : Talk). IsSized v.phase) same is
+talk-set (Some u) t is e = let same : u ≡ t =
+    cc in subst (λ (v : ConnectionState). IsSized v.phase) same is
 
-set-talks : (talks : List (Option Talk)) (i : ℕ) (x : Option Talk) → AreTalks talks → IsTalk x
-    → AreTalks (slice_set talks i x)
+set-talks : (talks : List (Option ConnectionState)) (i : ℕ) (x : Option ConnectionState)
+    → AreAgreed talks → IsTalk x
+    → AreAgreed (slice_set talks i x)
 set-talks [] i x all is place t e = all place t e
 set-talks (y ∷ talks) zero x all is zero t e = talk-set x t is e
 set-talks (y ∷ talks) zero x all is (suc place) t e = all (suc place) t e
@@ -215,12 +219,13 @@ set-talks (y ∷ talks) (suc i) x all is zero t e = all zero t e
 set-talks (y ∷ talks) (suc i) x all is (suc place) t e =
     set-talks talks i x (λ k u f. all (suc k) u f) is place t e
 
-with-talks : (o : Option ℕ) (x : Option Talk) (s : State) → AreTalks s.connections → IsTalk x
-    → AreTalks (with_connection o x s).connections
+with-talks : (o : Option ℕ) (x : Option ConnectionState) (s : State) → AreAgreed s.connections
+    → IsTalk x
+    → AreAgreed (with_connection o x s).connections
 with-talks None x s all is = all
 with-talks (Some place) x s all is = set-talks s.connections place x all is
 
-talk-sized : (o : Option ℕ) (s : State) (t : Talk) → AreTalks s.connections
+talk-sized : (o : Option ℕ) (s : State) (t : ConnectionState) → AreAgreed s.connections
     → connection_at o s ≡ Some t → IsSized t.phase
 talk-sized None s t all e = absurd cc
 talk-sized (Some place) s t all e = all place t e
@@ -228,41 +233,43 @@ talk-sized (Some place) s t all e = all place t e
 -- ---- an event
 
 -- The answer tells what is seen, and of each talk what is left of it; the names and the sizes stay.
-pub record IsTold (n : Bay) (talks : List (Option Talk)) (f : Step → List Entry)
-    (g : Step → List (Option Talk)) (o : Outcome) (entries : List Entry) : Type 0 where
+pub record IsTold (n : Bay) (talks : List (Option ConnectionState)) (f : Step → List Entry)
+    (g : Step → List (Option ConnectionState)) (o : Outcome) (entries : List Entry) : Type 0 where
   pub told : of_answer [] f o.answer ≡ entries
   pub left : o.after.connections ≡ of_answer talks g o.answer
   pub alike : AreNamedAlike n (bay_of o.after)
-  pub sized : AreTalks o.after.connections
+  pub sized : AreAgreed o.after.connections
 
 closed-told : (now a : ℕ) (why : Option Why)
-    → told_closed now (closed_by a why) ≡ entries_closed now a why
+    → entries_of_close now (closed_by a why) ≡ entries_closed now a why
 closed-told now a None = refl
 closed-told now a (Some why) = refl
 
 module _ (n : Bay) (now : ℕ) (s : State) (alike : AreNamedAlike n (bay_of s))
-    (sized : AreTalks s.connections) where
-  abbrev talks : List (Option Talk)
+    (sized : AreAgreed s.connections) where
+  abbrev talks : List (Option ConnectionState)
   talks = s.connections
 
   alike-advanced : AreNamedAlike n (bay_of (device_at now s))
   alike-advanced = alike-still n (bay_of s) (control.controls_at now s.controls) alike
 
-  refused-told : (f : Step → List Entry) (g : Step → List (Option Talk)) (fault : StepFault)
+  refused-told : (f : Step → List Entry) (g : Step → List (Option ConnectionState))
+      (fault : StepFault)
       → IsTold n talks f g (refusal_of fault s) []
   refused-told f g fault = record { told = refl; left = refl; alike = alike; sized = sized }
 
-  open-told : (a : ℕ) (o : Option ℕ) (talk : Option Talk)
-      → IsTold n talks (told_step now (Open a) n talks) (talks_step (Open a) talks)
+  open-told : (a : ℕ) (o : Option ℕ) (talk : Option ConnectionState)
+      → IsTold n talks (entries_of_step now (Open a) n talks) (states_after_step (Open a) talks)
       (open_outcome now a s o talk) (entries_open now a o talk)
   open-told a None talk = record { told = refl; left = refl; alike = alike; sized = sized }
   open-told a (Some place) (Some talk) =
       record { told = refl; left = refl; alike = alike; sized = sized }
   open-told a (Some place) None = record {
     told = refl;
-    left = with-one (place_of a) (Some (first_talk a)) (device_at now s);
-    alike = alike-with n (place_of a) (Some (first_talk a)) (device_at now s) alike-advanced;
-    sized = with-talks (place_of a) (Some (first_talk a)) (device_at now s) sized tt;
+    left = with-one (place_of a) (Some (initial_connection a)) (device_at now s);
+    alike = alike-with n (place_of a) (Some (initial_connection a)) (device_at now s)
+        alike-advanced;
+    sized = with-talks (place_of a) (Some (initial_connection a)) (device_at now s) sized tt;
   }
 
   -- an association that is closed, on a device with these talks and names
@@ -272,8 +279,8 @@ module _ (n : Bay) (now : ℕ) (s : State) (alike : AreNamedAlike n (bay_of s))
       alike-with n (place_of a) None (without_owner a t)
       (alike-still n (bay_of t) (without_association a t.controls) same)
 
-  close-told : (a : ℕ) (talk : Option Talk)
-      → IsTold n talks (told_step now (Close a) n talks) (talks_step (Close a) talks)
+  close-told : (a : ℕ) (talk : Option ConnectionState)
+      → IsTold n talks (entries_of_step now (Close a) n talks) (states_after_step (Close a) talks)
       (close_outcome now a s talk) (entries_close now a talk)
   close-told a None = record { told = refl; left = refl; alike = alike; sized = sized }
   close-told a (Some talk) = record {
@@ -285,49 +292,58 @@ module _ (n : Bay) (now : ℕ) (s : State) (alike : AreNamedAlike n (bay_of s))
 
   -- ---- octets
 
-  after-left : (a : ℕ) (left : Talk) (octet : ℕ) (octets : List ℕ) (talk : Talk) (t : State)
-      (why : Option Why) → t.connections ≡ talks → talk_at (place_of a) talks ≡ Some talk
-      → left ≡ left_by talk (octet ∷ octets)
+  after-left : (a : ℕ) (left : ConnectionState) (octet : ℕ) (octets : List ℕ)
+      (talk : ConnectionState) (t : State)
+      (why : Option Why) → t.connections ≡ talks
+      → connection_state_at (place_of a) talks ≡ Some talk
+      → left ≡ connection_after talk (octet ∷ octets)
       → (recv_after a left t why).connections
-      ≡ talks_heard a (octet ∷ octets) talks (closed_by a why)
+      ≡ states_after_recv a (octet ∷ octets) talks (closed_by a why)
   after-left a left octet octets talk t None same here is =
-      with-one (place_of a) (Some left) t ∙ ap (with_talk (place_of a) (Some left)) same
-      ∙ ap (λ (u : Talk). with_talk (place_of a) (Some u) talks) is
-      ∙ sym (ap (λ (o : Option Talk). with_talk (place_of a) (talk_behind (octet ∷ octets) o) talks)
+      with-one (place_of a) (Some left) t ∙ ap (with_connection_state (place_of a) (Some left)) same
+      ∙ ap (λ (u : ConnectionState). with_connection_state (place_of a) (Some u) talks) is
+      ∙ sym (ap (λ (o : Option ConnectionState). with_connection_state (place_of a)
+      (state_after_octets (octet ∷ octets) o) talks)
       here)
   after-left a left octet octets talk t (Some why) same here is =
-      with-one (place_of a) None (without_owner a t) ∙ ap (with_talk (place_of a) None) same
+      with-one (place_of a) None (without_owner a t)
+      ∙ ap (with_connection_state (place_of a) None) same
 
-  after-alike : (a : ℕ) (left : Talk) (t : State) (why : Option Why) → AreNamedAlike n (bay_of t)
+  after-alike : (a : ℕ) (left : ConnectionState) (t : State) (why : Option Why)
+      → AreNamedAlike n (bay_of t)
       → AreNamedAlike n (bay_of (recv_after a left t why))
   after-alike a left t None same = alike-with n (place_of a) (Some left) t same
   after-alike a left t (Some why) same = closed-alike a t same
 
-  after-sized : (a : ℕ) (left : Talk) (t : State) (why : Option Why) → AreTalks t.connections
-      → IsSized left.phase → AreTalks (recv_after a left t why).connections
+  after-sized : (a : ℕ) (left : ConnectionState) (t : State) (why : Option Why)
+      → AreAgreed t.connections
+      → IsSized left.phase → AreAgreed (recv_after a left t why).connections
   after-sized a left t None all is = with-talks (place_of a) (Some left) t all is
   after-sized a left t (Some why) all is = with-talks (place_of a) None (without_owner a t) all tt
 
-  octets-told : (choice : Option ℕ) (a : ℕ) (talk : Talk) (octets : List ℕ)
+  octets-told : (choice : Option ℕ) (a : ℕ) (talk : ConnectionState) (octets : List ℕ)
       → connection_at (place_of a) s ≡ Some talk
-      → IsTold n talks (λ step. told_recv now a n octets (talk_at (place_of a) talks) step.sent
-      ++ told_closed now step.closed) (λ step. talks_heard a octets talks step.closed)
+      → IsTold n talks (λ step. entries_of_recv now a n octets
+      (connection_state_at (place_of a) talks) step.sent
+      ++ entries_of_close now step.closed) (λ step. states_after_recv a octets talks step.closed)
       (octets_outcome choice now a s talk octets) (entries_octets choice now a s talk octets)
   octets-told choice a talk [] is =
-      let here : talk_at (place_of a) talks ≡ Some talk = sym (at-talk (place_of a) s) ∙ is in
+      let here : connection_state_at (place_of a) talks ≡ Some talk =
+      sym (at-talk (place_of a) s) ∙ is in
       record {
-        told = ap (λ (o : Option Talk). told_recv now a n [] o [] ++ []) here
+        told = ap (λ (o : Option ConnectionState). entries_of_recv now a n [] o [] ++ []) here
             ∙ ap (λ (es : List Entry). es ++ []) (nothing-told now a n (indications talk []));
         left = refl;
         alike = alike-advanced;
         sized = sized;
       }
   octets-told choice a talk (octet ∷ octets) is =
-      let here : talk_at (place_of a) talks ≡ Some talk = sym (at-talk (place_of a) s) ∙ is in
+      let here : connection_state_at (place_of a) talks ≡ Some talk =
+      sym (at-talk (place_of a) s) ∙ is in
       let all : List ℕ = octet ∷ octets in
       let begun : Done = nothing_done (device_at now s) in
       let phased : IsSized talk.phase = talk-sized (place_of a) s talk sized is in
-      let h : AllHeard = after_indications choice now a (indications talk all) begun in
+      let h : ReceiveResult = after_indications choice now a (indications talk all) begun in
       let w : Walks now a n (indications talk all) h begun
       (entries_heard choice now a (indications talk all) begun) =
       walks choice now a n (indications talk all) begun (can-answer talk all phased) alike-advanced
@@ -336,21 +352,24 @@ module _ (n : Bay) (now : ℕ) (s : State) (alike : AreNamedAlike n (bay_of s))
       heard-connected choice now a (indications talk all) begun in
       record {
         told =
-            ap (λ (o : Option Talk). told_recv now a n all o h.done.sent
-            ++ told_closed now (closed_by a h.why)) here
-            ∙ ap (λ (sent : List Sent). told_heard now a n (indications talk all) (pdus_in sent)
-            ++ told_closed now (closed_by a h.why)) w.sent
+            ap (λ (o : Option ConnectionState). entries_of_recv now a n all o h.done.sent
+            ++ entries_of_close now (closed_by a h.why)) here
+            ∙ ap (λ (sent : List Sent). entries_of_pdus now a n (indications talk all)
+            (pdus_in sent)
+            ++ entries_of_close now (closed_by a h.why)) w.sent
             ∙ ap₂ (λ (xs ys : List Entry). xs ++ ys) w.told (closed-told now a h.why);
-        left = after-left a (left_by talk all) octet octets talk h.done.state h.why same here refl;
-        alike = after-alike a (left_by talk all) h.done.state h.why w.alike;
-        sized = after-sized a (left_by talk all) h.done.state h.why
-            (subst AreTalks (sym same) sized) (sized-behind talk all phased);
+        left = after-left a (connection_after talk all) octet octets talk h.done.state h.why same
+            here refl;
+        alike = after-alike a (connection_after talk all) h.done.state h.why w.alike;
+        sized = after-sized a (connection_after talk all) h.done.state h.why
+            (subst AreAgreed (sym same) sized) (sized-behind talk all phased);
       }
 
-  recv-told : (choice : Option ℕ) (a : ℕ) (octets : List ℕ) (talk : Option Talk)
+  recv-told : (choice : Option ℕ) (a : ℕ) (octets : List ℕ) (talk : Option ConnectionState)
       → connection_at (place_of a) s ≡ talk
-      → IsTold n talks (λ step. told_recv now a n octets (talk_at (place_of a) talks) step.sent
-      ++ told_closed now step.closed) (λ step. talks_heard a octets talks step.closed)
+      → IsTold n talks (λ step. entries_of_recv now a n octets
+      (connection_state_at (place_of a) talks) step.sent
+      ++ entries_of_close now step.closed) (λ step. states_after_recv a octets talks step.closed)
       (recv_outcome choice now a octets s talk) (entries_recv choice now a octets s talk)
   recv-told choice a octets None is =
       record { told = refl; left = refl; alike = alike; sized = sized }
@@ -359,8 +378,8 @@ module _ (n : Bay) (now : ℕ) (s : State) (alike : AreNamedAlike n (bay_of s))
   -- ---- the process
 
   contact-told : (k : ℕ) (position : Dbpos) (o : Option Switch)
-      → IsTold n talks (told_step now (Contact k position) n talks)
-      (talks_step (Contact k position) talks) (contact_outcome now k position s o) []
+      → IsTold n talks (entries_of_step now (Contact k position) n talks)
+      (states_after_step (Contact k position) talks) (contact_outcome now k position s o) []
   contact-told k position None = record { told = refl; left = refl; alike = alike; sized = sized }
   contact-told k position (Some switch) =
       let t : State = device_at now s in
@@ -377,7 +396,8 @@ module _ (n : Bay) (now : ℕ) (s : State) (alike : AreNamedAlike n (bay_of s))
       }
 
   input-told : (k : ℕ) (value : Bool) (o : Option Bool)
-      → IsTold n talks (told_step now (Input k value) n talks) (talks_step (Input k value) talks)
+      → IsTold n talks (entries_of_step now (Input k value) n talks)
+      (states_after_step (Input k value) talks)
       (input_outcome now k value s o) []
   input-told k value None = record { told = refl; left = refl; alike = alike; sized = sized }
   input-told k value (Some before) = record {
@@ -392,8 +412,8 @@ module _ (n : Bay) (now : ℕ) (s : State) (alike : AreNamedAlike n (bay_of s))
   }
 
   measure-told : (k : ℕ) (field : MeterField) (value : ℤ) (o : Option (List ℕ))
-      → IsTold n talks (told_step now (Measure k field value) n talks)
-      (talks_step (Measure k field value) talks) (measure_outcome now k field value s o) []
+      → IsTold n talks (entries_of_step now (Measure k field value) n talks)
+      (states_after_step (Measure k field value) talks) (measure_outcome now k field value s o) []
   measure-told k field value None =
       record { told = refl; left = refl; alike = alike; sized = sized }
   measure-told k field value (Some id) =
@@ -411,8 +431,8 @@ module _ (n : Bay) (now : ℕ) (s : State) (alike : AreNamedAlike n (bay_of s))
       }
 
   doubt-told : (k : ℕ) (field : MeterField) (o : Option (List ℕ))
-      → IsTold n talks (told_step now (BadMeasure k field) n talks)
-      (talks_step (BadMeasure k field) talks) (doubt_outcome now k field s o) []
+      → IsTold n talks (entries_of_step now (BadMeasure k field) n talks)
+      (states_after_step (BadMeasure k field) talks) (doubt_outcome now k field s o) []
   doubt-told k field None = record { told = refl; left = refl; alike = alike; sized = sized }
   doubt-told k field (Some id) = record {
     told = refl;
@@ -425,7 +445,7 @@ module _ (n : Bay) (now : ℕ) (s : State) (alike : AreNamedAlike n (bay_of s))
     sized = sized;
   }
 
-  lost-told : IsTold n talks (told_step now Lost n talks) (talks_step Lost talks)
+  lost-told : IsTold n talks (entries_of_step now Lost n talks) (states_after_step Lost talks)
       (lost_outcome now s) []
   lost-told =
       let t : State = device_at now s in
@@ -435,10 +455,10 @@ module _ (n : Bay) (now : ℕ) (s : State) (alike : AreNamedAlike n (bay_of s))
         told = refl;
         left = left;
         alike = alike-lost n now t alike-advanced;
-        sized = subst AreTalks (sym left) sized;
+        sized = subst AreAgreed (sym left) sized;
       }
 
-  scan-told : IsTold n talks (told_step now Scan n talks) (talks_step Scan talks)
+  scan-told : IsTold n talks (entries_of_step now Scan n talks) (states_after_step Scan talks)
       (event_outcome None now Scan s) []
   scan-told =
       let t : State = device_at now s in
@@ -456,7 +476,7 @@ module _ (n : Bay) (now : ℕ) (s : State) (alike : AreNamedAlike n (bay_of s))
       }
 
   event-told : (choice : Option ℕ) (event : Event)
-      → IsTold n talks (told_step now event n talks) (talks_step event talks)
+      → IsTold n talks (entries_of_step now event n talks) (states_after_step event talks)
       (event_outcome choice now event s) (entries_of_event choice now event s)
   event-told choice (Open a) = open-told a (place_of a) (connection_at (place_of a) s)
   event-told choice (Recv a octets) =
@@ -469,18 +489,19 @@ module _ (n : Bay) (now : ℕ) (s : State) (alike : AreNamedAlike n (bay_of s))
   event-told choice Lost = lost-told
   event-told choice Scan = scan-told
 
-  told-if : (b : Bool) (f : Step → List Entry) (g : Step → List (Option Talk)) (x y : Outcome)
+  told-if : (b : Bool) (f : Step → List Entry) (g : Step → List (Option ConnectionState))
+      (x y : Outcome)
       (xs ys : List Entry) → IsTold n talks f g x xs → IsTold n talks f g y ys
       → IsTold n talks f g (cond b x y) (cond b xs ys)
   told-if true f g x y xs ys p q = p
   told-if false f g x y xs ys p q = q
 
   pub outcome-told : (choice : Option ℕ) (event : Event)
-      → IsTold n talks (told_step now event n talks) (talks_step event talks)
+      → IsTold n talks (entries_of_step now event n talks) (states_after_step event talks)
       (outcome choice now event s) (entries_at choice now event s)
   outcome-told choice event =
-      let f : Step → List Entry = told_step now event n talks in
-      let g : Step → List (Option Talk) = talks_step event talks in
+      let f : Step → List Entry = entries_of_step now event n talks in
+      let g : Step → List (Option ConnectionState) = states_after_step event talks in
       let inner : IsTold n talks f g
       (cond (nat_lt now s.moment) (refusal_of TimeWentBack s) (event_outcome choice now event s))
       (cond (nat_lt now s.moment) [] (entries_of_event choice now event s)) =
@@ -496,37 +517,38 @@ module _ (n : Bay) (now : ℕ) (s : State) (alike : AreNamedAlike n (bay_of s))
 
 -- an event, from whatever was before
 pub telling : (n : Bay) (now : ℕ) (event : Event) (old : State) (answer : Result Step StepFault)
-    (new : State) → AreNamedAlike n (bay_of old) → AreTalks old.connections
-    → Leading now event old answer new → Telling n now event old answer new
+    (new : State) → AreNamedAlike n (bay_of old) → AreAgreed old.connections
+    → Leading now event old answer new → EntriesLead n now event old answer new
 telling n now event old answer new alike sized l =
     let o : Outcome = outcome l.steps.choice now event old in
-    let t : IsTold n old.connections (told_step now event n old.connections)
-    (talks_step event old.connections) o (entries_at l.steps.choice now event old) =
+    let t : IsTold n old.connections (entries_of_step now event n old.connections)
+    (states_after_step event old.connections) o (entries_at l.steps.choice now event old) =
     outcome-told n now old alike sized l.steps.choice event in
-    let same : told_answer now event n old.connections answer
+    let same : entries_of_answer now event n old.connections answer
     ≡ entries_at l.steps.choice now event old =
-    ap (told_answer now event n old.connections) l.steps.answered ∙ t.told in
+    ap (entries_of_answer now event n old.connections) l.steps.answered ∙ t.told in
     record {
       leads = λ past open_before before so_far.
           subst (λ (es : List Entry). Leads (past ++ es) open_before before (opens new)
           new.controls) (sym same) (l.leads past open_before before so_far);
       left = ap (λ (u : State). u.connections) l.steps.left ∙ t.left
-          ∙ sym (ap (talks_answer event old.connections) l.steps.answered);
+          ∙ sym (ap (states_after_answer event old.connections) l.steps.answered);
       alike = subst (λ (u : State). AreNamedAlike n (bay_of u)) (sym l.steps.left) t.alike;
-      sized = subst (λ (u : State). AreTalks u.connections) (sym l.steps.left) t.sized;
+      sized = subst (λ (u : State). AreAgreed u.connections) (sym l.steps.left) t.sized;
     }
 
 -- ---- a device as load made it
 
 none-there : (n place : ℕ)
-    → unwrap_or (slice_get (replicate n (let o : Option Talk = None in o)) place) None ≡ None
+    → unwrap_or (slice_get (replicate n (let o : Option ConnectionState = None in o)) place) None
+    ≡ None
 none-there zero place = refl
 none-there (suc n) zero = refl
 none-there (suc n) (suc place) = none-there n place
 
-pub idle-talks : (s : State) → IsIdle s → AreTalks s.connections
+pub idle-talks : (s : State) → IsIdle s → AreAgreed s.connections
 idle-talks s idle place t e =
     let none : unwrap_or (slice_get s.connections place) None ≡ None =
-    ap (λ (cs : List (Option Talk)). unwrap_or (slice_get cs place) None) idle.closed
+    ap (λ (cs : List (Option ConnectionState)). unwrap_or (slice_get cs place) None) idle.closed
     ∙ none-there 8 place in
     absurd (let no : None ≡ Some t = sym none ∙ e in cc)

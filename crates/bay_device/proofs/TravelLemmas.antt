@@ -14,7 +14,7 @@ use Rattle.bay_config.specs.declared.fault.BayFault.{BayFault}
 use Rattle.bay_config.proofs.PassedLemmas.{accepted-is, none-behind, none-first, switches-pass}
 use Rattle.bay_control.specs.Decisions.{controls_of}
 use Rattle.bay_control.specs.Requests.{is_controlled}
-use Rattle.bay_services.specs.Released.{AreTimed}
+use Rattle.bay_mms_services.specs.Released.{AreTimed}
 use Rattle.bay_device.specs.BoundBay.{IsTimedBay}
 
 -- ---- a key

@@ -6,13 +6,13 @@ use Rattle.std.proofs.lemmas.List.{append_cancel_left}
 use Rattle.std.proofs.Math.Seq.{take-length}
 use Rattle.bay_transport.specs.Doings.{Left, Going, Over, Broken}
 use Rattle.bay_transport.specs.Feeding.{IsGoing}
-use Rattle.bay_connection.specs.Talk.{Talk, Indication, answers, tells, releases, ends, fails, indications, left_by}
-use Rattle.bay_connection.specs.Feeding.{Comes, Feeds, FeedsFrom, IsContinued}
+use Rattle.bay_connection.specs.ConnectionStates.{ConnectionState, Indication, answers, tells, releases, ends, fails, indications, connection_after}
+use Rattle.bay_connection.specs.Feeding.{Completes, Feeds, FeedsFrom, IsContinued}
 use Rattle.bay_connection.proofs.CuttingLemmas.{indications-append, left_by-append}
 use Rattle.bay_connection.proofs.FeedingLemmas.{feeding-indications}
 use Rattle.bay_connection.proofs.GoingLemmas.{heard-going, nothing-going}
-use Rattle.bay_device.specs.Hearing.{Done, AllHeard, after_indications, on_heard}
-use Rattle.bay_device.specs.HearingViews.{ComesTo, IsContinuedIf, Moves, on_heard_if}
+use Rattle.bay_device.specs.Receiving.{Done, ReceiveResult, after_indications, on_indication}
+use Rattle.bay_device.specs.ReceivingViews.{ComesTo, IsContinuedIf, Moves, on_heard_if}
 use Rattle.bay_device.specs.declared.event.Why.{Why}
 use Rattle.bay_device.specs.declared.event.Why.TheVariants.{Ended, Fault, Memory}
 
@@ -23,7 +23,7 @@ next (Some n) = Some (suc n)
 
 heard-next : (later : Option ℕ) (now a : ℕ) (i : Indication) (is : List Indication) (d : Done)
     → after_indications (next later) now a (i ∷ is) d
-    ≡ on_heard now a i d (after_indications later now a is)
+    ≡ on_indication now a i d (after_indications later now a is)
 unfolding next
 heard-next None now a i is d = refl
 heard-next (Some n) now a i is d = refl
@@ -35,20 +35,21 @@ refused-here now a (i ∷ is) d = refl
 
 -- ---- what was fed
 
-fed-some : (left : Left) (t : Talk) (piece : List ℕ) (used : ℕ) (i : Indication) → IsGoing left
-    → FeedsFrom left t piece used (Some i) → Comes t piece used i
+fed-some : (left : Left) (t : ConnectionState) (piece : List ℕ) (used : ℕ) (i : Indication)
+    → IsGoing left
+    → FeedsFrom left t piece used (Some i) → Completes t piece used i
 fed-some (Going connection rest) t piece used i going fed = fed
 fed-some Over t piece used i going fed = absurd going
 fed-some Broken t piece used i going fed = absurd going
 
-fed-none : (left : Left) (t : Talk) (piece : List ℕ) (used : ℕ) → IsGoing left
+fed-none : (left : Left) (t : ConnectionState) (piece : List ℕ) (used : ℕ) → IsGoing left
     → FeedsFrom left t piece used None → (used ≡ length piece) × (indications t piece ≡ [])
 fed-none (Going connection rest) t piece used going fed = fed
 fed-none Over t piece used going fed = absurd going
 fed-none Broken t piece used going fed = absurd going
 
-comes-some : (t : Talk) (piece : List ℕ) (used : ℕ) (i : Indication) → IsContinued i
-    → Comes t piece used i → (0 < used) × (indications t (take used piece) ≡ i ∷ [])
+comes-some : (t : ConnectionState) (piece : List ℕ) (used : ℕ) (i : Indication) → IsContinued i
+    → Completes t piece used i → (0 < used) × (indications t (take used piece) ≡ i ∷ [])
 comes-some t piece used (answers octets) goes comes = (comes.moves, comes.does)
 comes-some t piece used (tells terms pdu) goes comes = (comes.moves, comes.does)
 comes-some t piece used (releases octets) goes comes = absurd goes
@@ -59,15 +60,16 @@ comes-some t piece used (fails code) goes comes = absurd goes
 nothing-left : (xs ys : List Indication) → xs ≡ xs ++ ys → ys ≡ []
 nothing-left xs ys e = sym (append_cancel_left xs [] ys (append-nil xs ∙ e))
 
-left-quiet : (t : Talk) (octets : List ℕ) → indications (left_by t octets) [] ≡ []
+left-quiet : (t : ConnectionState) (octets : List ℕ)
+    → indications (connection_after t octets) [] ≡ []
 left-quiet t octets =
     nothing-left (indications t octets) _
     (ap (indications t) (sym (append-nil octets)) ∙ indications-append t octets [])
 
 -- ---- turns
 
-module _ (now a : ℕ) (old : Talk) (rest : List ℕ) (used : ℕ) (new : Talk)
-    (going : IsGoing old.stream.left) (left : new ≡ left_by old (take used rest)) where
+module _ (now a : ℕ) (old : ConnectionState) (rest : List ℕ) (used : ℕ) (new : ConnectionState)
+    (going : IsGoing old.stream.left) (left : new ≡ connection_after old (take used rest)) where
   pub used-some : (i : Option Indication) → 0 < length rest → Feeds old rest used i
       → IsContinuedIf i → 0 < used
   used-some None some fed goes = let all =
@@ -88,7 +90,7 @@ module _ (now a : ℕ) (old : Talk) (rest : List ℕ) (used : ℕ) (new : Talk)
       rw left (heard-going old (take used rest) i does goes)
 
   pub moves-heard : (i : Option Indication) (d e : Done) → Feeds old rest used i
-      → ((later : Done → AllHeard) → on_heard_if now a i d later ≡ later e)
+      → ((later : Done → ReceiveResult) → on_heard_if now a i d later ≡ later e)
       → Moves now a old rest d new (drop used rest) e
   moves-heard None d e fed done =
       let all = fed-none old.stream.left old rest used going fed in
@@ -119,15 +121,15 @@ module _ (now a : ℕ) (old : Talk) (rest : List ℕ) (used : ℕ) (new : Talk)
 
   -- the association is closed by what was heard, which is not want of memory
   pub stops-heard : (i : Option Indication) (d e : Done) (why : Why) → Feeds old rest used i
-      → ((later : Done → AllHeard)
+      → ((later : Done → ReceiveResult)
       → on_heard_if now a i d later ≡ record { done = e; why = Some why })
       → ComesTo now a old rest d (Some why) e
   stops-heard None d e why fed done =
       let no : record { done = d; why = None }
-      ≡ (let h : AllHeard = record { done = e; why = Some why } in h) =
+      ≡ (let h : ReceiveResult = record { done = e; why = Some why } in h) =
       done (λ x. record { done = x; why = None }) in
       absurd (let w : None ≡ (let o : Option Why = Some why in o) =
-      ap (λ (h : AllHeard). h.why) no in
+      ap (λ (h : ReceiveResult). h.why) no in
       cc)
   stops-heard (Some i) d e why fed done =
       let comes =
@@ -139,7 +141,7 @@ module _ (now a : ℕ) (old : Talk) (rest : List ℕ) (used : ℕ) (new : Talk)
             ∙ done (after_indications None now a (indications new (drop used rest)));
       }
 
-pub stops-memory : (now a : ℕ) (old : Talk) (octets : List ℕ) (d e : Done) → e ≡ d
+pub stops-memory : (now a : ℕ) (old : ConnectionState) (octets : List ℕ) (d e : Done) → e ≡ d
     → ComesTo now a old octets d (Some Memory) e
 stops-memory now a old octets d e is = record {
   choice = Some 0;
@@ -148,7 +150,7 @@ stops-memory now a old octets d e is = record {
 }
 
 -- why it is closed is want of memory, or something else
-pub stops-by : (now a : ℕ) (old : Talk) (octets : List ℕ) (d e : Done) (why : Why)
+pub stops-by : (now a : ℕ) (old : ConnectionState) (octets : List ℕ) (d e : Done) (why : Why)
     → (why ≡ Memory → e ≡ d) → (why ≢ Memory → ComesTo now a old octets d (Some why) e)
     → ComesTo now a old octets d (Some why) e
 stops-by now a old octets d e Memory same stops = stops-memory now a old octets d e (same refl)
@@ -157,12 +159,13 @@ stops-by now a old octets d e (Fault code) same stops = stops (λ is. cc)
 
 -- ---- all turns
 
-pub moves-none : (now a : ℕ) (old : Talk) (octets : List ℕ) (d : Done)
+pub moves-none : (now a : ℕ) (old : ConnectionState) (octets : List ℕ) (d : Done)
     → Moves now a old octets d old octets d
 moves-none now a old octets d = record { goes = λ later. (later, refl) }
 
-pub moves-on : (now a : ℕ) (old : Talk) (octets : List ℕ) (d : Done) (mid : Talk) (middle : List ℕ)
-    (v : Done) (new : Talk) (rest : List ℕ) (e : Done)
+pub moves-on : (now a : ℕ) (old : ConnectionState) (octets : List ℕ) (d : Done)
+    (mid : ConnectionState) (middle : List ℕ)
+    (v : Done) (new : ConnectionState) (rest : List ℕ) (e : Done)
     → Moves now a old octets d mid middle v → Moves now a mid middle v new rest e
     → Moves now a old octets d new rest e
 moves-on now a old octets d mid middle v new rest e first second = record {
@@ -172,7 +175,8 @@ moves-on now a old octets d mid middle v new rest e first second = record {
       (f.0, f.1 ∙ s.1);
 }
 
-pub stops-then : (now a : ℕ) (old : Talk) (octets : List ℕ) (d : Done) (mid : Talk)
+pub stops-then : (now a : ℕ) (old : ConnectionState) (octets : List ℕ) (d : Done)
+    (mid : ConnectionState)
     (middle : List ℕ) (v : Done) (why : Why) (e : Done)
     → Moves now a old octets d mid middle v → ComesTo now a mid middle v (Some why) e
     → ComesTo now a old octets d (Some why) e
@@ -180,8 +184,9 @@ stops-then now a old octets d mid middle v why e first stops =
     let f = first.goes stops.choice in
     record { choice = f.0; is = f.1 ∙ stops.is }
 
-pub ends-all : (now a : ℕ) (old : Talk) (octets : List ℕ) (d : Done) (new : Talk) (e : Done)
-    → new ≡ left_by old octets → Moves now a old octets d new [] e
+pub ends-all : (now a : ℕ) (old : ConnectionState) (octets : List ℕ) (d : Done)
+    (new : ConnectionState) (e : Done)
+    → new ≡ connection_after old octets → Moves now a old octets d new [] e
     → ComesTo now a old octets d None e
 ends-all now a old octets d new e left moves =
     let m = moves.goes None in
@@ -200,13 +205,15 @@ take-more [] (suc i) j = nothing-more (suc i) j
 take-more (x ∷ xs) (suc i) j = let more : suc i + j ≡ suc (i + j) =
     omega arith in rw more (ap (λ ys. x ∷ ys) (take-more xs i j))
 
-pub left-on : (old mid new : Talk) (octets : List ℕ) (at used : ℕ) → (at ≡ 0 → mid ≡ old)
-    → (0 < at → mid ≡ left_by old (take at octets)) → new ≡ left_by mid (take used (drop at octets))
-    → new ≡ left_by old (take (at + used) octets)
+pub left-on : (old mid new : ConnectionState) (octets : List ℕ) (at used : ℕ) → (at ≡ 0 → mid ≡ old)
+    → (0 < at → mid ≡ connection_after old (take at octets))
+    → new ≡ connection_after mid (take used (drop at octets))
+    → new ≡ connection_after old (take (at + used) octets)
 left-on old mid new octets zero used first later is =
     let none : 0 + used ≡ used = omega arith in
-    rw none (is ∙ ap (λ (t : Talk). left_by t (take used octets)) (first refl))
+    rw none (is ∙ ap (λ (t : ConnectionState). connection_after t (take used octets)) (first refl))
 left-on old mid new octets (suc at) used first later is =
-    is ∙ ap (λ (t : Talk). left_by t (take used (drop (suc at) octets))) (later (omega arith))
+    is ∙ ap (λ (t : ConnectionState). connection_after t (take used (drop (suc at) octets)))
+    (later (omega arith))
     ∙ sym (left_by-append old (take (suc at) octets) (take used (drop (suc at) octets)))
-    ∙ ap (left_by old) (take-more octets (suc at) used)
+    ∙ ap (connection_after old) (take-more octets (suc at) used)

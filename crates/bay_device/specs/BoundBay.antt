@@ -1,24 +1,23 @@
--- What load makes of a bay, beside the machine of its program.
+-- The parts of a device that load makes from a bay, apart from the machine of its program.
 use Rattle.std.specs.Prelude.{◌≡◌, List, length, None}
 use Rattle.bay_config.specs.declared.bay.Bay.{Bay}
 use Rattle.bay_base.specs.declared.point.Source.{Source}
 use Rattle.bay_config.specs.Laws.{IsBay}
 use Rattle.bay_control.specs.Decisions.{controls_of, initial}
 use Rattle.bay_process.specs.Layout.{AreBound, AreMetersBound, layout_of, meters_of, switches_of}
-use Rattle.bay_process.specs.Told.{AreKept}
-use Rattle.bay_services.specs.Bay.{rows_shown}
-use Rattle.bay_services.specs.Released.{AreTimed}
-use Rattle.bay_services.specs.Views.{bay_view}
+use Rattle.bay_process.specs.ReportedRows.{AreKept}
+use Rattle.bay_mms_services.specs.Bay.{rows_with_selection}
+use Rattle.bay_mms_services.specs.Released.{AreTimed}
+use Rattle.bay_mms_services.specs.Views.{bay_view}
 use Rattle.bay_device.specs.declared.load.BoundBay.{BoundBay}
 
--- A bay is one that a file describes, and each of its switches that can be operated takes some
--- time.
+-- A file describes the bay, and the travel time of each controlled switch is at least 1 ms.
 pub record IsTimedBay (bay : Bay) : Type 0 where
   pub sound : IsBay bay
   pub timed : AreTimed (controls_of bay.switches)
 
--- A bay is bound, with nothing selected: clients see what the file says, its switches and meters
--- have the rows that their names name, and the text of the releases is that of its rows.
+-- The bay is bound, without a selection: clients see the contents of the file, its switches and
+-- meters have the rows with their names, and the text of the releases has the values of its rows.
 pub record IsBoundBay (bay : Bay) (writes : List Source) (b : BoundBay) : Type 0 where
   pub served : bay_view b.bay ≡ record {
     domain = bay.domain;
@@ -26,7 +25,7 @@ pub record IsBoundBay (bay : Bay) (writes : List Source) (b : BoundBay) : Type 0
     model = bay.model;
     revision = bay.revision;
     switches = bay.switches;
-    rows = rows_shown None (length bay.switches) bay.rows;
+    rows = rows_with_selection None (length bay.switches) bay.rows;
     controls = initial (controls_of bay.switches);
   }
   pub age : b.scan_max_age_ms ≡ bay.scan_max_age_ms

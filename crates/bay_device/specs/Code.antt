@@ -3,7 +3,7 @@ use Rattle.std.specs.Prelude.{ℕ}
 use Rattle.bay_device.specs.declared.fault.StepFault.{StepFault}
 use Rattle.bay_device.specs.declared.fault.StepFault.TheVariants.{MomentTooLarge, TimeWentBack, NoSuchAssociation, AlreadyOpen, NoSuchPoint}
 
--- the number of a refusal, by which the program and its documents tell it
+-- the number of a fault, as documents and tools cite it
 abbrev pub step_code_of : StepFault → ℕ
 step_code_of MomentTooLarge = 114
 step_code_of TimeWentBack = 110

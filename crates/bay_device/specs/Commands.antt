@@ -3,31 +3,31 @@ use Rattle.std.specs.Prelude.{ℕ, ◌≡◌, ◌≢◌, ◌≤◌, true, false,
 use Rattle.bay_tree.specs.Rows.{leaf_of}
 use Rattle.bay_process.specs.Values.{is_truth}
 use Rattle.bay_control.specs.Decisions as control
-use Rattle.bay_services.specs.Released.{releasing}
-use Rattle.bay_services.specs.declared.answer.Command.{Command}
+use Rattle.bay_mms_services.specs.Released.{releasing}
+use Rattle.bay_mms_services.specs.declared.answer.Command.{Command}
 use Rattle.bay_device.specs.Device.{State, is_fresh}
 use Rattle.bay_device.specs.declared.event.Event.{Event}
 use Rattle.bay_device.specs.declared.event.Step.{Step}
 use Rattle.bay_device.specs.declared.fault.StepFault.{StepFault}
 
--- A switch is operated at a moment while the process is not lost, the last scan is fresh, its
--- interlocking value (EnaOpn for Open, EnaCls for Close) is TRUE in the tree, and no switch of the
--- bay is operating.
+-- When a command is issued at a time, the process is not lost, the last scan is fresh, the
+-- interlocking value of the operation (EnaOpn for Open, EnaCls for Close) is TRUE in the tree, and
+-- no switch of the bay is operating.
 pub record IsReleasedAt (now : ℕ) (s : State) (command : Command) : Type 0 where
   pub heard : s.is_lost ≡ false
   pub fresh : is_fresh now s ≡ true
   pub enabled : is_truth true (leaf_of (releasing command.switch command.operation) s.rows) ≡ true
   pub idle : (control.controls_at now s.controls).execution ≡ None
 
--- The commands of a step are so, and where there are any something is sent.
+-- The commands of a step are released so, and a step with a command also sends something.
 pub record AreCommanded (now : ℕ) (s : State) (step : Step) : Type 0 where
   pub released : All (IsReleasedAt now s) step.commands
   pub replied : step.commands ≢ [] → step.sent ≢ []
 
--- Those of an answer are so.
+-- The same of the commands of an answer.
 abbrev pub CommandedAt : ℕ → Event → State → Result Step StepFault → State → Type 0
 CommandedAt now event old answer new = IfOk answer (AreCommanded now old)
 
--- A step has one command at most.
+-- A step has at most one command.
 abbrev pub IsSingle : Result Step StepFault → Type 0
 IsSingle answer = IfOk answer (λ step. length step.commands ≤ 1)

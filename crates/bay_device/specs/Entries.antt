@@ -1,13 +1,13 @@
--- What events ask of a device's controls, and what was accepted of it, as it is seen from outside;
--- and which associations are open.
+-- The requests of events on a device's controls, and which of them were accepted, as an outside
+-- observer sees them; and which associations are open.
 use Rattle.std.specs.Prelude.{ℕ, ◌≡◌, zero, suc, nat_lt, Bool, true, List, [], ◌∷◌, ◌++◌, Option, None, Some, is_some, replicate, Result, if◌then◌else◌}
 use Rattle.bay_control.specs.Acts.{Act, Opened, Closed, Entry}
 use Rattle.bay_control.specs.Decisions as control
 use Rattle.bay_control.specs.Happenings.{Leads}
-use Rattle.bay_connection.specs.Talk.{Indication, Talk, answers, tells, releases, ends, fails, indications}
-use Rattle.bay_services.specs.Entries.{entries_in}
+use Rattle.bay_connection.specs.ConnectionStates.{Indication, ConnectionState, answers, tells, releases, ends, fails, indications}
+use Rattle.bay_mms_services.specs.Entries.{entries_in}
 use Rattle.bay_device.specs.Device.{State, device_at, bay_of}
-use Rattle.bay_device.specs.Hearing.{Done, client_at, after_indications, after_pdu, with_sent}
+use Rattle.bay_device.specs.Receiving.{Done, client_at, after_indications, after_pdu, with_sent}
 use Rattle.bay_device.specs.Outcomes.{associations, connection_at, last_moment, nothing_done, place_of}
 use Rattle.bay_device.specs.Steps.{Steps}
 use Rattle.bay_device.specs.declared.event.Event.{Event}
@@ -20,18 +20,18 @@ use Rattle.bay_device.specs.declared.fault.StepFault.{StepFault}
 abbrev pub opens : State → ℕ → Bool
 opens s a = is_some (connection_at (place_of a) s)
 
--- A device as load made it: nothing is selected, and none of the eight associations is open.
+-- A device as load made it: there is no selection, and none of the eight associations is open.
 pub record IsIdle (s : State) : Type 0 where
   pub unselected : s.controls.selection ≡ None
   pub closed : s.connections ≡ replicate associations None
 
--- an association was opened, or closed
+-- the entry of an association that was opened or closed
 abbrev pub entries_of_act : ℕ → Act → List Entry
 entries_of_act now act = record { now = now; act = act; is_accepted = true } ∷ []
 
 -- ---- octets
 
--- one thing that was heard, and then what follows: a PDU that is told asks for something
+-- the entries of one indication and then of the later ones; a PDU of MMS has requests
 abbrev pub entries_on : ℕ → ℕ → Indication → Done → (Done → List Entry) → List Entry
 entries_on now a (answers octets) d later = later (with_sent a octets d)
 entries_on now a (tells terms pdu) d later =
@@ -41,7 +41,7 @@ entries_on now a (releases octets) d later = []
 entries_on now a ends d later = []
 entries_on now a (fails code) d later = []
 
--- of all that was heard, in its order, with the same choice
+-- the entries of all indications, in their order, with the same choice
 abbrev pub entries_heard : Option ℕ → ℕ → ℕ → List Indication → Done → List Entry
 entries_heard None now a [] d = []
 entries_heard None now a (i ∷ is) d = entries_on now a i d (entries_heard None now a is)
@@ -50,36 +50,36 @@ entries_heard (Some (suc n)) now a [] d = []
 entries_heard (Some (suc n)) now a (i ∷ is) d =
     entries_on now a i d (entries_heard (Some n) now a is)
 
--- the device closes the association
+-- the entry of an association that the device closes
 abbrev pub entries_closed : ℕ → ℕ → Option Why → List Entry
 entries_closed now a None = []
 entries_closed now a (Some why) = entries_of_act now (Closed a)
 
-abbrev pub entries_octets : Option ℕ → ℕ → ℕ → State → Talk → List ℕ → List Entry
+abbrev pub entries_octets : Option ℕ → ℕ → ℕ → State → ConnectionState → List ℕ → List Entry
 entries_octets choice now a s talk [] = []
 entries_octets choice now a s talk (octet ∷ octets) =
     entries_heard choice now a (indications talk (octet ∷ octets)) (nothing_done (device_at now s))
     ++ entries_closed now a (after_indications choice now a (indications talk (octet ∷ octets))
     (nothing_done (device_at now s))).why
 
-abbrev pub entries_recv : Option ℕ → ℕ → ℕ → List ℕ → State → Option Talk → List Entry
+abbrev pub entries_recv : Option ℕ → ℕ → ℕ → List ℕ → State → Option ConnectionState → List Entry
 entries_recv choice now a octets s None = []
 entries_recv choice now a octets s (Some talk) = entries_octets choice now a s talk octets
 
 -- ---- events
 
--- an association is opened that is not open
-abbrev pub entries_open : ℕ → ℕ → Option ℕ → Option Talk → List Entry
+-- the entry of an association that is opened, if it was not open
+abbrev pub entries_open : ℕ → ℕ → Option ℕ → Option ConnectionState → List Entry
 entries_open now a None talk = []
 entries_open now a (Some place) (Some talk) = []
 entries_open now a (Some place) None = entries_of_act now (Opened a)
 
--- one that is open is closed
-abbrev pub entries_close : ℕ → ℕ → Option Talk → List Entry
+-- the entry of an association that is closed, if it was open
+abbrev pub entries_close : ℕ → ℕ → Option ConnectionState → List Entry
 entries_close now a None = []
 entries_close now a (Some talk) = entries_of_act now (Closed a)
 
--- of an event that its moment does not refuse; the process and the program ask for nothing
+-- the entries of an event whose time is not refused; the process and the program request nothing
 abbrev pub entries_of_event : Option ℕ → ℕ → Event → State → List Entry
 entries_of_event choice now (Open a) s =
     entries_open now a (place_of a) (connection_at (place_of a) s)
@@ -93,7 +93,7 @@ entries_of_event choice now (BadMeasure k field) s = []
 entries_of_event choice now Lost s = []
 entries_of_event choice now Scan s = []
 
--- Of an event at a moment, with the free choice of its outcome. A refused event asks for nothing.
+-- The entries of an event at a time, with the free choice of its outcome. A refused event has none.
 abbrev pub entries_at : Option ℕ → ℕ → Event → State → List Entry
 entries_at choice now event s =
     if nat_lt last_moment now then []
@@ -102,8 +102,8 @@ entries_at choice now event s =
 
 -- ---- steps
 
--- An event is answered so, and leaves this: whatever led to the controls before it, seen as these
--- entries, leads with what is seen of the event to the controls after it.
+-- An event has this answer and leads to this device, by some choice; and if the past entries lead
+-- to the controls before the event, then with the entries of the event they lead to those after it.
 pub record Leading (now : ℕ) (event : Event) (old : State) (answer : Result Step StepFault)
     (new : State) : Type 0 where
   pub steps : Steps now event old answer new

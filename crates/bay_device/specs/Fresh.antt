@@ -1,6 +1,6 @@
--- What stands behind a command: a scan that is not too old, since which no contact, no input and no
--- measure has changed; and a process that is not lost. It is said of what the process tells after
--- each event, and nothing here looks at what a device notes of its scans and of a loss.
+-- The scan that precedes a command: it is not too old, no position, input or measured value has
+-- changed since, and the process is not lost. The definitions use the values of the process after
+-- each event, and not the device's own record of scans and of a loss.
 use Rattle.std.specs.Prelude.{ℕ, ◌≡◌, ◌≢◌, ◌+◌, ◌≤◌, Bool, true, false, if◌then◌else◌, is_ok, All, List, [], ◌∷◌, ◌++◌, Result, IfOk, IsOk}
 use Rattle.bay_config.specs.declared.bay.Bay.{Bay}
 use Rattle.bay_base.specs.declared.point.MeterField.{MeterField}
@@ -19,15 +19,15 @@ use Rattle.bay_device.specs.declared.event.Event.TheVariants.{Open, Recv, Close,
 use Rattle.bay_device.specs.declared.event.Step.{Step}
 use Rattle.bay_device.specs.declared.fault.StepFault.{StepFault}
 
--- ---- what the process tells
+-- ---- the values of the process
 
--- A value and its quality are the same before and after.
+-- The value and its quality are the same before and after.
 pub record IsSameStatus (names : StatusNames) (before after : List Row) : Type 0 where
   pub value : leaf_of names.value after ≡ leaf_of names.value before
   pub quality : leaf_of names.quality after ≡ leaf_of names.quality before
 
--- The process tells the same before and after: of each node XCBR and XSWI the position with its
--- quality, each input, and of each meter each field with its quality.
+-- The values of the process are the same before and after: for each node XCBR and XSWI the position
+-- with its quality, each input, and for each meter each field with its quality.
 pub record IsSameProcess (before after : State) : Type 0 where
   pub positions : (kind : SwitchKind) (number : ℕ)
       → IsSameStatus (position_names (node_name (class_of kind) number)) before.rows after.rows
@@ -35,47 +35,49 @@ pub record IsSameProcess (before after : State) : Type 0 where
   pub measures : (k : ℕ) (field : MeterField)
       → IsSameStatus (field_names field (meter_names k)) before.rows after.rows
 
--- ---- what has happened
+-- ---- past events
 
--- an event at a moment, its answer, and the device after it
+-- an event at a time, its answer, and the device after it
 pub record Past : Type 0 where
   pub now : ℕ
   pub event : Event
   pub answer : Result Step StepFault
   pub after : State
 
--- A device came so far by these events since load, of whatever bay and image, the last of them
--- first.
+-- The events since load that led to a device, for some bay and image; the last event comes first.
 abbrev pub Came : List Past → State → Type 0
 Came [] s = (bay : Bay) × (image : Image) × (s ≡ initial_device bay image)
 Came (p ∷ past) s = (s ≡ p.after)
     × ((before : State) × Came past before × Steps p.now p.event before p.answer p.after)
 
--- ---- a process that is lost
+-- ---- the loss of the process
 
--- whether anything was heard of the process since it was lost, behind an event that was accepted
-abbrev pub heard_after : Event → Bool → Bool
-heard_after (Open a) before = before
-heard_after (Recv a octets) before = before
-heard_after (Close a) before = before
-heard_after (Contact k position) before = true
-heard_after (Input k value) before = true
-heard_after (Measure k field value) before = true
-heard_after (BadMeasure k field) before = true
-heard_after Lost before = false
-heard_after Scan before = before
+-- whether the process is heard after an accepted event: something was received from it since its
+-- last loss
+abbrev pub is_heard_after : Event → Bool → Bool
+is_heard_after (Open a) before = before
+is_heard_after (Recv a octets) before = before
+is_heard_after (Close a) before = before
+is_heard_after (Contact k position) before = true
+is_heard_after (Input k value) before = true
+is_heard_after (Measure k field value) before = true
+is_heard_after (BadMeasure k field) before = true
+is_heard_after Lost before = false
+is_heard_after Scan before = before
 
--- Behind these events, the last of them first, the process is not lost: since the last loss of it,
--- if there was one, a contact, an input, a measured value or a doubt of one was accepted.
+-- The process is heard after these events, the last of which comes first: since its last loss, if
+-- there was one, it reported a position, an input, or a measured value or its invalidity, and the
+-- report was accepted.
 abbrev pub is_heard : List Past → Bool
 is_heard [] = true
 is_heard (p ∷ past) =
-    if is_ok p.answer then heard_after p.event (is_heard past) else is_heard past
+    if is_ok p.answer then is_heard_after p.event (is_heard past) else is_heard past
 
 -- ---- commands
 
--- Among these events is a scan that was done, at most so many milliseconds before a moment; after
--- each event since, the process tells what it told after the scan; and behind them it is not lost.
+-- Among these events is an accepted scan, at most `age` milliseconds before a time; after each
+-- event since, the process has the values that it had after the scan; and after all of them the
+-- process is heard.
 pub record HasScan (now age : ℕ) (past : List Past) : Type 0 where
   pub since : List Past
   pub scan : Past
@@ -87,11 +89,11 @@ pub record HasScan (now age : ℕ) (past : List Past) : Type 0 where
   pub unchanged : All (λ (p : Past). IsSameProcess scan.after p.after) since
   pub heard : is_heard past ≡ true
 
--- A step at a moment has a command only where there is such a scan.
+-- A step at a time has a command only if there is such a scan.
 abbrev pub IsFresh : ℕ → ℕ → List Past → Result Step StepFault → Type 0
 IsFresh now age past answer = IfOk answer (λ step. step.commands ≢ [] → HasScan now age past)
 
--- So it is of an event's answer, by whatever events the device has come so far since load.
+-- The same of an event's answer, for any events since load that led to the device.
 abbrev pub FreshAt : ℕ → Event → State → Result Step StepFault → State → Type 0
 FreshAt now event old answer new =
     (past : List Past) → Came past old → IsFresh now old.scan_max_age_ms past answer

@@ -1,32 +1,34 @@
--- The device: what an event makes of it, and what it answers (IEC 61850-7-2, 7-3, 7-4).
+-- The device: the effect of an event on it, and its answer (IEC 61850-7-2, 7-3, 7-4).
 --
 -- `Outcomes` is the main file, **the device's step**: a function of the choice, the time, the event
--- and the device, to the answer and the device after it. The choice is the one thing that is free:
--- at which point memory ran out, which closes the association, or that it never did. Only bytes of
--- clients look at it. A refused event (110 to 114) changes nothing. Any other one first ends what
--- has run out.
+-- and the device, to the answer and the device after it. Only the choice is free: at which point an
+-- allocation failed, which closes the association, or that none did. It matters only for octets of
+-- clients. A refused event (110 to 114) changes nothing. Any other event first ends what has
+-- expired.
 --
--- `Device`: what a device is, and what happens to it without a client; `Hearing`: what a client's
--- bytes do. bay_connection says what they come to, and each PDU is answered and done, as
--- bay_services says, before the next is read. `Steps`: what a step promises: there is a choice
--- whose outcome its answer and the device after it are; a run is such steps, one after the other.
+-- `Device`: the state of a device, and the effects on it without a client; `Receiving`: the effects
+-- of a client's octets. bay_connection defines the indications of octets; the device answers and
+-- carries out each PDU, as bay_mms_services defines, before it reads the next. `Steps`: the promise
+-- of a step: its answer and the device after it are the outcome of some choice; a run is such
+-- steps, one after the other.
 --
--- `Load`: the device that a bay file and a program or an image load to, or the refusal that comes
--- first. `Accepts`: which texts load accepts, said of what they are. `BoundBay`: what load makes of
--- a bay. `Meaning`: each scan ends at HALT within the budget, and leaves what the program's text
--- means.
+-- `Load`: the device that results from a bay file and a program or an image, or the first refusal.
+-- `Accepts`: the texts that load accepts, by what they spell. `BoundBay`: the parts that load makes
+-- from a bay. `Meaning`: each scan ends at HALT within the budget, and leaves the values that the
+-- program's text means.
 --
--- Of commands: `Commands`: each is issued after a fresh scan whose EnaCls or EnaOpn is TRUE, while
--- no switch operates. `Operates`: it is an operate that a PDU asked for and a response accepted,
--- where responses belong to PDUs by their order. `Fresh`: behind it stands a scan, not too old,
--- since which nothing that the process tells has changed, and the process is not lost. `Entries`:
--- what was asked of controls and accepted, with the device; `Told`: the same by events and answers
--- alone, through the layers of transport, session and presentation. `Backing` of bay_control is
--- said over these. `Report`: instructions, depth and budget of a program. `LookUps`, `Table`:
--- places of names. `Code` numbers the faults. `StateView`, `Connections` and `HearingViews` say
--- what the code's fields stand for.
+-- On commands: `Commands`: each is issued after a fresh scan with EnaCls or EnaOpn TRUE, while no
+-- switch operates. `Operates`: each is an operate that a PDU requested and a response accepted;
+-- responses belong to PDUs by their order. `Fresh`: a scan precedes it that is not too old and
+-- since which no value of the process has changed, and the process is not lost. `Entries`: the
+-- requests on controls and which of them were accepted, with the state of the device;
+-- `EntriesTold`: the same by events and answers alone, through the layers of transport, session and
+-- presentation. These are the entries that `Backing` of bay_control is about. `Report`:
+-- instructions, depth and budget of a program. `LookUps`, `Table`: the indices of names. `Code`
+-- numbers the faults. `StateView`, `Connections` and `ReceivingViews` map the code's fields to the
+-- definitions.
 
--- What public clauses cite of the crates below.
+-- The definitions of lower crates that public clauses cite.
 pub use Rattle.bay_base.specs.Exact
 pub use Rattle.bay_config.specs.Bay
 pub use Rattle.il_check.specs.Program
@@ -42,8 +44,8 @@ pub mod Connections
 pub mod Device
 pub mod Entries
 pub mod Fresh
-pub mod Hearing
-pub mod HearingViews
+pub mod Receiving
+pub mod ReceivingViews
 pub mod Load
 pub mod LookUps
 pub mod Meaning
@@ -53,4 +55,4 @@ pub mod Report
 pub mod StateView
 pub mod Steps
 pub mod Table
-pub mod Told
+pub mod EntriesTold

@@ -1,4 +1,4 @@
--- The device that a bay file and a program or an image load to, or why they are refused.
+-- The device that results from a bay file and a program or an image, or why they are refused.
 use Rattle.std.specs.Prelude.{◌≡◌, ℕ, true, false, length, map, replicate, Option, None, Some, Result, Ok, Err}
 use Rattle.bay_config.specs.Code as bay_code
 use Rattle.bay_config.specs.declared.bay.Bay.{Bay}
@@ -26,11 +26,11 @@ use Rattle.bay_device.specs.Outcomes.{associations}
 use Rattle.bay_device.specs.declared.fault.LoadFault.{LoadFault}
 use Rattle.bay_device.specs.declared.fault.LoadFault.TheVariants.{Refused, OutOfMemory}
 use Rattle.bay_control.specs.Decisions.{controls_of, initial}
-use Rattle.bay_services.specs.Bay.{rows_shown}
+use Rattle.bay_mms_services.specs.Bay.{rows_with_selection}
 use Rattle.bay_process.specs.Sources.{sources_of}
 
--- a device before its first event: nothing is selected, which its rows show, and nothing is
--- operating, and no association is open
+-- a device before its first event: no selection, FALSE as each stSeld in its rows, no execution,
+-- and no open association
 abbrev pub initial_device : Bay → Image → State
 initial_device bay image = record {
   domain = bay.domain;
@@ -45,7 +45,7 @@ initial_device bay image = record {
   reads = sources_of false bay.points image.points;
   writes = sources_of true bay.points image.points;
   machine = held_first image;
-  rows = rows_shown None (length bay.switches) bay.rows;
+  rows = rows_with_selection None (length bay.switches) bay.rows;
   moment = 0;
   last_scan = None;
   is_stale = false;
@@ -55,12 +55,12 @@ initial_device bay image = record {
   connections = replicate associations None;
 }
 
--- a refusal has a number and a line; want of memory has no number
+-- a refusal has a number and a line; out of memory has no number
 abbrev pub fault_of : Option ℕ → ℕ → LoadFault
 fault_of (Some code) line = Refused code line
 fault_of None line = OutOfMemory
 
--- why a bay file, a program's text, a program and an image are refused
+-- the refusals of a bay file, a program's text, a program and an image
 abbrev pub bay_refusal : BayFault → LoadFault
 bay_refusal fault = fault_of (bay_code.code_of fault) 0
 
@@ -79,17 +79,17 @@ image_refusal fault = fault_of (image_code.code_of fault) 0
 abbrev pub verify_refusal : VerifyFault → LoadFault
 verify_refusal fault = fault_of (verify_code.code_of fault) 0
 
--- the device of a bay and what the compiler made of its program
+-- the device of a bay and the compiler's result for its program
 abbrev pub of_compiled : Bay → Result Image CompileFault → Result State LoadFault
 of_compiled bay (Ok image) = Ok (initial_device bay image)
 of_compiled bay (Err fault) = Err (compile_refusal fault)
 
--- the device of a bay and what the checks made of its program
+-- the device of a bay and the result of the checks of its program
 abbrev pub of_checked : Bay → Result Checked CheckFault → Result State LoadFault
 of_checked bay (Ok checked) = of_compiled bay (compiled_of checked)
 of_checked bay (Err fault) = Err (check_refusal fault)
 
--- the device of a bay and a text that reads so
+-- the device of a bay and the parsed text of a program
 abbrev pub of_program : Bay → Result PlainProgram TextFault → Result State LoadFault
 of_program bay (Ok program) = of_checked bay (checked_of bay.points program)
 of_program bay (Err fault) = Err (text_refusal fault)
@@ -101,7 +101,8 @@ abbrev pub of_bay : Result Bay BayFault → Result PlainProgram TextFault → Re
 of_bay (Ok bay) program = of_program bay program
 of_bay (Err fault) program = Err (bay_refusal fault)
 
--- the program that a bay file and a text come to, if they are not refused before it is compiled
+-- the checked program of a bay file and a text, if neither is refused before the program is
+-- compiled
 abbrev pub checked_in : Result Bay BayFault → Result PlainProgram TextFault
     → Result Checked LoadFault
 checked_in (Ok bay) (Ok program) =
@@ -109,7 +110,7 @@ checked_in (Ok bay) (Ok program) =
 checked_in (Ok bay) (Err fault) = Err (text_refusal fault)
 checked_in (Err fault) program = Err (bay_refusal fault)
 
--- A program's text is compiled to an image: it reads as a program, which passes its checks with the
+-- A program's text is compiled to an image: it spells a program, which passes its checks with the
 -- points of the bay.
 pub record IsCompiled (text : Result PlainProgram TextFault) (bay : Bay) (image : Image)
     : Type 0 where
@@ -119,7 +120,7 @@ pub record IsCompiled (text : Result PlainProgram TextFault) (bay : Bay) (image 
   pub passes : checked_of bay.points program ≡ Ok checked
   pub compiles : compiled_of checked ≡ Ok image
 
--- A device as load made it, before its first event: of the bay as which a bay file reads, and of
+-- The device as load made it, before its first event: of the bay that a bay file describes, and of
 -- its program's image.
 pub record IsLoaded (file : Result Bay BayFault) (IsImage : Bay → Image → Type 0) (s : State)
     : Type 0 where
@@ -129,8 +130,8 @@ pub record IsLoaded (file : Result Bay BayFault) (IsImage : Bay → Image → Ty
   pub made : IsImage bay image
   pub is : s ≡ initial_device bay image
 
--- The image of a bay is loaded, if it is verified for the bay's points, or refused for its first
--- fault.
+-- The image is loaded if it is verified for the bay's points; otherwise it is refused with its
+-- first fault.
 abbrev pub LoadsImage : Bay → Image → Result State LoadFault → Type 0
 LoadsImage bay image (Ok device) = IsVerified bay.points image × (device ≡ initial_device bay image)
 LoadsImage bay image (Err refusal) =

@@ -1,4 +1,4 @@
--- What the look-ups of a device answer.
+-- The results of a device's look-ups.
 use Rattle.std.specs.Prelude.{ℕ, ◌+◌, Bool, true, nat_lt, List, [], ◌∷◌, ◌++◌, length, position, Option, None, Some, option_map, if◌then◌else◌}
 use Rattle.bay_tree.specs.Rows.{leaf_of}
 use Rattle.bay_tree.specs.declared.leaf.Leaf.{Leaf}
@@ -10,15 +10,15 @@ use Rattle.bay_process.specs.Releases.{switch_text}
 use Rattle.bay_process.specs.Values.{is_truth}
 use Rattle.bay_nodes.specs.Names.{StatusNames, control_of, opening_of, closing_of, position_names}
 
--- the place of the switch with an id, whatever the case of its letters
+-- the index of the switch with an id, whatever the case of its letters
 abbrev pub switch_place : State → List ℕ → Option ℕ
 switch_place s id = position (λ switch. same_name switch.id id) s.switches
 
--- the place of the input with a name, and of the meter with an id
+-- the index of the input with a name
 abbrev pub input_place : State → List ℕ → Option ℕ
 input_place s name = position (λ n. same_name n name) s.inputs
 
--- the place of a meter
+-- the index of the meter with an id
 abbrev pub meter_place : State → List ℕ → Option ℕ
 meter_place s id = position (λ m. same_name m id) s.meters
 
@@ -26,31 +26,31 @@ meter_place s id = position (λ m. same_name m id) s.meters
 abbrev pub is_enabled : State → StatusNames → Bool
 is_enabled s names = is_truth true (leaf_of names.value s.rows)
 
--- whether the switch at a place may be opened, and closed
+-- the switch at index k may be opened
 abbrev pub may_open : State → ℕ → Bool
 may_open s k = is_enabled s (opening_of k)
 
--- the program lets the switch be closed
+-- the switch at index k may be closed
 abbrev pub may_close : State → ℕ → Bool
 may_close s k = is_enabled s (closing_of k)
 
--- both of them, of a switch that is there
+-- both releases of the switch at an index, if there is one
 abbrev pub enabled_of : State → ℕ → Option (Bool × Bool)
 enabled_of s k = if nat_lt k (length s.switches) then Some (may_open s k, may_close s k) else None
 
--- the part of a scan's line on the switch at a place, if there is one
+-- the part of a scan's line for the switch at an index, if there is one
 abbrev pub switch_part : State → ℕ → Option Switch → List ℕ
 switch_part s k None = []
 switch_part s k (Some switch) = switch_text switch.id (may_open s k) (may_close s k)
 
--- the parts on switches, from place k on
+-- the parts for switches, the first of which has index k
 abbrev pub switches_text : State → ℕ → List Switch → List ℕ
 switches_text s k [] = []
 switches_text s k (switch ∷ switches) =
     switch_part s k (Some switch) ++ switches_text s (k + 1) switches
 
--- the position that the control of the switch at a place tells (IEC 61850-7-4, CSWI), of a switch
--- that is there
+-- the position of the switch at an index, as its control repeats it (IEC 61850-7-4, CSWI), if there
+-- is such a switch
 abbrev pub position_of : State → ℕ → Option Leaf
 position_of s k =
     if nat_lt k (length s.switches) then leaf_of (position_names (control_of k)).value s.rows

@@ -1,5 +1,5 @@
--- What the events of a device come to that was loaded from the text of a program: each scan leaves
--- what the text means.
+-- The scans of a device that was loaded from the text of a program: each leaves the values that the
+-- text means.
 use Rattle.std.specs.Prelude.{ℕ, ◌≡◌, ◌≤◌, Bool, false, nat_lt, ◌||◌, List, length, map, take, drop, Some, Result, IfOk, IsOkAnd, IsSomeAnd}
 use Rattle.il_image.specs.Machine.{Halted}
 use Rattle.il_image.specs.declared.timer.TimerState.{TimerState}
@@ -21,18 +21,18 @@ use Rattle.bay_process.specs.Sources.{type_of_source}
 
 -- ---- no trap, and the budget
 
--- The machine's run on what stands ended at HALT, without a trap, in so many steps, within the
--- budget of the code, and the device keeps the slots and timers that it left.
+-- Run from the current slots and timers, the machine reaches HALT without a trap, in this number of
+-- steps, within the budget of the code; the device then has the resulting slots and timers.
 pub record Halts (now : ℕ) (old : State) (steps : ℕ) (new : State) : Type 0 where
   pub halts : ending_at now old ≡ Halted new.machine.slots new.machine.timers steps
   pub within : (budget : ℕ) → IsBudget old.machine.image.code budget → steps ≤ budget
 
--- the moment refuses an event
+-- the event is refused because of its time
 abbrev pub is_refused : ℕ → State → Bool
 is_refused now s = nat_lt last_moment now || nat_lt now s.moment
 
--- A scan that its moment does not refuse is accepted, and halts so in the steps that its answer
--- tells.
+-- A scan whose time is not refused is accepted, and halts so in the number of steps that its answer
+-- has.
 abbrev pub HaltsAt : ℕ → Event → State → Result Step StepFault → State → Type 0
 HaltsAt now event old answer new =
     event ≡ Scan → is_refused now old ≡ false
@@ -40,7 +40,7 @@ HaltsAt now event old answer new =
 
 -- ---- what the text means
 
--- the values of a program's externals, variables and timers, where slots and timers hold them
+-- the values of a program's externals, variables and timers, from the machine's slots and timers
 abbrev pub memory_of : Checked → List Value → List TimerState → Memory
 memory_of c slots timers =
     record {
@@ -49,14 +49,14 @@ memory_of c slots timers =
       timers = timers;
     }
 
--- those that a scan begins with: what the device keeps, with the values of the points that are only
--- read
+-- the values before a scan: those of the device, with the current values of the read-only points
 abbrev pub memory_before : Checked → State → Memory
 memory_before c s = let start =
     scan_start s.machine (inputs_of s) in memory_of c start.slots start.timers
 
--- The device after a scan holds what the text means: what the program means on these values is what
--- it keeps, and the interlocking values in its tree are those of the program's externals.
+-- The device after a scan has the values that the text means: the program's meaning on the values
+-- before is the values after, and the interlocking values in the tree are those of the program's
+-- externals.
 pub record Means (c : Checked) (now : ℕ) (old new : State) : Type 0 where
   pub after : Memory
   pub is : mean now c.items (memory_before c old) ≡ Some after
@@ -65,15 +65,15 @@ pub record Means (c : Checked) (now : ℕ) (old new : State) : Type 0 where
       ≡ with_outputs old.switches old.writes
       (outputs_of (map point_of c.externals) after.externals) now 0 old.switches old.rows
 
--- So does the device after a scan that is accepted.
+-- The same of the device after an accepted scan.
 abbrev pub MeansAt : Checked → ℕ → Event → State → Result Step StepFault → State → Type 0
 MeansAt c now event old answer new = event ≡ Scan → IfOk answer (λ step. Means c now old new)
 
--- ---- which device runs a text
+-- ---- a device that runs a program
 
 -- The device runs the program: its image has the program's externals as points and code that does
--- what the text means, its slots and timers hold values of the program's types, and the points that
--- it only reads have their types.
+-- what the text means, its slots and timers have values of the program's types, and its read-only
+-- points have their types.
 pub record Runs (c : Checked) (s : State) : Type 0 where
   pub points : s.machine.image.points ≡ map point_of c.externals
   pub does : DoesTheText c s.machine.image.code

@@ -1,22 +1,22 @@
--- The commands of events, by what comes and what is answered: each is an operate that a PDU asks
--- for and that a response accepts. Responses belong to PDUs by their order, as `Told` reads them.
--- Nothing here looks at the device behind them.
+-- The commands of events, by the octets received and sent: each is an operate that a PDU requests
+-- and a response accepts. Responses belong to PDUs by their order, as in `EntriesTold`. The
+-- definitions do not use the state of the device.
 use Rattle.std.specs.Prelude.{ℕ, ◌≡◌, List, [], ◌∷◌, Option, None, Some, Result, IfOk}
 use Rattle.std.specs.List.{Contains}
-use Rattle.bay_connection.specs.Talk.{Indication, Talk, Terms, tells, indications}
-use Rattle.bay_services.specs.Accepted.{accepted_in}
-use Rattle.bay_services.specs.Bay.{Bay}
-use Rattle.bay_services.specs.Entries.{operates_in}
-use Rattle.bay_services.specs.declared.answer.Command.{Command}
+use Rattle.bay_connection.specs.ConnectionStates.{Indication, ConnectionState, Terms, tells, indications}
+use Rattle.bay_mms_services.specs.Accepted.{accepted_in}
+use Rattle.bay_mms_services.specs.Bay.{Bay}
+use Rattle.bay_mms_services.specs.Entries.{operates_in}
+use Rattle.bay_mms_services.specs.declared.answer.Command.{Command}
 use Rattle.bay_device.specs.Outcomes.{place_of}
-use Rattle.bay_device.specs.Told.{pdus_in, talk_at, talks_answer, told_step}
+use Rattle.bay_device.specs.EntriesTold.{pdus_in, connection_state_at, states_after_answer, entries_of_step}
 use Rattle.bay_device.specs.declared.event.Event.{Event}
 use Rattle.bay_device.specs.declared.event.Event.TheVariants.{Open, Recv, Close, Contact, Input, Measure, BadMeasure, Lost, Scan}
 use Rattle.bay_device.specs.declared.event.Step.{Step}
 use Rattle.bay_device.specs.declared.fault.StepFault.{StepFault}
 
--- A PDU that was heard asks for the operate, and one of those that are sent, read as its response,
--- has a success as the result of that variable.
+-- A PDU among the indications requests the operate, and one of the PDUs that are sent, read as its
+-- response, has a success as the result of that variable.
 pub record IsReplied (now a : ℕ) (names : Bay) (heard : List Indication) (sent : List (List ℕ))
     (command : Command) : Type 0 where
   pub terms : Terms
@@ -26,18 +26,18 @@ pub record IsReplied (now a : ℕ) (names : Bay) (heard : List Indication) (sent
   pub replied : Contains sent response
   pub accepts : Contains (operates_in (accepted_in now a pdu names response)) command
 
--- Octets of an association that is open come to each of the commands; of one that is not, to none.
-abbrev pub AreReplied : ℕ → ℕ → Bay → List ℕ → Option Talk → Step → Type 0
+-- Each command comes from octets of an open association; octets of any other cause none.
+abbrev pub AreReplied : ℕ → ℕ → Bay → List ℕ → Option ConnectionState → Step → Type 0
 AreReplied now a names octets None step = step.commands ≡ []
 AreReplied now a names octets (Some talk) step = (command : Command)
     → Contains step.commands command
     → IsReplied now a names (indications talk octets) (pdus_in step.sent) command
 
--- No other event comes to a command.
-abbrev pub AreRepliedAt : ℕ → Event → Bay → List (Option Talk) → Step → Type 0
+-- No other event issues a command.
+abbrev pub AreRepliedAt : ℕ → Event → Bay → List (Option ConnectionState) → Step → Type 0
 AreRepliedAt now (Open a) names talks step = step.commands ≡ []
 AreRepliedAt now (Recv a octets) names talks step =
-    AreReplied now a names octets.now (talk_at (place_of a) talks) step
+    AreReplied now a names octets.now (connection_state_at (place_of a) talks) step
 AreRepliedAt now (Close a) names talks step = step.commands ≡ []
 AreRepliedAt now (Contact k position) names talks step = step.commands ≡ []
 AreRepliedAt now (Input k value) names talks step = step.commands ≡ []
@@ -46,19 +46,20 @@ AreRepliedAt now (BadMeasure k field) names talks step = step.commands ≡ []
 AreRepliedAt now Lost names talks step = step.commands ≡ []
 AreRepliedAt now Scan names talks step = step.commands ≡ []
 
--- The commands of a step are the operates that are accepted in what the event and the answer tell,
--- in their order, one for each and no other; and each comes with a response that accepts it.
-pub record AreOperates (now : ℕ) (event : Event) (names : Bay) (talks : List (Option Talk))
+-- The commands of a step are the accepted operates among the entries of the event and its answer,
+-- in their order, one for each and no other; and each has a response that accepts it.
+pub record AreOperates (now : ℕ) (event : Event) (names : Bay)
+    (talks : List (Option ConnectionState))
     (step : Step) : Type 0 where
-  pub operated : step.commands ≡ operates_in (told_step now event names talks step)
+  pub operated : step.commands ≡ operates_in (entries_of_step now event names talks step)
   pub replied : AreRepliedAt now event names talks step
 
--- So are those of each step of a list of events, of a bay whose variables have these names, where
--- the octets before them have left this of each association.
-abbrev pub AllOperate : Bay → List (Option Talk) → List (ℕ × Event)
+-- The same of each step of a list of events, for a bay whose variables have these names, and with
+-- these states of the connections before the events.
+abbrev pub AllOperate : Bay → List (Option ConnectionState) → List (ℕ × Event)
     → List (Result Step StepFault) → Type 0
 AllOperate names talks [] replies = Unit {0}
 AllOperate names talks (e ∷ es) [] = Unit {0}
 AllOperate names talks (e ∷ es) (reply ∷ replies) =
     IfOk reply (AreOperates e.0 e.1 names talks)
-    × AllOperate names (talks_answer e.1 talks reply) es replies
+    × AllOperate names (states_after_answer e.1 talks reply) es replies

@@ -1,16 +1,15 @@
--- What a device reports of the program that it runs.
+-- The report of a device on the program that it runs.
 use Rattle.std.specs.Prelude.{ℕ, ◌≡◌, List, length, Some}
 use Rattle.il_image.specs.Images.{Image}
 use Rattle.il_image.specs.Tables.{place_of}
 use Rattle.il_verify.specs.Verdicts.{IsBudget, IsDepth}
 use Rattle.bay_device.specs.declared.report.Report.{Report}
 
--- The code is so many instructions: behind the last of them it ends.
+-- The code has this number of instructions: it ends after the last of them.
 abbrev pub IsCount : List ℕ → ℕ → Type 0
 IsCount code count = place_of code count ≡ Some (length code)
 
--- The instructions of the code, the length of a longest list of each table that agrees with it, and
--- the number of places of a longest path through it.
+-- The number of instructions of the code, its maximum stack depth, and its budget.
 pub record IsReport (image : Image) (report : Report) : Type 0 where
   pub instructions : IsCount image.code report.instructions
   pub depth : IsDepth image report.depth

@@ -1,13 +1,13 @@
--- The device that a state of the code stands for, beside its clients.
+-- The state of the definitions for a state of the code, apart from its clients.
 use Rattle.std.specs.Prelude.{List, Option}
-use Rattle.bay_connection.specs.Talk.{Talk}
-use Rattle.bay_services.specs.Views.{controls_left}
+use Rattle.bay_connection.specs.ConnectionStates.{ConnectionState}
+use Rattle.bay_mms_services.specs.Views.{controls_left}
 use Rattle.bay_device.specs.Device.{State}
 use Rattle.bay_process.specs.Layout.{switches_of, meters_of}
 use Rattle.bay_device.specs.declared.state.DeviceState.{DeviceState}
 
--- a device's state, with what the octets of each association have left
-abbrev pub state_view : List (Option Talk) → DeviceState → State
+-- a device's state, with these states of the connections
+abbrev pub state_view : List (Option ConnectionState) → DeviceState → State
 state_view connections d = record {
   domain = d.bay.domain;
   vendor = d.bay.vendor;

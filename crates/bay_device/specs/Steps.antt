@@ -1,8 +1,8 @@
--- What a step and a run come to: there are choices with which they are the outcome.
+-- The promises of a step and of a run: they are the outcome of some choices.
 use Rattle.std.specs.Prelude.{ℕ, ◌≡◌, List, [], ◌∷◌, Option, Some, Result, Ok, Err}
-use Rattle.bay_connection.specs.Talk.{Talk, indications, left_by}
+use Rattle.bay_connection.specs.ConnectionStates.{ConnectionState, indications, connection_after}
 use Rattle.bay_device.specs.Device.{State}
-use Rattle.bay_device.specs.Hearing.{after_indications}
+use Rattle.bay_device.specs.Receiving.{after_indications}
 use Rattle.bay_device.specs.Outcomes.{Outcome, connection_at, nothing_done, outcome, place_of, quiet_step, recv_done, recv_outcome, scan_step}
 use Rattle.bay_device.specs.declared.event.Event.{Event}
 use Rattle.bay_device.specs.declared.event.Event.TheVariants.{Open, Recv, Close, Contact, Input, Measure, BadMeasure, Lost, Scan}
@@ -16,31 +16,31 @@ pub record IsOutcome (o : Outcome) (answer : Result Step StepFault) (new : State
   pub answered : answer ≡ o.answer
   pub left : new ≡ o.after
 
--- what tells of an end is the answer of an event that sends nothing else
+-- an answer that sends nothing but the report that an operate ended
 abbrev pub quiet_answer : Result (Option Sent) StepFault → Result Step StepFault
 quiet_answer (Ok ended) = Ok (quiet_step ended)
 quiet_answer (Err fault) = Err fault
 
--- an answer that sends nothing but what tells of an end
+-- the answer sends nothing but the report that an operate ended, and is that of an outcome
 pub record IsQuiet (answer : Result (Option Sent) StepFault) (new : State) (o : Outcome)
     : Type 0 where
   pub answered : quiet_answer answer ≡ o.answer
   pub left : new ≡ o.after
 
--- what a scan tells is the answer of an event that sends nothing else
+-- an answer that has nothing but the result of a scan
 abbrev pub scan_answer : Result Scanned StepFault → Result Step StepFault
 scan_answer (Ok scanned) = Ok (scan_step scanned)
 scan_answer (Err fault) = Err fault
 
--- An event at a moment is answered so, and leaves this: there is a choice with which that is its
--- outcome.
+-- An event at a time has this answer and leads to this device: they are its outcome, for some
+-- choice.
 pub record Steps (now : ℕ) (event : Event) (old : State) (answer : Result Step StepFault)
     (new : State) : Type 0 where
   pub choice : Option ℕ
   pub answered : answer ≡ (outcome choice now event old).answer
   pub left : new ≡ (outcome choice now event old).after
 
--- the same of octets of an association, at a moment that refuses nothing
+-- the same of octets of an association, at a time that is not refused
 pub record Receives (now a : ℕ) (octets : List ℕ) (old : State) (answer : Result Step StepFault)
     (new : State) : Type 0 where
   pub choice : Option ℕ
@@ -48,19 +48,22 @@ pub record Receives (now a : ℕ) (octets : List ℕ) (old : State) (answer : Re
       (connection_at (place_of a) old)).answer
   pub left : new ≡ (recv_outcome choice now a octets old (connection_at (place_of a) old)).after
 
--- octets of an association that is open, once what has run out is ended, of which this tells
-pub record HearsFrom (now a : ℕ) (octets : List ℕ) (ended : Option Sent) (s : State) (talk : Talk)
+-- The same of octets of an open association, after the end of what has expired; `ended` is the
+-- report of that.
+pub record HandlesOctetsFrom (now a : ℕ) (octets : List ℕ) (ended : Option Sent) (s : State)
+    (talk : ConnectionState)
     (step : Step) (new : State) : Type 0 where
   pub choice : Option ℕ
   pub answered : (let answer : Result Step StepFault = Ok step in answer)
-      ≡ (recv_done a (left_by talk octets) ended
+      ≡ (recv_done a (connection_after talk octets) ended
       (after_indications choice now a (indications talk octets) (nothing_done s))).answer
-  pub left : new ≡ (recv_done a (left_by talk octets) ended
+  pub left : new ≡ (recv_done a (connection_after talk octets) ended
       (after_indications choice now a (indications talk octets) (nothing_done s))).after
 
-abbrev pub Hears : ℕ → ℕ → List ℕ → Option Sent → State → Step → State → Type 0
-Hears now a octets ended s step new = (talk : Talk) → connection_at (place_of a) s ≡ Some talk
-    → HearsFrom now a octets ended s talk step new
+abbrev pub HandlesOctets : ℕ → ℕ → List ℕ → Option Sent → State → Step → State → Type 0
+HandlesOctets now a octets ended s step new =
+    (talk : ConnectionState) → connection_at (place_of a) s ≡ Some talk
+    → HandlesOctetsFrom now a octets ended s talk step new
 
 -- an event of an association
 abbrev pub OfAssociation : Event → Type 0
@@ -74,7 +77,7 @@ OfAssociation (BadMeasure k field) = ⊥
 OfAssociation Lost = ⊥
 OfAssociation Scan = ⊥
 
--- an event that brings no octets takes no memory
+-- an event without octets; it does not allocate
 abbrev pub IsWithoutOctets : Event → Type 0
 IsWithoutOctets (Open a) = Unit {0}
 IsWithoutOctets (Recv a octets) = octets.now ≡ []
@@ -86,9 +89,9 @@ IsWithoutOctets (BadMeasure k field) = Unit {0}
 IsWithoutOctets Lost = Unit {0}
 IsWithoutOctets Scan = Unit {0}
 
--- A list of events is answered so, one after the other, and leaves this; and each of them does what
--- is said of it: of its moment, of it, of the device before it, of its answer and of the device
--- after it.
+-- The events have these answers, one after the other, and lead to this device; and `Does` is true
+-- for each of them: for its time, the event, the device before it, its answer and the device after
+-- it.
 abbrev pub EachStep : (ℕ → Event → State → Result Step StepFault → State → Type 0)
     → List (ℕ × Event) → State → List (Result Step StepFault) → State → Type 0
 EachStep Does [] old [] new = new ≡ old

@@ -1,4 +1,4 @@
-// The connections of a device's eight associations, each at its place.
+// The connections of a device's eight associations, each in its slot.
 ghost use Rattle.std.specs.Prelude.{◌≡◌, ◌<◌, None, IfSome, is_none, is_some, length, position, replicate, slice_get, slice_index_or, slice_set, unwrap_or};
 ghost use Rattle.bay_transport.specs.Feeding.{IsGoing};
 ghost use Rattle.bay_device.specs.Connections.{talk_in};
@@ -8,8 +8,8 @@ use crate::event::ASSOCIATIONS;
 use bay_connection::connection::Connection;
 use std::marker::Model;
 
-/// The connections of the open associations. All of them take octets. Contracts see them as what
-/// the octets of each have left.
+/// The connections of the open associations. All of them accept octets. Contracts see the state of
+/// each connection.
 #[derive(Drop)]
 pub struct Connections {
     places: [Option<Connection>; ASSOCIATIONS],
@@ -17,17 +17,17 @@ pub struct Connections {
 
 impl Model for Connections {
     ghost use Rattle.std.specs.Prelude.{List, Option};
-    ghost use Rattle.bay_connection.specs.Talk.{Talk};
-    ghost use Rattle.bay_device.specs.Connections.{talks, AreEight};
+    ghost use Rattle.bay_connection.specs.ConnectionStates.{ConnectionState};
+    ghost use Rattle.bay_device.specs.Connections.{connection_states, AreEight};
 
-    ghost Value = { List (Option Talk) };
+    ghost Value = { List (Option ConnectionState) };
 
-    ghost view = { λ c. talks c.places };
+    ghost view = { λ c. connection_states c.places };
 
-    ghost invariant = { λ c. AreEight (talks c.places) };
+    ghost invariant = { λ c. AreEight (connection_states c.places) };
 }
 
-// Returns the lowest place without a connection.
+// Returns the lowest slot without a connection; `None` if there is none.
 fn free_place_in(places: &[Option<Connection>; ASSOCIATIONS]) -> Option<usize>
     ensures lowest { result ≡ position is_none places.now }
     ensures within { IfSome result (λ place. place < associations) }
@@ -35,7 +35,7 @@ fn free_place_in(places: &[Option<Connection>; ASSOCIATIONS]) -> Option<usize>
     places.iter().position(|place| place.is_none())
 }
 
-// Removes and returns the connection at a place.
+// Removes and returns the connection in a slot.
 fn take_at(places: &mut [Option<Connection>; ASSOCIATIONS], place: usize) -> Option<Connection>
     requires { place < associations }
     ensures value { result ≡ slice_index_or places.old place None }
@@ -44,7 +44,7 @@ fn take_at(places: &mut [Option<Connection>; ASSOCIATIONS], place: usize) -> Opt
     places[place].take()
 }
 
-// Puts a connection, or none, at a place.
+// Puts a connection, or none, into a slot.
 fn put_at(
     places: &mut [Option<Connection>; ASSOCIATIONS],
     place: usize,
@@ -66,14 +66,14 @@ impl Connections {
         }
     }
 
-    /// States that there are eight places. Does nothing; its callers learn this from its contract.
+    /// States that there are eight slots. Has no effect; callers use its contract.
     pub fn are_eight(&self)
         ensures { length self.now ≡ associations }
     {
         let _ = &self.places;
     }
 
-    /// Returns whether the association at a place is open.
+    /// Returns whether the association with this slot is open.
     pub fn is_open(&self, place: usize) -> bool
         requires { place < associations }
         ensures { result ≡ is_some (unwrap_or (slice_get self.now place) None) }
@@ -81,7 +81,7 @@ impl Connections {
         self.places[place].is_some()
     }
 
-    /// Returns the lowest place at which no association is open.
+    /// Returns the lowest slot without an open association; `None` if all are open.
     pub fn free_place(&self) -> Option<usize>
         ensures lowest { result ≡ position is_none self.now }
         ensures within { IfSome result (λ place. place < associations) }
@@ -89,7 +89,7 @@ impl Connections {
         free_place_in(&self.places)
     }
 
-    /// Removes and returns the connection at a place, which is then not open.
+    /// Removes and returns the connection in a slot; its association is then not open.
     pub fn take(&mut self, place: usize) -> Option<Connection>
         requires { place < associations }
         ensures value { talk_in result ≡ unwrap_or (slice_get self.old place) None }
@@ -99,7 +99,7 @@ impl Connections {
         take_at(&mut self.places, place)
     }
 
-    /// Puts a connection, or none, at a place.
+    /// Puts a connection, or none, into a slot.
     pub fn put(&mut self, place: usize, connection: Option<Connection>)
         requires within { place < associations }
         requires going { IfSome connection (λ c. IsGoing c.talk.stream.left) }

@@ -1,9 +1,9 @@
-// The device that is handed out: one bay, stepped by events.
+// The device: one bay, stepped by events.
 ghost use Rattle.std.specs.Prelude.{◌≡◌, ◌+◌, ◌<◌, ◌≤◌, ◌++◌, [], codes, None, Ok, Option, Some, All, ℕ, length, slice_get, option_map, position, replicate, IfOk, IfSome, IsSome, MatchResult, OnErr, is_err, is_none, is_some};
 ghost use Rattle.bay_control.specs.Backing.{AreBacked};
-ghost use Rattle.bay_services.specs.Accepted.{AreNamedAlike};
-ghost use Rattle.bay_services.specs.Bay.{Bay};
-ghost use Rattle.bay_services.specs.Released.{AreTimed};
+ghost use Rattle.bay_mms_services.specs.Accepted.{AreNamedAlike};
+ghost use Rattle.bay_mms_services.specs.Bay.{Bay};
+ghost use Rattle.bay_mms_services.specs.Released.{AreTimed};
 ghost use Rattle.bay_transport.specs.Feeding.{IsGoing};
 ghost use Rattle.il_check.specs.Program.{Checked};
 ghost use Rattle.il_image.specs.Images.{image_octets};
@@ -20,20 +20,20 @@ ghost use Rattle.bay_device.specs.Outcomes.{associations, connection_at, event_o
 ghost use Rattle.bay_device.specs.Outcomes as spec;
 ghost use Rattle.bay_device.specs.Report.{IsReport};
 ghost use Rattle.bay_device.specs.StateView.{state_view};
-ghost use Rattle.bay_device.specs.Steps.{EachStep, IsOutcome, Hears, IsWithoutOctets, Receives, Steps, quiet_answer, scan_answer};
-ghost use Rattle.bay_device.specs.Told.{AreTalks, Telling, told_all};
+ghost use Rattle.bay_device.specs.Steps.{EachStep, IsOutcome, HandlesOctets, IsWithoutOctets, Receives, Steps, quiet_answer, scan_answer};
+ghost use Rattle.bay_device.specs.EntriesTold.{AreAgreed, EntriesLead, entries_of_run};
 ghost use Rattle.bay_tree.specs.declared.leaf.Leaf.TheVariants as leaf;
 ghost use Rattle.bay_device.specs.declared.event.Event.{Event};
 ghost use Rattle.bay_device.specs.declared.event.Event.TheVariants.{Open, Recv, Close, Contact, Input, Measure, BadMeasure, Lost, Scan};
 
 use crate::connections::Connections;
-use crate::due::forget;
 use crate::event::{Event, LAST_MOMENT, Scanned, Sent, Step, Why, place_of};
 use crate::fault::StepFault;
-use crate::message::Made;
-use crate::octets::drain;
+use crate::message::EventEffects;
+use crate::octets::handle_octets;
 use crate::report::{Report, report_of};
 use crate::state::DeviceState;
+use crate::termination::forget;
 use bay_base::listing::Listing;
 use bay_config::bay::MeterField;
 use bay_connection::connection::Connection;
@@ -44,10 +44,10 @@ use il_verify::verify::Verified;
 use std::alloc::{AllocError, Global};
 use std::marker::Model;
 
-/// A device. Contracts see it as its state: what the bay file says, the rows of its tree, the
-/// values of its inputs, the machine with its program, its controls, the moments of the last event
-/// and the last scan, and what the octets of its clients have left. Its two parts are in boxes, so
-/// that a device is dropped in two calls.
+/// A device. Contracts see it as its state: the contents of the bay file, the rows of its tree, the
+/// values of its inputs, the machine with its program, its controls, the times of the last event
+/// and the last scan, and the states of its clients' connections. Its two parts are in boxes, so
+/// that two calls drop a device.
 #[derive(Drop)]
 pub struct Device {
     alloc: Global,
@@ -67,7 +67,7 @@ impl Model for Device {
     ghost view = { λ d. state_view d.connections.value d.state.value };
 }
 
-// What the device tells of a closing.
+// Returns the report that the device has closed an association, if it has.
 fn closed_by(association: u16, why: Option<Why>) -> Option<(u16, Why)>
     ensures { result ≡ spec.closed_by association why }
 {
@@ -75,8 +75,8 @@ fn closed_by(association: u16, why: Option<Why>) -> Option<(u16, Why)>
 }
 
 impl Device {
-    /// Makes the device of a state, without clients.
-    pub(crate) fn of_state(alloc: Global, state: Box<DeviceState>) -> Result<Self, AllocError>
+    /// Makes the device of a state, without clients. Fails only if an allocation fails.
+    pub(crate) fn from_state(alloc: Global, state: Box<DeviceState>) -> Result<Self, AllocError>
         ensures { IfOk result (λ device. device
             ≡ state_view (replicate associations None) state.value) }
     {
@@ -88,7 +88,8 @@ impl Device {
         })
     }
 
-    /// Returns the size of the program and the most that a scan takes. Walks the code once.
+    /// Returns the number of instructions of the program, and the maximum stack depth and number of
+    /// steps of a scan. Goes over the code once.
     pub fn report(&self) -> Report
         ensures { IsReport self.now.machine.image result }
     {
@@ -102,14 +103,15 @@ impl Device {
         self.state.machine.verified()
     }
 
-    /// Returns the octets of the program's image, in version 2 of the format.
+    /// Returns the octets of the program's image, in version 2 of the format. Fails only if an
+    /// allocation fails.
     pub fn image(&self) -> Result<Vec<u8>, AllocError>
         ensures { IfOk result (λ octets. octets.items ≡ image_octets Two self.now.machine.image) }
     {
         encode(self.alloc, self.state.machine.verified().image())
     }
 
-    // The answer to an event that sends nothing but what tells of an end.
+    // Returns the answer to an event that sends nothing but the report that an operate ended.
     fn quiet(&self, ended: Option<Sent>) -> Step
         ensures { result ≡ spec.quiet_step ended }
     {
@@ -123,7 +125,7 @@ impl Device {
         }
     }
 
-    // A client connects.
+    // Opens an association for a client that connects.
     fn open(&mut self, now: u64, association: u16) -> Result<Step, StepFault>
         ensures { IsOutcome (event_outcome None now (Open association) self.old) result self.new }
     {
@@ -140,7 +142,7 @@ impl Device {
         Ok(self.quiet(ended))
     }
 
-    // Closes an association, which ends its selection.
+    // Closes an association, and ends its selection.
     fn drop_connection(&mut self, association: u16, place: usize)
         requires { spec.place_of association ≡ Some place }
         ensures { self.new ≡ without_connection association self.old }
@@ -149,7 +151,7 @@ impl Device {
         self.state.drop_owner(association);
     }
 
-    // A client has closed its connection.
+    // Closes the association of a client that has closed its connection.
     fn close(&mut self, now: u64, association: u16) -> Result<Step, StepFault>
         ensures { IsOutcome (event_outcome None now (Close association) self.old) result self.new }
     {
@@ -177,7 +179,7 @@ impl Device {
         }
     }
 
-    // Hears the octets of an association that is open.
+    // Handles the octets of an open association.
     fn hear(
         &mut self,
         now: u64,
@@ -189,14 +191,14 @@ impl Device {
         requires here { spec.place_of association ≡ Some place }
         requires open { IsSome (connection_at (Some place) self.old) }
         requires some { 0 < length octets.now }
-        ensures { Hears now association octets.now ended self.old result self.new }
+        ensures { HandlesOctets now association octets.now ended self.old result self.new }
     {
         let mut connection = match self.connections.take(place) {
             Some(connection) => connection,
             None => unreachable!(),
         };
-        let mut made = Made::new(self.alloc);
-        let why = drain(
+        let mut made = EventEffects::new(self.alloc);
+        let why = handle_octets(
             self.alloc,
             now,
             association,
@@ -217,7 +219,7 @@ impl Device {
         }
     }
 
-    // Octets of a client come.
+    // Handles the octets of a client.
     fn recv(&mut self, now: u64, association: u16, octets: &[u8]) -> Result<Step, StepFault>
         ensures { Receives now association octets.now self.old result self.new }
     {
@@ -235,7 +237,7 @@ impl Device {
         Ok(self.hear(now, association, place, octets, ended))
     }
 
-    // The switch at a place reports a position.
+    // Handles the reported position of the switch at an index.
     fn contact_step(&mut self, now: u64, switch: usize, position: Dbpos) -> Result<Step, StepFault>
         ensures { IsOutcome (event_outcome None now (Contact switch position) self.old) result
             self.new }
@@ -244,7 +246,7 @@ impl Device {
         Ok(self.quiet(ended))
     }
 
-    // The input at a place has a value.
+    // Handles the reported value of the input at an index.
     fn take_input(&mut self, now: u64, input: usize, value: bool) -> Result<Step, StepFault>
         ensures { IsOutcome (event_outcome None now (Input input value) self.old) result self.new }
     {
@@ -252,7 +254,7 @@ impl Device {
         Ok(self.quiet(ended))
     }
 
-    // A field of the meter at a place has a value.
+    // Handles the reported value of a field of the meter at an index.
     fn measure(
         &mut self,
         now: u64,
@@ -267,7 +269,7 @@ impl Device {
         Ok(self.quiet(ended))
     }
 
-    // A field of the meter at a place is not to be trusted.
+    // Handles the report that a field of the meter at an index is invalid.
     fn bad_measure(&mut self, now: u64, meter: usize, field: MeterField) -> Result<Step, StepFault>
         ensures { IsOutcome (event_outcome None now (BadMeasure meter field) self.old) result
             self.new }
@@ -276,15 +278,15 @@ impl Device {
         Ok(self.quiet(ended))
     }
 
-    // The process is lost.
-    fn lose(&mut self, now: u64) -> Result<Step, StepFault>
+    // Handles the loss of the process.
+    fn lose_process(&mut self, now: u64) -> Result<Step, StepFault>
         ensures { IsOutcome (event_outcome None now Lost self.old) result self.new }
     {
-        let ended = self.state.lose(now);
+        let ended = self.state.lose_process(now);
         Ok(self.quiet(ended))
     }
 
-    // The program runs once.
+    // Runs the program once.
     fn do_scan(&mut self, now: u64) -> Scanned
         ensures gives { IsOutcome (event_outcome None now Scan self.old)
             (Ok (spec.scan_step result)) self.new }
@@ -295,7 +297,7 @@ impl Device {
         Scanned { ended, steps }
     }
 
-    // The program runs once, as a step.
+    // Runs the program once, as a step.
     fn scan_step(&mut self, now: u64) -> Result<Step, StepFault>
         ensures gives { IsOutcome (event_outcome None now Scan self.old) result self.new }
         ensures halts { HaltsAt now Scan self.old result self.new }
@@ -307,8 +309,8 @@ impl Device {
         })
     }
 
-    // There is a place for each association's connection, and each switch that can be operated
-    // takes some time. It does nothing: its callers learn this.
+    // States that there is a slot for each association's connection, and that the travel time of
+    // each controlled switch is at least 1 ms. Has no effect; callers use its contract.
     fn is_sound(&self)
         ensures places { length self.now.connections ≡ associations }
         ensures timed { AreTimed self.now.controls.controls }
@@ -316,7 +318,7 @@ impl Device {
         self.connections.are_eight();
     }
 
-    // Refuses a moment that is too large, or before that of the last event.
+    // Refuses a time that is too large, or before that of the last event.
     fn admit(&self, now: u64) -> Result<(), StepFault>
         ensures outcome { (choice : Option ℕ) (event : Event) → MatchResult result
             (λ _. outcome choice now event self.now ≡ event_outcome choice now event self.now)
@@ -332,7 +334,7 @@ impl Device {
         Ok(())
     }
 
-    // Does one event at a moment.
+    // Handles one event at a time.
     fn do_event(&mut self, now: u64, event: Event<'_>) -> Result<Step, StepFault>
         ensures steps { Steps now event.entry self.old result self.new }
         ensures halts { HaltsAt now event.entry self.old result self.new }
@@ -353,47 +355,49 @@ impl Device {
                 value,
             } => self.measure(now, meter, field, value),
             Event::BadMeasure { meter, field } => self.bad_measure(now, meter, field),
-            Event::Lost => self.lose(now),
+            Event::Lost => self.lose_process(now),
             Event::Scan => self.scan_step(now),
         }
     }
 
-    /// Handles one event at a moment in milliseconds since 1970. A refused event changes nothing.
-    /// If an allocation fails, the association whose octets came is closed and nothing else
-    /// changes: the PDUs before the failure stand, and the PDU in which it occurs has no effect.
+    /// Handles one event at a time in milliseconds since 1970. A refused event changes nothing. If
+    /// an allocation fails, the device closes the association whose octets it was handling and
+    /// changes nothing else: the effects of the PDUs before the failure remain, and the PDU in
+    /// which it occurs has no effect.
     ///
-    /// The first of these refuses: the moment is too large, 114; it is before that of the last
-    /// event, 110; the number of the association is not 1 to 8, or the association is not open,
-    /// 111; the association to open is already open, 112; there is no such switch, input or meter,
-    /// 113.
+    /// Returns the first of these faults that applies: the time is too large, 114; it is before
+    /// that of the last event, 110; the number of the association is not 1 to 8, or the association
+    /// is not open, 111; the association to open is already open, 112; there is no such switch,
+    /// input or meter, 113.
     pub fn step(&mut self, now: u64, event: Event<'_>) -> Result<Step, StepFault>
-        // There is a choice with which the answer and the device are the outcome;
+        // The answer and the device after the event are its outcome, for some choice;
         ensures steps { Steps now event.entry self.old result self.new }
-        // an event without octets has none, and takes no memory.
+        // an event without octets leaves no choice, and does not allocate.
         ensures sure { IsWithoutOctets event.entry
             → IsOutcome (outcome None now event.entry self.old) result self.new }
-        // Each command is one that the interlocking releases, on a fresh scan, while the process is
-        // not lost and no switch is operating, and something is sent with it.
+        // When a command is issued, the interlocking releases it on a fresh scan, the process is
+        // not lost and no switch is operating; a step with a command also sends something.
         ensures commanded { CommandedAt now event.entry self.old result self.new }
-        // They are the operates that are accepted in what the octets of the event and of its
-        // answer tell, in their order. What is sent answers what was heard in the same order.
+        // The commands are the accepted operates among the entries that the octets of the event and
+        // of its answer encode, in their order. Responses belong to requests by their order.
         ensures operates { (names : Bay) → AreNamedAlike names (bay_of self.old)
-            → AreTalks self.old.connections
+            → AreAgreed self.old.connections
             → IfOk result (AreOperates now event.entry names self.old.connections) }
-        // Behind them is a scan that is not too old, since which the process has not changed, among
-        // the events since load, and behind these the process is not lost.
+        // If there is a command, the events since load include a scan that is not too old, since
+        // which the process has not changed, and after all of them the process is not lost.
         ensures fresh { FreshAt now event.entry self.old result self.new }
-        // There is one at most.
+        // There is at most one command.
         ensures single { IsSingle result }
-        // What is seen of the event leads its controls on, with such a choice.
+        // With such a choice, the entries of the event lead from the controls before it to those
+        // after it.
         ensures leads { Leading now event.entry self.old result self.new }
-        // So does what the octets of the event and of its answer tell.
+        // So do the entries that the octets of the event and of its answer encode.
         ensures tells { (names : Bay) → AreNamedAlike names (bay_of self.old)
-            → AreTalks self.old.connections
-            → Telling names now event.entry self.old result self.new }
-        // A scan halts without a trap, in the steps that are answered, which are within the budget;
+            → AreAgreed self.old.connections
+            → EntriesLead names now event.entry self.old result self.new }
+        // A scan halts without a trap, within the budget, in the number of steps of the answer;
         ensures halts { HaltsAt now event.entry self.old result self.new }
-        // and a device that runs a text then holds what the text means, and goes on to run it.
+        // and a device that runs a text then has the values that the text means, and still runs it.
         ensures means { (c : Checked) → Runs c self.old
             → MeansAt c now event.entry self.old result self.new }
         ensures runs { (c : Checked) → Runs c self.old → Runs c self.new }
@@ -402,8 +406,9 @@ impl Device {
         self.do_event(now, event)
     }
 
-    /// Handles a position that the switch at an index, counted from 0, reports, as `step` does.
-    /// Returns the report of the end of what was operating, which is all that the step sends.
+    /// Handles the reported position of the switch at an index, counted from 0, as `step` does.
+    /// Returns the report that an operate ended, which is all that the step sends, or the fault of
+    /// `step`.
     pub fn contact(
         &mut self,
         now: u64,
@@ -417,7 +422,7 @@ impl Device {
         self.state.contact(now, switch, position)
     }
 
-    /// Runs the program once, as `step` does.
+    /// Runs the program once, as `step` does. Returns the fault of `step` if the time is refused.
     pub fn scan(&mut self, now: u64) -> Result<Scanned, StepFault>
         ensures { IsOutcome (outcome None now Scan self.old) (scan_answer result) self.new }
     {
@@ -425,38 +430,39 @@ impl Device {
         Ok(self.do_scan(now))
     }
 
-    /// Handles a list of events in order and returns their answers. If an allocation for the
-    /// answers fails, no event is handled.
+    /// Handles a list of events in order and returns their answers. Fails only if the allocation of
+    /// the list of answers fails; then no event is handled.
     pub fn run(
         &mut self,
         events: &[(u64, Event<'_>)],
     ) -> Result<Vec<Result<Step, StepFault>>, AllocError>
-        // The events are steps one after the other, with these answers, and each scan halts without
-        // a trap, in the steps that are answered, which are within the budget;
+        // The answers are those of steps, one event after the other, and each scan halts without a
+        // trap, in the number of steps that its answer has, which is within the budget;
         ensures ok { IfOk result
             (λ answers. EachStep HaltsAt events.now self.old answers.items self.new) }
         ensures err { OnErr result (self.new ≡ self.old) }
-        // each command is one that the interlocking releases, on a fresh scan, while the process is
-        // not lost and no switch is operating, and something is sent with it;
+        // when a command is issued, the interlocking releases it on a fresh scan, the process is
+        // not lost and no switch is operating, and the step also sends something;
         ensures commanded { IfOk result
             (λ answers. EachStep CommandedAt events.now self.old answers.items self.new) }
-        // behind it is a scan that is not too old, since which the process has not changed, among
-        // the events since load, and behind these the process is not lost;
+        // the events since load before it include a scan that is not too old, since which the
+        // process has not changed, and after all of them the process is not lost;
         ensures fresh { IfOk result
             (λ answers. EachStep FreshAt events.now self.old answers.items self.new) }
-        // there is one at most for each event;
+        // there is at most one command for each event;
         ensures single { IfOk result (λ answers. All IsSingle answers.items) }
-        // and after each scan a device that runs a text holds what the text means.
+        // and after each scan a device that runs a text has the values that the text means.
         ensures means { (c : Checked) → Runs c self.old → IfOk result
             (λ answers. EachStep (MeansAt c) events.now self.old answers.items self.new) }
         ensures runs { (c : Checked) → Runs c self.old → Runs c self.new }
-        // From no selection on, as load leaves a device, each operate of an SBO switch that is
-        // accepted in what the octets of the events and of the answers tell is backed by a select.
-        ensures backed { self.old.controls.selection ≡ None → AreTalks self.old.connections
+        // From a state without a selection, as load returns it, each accepted operate of an SBO
+        // switch among the entries that the octets of the events and of the answers encode is
+        // backed by a select.
+        ensures backed { self.old.controls.selection ≡ None → AreAgreed self.old.connections
             → IfOk result (λ answers. AreBacked self.old.controls.controls
-            (told_all (bay_of self.old) self.old.connections events.now answers.items)) }
-        // The commands are the operates that are accepted there, in their order.
-        ensures operates { AreTalks self.old.connections → IfOk result
+            (entries_of_run (bay_of self.old) self.old.connections events.now answers.items)) }
+        // The commands are the accepted operates among these entries, in their order.
+        ensures operates { AreAgreed self.old.connections → IfOk result
             (λ answers. AllOperate (bay_of self.old) self.old.connections events.now
             answers.items) }
     {
@@ -476,29 +482,30 @@ impl Device {
         self.state.moment
     }
 
-    /// Returns the name of the domain, as it is spelled in the bay file.
+    /// Returns the name of the domain, as the bay file spells it.
     pub fn domain(&self) -> &str
         ensures { result.now ≡ self.now.domain }
     {
         self.state.bay.domain.as_str()
     }
 
-    /// Returns the revision of the configuration, as it is spelled in the bay file.
+    /// Returns the revision of the configuration, as the bay file spells it.
     pub fn revision(&self) -> &str
         ensures { result.now ≡ self.now.revision }
     {
         self.state.bay.revision.as_str()
     }
 
-    /// Returns the index of the switch whose execution is over at a time, if there is one.
-    pub fn over_at(&self, now: u64) -> Option<usize>
+    /// Returns the index of the switch whose execution has expired at a time in milliseconds since
+    /// 1970; `None` if none has.
+    pub fn expired_at(&self, now: u64) -> Option<usize>
         ensures { result ≡ spec_device.over_at now self.now }
     {
         let mut controls = self.state.bay.controls.duplicate();
         controls.advance(&self.state.bay.control_table, now)
     }
 
-    /// Returns the index of the switch that is operating, if one is.
+    /// Returns the index of the switch that is operating; `None` if none is.
     pub fn operating(&self) -> Option<usize>
         ensures { result ≡ operating_in self.now }
     {
@@ -518,7 +525,7 @@ impl Device {
         }
     }
 
-    /// Returns the lowest number of an association that is not open.
+    /// Returns the lowest number of an association that is not open; `None` if all eight are open.
     pub fn free_association(&self) -> Option<u16>
         ensures lowest { result
             ≡ option_map (λ place. place + 1) (position is_none self.now.connections) }
@@ -535,7 +542,7 @@ impl Device {
         self.state.bay.switches.as_slice().len()
     }
 
-    /// Returns the index of the switch with this id, ignoring the case of its letters.
+    /// Returns the index of the switch with this id, ignoring case; `None` if there is none.
     pub fn switch(&self, id: &str) -> Option<usize>
         ensures { result ≡ switch_place self.now id.now }
     {
@@ -549,7 +556,7 @@ impl Device {
         self.state.input_values.count()
     }
 
-    /// Returns the index of the input with this name, ignoring the case of its letters.
+    /// Returns the index of the input with this name, ignoring case; `None` if there is none.
     pub fn input(&self, name: &str) -> Option<usize>
         ensures { result ≡ input_place self.now name.now }
     {
@@ -563,14 +570,15 @@ impl Device {
         self.state.meters.as_slice().len()
     }
 
-    /// Returns the index of the meter with this id, ignoring the case of its letters.
+    /// Returns the index of the meter with this id, ignoring case; `None` if there is none.
     pub fn meter(&self, id: &str) -> Option<usize>
         ensures { result ≡ meter_place self.now id.now }
     {
         self.state.meter_place(id)
     }
 
-    /// Returns the id of the switch at an index, as it is spelled in the bay file.
+    /// Returns the id of the switch at an index, as the bay file spells it; `None` if there is no
+    /// such switch.
     pub fn id(&self, switch: usize) -> Option<&str>
         ensures { option_map (λ id. id.now) result
             ≡ option_map (λ s. s.id) (slice_get self.now.switches switch) }
@@ -579,7 +587,7 @@ impl Device {
     }
 
     /// Returns whether the switch at an index may be opened, and whether it may be closed (IEC
-    /// 61850-7-4, CILO).
+    /// 61850-7-4, CILO); `None` if there is no such switch.
     pub fn ena(&self, switch: usize) -> Option<(bool, bool)>
         ensures { result ≡ enabled_of self.now switch }
     {
@@ -594,7 +602,8 @@ impl Device {
         self.state.releases.text.as_slice()
     }
 
-    /// Returns the position that the control of the switch at an index tells (IEC 61850-7-4, CSWI).
+    /// Returns the position of the switch at an index, as its control repeats it (IEC 61850-7-4,
+    /// CSWI); `None` if there is no such switch.
     pub fn position(&self, switch: usize) -> Option<Dbpos>
         ensures { option_map leaf.Dbpos result ≡ position_of self.now switch }
     {

@@ -1,4 +1,4 @@
-// What happens to a device, and what is answered.
+// The events of a device, and their answers.
 ghost use Rattle.std.specs.Prelude.{◌≡◌, ◌<◌, IfSome};
 ghost use Rattle.bay_device.specs.Outcomes as spec;
 ghost use Rattle.bay_device.specs.Outcomes.{associations};
@@ -6,20 +6,20 @@ ghost use Rattle.bay_device.specs.Outcomes.{associations};
 use bay_base::listing::Listing;
 use bay_ber::outgoing::Outgoing;
 use bay_config::bay::MeterField;
-use bay_services::answer::{Command, Decision};
+use bay_mms_services::answer::{Command, ControlDecision};
 use bay_tree::leaf::Dbpos;
 
 /// The latest time that an event may have, in milliseconds since 1970: the end of the last second
 /// that a time stamp with 32 bits of seconds can hold (IEC 61850-8-1, UtcTime).
 pub const LAST_MOMENT: u64 = 4_294_967_295_999;
 
-/// How many associations may be open at the same time. Their numbers are 1 to this.
+/// The maximum number of open associations. Their numbers are 1 to this.
 pub const ASSOCIATIONS: usize = 8;
 
 /// An event of a device. Associations have the numbers 1 to 8.
 #[derive(Clone, Copy)]
 pub enum Event<'a> {
-    /// A client connects. It has this number until its association is closed.
+    /// A client connects. Its association has this number until it is closed.
     Open {
         association: u16,
     },
@@ -32,36 +32,37 @@ pub enum Event<'a> {
     Close {
         association: u16,
     },
-    /// The contacts of the switch at this index, counted from 0, report a position.
+    /// The process reports the position of the switch at this index, counted from 0.
     Contact {
         switch: usize,
         position: Dbpos,
     },
-    /// The input at this index, counted from 0, has a value.
+    /// The process reports the value of the input at this index, counted from 0.
     Input {
         input: usize,
         value: bool,
     },
-    /// A field of the meter at this index, counted from 0, has a value, in whole units.
+    /// The process reports the value of a field of the meter at this index, counted from 0, in
+    /// whole units.
     Measure {
         meter: usize,
         field: MeterField,
         value: i32,
     },
-    /// A field of the meter at this index, counted from 0, is not to be trusted; it keeps its
-    /// value.
+    /// The process reports that a field of the meter at this index, counted from 0, is invalid; its
+    /// value stays.
     BadMeasure {
         meter: usize,
         field: MeterField,
     },
-    /// The process is lost: each position is bad, each input FALSE and no measured value to be
-    /// trusted, until more is heard of it.
+    /// The process is lost: each position becomes bad, each input FALSE and each measured value
+    /// invalid. The process stays lost until it reports something again.
     Lost,
     /// The program runs once.
     Scan,
 }
 
-/// Returns the place of an association among all; `None` for a number that none has.
+/// Returns the slot of an association, its number less 1; `None` if the number is not 1 to 8.
 pub fn place_of(association: u16) -> Option<usize>
     ensures value { result ≡ spec.place_of association }
     ensures within { IfSome result (λ place. place < associations) }
@@ -86,18 +87,17 @@ pub struct Sent {
 pub enum Why {
     /// Its client has ended or released it.
     Ended,
-    /// Its octets are refused with the fault of this number: 10 to 13 of the transport, 20 to 25 of
-    /// the association.
+    /// Its octets have the fault with this number: 10 to 13 of the transport, 20 to 25 of the
+    /// association.
     Fault(u8),
-    /// Out of memory. The PDU whose handling failed had no effect.
+    /// An allocation failed. The PDU in which it failed had no effect.
     Memory,
 }
 
 /// The result of an accepted scan.
 #[derive(Drop)]
 pub struct Scanned {
-    /// The report of the end of what was operating, for the client that asked for it with enhanced
-    /// security.
+    /// The report that an operate ended, for the client that requested it with enhanced security.
     pub ended: Option<Sent>,
     /// The number of instructions that the program executed, including HALT.
     pub steps: u32,
@@ -106,16 +106,15 @@ pub struct Scanned {
 /// The result of an accepted event.
 #[derive(Drop)]
 pub struct Step {
-    /// The report of the end of what was operating, for the client that asked for it with enhanced
-    /// security.
+    /// The report that an operate ended, for the client that requested it with enhanced security.
     pub ended: Option<Sent>,
-    /// What to send to the client whose octets arrived, one entry for each PDU, in order.
+    /// The octets to send to the client whose octets arrived, one entry for each PDU, in order.
     pub sent: Listing<Sent>,
-    /// The switches to operate.
+    /// The operations that the switches must carry out.
     pub commands: Listing<Command>,
-    /// The controls that the client whose octets arrived asked for, in order.
-    pub decisions: Listing<Decision>,
-    /// The association that the device has closed.
+    /// The decisions on the control requests of the client whose octets arrived, in order.
+    pub decisions: Listing<ControlDecision>,
+    /// The association that the device has closed, and why.
     pub closed: Option<(u16, Why)>,
     /// For a scan, the number of instructions that the program executed, including HALT.
     pub scan: Option<u32>,

@@ -14,7 +14,7 @@ use il_verify::fault::VerifyFault;
 use std::alloc::{AllocError, AllocFailed};
 use thiserror::Error;
 
-/// Why loading a bay with a program or an image failed.
+/// Why a bay with a program or an image is not loaded.
 #[derive(Clone, Copy, Debug, PartialEq, Eq, Error)]
 pub enum LoadFault {
     /// The number of the fault, and for a fault of the program (60 to 79) its line, counted from 1;
@@ -26,7 +26,7 @@ pub enum LoadFault {
     OutOfMemory,
 }
 
-// Returns the fault with a number at a line; want of memory alone has no number.
+// Returns the fault with a number at a line; `OutOfMemory` if there is no number.
 fn fault_of(code: Option<u8>, line: usize) -> LoadFault
     ensures { result ≡ spec.fault_of code line }
 {
@@ -103,10 +103,10 @@ impl<T: Drop> From<AllocFailed<T>> for LoadFault {
 /// Why an event is refused. A refused event changes nothing.
 #[derive(Clone, Copy, Debug, PartialEq, Eq, Error)]
 pub enum StepFault {
-    /// The moment is later than a time stamp can hold.
+    /// The time is later than a time stamp can hold.
     #[error("the moment is too large")]
     MomentTooLarge,
-    /// The moment is before that of the last event.
+    /// The time is before that of the last event.
     #[error("the moment is before the last event's")]
     TimeWentBack,
     /// The number of the association is not 1 to 8, or octets or a close arrive for one that is not
@@ -122,7 +122,7 @@ pub enum StepFault {
 }
 
 impl StepFault {
-    /// Returns the number of the fault: 114 moment too large, 110 time went back, 111 no such
+    /// Returns the number of the fault: 114 time too large, 110 time went back, 111 no such
     /// association, 112 already open, 113 no such point.
     pub fn code(self) -> u8
         ensures { result ≡ step_code_of self }

@@ -1,23 +1,22 @@
 // The device of one bay: the tree of its values and the program that interlocks it, stepped by
 // events.
 //
-// What is handed out: `load` (a device from the texts of a bay file and a program, or from an
-// image), `device` (`step`, `run`, the report, the image and the look-ups), `event` (what happens
-// to a device, and what is answered), `report` (the size of a program, and what a scan of it takes
-// at most), `fault` (why texts and images are not loaded, and why an event is refused), `laws`
-// (that nothing which a program reads is left out).
+// It exports `load` (a device from the texts of a bay file and a program, or from an image),
+// `device` (`step`, `run`, the report, the image and the look-ups), `event` (the events of a
+// device, and their answers), `report` (the size of a program, and the maximum cost of a scan),
+// `fault` (why texts and images are not loaded, and why an event is refused), `laws` (a program
+// reads nothing that the comparison of two processes leaves out).
 //
-// Within: `state` is all that a step works on but for its clients, and can take no memory;
-// bay_process and bay_services make its parts of a bay and a verified image. `step` does what
-// contacts, inputs, measures, scans and time do to it, over `process`, and `lost` what the loss of
-// the process does. `connections` has the clients' connections, `octets` and `message` do what
-// their octets come to, and `due` is what tells a client of the end of what it operates. `look_ups`
-// answers what is asked, names by a `table`.
+// Internal: `state` is the state that a step changes, apart from the clients; its methods cannot
+// allocate; bay_process and bay_mms_services make its parts from a bay and a verified image. `step`
+// applies positions, inputs, measured values, scans and time to it, using `process`, and `lost`
+// applies the loss of the process. `connections` has the clients' connections, `octets` and
+// `message` handle their octets, and `termination` has the reports to a client that its operate
+// ended. `look_ups` has the queries, and `table` finds names.
 #![tactic(auto)]
 
 mod connections;
 pub mod device;
-mod due;
 pub mod event;
 pub mod fault;
 pub mod laws;
@@ -31,7 +30,8 @@ pub mod report;
 mod state;
 mod step;
 mod table;
+mod termination;
 
-// What a step answers.
-pub use bay_services::answer::{Asked, Command, Decision};
-pub use bay_services::target::ControlPart;
+// The parts of a step's answer.
+pub use bay_mms_services::answer::{Command, ControlDecision, ControlRequest};
+pub use bay_mms_services::target::ControlPart;

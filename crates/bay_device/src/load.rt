@@ -1,8 +1,8 @@
-// A device from the text of a bay file and the text of a program, or the octets of an image.
+// Makes a device from the text of a bay file and the text of a program, or the octets of an image.
 ghost use Rattle.std.specs.Prelude.{◌≡◌, ◌≢◌, ℕ, [], None, Ok, Err, IfOk, IfErr, OnOk, length, replicate};
 ghost use Rattle.bay_process.specs.Controls.{AreAllControlRows, HaveSelected};
 ghost use Rattle.bay_process.specs.Layout.{layout_of};
-ghost use Rattle.bay_services.specs.Bay.{rows_shown};
+ghost use Rattle.bay_mms_services.specs.Bay.{rows_with_selection};
 ghost use Rattle.bay_base.specs.Exact.{Gives};
 ghost use Rattle.bay_config.specs.Bay.{bay_of};
 ghost use Rattle.il_text.specs.Listing.{PlainProgram};
@@ -37,13 +37,13 @@ use bay_config::read::read_bay;
 use bay_control::control::ControlTable;
 use bay_control::controls::Controls;
 use bay_mms::names::NameTexts;
-use bay_process::bind::{falses, spans_of};
+use bay_mms_services::bay::ServedBay;
+use bay_mms_services::decisions::clear_selected_rows;
+use bay_process::bind::{all_false, spans_of};
 use bay_process::controls::{ControlRows, control_rows};
 use bay_process::meter::BoundMeter;
-use bay_process::parts::{bound_rows, node_names, wired_machine};
+use bay_process::parts::{bound_machine, bound_rows, node_names};
 use bay_process::releases::{Releases, kept_releases};
-use bay_services::bay::ServedBay;
-use bay_services::decisions::show_none;
 use bay_tree::tree::Tree;
 use il_check::check::check;
 use il_check::program::Typed;
@@ -58,9 +58,9 @@ use il_verify::verify::{Verified, verify};
 use std::alloc::{AllocError, Global};
 use std::mem::replace;
 
-// Returns the rows of the controls of `count` switches in a tree, and makes the tree show that
-// none is selected.
-fn shown_rows(
+// Returns the handles of the rows of the controls of `count` switches in a tree, and writes FALSE
+// as stSeld of each switch.
+fn control_rows_of_tree(
     alloc: Global,
     tree: &mut Tree,
     count: usize,
@@ -68,15 +68,15 @@ fn shown_rows(
     requires { HaveSelected tree.old count }
     ensures sized { IfOk result (λ rows. length rows ≡ count) }
     ensures named { IfOk result (λ rows. AreAllControlRows tree.new rows) }
-    ensures rows { OnOk result (tree.new ≡ rows_shown None count tree.old) }
+    ensures rows { OnOk result (tree.new ≡ rows_with_selection None count tree.old) }
     ensures layout { OnOk result (layout_of tree.new ≡ layout_of tree.old) }
 {
     let rows = control_rows(alloc, tree, count)?;
-    show_none(tree, rows.as_slice());
+    clear_selected_rows(tree, rows.as_slice());
     Ok(Listing::new(rows))
 }
 
-/// A bay as its clients see it, and what else the state of a device takes from its bay.
+/// A bay as its clients see it, with the other parts of a device's state that come from its bay.
 #[derive(Drop)]
 pub struct BoundBay {
     pub bay: ServedBay,
@@ -86,7 +86,7 @@ pub struct BoundBay {
     pub releases: Releases,
 }
 
-// Takes the items out of a list, which is empty afterwards. Does not allocate.
+// Takes the items out of a list, which is then empty. Does not allocate.
 fn take_items<T>(alloc: Global, list: &mut Listing<T>) -> Vec<T>
     ensures value { result.items ≡ list.old }
     ensures after { list.new ≡ [] }
@@ -94,7 +94,7 @@ fn take_items<T>(alloc: Global, list: &mut Listing<T>) -> Vec<T>
     replace(list, Listing::new(Vec::new(alloc))).into_vec()
 }
 
-// Makes a bay with nothing selected, whose switches and meters are bound to the rows of its tree.
+// Makes a bay without a selection, with its switches and meters bound to the rows of its tree.
 fn bound_bay(alloc: Global, mut bay: Box<Bay>, writes: &[Source]) -> Result<BoundBay, AllocError>
     requires { IsTimedBay bay.value }
     ensures { IfOk result (IsBoundBay bay.value writes.now) }
@@ -104,7 +104,7 @@ fn bound_bay(alloc: Global, mut bay: Box<Bay>, writes: &[Source]) -> Result<Boun
     let rows = take_items(alloc, &mut bay.rows);
     let switches = take_items(alloc, &mut bay.switches);
     let mut bound = bound_rows(alloc, rows, switches, bay.meters.as_slice(), &nodes, writes)?;
-    let control_rows = shown_rows(alloc, &mut bound.tree, bound.switches.len())?;
+    let control_rows = control_rows_of_tree(alloc, &mut bound.tree, bound.switches.len())?;
     let releases = kept_releases(alloc, &bound.tree, bound.switches.as_slice())?;
     let names = NameTexts::of_tree(alloc, &bound.tree)?;
     let Bay {
@@ -147,8 +147,8 @@ fn state_of(
     ensures { IfOk result (λ state. state_view (replicate associations None) state.value
         ≡ initial_device bay.value verified) }
 {
-    let wired = wired_machine(alloc, bay.points.as_slice(), verified)?;
-    let input_values = falses(alloc, bay.inputs.as_slice())?;
+    let wired = bound_machine(alloc, bay.points.as_slice(), verified)?;
+    let input_values = all_false(alloc, bay.inputs.as_slice())?;
     let bound = bound_bay(alloc, bay, wired.writes.as_slice())?;
     let tables = tables_of(
         bound.bay.switches.as_slice(),
@@ -186,14 +186,14 @@ fn state_of(
     Ok(state)
 }
 
-// Makes the device from a bay and a verified image.
+// Makes the device of a bay and a verified image.
 fn device_of(alloc: Global, bay: Box<Bay>, verified: Verified) -> Result<Device, AllocError>
     requires bay { IsTimedBay bay.value }
     requires verified { IsVerified bay.value.points verified }
     ensures { IfOk result (λ device. device ≡ initial_device bay.value verified) }
 {
     let state = state_of(alloc, bay, verified)?;
-    Device::of_state(alloc, state)
+    Device::from_state(alloc, state)
 }
 
 // Verifies the image for these points.
@@ -211,7 +211,7 @@ fn verified_for(alloc: Global, image: Image, points: &[Point]) -> Result<Verifie
     }
 }
 
-// Makes the device from a bay and a checked program.
+// Makes the device of a bay and a checked program.
 fn load_checked(alloc: Global, bay: Box<Bay>, typed: Typed) -> Result<Device, LoadFault>
     requires bay { IsTimedBay bay.value }
     requires checked { (program : PlainProgram)
@@ -226,7 +226,7 @@ fn load_checked(alloc: Global, bay: Box<Bay>, typed: Typed) -> Result<Device, Lo
     Ok(device)
 }
 
-// Makes the device from a bay and a program.
+// Makes the device of a bay and a program.
 fn load_program(alloc: Global, bay: Box<Bay>, program: &Program<'_>) -> Result<Device, LoadFault>
     requires { IsTimedBay bay.value }
     ensures device { Gives OutOfMemory (λ device. device) result
@@ -239,7 +239,7 @@ fn load_program(alloc: Global, bay: Box<Bay>, program: &Program<'_>) -> Result<D
     load_checked(alloc, bay, typed)
 }
 
-// Reads the program in a text. A text reads as exactly one program or one fault.
+// Parses the program in a text. Each text has exactly one program or one fault.
 fn program_in<'a>(alloc: Global, logic: &'a str) -> Result<Program<'a>, TextFault>
     ensures ok { IfOk result (λ program. program_of logic.now ≡ Ok (plain_program program)) }
     ensures refused { IfErr result
@@ -249,7 +249,7 @@ fn program_in<'a>(alloc: Global, logic: &'a str) -> Result<Program<'a>, TextFaul
     Ok(program)
 }
 
-// Makes the device from a bay and the text of a program.
+// Makes the device of a bay and the text of a program.
 fn load_text(alloc: Global, bay: Box<Bay>, logic: &str) -> Result<Device, LoadFault>
     requires { IsTimedBay bay.value }
     ensures device { Gives OutOfMemory (λ device. device) result
@@ -262,7 +262,7 @@ fn load_text(alloc: Global, bay: Box<Bay>, logic: &str) -> Result<Device, LoadFa
     load_program(alloc, bay, &program)
 }
 
-// Makes the device from the texts of a bay file and a program, stage by stage.
+// Makes the device of the texts of a bay file and a program, stage by stage.
 fn load_texts(alloc: Global, bay: &str, logic: &str) -> Result<Device, LoadFault>
     ensures device { Gives OutOfMemory (λ device. device) result
         (of_bay (bay_of bay.now) (program_of logic.now)) }
@@ -275,23 +275,24 @@ fn load_texts(alloc: Global, bay: &str, logic: &str) -> Result<Device, LoadFault
     load_text(alloc, boxed, logic)
 }
 
-/// Makes the device from a bay file and a program, before its first event. A fault of the bay file
-/// (50 to 55) precedes one of the program's text (60 to 64). That precedes a fault of its checks
-/// (70 to 79), and that precedes 85, for a program whose image would be too long.
+/// Makes the device of a bay file and a program, before its first event. Returns the first fault:
+/// of the bay file (50 to 55), then of the program's text (60 to 64), then of its checks (70 to
+/// 79), then 85 if the image would be too long; or `OutOfMemory` if an allocation fails.
 pub fn load(alloc: Global, bay: &str, logic: &str) -> Result<Device, LoadFault>
     ensures device { Gives OutOfMemory (λ device. device) result
         (of_bay (bay_of bay.now) (program_of logic.now)) }
-    // Accepted is exactly what is right: a bay file, and a text that reads as a program which is
-    // right with its points; but for memory, and for an image that would be too long.
+    // A device results only if the first text is a bay file, and the second one spells a program
+    // that is right with the points of the bay; such texts are refused only if an allocation fails,
+    // or if the image would be too long.
     ensures accepted { IfOk result (λ _. IsRight bay.now logic.now) }
     ensures refused { IfErr result
         (λ e. e ≢ OutOfMemory → IsRight bay.now logic.now → e ≡ Refused 85 0) }
-    // The device runs the program that the text comes to.
+    // The device runs the program that the text spells.
     ensures runs { IfOk result
         (λ device. (c : Checked) × (checked_in (bay_of bay.now) (program_of logic.now) ≡ Ok c)
         × Runs c device) }
     // It is the device of the bay file and of the image to which the text is compiled, before its
-    // first event: nothing is selected, and no association is open.
+    // first event: there is no selection, and no association is open.
     ensures loaded { IfOk result
         (IsLoaded (bay_of bay.now) (IsCompiled (program_of logic.now))) }
     ensures idle { IfOk result IsIdle }
@@ -299,7 +300,7 @@ pub fn load(alloc: Global, bay: &str, logic: &str) -> Result<Device, LoadFault>
     load_texts(alloc, bay, logic)
 }
 
-// Makes the device from a bay and an image.
+// Makes the device of a bay and an image.
 fn load_decoded(alloc: Global, bay: Box<Bay>, image: Image) -> Result<Device, LoadFault>
     requires { IsTimedBay bay.value }
     ensures ok { IfOk result (λ device. LoadsImage bay.value image (Ok device)) }
@@ -310,7 +311,7 @@ fn load_decoded(alloc: Global, bay: Box<Bay>, image: Image) -> Result<Device, Lo
     Ok(device)
 }
 
-// Makes the device from a bay and the octets of an image.
+// Makes the device of a bay and the octets of an image.
 fn load_octets(alloc: Global, bay: Box<Bay>, image: &[u8]) -> Result<Device, LoadFault>
     requires { IsTimedBay bay.value }
     ensures ok { IfOk result (λ device. LoadsRead bay.value (image_spelled image.now) (Ok device)) }
@@ -321,16 +322,16 @@ fn load_octets(alloc: Global, bay: Box<Bay>, image: &[u8]) -> Result<Device, Loa
     load_decoded(alloc, bay, image)
 }
 
-/// Makes the device from a bay file and the octets of an image, before its first event. A fault of
-/// the bay file (50 to 55) precedes one of the octets (80 to 83), and that precedes one of the
-/// image (90 to 100).
+/// Makes the device of a bay file and the octets of an image, before its first event. Returns a
+/// fault of the bay file (50 to 55), or else of the octets (80 to 83), or else of the image (90 to
+/// 100); or `OutOfMemory` if an allocation fails.
 pub fn load_image(alloc: Global, bay: &str, image: &[u8]) -> Result<Device, LoadFault>
     ensures ok { IfOk result
         (λ device. Loads (bay_of bay.now) (image_spelled image.now) (Ok device)) }
     ensures refused { IfErr result
         (λ e. e ≢ OutOfMemory → Loads (bay_of bay.now) (image_spelled image.now) (Err e)) }
-    // It is the device of the bay file and of the image that the octets spell, before its first
-    // event: nothing is selected, and no association is open.
+    // It is the device of the bay file and of the image that the octets encode, before its first
+    // event: there is no selection, and no association is open.
     ensures loaded { IfOk result
         (IsLoaded (bay_of bay.now) (λ _ program. image_spelled image.now ≡ Ok program)) }
     ensures idle { IfOk result IsIdle }

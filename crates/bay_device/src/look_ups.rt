@@ -1,6 +1,6 @@
-// What can be asked of a device's state.
+// Queries of a device's state.
 ghost use Rattle.std.specs.Prelude.{◌≡◌, List, Option, slice_get, option_map};
-ghost use Rattle.bay_connection.specs.Talk.{Talk};
+ghost use Rattle.bay_connection.specs.ConnectionStates.{ConnectionState};
 ghost use Rattle.bay_tree.specs.declared.leaf.Leaf.TheVariants as leaf;
 ghost use Rattle.bay_process.specs.Layout.{switches_of};
 ghost use Rattle.bay_device.specs.LookUps.{switch_place, enabled_of, position_of};
@@ -12,25 +12,28 @@ use bay_process::rows::position_at;
 use bay_tree::leaf::Dbpos;
 
 impl DeviceState {
-    /// Returns the index of the input with this name, ignoring the case of its letters.
+    /// Returns the index of the input with this name, ignoring the case of its letters; `None` if
+    /// there is none.
     pub fn input_place(&self, name: &str) -> Option<usize>
-        ensures { (connections : List (Option Talk))
+        ensures { (connections : List (Option ConnectionState))
             → result ≡ spec.input_place (state_view connections self.now) name.now }
     {
         self.tables.inputs.place_of(self.inputs.as_slice(), name)
     }
 
-    /// Returns the index of the meter with this id, ignoring the case of its letters.
+    /// Returns the index of the meter with this id, ignoring the case of its letters; `None` if
+    /// there is none.
     pub fn meter_place(&self, id: &str) -> Option<usize>
-        ensures { (connections : List (Option Talk))
+        ensures { (connections : List (Option ConnectionState))
             → result ≡ spec.meter_place (state_view connections self.now) id.now }
     {
         self.tables.meters.place_of(self.meters.as_slice(), id)
     }
 
-    /// Returns the index of the switch with this id, ignoring the case of its letters.
+    /// Returns the index of the switch with this id, ignoring the case of its letters; `None` if
+    /// there is none.
     pub fn switch(&self, id: &str) -> Option<usize>
-        ensures { (connections : List (Option Talk))
+        ensures { (connections : List (Option ConnectionState))
             → result ≡ switch_place (state_view connections self.now) id.now }
     {
         self.tables
@@ -38,7 +41,8 @@ impl DeviceState {
             .place_of(self.bay.switches.as_slice(), id)
     }
 
-    /// Returns the id of the switch at an index, as it is spelled in the bay file.
+    /// Returns the id of the switch at an index, as the bay file spells it; `None` if there is no
+    /// such switch.
     pub fn id(&self, switch: usize) -> Option<&str>
         ensures { option_map (λ id. id.now) result
             ≡ option_map (λ s. s.id) (slice_get (switches_of self.now.bay.switches) switch) }
@@ -47,9 +51,10 @@ impl DeviceState {
         Some(bound.switch.id.as_str())
     }
 
-    /// Returns whether the switch at an index may be opened, and whether it may be closed.
+    /// Returns whether the switch at an index may be opened, and whether it may be closed; `None`
+    /// if there is no such switch.
     pub fn ena(&self, switch: usize) -> Option<(bool, bool)>
-        ensures { (connections : List (Option Talk))
+        ensures { (connections : List (Option ConnectionState))
             → result ≡ enabled_of (state_view connections self.now) switch }
     {
         if switch >= self.bay.switches.as_slice().len() {
@@ -59,9 +64,10 @@ impl DeviceState {
         Some((enabled.may_open, enabled.may_close))
     }
 
-    /// Returns the position that the control of the switch at an index tells.
+    /// Returns the position of the switch at an index, as its control repeats it; `None` if there
+    /// is no such switch.
     pub fn position(&self, switch: usize) -> Option<Dbpos>
-        ensures { (connections : List (Option Talk)) → option_map leaf.Dbpos result
+        ensures { (connections : List (Option ConnectionState)) → option_map leaf.Dbpos result
             ≡ position_of (state_view connections self.now) switch }
     {
         let bound = self.bay.switches.as_slice().get(switch)?;

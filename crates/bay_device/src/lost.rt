@@ -1,6 +1,6 @@
-// What is lost with the process: nothing that it told is to be trusted.
+// The loss of the process: all its values become invalid.
 ghost use Rattle.std.specs.Prelude.{◌≡◌, ◌<◌, List, Option, length};
-ghost use Rattle.bay_connection.specs.Talk.{Talk};
+ghost use Rattle.bay_connection.specs.ConnectionStates.{ConnectionState};
 ghost use Rattle.bay_process.specs.Layout.{meters_of, switches_of};
 ghost use Rattle.bay_device.specs.Device.{device_at, doubt_taken, ended_at, lost_taken, measures_lost, meter_lost, positions_lost};
 ghost use Rattle.bay_device.specs.StateView.{state_view};
@@ -12,10 +12,10 @@ use bay_config::bay::MeterField;
 use bay_tree::leaf::Dbpos;
 
 impl DeviceState {
-    /// Takes a doubt of a field of the meter at an index.
+    /// Handles the report that a field of the meter at an index is invalid.
     pub fn take_doubt(&mut self, now: u64, meter: usize, field: MeterField)
         requires { meter < length self.old.meters }
-        ensures after { (connections : List (Option Talk))
+        ensures after { (connections : List (Option ConnectionState))
             → state_view connections self.new
             ≡ doubt_taken now meter field (state_view connections self.old) }
         ensures meters { self.new.meters ≡ self.old.meters }
@@ -27,10 +27,10 @@ impl DeviceState {
         self.is_lost = false;
     }
 
-    // Takes a doubt of each field of the meter at an index.
+    // Makes each field of the meter at an index invalid.
     fn lose_meter(&mut self, now: u64, meter: usize)
         requires { meter < length self.old.meters }
-        ensures after { (connections : List (Option Talk))
+        ensures after { (connections : List (Option ConnectionState))
             → state_view connections self.new
             ≡ meter_lost now meter (state_view connections self.old) }
         ensures meters { self.new.meters ≡ self.old.meters }
@@ -43,9 +43,9 @@ impl DeviceState {
         self.take_doubt(now, meter, MeterField::PhaseC);
     }
 
-    // Takes a doubt of each field of each meter.
+    // Makes each field of each meter invalid.
     fn lose_meters(&mut self, now: u64)
-        ensures { (connections : List (Option Talk))
+        ensures { (connections : List (Option ConnectionState))
             → state_view connections self.new
             ≡ measures_lost now 0 (meters_of self.old.meters) (state_view connections self.old) }
     {
@@ -54,9 +54,9 @@ impl DeviceState {
         }
     }
 
-    // Takes a bad position of each switch.
+    // Makes the position of each switch bad.
     fn lose_positions(&mut self, now: u64)
-        ensures { (connections : List (Option Talk))
+        ensures { (connections : List (Option ConnectionState))
             → state_view connections self.new
             ≡ positions_lost now 0 (switches_of self.old.bay.switches)
             (state_view connections self.old) }
@@ -66,12 +66,12 @@ impl DeviceState {
         }
     }
 
-    /// Handles the loss of the process: each position is bad, each input FALSE, and no measured
-    /// value to be trusted.
-    pub fn lose(&mut self, now: u64) -> Option<Sent>
-        ensures sent { (connections : List (Option Talk))
+    /// Handles the loss of the process: makes each position bad, each input FALSE and each measured
+    /// value invalid. Returns the report that an operate ended, if one expired.
+    pub fn lose_process(&mut self, now: u64) -> Option<Sent>
+        ensures sent { (connections : List (Option ConnectionState))
             → result ≡ ended_at now (state_view connections self.old) }
-        ensures after { (connections : List (Option Talk))
+        ensures after { (connections : List (Option ConnectionState))
             → state_view connections self.new
             ≡ lost_taken now (device_at now (state_view connections self.old)) }
     {

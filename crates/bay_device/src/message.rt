@@ -1,42 +1,41 @@
-// A PDU of a client: its answer is made, and then what it asks for stands.
+// Answers a PDU of a client. Its effects take place once the whole answer is built.
 ghost use Rattle.std.specs.Prelude.{◌≡◌, ◌≤◌, ◌++◌, List, Option, [], All, IfOk, IfSome, IsSome, OnErr, OnOk, length, map, take};
-ghost use Rattle.bay_assoc.specs.Hears.{association_terms};
-ghost use Rattle.bay_connection.specs.Talk.{Talk, sending, terms_of};
-ghost use Rattle.bay_initiate.specs.Sizes.{IsPduSize};
-ghost use Rattle.bay_services.specs.Answers.{pdu_answer};
+ghost use Rattle.bay_assoc.specs.Receives.{association_terms};
+ghost use Rattle.bay_connection.specs.ConnectionStates.{ConnectionState, sending, terms_of};
+ghost use Rattle.bay_mms_initiate.specs.Sizes.{IsPduSize};
+ghost use Rattle.bay_mms_services.specs.Answers.{pdu_answer};
 ghost use Rattle.bay_device.specs.Device.{bay_of};
-ghost use Rattle.bay_device.specs.Hearing.{answered_with, later_due, after_pdu, sending_if, sent_on};
-ghost use Rattle.bay_device.specs.Hearing as spec;
-ghost use Rattle.bay_device.specs.HearingViews.{done_of, with_effect};
+ghost use Rattle.bay_device.specs.Receiving.{answered_with, later_due, after_pdu, sending_if, sent_on};
+ghost use Rattle.bay_device.specs.Receiving as spec;
+ghost use Rattle.bay_device.specs.ReceivingViews.{done_of, with_effect};
 ghost use Rattle.bay_device.specs.StateView.{state_view};
 
-use crate::due::Due;
 use crate::event::Sent;
 use crate::state::DeviceState;
+use crate::termination::PendingTermination;
 use bay_ber::outgoing::Outgoing;
 use bay_connection::connection::Connection;
 use bay_control::controls::Controls;
-use bay_services::answer::{Answer, Command, Decision, Ending};
-use bay_services::client::Client;
+use bay_mms_services::answer::{Command, ControlDecision, PduAnswer, TerminationReports};
+use bay_mms_services::client::ClientContext;
 use std::alloc::{AllocError, Global};
 
-/// What an event has produced so far: octets to send, switches to operate, and what was decided of
-/// controls.
+/// The effects of an event so far: octets to send, commands to issue, and decisions on controls.
 #[derive(Drop)]
-pub struct Made {
+pub struct EventEffects {
     pub sent: Vec<Sent>,
     pub commands: Vec<Command>,
-    pub decisions: Vec<Decision>,
+    pub decisions: Vec<ControlDecision>,
 }
 
-impl Made {
-    /// Starts with nothing.
-    pub fn new(alloc: Global) -> Made
+impl EventEffects {
+    /// Makes the effects of an event that has had none yet.
+    pub fn new(alloc: Global) -> EventEffects
         ensures sent { result.sent.items ≡ [] }
         ensures commands { result.commands.items ≡ [] }
         ensures decisions { result.decisions.items ≡ [] }
     {
-        Made {
+        EventEffects {
             sent: Vec::new(alloc),
             commands: Vec::new(alloc),
             decisions: Vec::new(alloc),
@@ -44,8 +43,11 @@ impl Made {
     }
 }
 
-// Returns the octets that send a report, if there is one.
-fn framed(connection: &Connection, report: Option<Outgoing>) -> Result<Option<Outgoing>, AllocError>
+// Returns the octets that carry a report, if there is one.
+fn wrap_report(
+    connection: &Connection,
+    report: Option<Outgoing>,
+) -> Result<Option<Outgoing>, AllocError>
     requires { IsSome (association_terms connection.now.talk.phase) }
     ensures { IfOk result (λ octets. octets ≡ sending_if (terms_of connection.now.talk) report) }
 {
@@ -58,42 +60,46 @@ fn framed(connection: &Connection, report: Option<Outgoing>) -> Result<Option<Ou
     }
 }
 
-// Returns what will report to an association the end of what it operates.
-fn due_of(connection: &Connection, association: u16, ending: Ending) -> Result<Due, AllocError>
+// Returns the octets that will report to an association that its operate ended.
+fn termination_of(
+    connection: &Connection,
+    association: u16,
+    ending: TerminationReports,
+) -> Result<PendingTermination, AllocError>
     requires { IsSome (association_terms connection.now.talk.phase) }
     ensures { IfOk result (λ due. due
         ≡ spec.due_of association (terms_of connection.now.talk) ending) }
 {
-    let positive = framed(connection, ending.positive)?;
-    let negative = framed(connection, ending.negative)?;
-    Ok(Due {
+    let positive = wrap_report(connection, ending.positive)?;
+    let negative = wrap_report(connection, ending.negative)?;
+    Ok(PendingTermination {
         association,
         positive,
         negative,
     })
 }
 
-// Like `due_of`, or `None` if the association operates nothing whose end is reported.
-fn due_if(
+// Like `termination_of`; `None` if there are no reports.
+fn termination_if(
     connection: &Connection,
     association: u16,
-    ending: Option<Ending>,
-) -> Result<Option<Due>, AllocError>
+    ending: Option<TerminationReports>,
+) -> Result<Option<PendingTermination>, AllocError>
     requires { IsSome (association_terms connection.now.talk.phase) }
     ensures { IfOk result (λ due. due
         ≡ spec.due_if association (terms_of connection.now.talk) ending) }
 {
     match ending {
         Some(ending) => {
-            let due = due_of(connection, association, ending)?;
+            let due = termination_of(connection, association, ending)?;
             Ok(Some(due))
         }
         None => Ok(None),
     }
 }
 
-// Replaces what is due by what is due for a new execution, if there is one.
-fn replace_due(due: &mut Option<Due>, new: Option<Due>)
+// Replaces the pending reports by those of a new execution, if there are any.
+fn replace_termination(due: &mut Option<PendingTermination>, new: Option<PendingTermination>)
     ensures { due.new ≡ later_due due.old new }
 {
     if new.is_some() {
@@ -101,7 +107,7 @@ fn replace_due(due: &mut Option<Due>, new: Option<Due>)
     }
 }
 
-// Sends these PDUs on an association.
+// Adds these PDUs to what is sent on an association.
 fn send_all(
     connection: &Connection,
     association: u16,
@@ -124,15 +130,15 @@ fn send_all(
     Ok(())
 }
 
-// Adds the PDUs of an answer to what is sent, its commands to those to issue, and its decisions.
-// Returns what will report the end of what it operates. If an allocation fails, more may have been
-// added.
+// Adds the PDUs of an answer to what is sent, and its commands and its decisions to the others.
+// Returns the pending reports for the end of its operate. If an allocation fails, more may have
+// been added.
 fn reply(
     connection: &Connection,
     association: u16,
-    answer: Answer,
-    made: &mut Made,
-) -> Result<Option<Due>, AllocError>
+    answer: PduAnswer,
+    made: &mut EventEffects,
+) -> Result<Option<PendingTermination>, AllocError>
     requires { IsSome (association_terms connection.now.talk.phase) }
     ensures due { IfOk result
         (λ due. due ≡ spec.due_if association (terms_of connection.now.talk) answer.ending) }
@@ -155,22 +161,22 @@ fn reply(
     made.commands.extend_from_slice(answer.commands.as_slice())?;
     let mut decisions = answer.decisions;
     made.decisions.append(&mut decisions)?;
-    due_if(connection, association, answer.ending)
+    termination_if(connection, association, answer.ending)
 }
 
-// Answers a PDU. `controls` becomes the controls after it. Changes nothing else but what is made:
-// if an allocation fails, more may have been added to it.
+// Answers a PDU. `controls` becomes the controls after the PDU. Changes nothing else but `made`; if
+// an allocation fails, more may have been added to it.
 fn answer(
     alloc: Global,
     state: &DeviceState,
-    client: Client,
+    client: ClientContext,
     connection: &Connection,
     controls: &mut Controls,
-    made: &mut Made,
-) -> Result<Option<Due>, AllocError>
+    made: &mut EventEffects,
+) -> Result<Option<PendingTermination>, AllocError>
     requires open { IsSome (association_terms connection.now.talk.phase) }
     requires sized { IsPduSize client.size }
-    ensures ok { IfOk result (λ due. (connections : List (Option Talk))
+    ensures ok { IfOk result (λ due. (connections : List (Option ConnectionState))
         → done_of (with_effect controls.new due (state_view connections state.now)) made.new
         ≡ answered_with client.association (terms_of connection.now.talk)
         (pdu_answer client connection.now.pdu (bay_of (state_view connections state.now)))
@@ -185,37 +191,38 @@ fn answer(
     reply(connection, client.association, answer, made)
 }
 
-// Puts in what an answered PDU does: the controls after it, and what is due of a new execution.
-fn put_in(state: &mut DeviceState, controls: Controls, due: Option<Due>)
-    ensures { (connections : List (Option Talk))
+// Stores the effects of an answered PDU: the controls after it, and the pending reports of a new
+// execution.
+fn put_in(state: &mut DeviceState, controls: Controls, due: Option<PendingTermination>)
+    ensures { (connections : List (Option ConnectionState))
         → state_view connections state.new
         ≡ with_effect controls due (state_view connections state.old) }
 {
     state.bay.controls = controls;
-    replace_due(&mut state.due, due);
+    replace_termination(&mut state.due, due);
 }
 
-/// Answers a PDU of an association and does what it asks for. Changes nothing if an allocation
-/// fails.
+/// Answers a PDU of an association and carries it out. If an allocation fails, changes nothing.
 pub fn message(
     alloc: Global,
     now: u64,
     association: u16,
     state: &mut DeviceState,
     connection: &Connection,
-    made: &mut Made,
+    made: &mut EventEffects,
 ) -> Result<(), AllocError>
     requires { IsSome (association_terms connection.now.talk.phase) }
     ensures ok { OnOk result
-        ((connections : List (Option Talk)) → done_of (state_view connections state.new) made.new
+        ((connections : List (Option ConnectionState))
+        → done_of (state_view connections state.new) made.new
         ≡ after_pdu now association (terms_of connection.now.talk) connection.now.pdu
         (done_of (state_view connections state.old) made.old)) }
     ensures err { OnErr result
-        ((connections : List (Option Talk))
+        ((connections : List (Option ConnectionState))
         → done_of (state_view connections state.new) made.new
         ≡ done_of (state_view connections state.old) made.old) }
 {
-    let client = Client {
+    let client = ClientContext {
         association,
         size: connection.pdu_size(),
         now,

@@ -1,29 +1,30 @@
-// What contacts, measures, doubts and scans do to a bay that clients see: its tree goes on showing
-// no switch as selected.
+// Applies positions, measured values and scans to a bay that is served: its tree still has FALSE as
+// stSeld of every switch.
 ghost use Rattle.std.specs.Prelude.{◌≡◌, ◌<◌, Some, length, not, slice_get};
 ghost use Rattle.bay_nodes.specs.Names.{meter_names, switch_names};
 ghost use Rattle.bay_nodes.specs.declared.switch.Switch.{Switch};
 ghost use Rattle.bay_process.specs.Layout.{layout_of, switches_of, IsMeterBound};
 ghost use Rattle.bay_process.specs.Names.{field_names};
 ghost use Rattle.bay_process.specs.Scans.{outputs_put};
-ghost use Rattle.bay_process.specs.Told.{AreInterlocked, AreKept};
-ghost use Rattle.bay_process.specs.Values.{rows_after_contact, rows_after_doubt, rows_after_measure, tells, tells_doubt, tells_measure};
-ghost use Rattle.bay_services.specs.Views.{bay_view};
+ghost use Rattle.bay_process.specs.ReportedRows.{AreInterlocked, AreKept};
+ghost use Rattle.bay_process.specs.Values.{rows_after_contact, rows_after_doubt, rows_after_measure, has_position, tells_doubt, tells_measure};
+ghost use Rattle.bay_mms_services.specs.Views.{bay_view};
 
 use bay_config::bay::MeterField;
+use bay_mms_services::bay::ServedBay;
 use bay_process::contact::take_position;
-use bay_process::meter::{MeterRows, take_doubt, take_measure};
+use bay_process::meter::{MeterRows, take_bad_measure, take_measure};
 use bay_process::releases::Releases;
 use bay_process::scan::write_outputs;
-use bay_services::bay::ServedBay;
 use bay_tree::leaf::Dbpos;
 use il_scan::points::Outputs;
 
-/// Takes the position of the switch at an index. Returns whether its value or its quality changed.
+/// Applies the reported position of the switch at an index. Returns whether its value or its
+/// quality changed.
 pub fn contact(bay: &mut ServedBay, now: u64, switch: usize, position: Dbpos) -> bool
     requires { switch < length bay.old.switches }
     ensures changed { (s : Switch) → slice_get (switches_of bay.old.switches) switch ≡ Some s
-        → result ≡ not (tells (switch_names (switches_of bay.old.switches) switch s).position
+        → result ≡ not (has_position (switch_names (switches_of bay.old.switches) switch s).position
         position bay.old.tree) }
     ensures after { (s : Switch) → slice_get (switches_of bay.old.switches) switch ≡ Some s
         → bay_view bay.new ≡ record (bay_view bay.old) {
@@ -37,7 +38,7 @@ pub fn contact(bay: &mut ServedBay, now: u64, switch: usize, position: Dbpos) ->
     take_position(&mut bay.tree, &rows, position, now)
 }
 
-/// Takes a measured value of the meter at an index, which has these rows; the contract alone reads
+/// Applies a measured value of the meter at an index, which has these rows; only the contract uses
 /// the index. Returns whether the value or its quality changed.
 pub fn measure(
     bay: &mut ServedBay,
@@ -61,8 +62,8 @@ pub fn measure(
     take_measure(&mut bay.tree, rows.field(field), value, now)
 }
 
-/// Takes a doubt of a measured value of the meter at an index, which has these rows; the contract
-/// alone reads the index. Returns whether its quality changed.
+/// Applies the report that a measured value of the meter at an index is invalid. The meter has
+/// these rows; only the contract uses the index. Returns whether the quality changed.
 pub fn doubt(
     bay: &mut ServedBay,
     now: u64,
@@ -80,10 +81,10 @@ pub fn doubt(
     ensures switches { bay.new.switches ≡ bay.old.switches }
     ensures layout { layout_of bay.new.tree ≡ layout_of bay.old.tree }
 {
-    take_doubt(&mut bay.tree, rows.field(field), now)
+    take_bad_measure(&mut bay.tree, rows.field(field), now)
 }
 
-/// Writes the values of their points to the interlocking values of all switches.
+/// Writes the outputs of a scan to the interlocking values of all switches.
 pub fn write_scan(bay: &mut ServedBay, kept: &mut Releases, outputs: &Outputs<'_>, now: u64)
     requires interlocked { AreInterlocked (layout_of bay.old.tree) bay.old.switches }
     requires kept { AreKept bay.old.tree (switches_of bay.old.switches) 0 kept.old }

@@ -1,4 +1,4 @@
-// What a device reports of the program that it runs.
+// The report of a device on the program that it runs.
 ghost use Rattle.std.specs.Prelude.{◌≤◌, length};
 ghost use Rattle.il_image.specs.Images.{IsCode};
 ghost use Rattle.bay_device.specs.Report.{IsCount, IsReport};
@@ -6,14 +6,14 @@ ghost use Rattle.bay_device.specs.Report.{IsCount, IsReport};
 use il_image::read::instr_at;
 use il_verify::verify::Verified;
 
-/// The size of a program's code, and the most that a scan of it takes.
+/// The size of a program's code, and the maximum cost of a scan.
 #[derive(Clone, Copy, Debug, PartialEq, Eq)]
 pub struct Report {
     /// The number of instructions in the code.
     pub instructions: u32,
-    /// The most values on the stack before an instruction, 0 to 32.
+    /// The maximum number of values on the stack before an instruction, 0 to 32.
     pub depth: u32,
-    /// The most instructions that a scan executes, including HALT.
+    /// The maximum number of instructions that a scan executes, including HALT.
     pub budget: u32,
 }
 

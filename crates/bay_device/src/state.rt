@@ -1,64 +1,65 @@
-// The state of a device, which can take no memory.
+// The state of a device, whose methods cannot allocate.
 ghost use Rattle.std.specs.Prelude.{◌≡◌, ◌<◌, ◌^◌, length, map};
 ghost use Rattle.il_scan.specs.Scans.{AreHeld, inputs_in, read_only, type_of_point};
 ghost use Rattle.bay_process.specs.Layout.{layout_of, switches_of, AreBound, AreMetersBound};
 ghost use Rattle.bay_process.specs.Scans.{AreSpanned, bound_value};
 ghost use Rattle.bay_process.specs.Sources.{type_of_source};
 ghost use Rattle.bay_device.specs.Table.{AreTables};
-ghost use Rattle.bay_process.specs.Told.{AreKept};
+ghost use Rattle.bay_process.specs.ReportedRows.{AreKept};
 
-use crate::due::Due;
 use crate::table::NameTables;
+use crate::termination::PendingTermination;
 use bay_base::listing::Listing;
 use bay_base::text::Text;
 use bay_config::bay::Source;
+use bay_mms_services::bay::ServedBay;
 use bay_process::meter::BoundMeter;
 use bay_process::releases::Releases;
-use bay_process::values::Truths;
-use bay_services::bay::ServedBay;
+use bay_process::values::InputValues;
 use il_scan::machine::Machine;
 use il_scan::span::Span;
 
-/// The state of a device, as loading makes it and steps change it. Its methods are given no
-/// allocator, and no part of it lends one, or a call that takes memory: lists, texts, the tree and
-/// the machine lend slices and values alone, and the controls have a fixed size. So a contact, an
-/// input, a measured value and a scan take no memory.
+/// The state of a device, as loading makes it and steps change it. Its methods receive no
+/// allocator, and no part of it lends one, or a call that allocates: lists, texts, the tree and the
+/// machine lend only slices and values, and the controls have a fixed size. So a position, an
+/// input, a measured value and a scan do not allocate.
 #[derive(Drop)]
 pub struct DeviceState {
     /// The bay as its clients see it.
     pub bay: ServedBay,
     /// The maximum age of a scan when a switch is operated, in milliseconds.
     pub scan_max_age_ms: u32,
-    /// The names of the inputs, in the order of the bay file; `input_values` are their values.
+    /// The names of the inputs, in the order of the bay file; `input_values` has their values.
     pub inputs: Listing<Text>,
-    pub input_values: Truths,
+    pub input_values: InputValues,
     /// The meters, in the order of the bay file.
     pub meters: Listing<BoundMeter>,
-    /// The interlocking values, in the text that is printed of them.
+    /// The interlocking values, as the text that is printed.
     pub releases: Releases,
-    /// The places of the ids of the switches, the names of the inputs and the ids of the meters.
+    /// The tables that find the ids of the switches, the names of the inputs and the ids of the
+    /// meters.
     pub tables: NameTables,
-    /// What the read-only points stand for, in the order of the points; `writes` is the same for
-    /// the writable ones.
+    /// The sources of the read-only points, in the order of the points; `writes` has those of the
+    /// writable points.
     pub reads: Listing<Source>,
     pub writes: Listing<Source>,
     pub machine: Machine,
-    /// For each switch the span of its points among the read-only ones.
+    /// For each switch, a span of the read-only points that has all of its points.
     pub spans: Listing<Span>,
     /// The read-only points whose values may have changed since the last scan. The machine's slots
-    /// hold the values of the others.
+    /// have the values of the others.
     pub unread: Span,
     /// The time of the last accepted event, in milliseconds since 1970.
     pub moment: u64,
-    /// The time of the last scan.
+    /// The time of the last scan, in milliseconds since 1970.
     pub last_scan: Option<u64>,
-    /// Whether a value or a quality of a contact, an input or a measured value has changed since
-    /// the last scan.
+    /// Whether the value or the quality of a position, an input or a measured value has changed
+    /// since the last scan.
     pub is_stale: bool,
-    /// Whether the process is lost: nothing was heard of it since it was.
+    /// Whether the process is lost: nothing has been received from it since.
     pub is_lost: bool,
-    /// What will report to a client the end of what is operating.
-    pub due: Option<Due>,
+    /// The pending reports for the end of the current operate.
+    pub due: Option<PendingTermination>,
     ghost bound: { AreBound (layout_of bay.tree) writes bay.switches },
     ghost metered: { AreMetersBound (layout_of bay.tree) meters },
     ghost released: { AreKept bay.tree (switches_of bay.switches) 0 releases },

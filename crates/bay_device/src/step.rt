@@ -1,8 +1,8 @@
-// What an event of the process does to a device's state: a contact, an input, a measure, a scan,
-// and time.
+// Applies an event of the process to a device's state: a position, an input, a measured value, a
+// scan, and time.
 ghost use Rattle.std.specs.Prelude.{◌≡◌, ◌<◌, List, Option, Some, None, length, map, slice_get};
 ghost use Rattle.il_scan.specs.Scans.{AreHeld, Scans, inputs_in, outputs_of, read_only, type_of_point};
-ghost use Rattle.bay_connection.specs.Talk.{Talk};
+ghost use Rattle.bay_connection.specs.ConnectionStates.{ConnectionState};
 ghost use Rattle.bay_nodes.specs.declared.switch.Switch.{Switch};
 ghost use Rattle.bay_process.specs.Layout.{AreLeafTyped, AreMetersLeafTyped, layout_of, switches_of};
 ghost use Rattle.bay_process.specs.Scans.{bound_value};
@@ -16,16 +16,16 @@ ghost use Rattle.bay_device.specs.StateView.{state_view};
 ghost use Rattle.bay_device.specs.Steps.{IsQuiet};
 ghost use Rattle.bay_device.specs.declared.event.Event.TheVariants.{BadMeasure, Contact, Input, Measure};
 
-use crate::due::{forget, missed, reached};
 use crate::event::Sent;
 use crate::fault::StepFault;
 use crate::process;
 use crate::state::DeviceState;
+use crate::termination::{forget, report_missed, report_reached};
 use bay_config::bay::{MeterField, Source};
+use bay_mms_services::bay::ServedBay;
 use bay_process::meter::BoundMeter;
 use bay_process::scan::ReadPoints;
-use bay_process::values::Truths;
-use bay_services::bay::ServedBay;
+use bay_process::values::InputValues;
 use bay_tree::leaf::Dbpos;
 use il_scan::machine::Machine;
 use il_scan::span::Span;
@@ -40,13 +40,13 @@ fn or_else(first: Option<Sent>, later: Option<Sent>) -> Option<Sent>
     }
 }
 
-// Runs the program once on the current positions, inputs and measured values, of which those
-// outside a span are in the machine's slots. Returns the number of its steps.
+// Runs the program once on the current positions, inputs and measured values; the machine's slots
+// already have those outside the span `unread`. Returns the number of its steps.
 fn run_program(
     machine: &mut Machine,
     unread: Span,
     bay: &ServedBay,
-    inputs: &Truths,
+    inputs: &InputValues,
     meters: &[BoundMeter],
     reads: &[Source],
     now: u64,
@@ -75,10 +75,10 @@ fn run_program(
 }
 
 impl DeviceState {
-    /// Returns whether the last scan is fresh at a time: nothing that it read has changed since,
-    /// and it is not too old.
+    /// Returns whether the last scan is fresh at a time: none of its inputs has changed since, and
+    /// it is not too old.
     pub fn is_fresh(&self, now: u64) -> bool
-        ensures { (connections : List (Option Talk))
+        ensures { (connections : List (Option ConnectionState))
             → result ≡ spec.is_fresh now (state_view connections self.now) }
     {
         let is_recent = match self.last_scan {
@@ -88,12 +88,12 @@ impl DeviceState {
         is_recent && !self.is_stale
     }
 
-    /// Ends what has expired at a time, and reports the end of an expired execution.
+    /// Ends what has expired at a time. Returns the report that an operate ended, if one expired.
     #[inline(always)]
     pub fn advance(&mut self, now: u64) -> Option<Sent>
-        ensures sent { (connections : List (Option Talk))
+        ensures sent { (connections : List (Option ConnectionState))
             → result ≡ ended_at now (state_view connections self.old) }
-        ensures after { (connections : List (Option Talk))
+        ensures after { (connections : List (Option ConnectionState))
             → state_view connections self.new ≡ device_at now (state_view connections self.old) }
         ensures meters { self.new.meters ≡ self.old.meters }
         ensures layout { layout_of self.new.bay.tree ≡ layout_of self.old.bay.tree }
@@ -101,18 +101,19 @@ impl DeviceState {
         let over = self.bay.controls.advance(&self.bay.control_table, now);
         self.moment = now;
         match over {
-            Some(_) => missed(&mut self.due),
+            Some(_) => report_missed(&mut self.due),
             None => None,
         }
     }
 
-    /// Takes the position of the switch at an index, and reports the execution that it ends.
+    /// Applies the reported position of the switch at an index. Returns the report that an operate
+    /// ended, if the position ends one.
     #[inline(always)]
     pub fn take_contact(&mut self, now: u64, switch: usize, position: Dbpos) -> Option<Sent>
         requires { switch < length self.old.bay.switches }
-        ensures sent { (connections : List (Option Talk))
+        ensures sent { (connections : List (Option ConnectionState))
             → result ≡ reached_at switch position (state_view connections self.old) }
-        ensures after { (connections : List (Option Talk)) (s : Switch)
+        ensures after { (connections : List (Option ConnectionState)) (s : Switch)
             → slice_get (switches_of self.old.bay.switches) switch ≡ Some s
             → state_view connections self.new
             ≡ contact_taken now switch s position (state_view connections self.old) }
@@ -122,20 +123,20 @@ impl DeviceState {
         self.is_stale |= changed;
         self.is_lost = false;
         if self.bay.controls.contact(switch, position) {
-            reached(&mut self.due)
+            report_reached(&mut self.due)
         } else {
             None
         }
     }
 
-    /// Handles a position that the switch at an index reports.
+    /// Handles the reported position of the switch at an index. `NoSuchPoint` if there is none.
     pub fn contact(
         &mut self,
         now: u64,
         switch: usize,
         position: Dbpos,
     ) -> Result<Option<Sent>, StepFault>
-        ensures { (connections : List (Option Talk))
+        ensures { (connections : List (Option ConnectionState))
             → IsQuiet result (state_view connections self.new)
             (event_outcome None now (Contact switch position) (state_view connections self.old)) }
     {
@@ -143,13 +144,13 @@ impl DeviceState {
             return Err(StepFault::NoSuchPoint);
         }
         let over = self.advance(now);
-        let reached = self.take_contact(now, switch, position);
-        Ok(or_else(over, reached))
+        let report_reached = self.take_contact(now, switch, position);
+        Ok(or_else(over, report_reached))
     }
 
-    /// Handles a value of the input at an index.
+    /// Handles the reported value of the input at an index. `NoSuchPoint` if there is none.
     pub fn input(&mut self, now: u64, input: usize, value: bool) -> Result<Option<Sent>, StepFault>
-        ensures { (connections : List (Option Talk))
+        ensures { (connections : List (Option ConnectionState))
             → IsQuiet result (state_view connections self.new)
             (event_outcome None now (Input input value) (state_view connections self.old)) }
     {
@@ -165,7 +166,8 @@ impl DeviceState {
         Ok(over)
     }
 
-    /// Handles a value of a field of the meter at an index.
+    /// Handles the reported value of a field of the meter at an index. `NoSuchPoint` if there is
+    /// none.
     pub fn measure(
         &mut self,
         now: u64,
@@ -173,7 +175,7 @@ impl DeviceState {
         field: MeterField,
         value: i32,
     ) -> Result<Option<Sent>, StepFault>
-        ensures { (connections : List (Option Talk))
+        ensures { (connections : List (Option ConnectionState))
             → IsQuiet result (state_view connections self.new)
             (event_outcome None now (Measure meter field value) (state_view connections self.old)) }
     {
@@ -189,14 +191,15 @@ impl DeviceState {
         Ok(over)
     }
 
-    /// Handles a doubt of a field of the meter at an index.
+    /// Handles the report that a field of the meter at an index is invalid. `NoSuchPoint` if there
+    /// is no such meter.
     pub fn bad_measure(
         &mut self,
         now: u64,
         meter: usize,
         field: MeterField,
     ) -> Result<Option<Sent>, StepFault>
-        ensures { (connections : List (Option Talk))
+        ensures { (connections : List (Option ConnectionState))
             → IsQuiet result (state_view connections self.new)
             (event_outcome None now (BadMeasure meter field) (state_view connections self.old)) }
     {
@@ -212,11 +215,11 @@ impl DeviceState {
     /// number of its steps.
     #[inline(always)]
     pub fn scan(&mut self, now: u64) -> u32
-        ensures after { (connections : List (Option Talk))
+        ensures after { (connections : List (Option ConnectionState))
             → state_view connections self.new ≡ after_scan now (state_view connections self.old) }
-        ensures steps { (connections : List (Option Talk))
+        ensures steps { (connections : List (Option ConnectionState))
             → result ≡ (ran_at now (state_view connections self.old)).steps }
-        ensures halts { (connections : List (Option Talk))
+        ensures halts { (connections : List (Option ConnectionState))
             → Halts now (state_view connections self.old) result (state_view connections self.new) }
     {
         let steps = run_program(
@@ -243,9 +246,9 @@ impl DeviceState {
         steps
     }
 
-    /// Ends the selection of a closed association, and forgets what is due to it.
+    /// Ends the selection of a closed association, and discards the pending reports to it.
     pub fn drop_owner(&mut self, association: u16)
-        ensures { (connections : List (Option Talk))
+        ensures { (connections : List (Option ConnectionState))
             → state_view connections self.new
             ≡ without_owner association (state_view connections self.old) }
     {

@@ -1,4 +1,4 @@
-// Where names stand, found without going over all of them.
+// Finds names without a search of the whole list.
 ghost use Rattle.std.specs.Prelude.{◌≡◌, ◌<◌, length, map, position};
 ghost use Rattle.bay_base.specs.Names.{same_name};
 ghost use Rattle.bay_device.specs.Table.{IsTable, AreTables, with_place_of};
@@ -12,7 +12,7 @@ use bay_process::switch::BoundSwitch;
 // The number of keys.
 const KEYS: usize = 64;
 
-/// Something that has a name.
+/// An item with a name.
 pub trait Named {
     ghost use Rattle.std.specs.Prelude.{List, ℕ};
 
@@ -47,7 +47,7 @@ impl Named for BoundMeter {
     }
 }
 
-// Returns the key of a name. The case of its letters does not change the key.
+// Returns the key of a name, which does not depend on the case of its letters.
 fn key_of(name: &str) -> usize
     ensures key { result ≡ spec.key_of name.now }
     ensures within { result < 64 }
@@ -59,22 +59,22 @@ fn key_of(name: &str) -> usize
     key
 }
 
-// Returns whether two names are the same, ignoring the case of their letters. The usual case of
-// the same spelling is fast.
+// Returns whether two names are equal, ignoring the case of their letters. Compares the spelling
+// first, which is the usual case and fast.
 fn is_named(own: &str, name: &str) -> bool
     ensures { result ≡ same_name own.now name.now }
 {
     own == name || same_name(own, name)
 }
 
-/// For each key, a place before which no name has that key.
+/// For each key, an index before which no name has that key.
 #[derive(Drop)]
 pub struct NameTable {
     pub firsts: [usize; KEYS],
 }
 
 impl NameTable {
-    // Records that a name with this key is at a place.
+    // Records that the name at an index has this key.
     fn note(&mut self, key: usize, place: usize)
         requires { key < 64 }
         ensures { self.new.firsts ≡ with_place_of key place self.old.firsts }
@@ -98,7 +98,7 @@ impl NameTable {
     }
 
     /// Returns the index of the first of these items with this name, ignoring the case of its
-    /// letters.
+    /// letters; `None` if there is none.
     pub fn place_of<T: Named>(&self, items: &[T], name: &str) -> Option<usize>
         requires { IsTable (map T.name items.now) self.now.firsts }
         ensures { result ≡ position (λ item. same_name (T.name item) name.now) items.now }
@@ -120,7 +120,7 @@ pub struct NameTables {
     pub meters: NameTable,
 }
 
-/// Makes the tables of the ids of these switches, of these names of inputs, and of the ids of these
+/// Makes the tables of the ids of these switches, the names of these inputs, and the ids of these
 /// meters.
 pub fn tables_of(switches: &[BoundSwitch], inputs: &[Text], meters: &[BoundMeter]) -> NameTables
     ensures { AreTables switches.now inputs.now meters.now result }

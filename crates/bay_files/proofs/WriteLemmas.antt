@@ -3,6 +3,7 @@ use Rattle.std.proofs.Common.{◌≡◌, ℕ, suc, ◌+◌, Bool, true, false, L
 use Rattle.bay_files.specs.Files.{FileWrites, WritesWhole}
 use Rattle.bay_files.specs.declared.files.FileFault.{FileFault}
 use Rattle.bay_files.specs.declared.files.FileFault.TheVariants.{Failed}
+use Rattle.std.specs.declared.io.ErrorKind.TheVariants as kind
 
 module _ {F : Type 0} (writes : FileWrites F) (name octets : List ℕ) (old : F) where
   -- what is left to be tried goes on to all of it
@@ -45,6 +46,7 @@ module _ {F : Type 0} (writes : FileWrites F) (name octets : List ℕ) (old : F)
 
   -- all names are taken
   pub Tried-end : (left number : ℕ) (mid : F) → Tried left number mid → left ≡ 0
-      → WritesWhole writes 100 0 name octets old mid (Some Failed)
+      → WritesWhole writes 100 0 name octets old mid (Some (Failed kind.Other))
   unfolding WritesWhole
-  Tried-end left number mid tried e = tried.goes mid (Some Failed) (rw e (refl, refl))
+  Tried-end left number mid tried e =
+      tried.goes mid (Some (Failed kind.Other)) (rw e (refl, refl))

@@ -1,22 +1,26 @@
--- Files as a command sees them: what a read of a name gave, and what a write to a name did.
+-- Files as a command sees them: the result of a read of a name, and the effect of a write to a
+-- name.
 use Rattle.std.specs.Prelude.{◌≡◌, ℕ, zero, suc, ◌+◌, Bool, true, false, List, [], Option, None, Some, Result, Ok, Err, ◌⊎◌}
 use Rattle.bay_files.specs.declared.files.FileFault.{FileFault}
 use Rattle.bay_files.specs.declared.files.FileFault.TheVariants.{Failed}
-use Rattle.bay_files.specs.declared.files.Unread.{Unread}
+use Rattle.std.specs.declared.io.ErrorKind.TheVariants as kind
+use Rattle.bay_files.specs.declared.files.UnreadFile.{UnreadFile}
 use Rattle.bay_io.specs.declared.input.ReadFault.{ReadFault}
 
--- what a read of a name gave, and what a try, with its number, to write octets to a name led to
+-- the type of a relation of reads: files, a name and the result
 abbrev pub FileReads : Type 0 → Type 1
 FileReads F = F → List ℕ → Result (List ℕ) ReadFault → Type 0
 
--- what a read gave, and whether the file is its owner's alone
+-- the same, with whether the file's mode denies all access to its group and others
 abbrev pub FileGuards : Type 0 → Type 1
 FileGuards F = F → List ℕ → Result (List ℕ × Bool) ReadFault → Type 0
 
+-- the type of a relation of attempts to write: files, a name, the attempt's number, octets, the
+-- outcome and the files after it
 abbrev pub FileWrites : Type 0 → Type 1
 FileWrites F = F → List ℕ → ℕ → List ℕ → Result Bool FileFault → F → Type 0
 
--- what the two files of a command hold: the bay, and a program or an image
+-- the octets of the two files of a command: the bay, and a program or an image
 pub record FilesData : Type 0 where
   pub bay : List ℕ
   pub program : List ℕ
@@ -26,23 +30,23 @@ pub record UnreadData : Type 0 where
   pub name : List ℕ
   pub fault : ReadFault
 
--- the same, as the code hands it out
-abbrev pub unread_view : Unread → UnreadData
+-- the view of the code's value
+abbrev pub unread_view : UnreadFile → UnreadData
 unread_view unread = record { name = unread.name.now; fault = unread.fault }
 
--- a file was read: what it holds, or that it could not be read
+-- a file was read: its octets, or its name and why it could not be read
 abbrev pub ReadsFile : {F : Type 0} → FileReads F → F → List ℕ → Result (List ℕ) UnreadData → Type 0
 ReadsFile reads files name (Ok octets) = reads files name (Ok octets)
 ReadsFile reads files name (Err unread) =
     (unread.name ≡ name) × reads files name (Err unread.fault)
 
--- a file was read that may have been named; without a name there is nothing in it
+-- a file was read if it was named; without a name the result is no octets
 abbrev pub ReadsNamed : {F : Type 0} → FileReads F → F → Option (List ℕ)
     → Result (List ℕ) UnreadData → Type 0
 ReadsNamed reads files None read = read ≡ Ok []
 ReadsNamed reads files (Some name) read = ReadsFile reads files name read
 
--- two files were read, in this order: what they hold, or the first that could not be read
+-- two files were read, in this order: the octets of both, or the first that could not be read
 abbrev pub ReadsBoth : {F : Type 0} → FileReads F → F → List ℕ → List ℕ
     → Result FilesData UnreadData → Type 0
 ReadsBoth reads files bay program (Ok both) =
@@ -52,20 +56,20 @@ ReadsBoth reads files bay program (Err unread) =
     ⊎ ((octets : List ℕ) × ReadsFile reads files bay (Ok octets)
     × ReadsFile reads files program (Err unread))
 
--- what follows a try: the file was written; the name beside is taken, and the next is tried;
--- or it could not be written
+-- what follows an attempt: the file was written; or the name beside is taken, and `next` holds, the
+-- next attempt; or the file could not be written
 abbrev pub FollowsTry : {F : Type 0} → Result Bool FileFault → Type 0 → F → F → Option FileFault
     → Type 0
 FollowsTry (Ok true) next mid new fault = (new ≡ mid) × (fault ≡ None)
 FollowsTry (Ok false) next mid new fault = next
 FollowsTry (Err e) next mid new fault = (new ≡ mid) × (fault ≡ Some e)
 
--- A file is written in so many tries at most, from the one with this number on, until one finds a
--- free name beside it. Where none does, nothing more is done.
+-- A file is written in at most n attempts (the first number), numbered from `number` on, until one
+-- finds a free name beside the file. If none does, it fails, and nothing more is done.
 unfoldable pub WritesWhole : {F : Type 0}
     → FileWrites F → ℕ → ℕ → List ℕ
     → List ℕ → F → F → Option FileFault → Type 0
-WritesWhole writes zero number name octets old new fault = (new ≡ old) × (fault ≡ Some Failed)
+WritesWhole writes zero number name octets old new fault = (new ≡ old) × (fault ≡ Some (Failed kind.Other))
 WritesWhole {F} writes (suc left) number name octets old new fault =
     (outcome : Result Bool FileFault) × (mid : F)
     × writes old name number octets outcome mid

@@ -1,4 +1,4 @@
-// The files that a command reads and writes, by their names.
+// Files that a command reads and writes, by name.
 ghost use Rattle.std.specs.Prelude.{◌≡◌, ℕ, List, Bool, Option, None, Some, option_map, Result, Ok, Err, IfOk, IfErr, OnOk};
 ghost use Rattle.bay_io.specs.declared.input.ReadFault.{ReadFault};
 ghost use Rattle.bay_files.specs.Files.{ReadsBoth, ReadsFile, ReadsNamed, WritesWhole, unread_view};
@@ -21,18 +21,21 @@ const FILE_LIMIT: usize = 16_777_216;
 // How many temporary names are tried next to the file being written.
 const TRIES: u32 = 100;
 
-// The bits of a file's mode that let its group and others read, write or run it.
+// The bits of a file's mode that permit its group and others to read, write or run the file.
 const OTHERS: u32 = 0o077;
 
-// How many links are followed to a file that is written, as the system does.
+// The most names that are looked up to find the file to write: the given one, and those that
+// symbolic links lead to.
 const LINKS: u32 = 40;
 
 /// Why writing a file failed.
 #[derive(Clone, Copy, Debug, Error)]
 pub enum FileFault {
-    /// What has the name is no regular file, no file can be created, or a write failed.
+    /// The name leads to something other than a regular file, no file can be created, or a write
+    /// failed, for this reason: `InvalidInput` if the name leads to anything but a regular file, and
+    /// `Other` if all names beside the file are taken.
     #[error("the file can't be written")]
-    Failed,
+    Failed(ErrorKind),
     #[error("out of memory")]
     OutOfMemory,
 }
@@ -43,21 +46,22 @@ impl From<AllocError> for FileFault {
     }
 }
 
-/// What a file holds, and whether its mode keeps all but its owner from it.
+/// The octets of a file, and whether its mode denies all access to its group and others.
 #[derive(Drop)]
-pub struct Guarded {
+pub struct ProtectedFile {
     pub octets: Vec<u8>,
     pub is_private: bool,
 }
 
-/// Files by their names.
+/// A file system: files by name.
 ///
-/// Its meaning is four relations. `reads files name gave`: reading this name gave these octets or
-/// this fault. `guards files name gave`: the same, and whether the file is its owner's alone.
-/// `writes old name number octets outcome new`: the try with this number to write these octets to
-/// this name led from the files before to those after with this outcome. `same files one other
-/// is_same`: whether both names are of one file. Files in memory give their own meaning. Nothing is
-/// known of the files of a system, and they keep the defaults.
+/// Its meaning is four relations. `reads files name result`: a read of this name may have this
+/// result, the octets or the fault. `guards files name result`: the same, with whether the file's
+/// mode denies all access to its group and others. `writes old name number octets outcome new`: the
+/// attempt with this number to write these octets to this name, with this outcome, may have led
+/// from the files before to those after. `same files one other is_same`: whether both names are
+/// known to lead to one file. Files in memory define these relations. For the files of a system
+/// nothing is known: the defaults hold of everything.
 pub trait FileSystem {
     ghost reads: { Self → List ℕ → Result (List ℕ) ReadFault → Type 0 } = { λ _ _ _. Unit {0} };
 
@@ -67,23 +71,24 @@ pub trait FileSystem {
 
     ghost same: { Self → List ℕ → List ℕ → Bool → Type 0 } = { λ _ _ _ _. Unit {0} };
 
-    /// Reads all octets of a file, at most 16,777,216.
+    /// Reads all octets of a file, at most 16,777,216. Fails with `TooLong` if there are more, with
+    /// `Failed` if the file can't be opened or read, and with `OutOfMemory`.
     fn read(&self, alloc: Global, name: &str) -> Result<Vec<u8>, ReadFault>
         ensures ok { IfOk result (λ octets. reads self.now name.now (Ok octets.items)) }
         ensures err { IfErr result (λ fault. reads self.now name.now (Err fault)) };
 
-    /// Reads all octets of a file, at most 16,777,216, and whether its mode has no bits for its
-    /// group and for others.
-    fn read_guarded(&self, alloc: Global, name: &str) -> Result<Guarded, ReadFault>
+    /// Reads a file like `read`, and returns also whether its mode denies all access to its group
+    /// and others.
+    fn read_guarded(&self, alloc: Global, name: &str) -> Result<ProtectedFile, ReadFault>
         ensures ok { IfOk result
             (λ had. guards self.now name.now (Ok (had.octets.items, had.is_private))) }
         ensures err { IfErr result (λ fault. guards self.now name.now (Err fault)) };
 
-    /// Writes octets to the file that a name leads to: fills a new file beside it, whose name has
-    /// `.part` and the number of the try behind, and gives it the name. Follows links. Replaces a
-    /// regular file, whose mode stays, or nothing; whatever else stands there is a fault, and is
-    /// not touched. Returns `Ok(false)` and does nothing if the name beside is taken. Leaves
-    /// nothing behind if a call fails.
+    /// Writes octets to the file that a name leads to: fills a new file beside it, named like it
+    /// with `.part` and the number of the attempt appended, and renames the new file to it. Follows
+    /// symbolic links. Replaces a regular file, whose mode stays, or creates one; if the name leads
+    /// to anything else it fails and does not touch that. Returns `Ok(false)` and changes nothing
+    /// if the name beside is taken. Removes the new file if a later step fails.
     fn write(
         &mut self,
         alloc: Global,
@@ -93,16 +98,16 @@ pub trait FileSystem {
     ) -> Result<bool, FileFault>
         ensures { writes self.old name.now number octets.now result self.new };
 
-    /// Creates an empty file with a name that nothing has, to be written piece by piece. Nothing is
-    /// known of the files after it.
+    /// Creates an empty file, to be written piece by piece. Fails if the name exists. Nothing is
+    /// known of the files after the call.
     fn create(&mut self, name: &str) -> Result<File, FileFault>;
 
-    /// Returns whether two names are known to be of one file.
+    /// Returns whether two names are known to lead to one file.
     fn is_same(&self, alloc: Global, name: &str, other: &str) -> bool
         ensures { same self.now name.now other.now result };
 }
 
-/// The files that a command reads: a bay file, and a program or an image.
+/// The octets of the two files that a command reads: a bay file, and a program or an image.
 #[derive(Drop)]
 pub struct BothFiles {
     pub bay: Vec<u8>,
@@ -111,17 +116,17 @@ pub struct BothFiles {
 
 /// A file that could not be read, and why.
 #[derive(Drop)]
-pub struct Unread<'a> {
+pub struct UnreadFile<'a> {
     pub name: &'a str,
     pub fault: ReadFault,
 }
 
-/// Reads a file, and says which it was if that fails.
+/// Reads a file. An error has the file's name and the fault.
 pub fn read_file<'a, F: FileSystem>(
     alloc: Global,
     files: &F,
     name: &'a str,
-) -> Result<Vec<u8>, Unread<'a>>
+) -> Result<Vec<u8>, UnreadFile<'a>>
     ensures ok { IfOk result (λ octets. ReadsFile F.reads files.now name.entry.now
         (Ok octets.items)) }
     ensures err { IfErr result (λ unread. ReadsFile F.reads files.now name.entry.now
@@ -129,19 +134,21 @@ pub fn read_file<'a, F: FileSystem>(
 {
     match files.read(alloc, name) {
         Ok(octets) => Ok(octets),
-        Err(fault) => Err(Unread { name, fault }),
+        Err(fault) => Err(UnreadFile { name, fault }),
     }
 }
 
-/// Reads the file with a name, or nothing without a name.
-pub fn read_named<'a, F: FileSystem>(
+/// Reads the file with this name. Without a name, returns no octets.
+pub fn read_optional<'a, F: FileSystem>(
     alloc: Global,
     files: &F,
     name: Option<&'a str>,
-) -> Result<Vec<u8>, Unread<'a>>
-    ensures ok { IfOk result (λ octets. ReadsNamed F.reads files.now (option_map (λ n. n.now) name.entry)
+) -> Result<Vec<u8>, UnreadFile<'a>>
+    ensures ok { IfOk result
+        (λ octets. ReadsNamed F.reads files.now (option_map (λ n. n.now) name.entry)
         (Ok octets.items)) }
-    ensures err { IfErr result (λ unread. ReadsNamed F.reads files.now (option_map (λ n. n.now) name.entry)
+    ensures err { IfErr result
+        (λ unread. ReadsNamed F.reads files.now (option_map (λ n. n.now) name.entry)
         (Err (unread_view unread))) }
 {
     match name {
@@ -150,14 +157,14 @@ pub fn read_named<'a, F: FileSystem>(
     }
 }
 
-/// Reads the two files of a command: the bay file first, then the program. Says which of them could
-/// not be read.
+/// Reads the two files of a command: the bay file first, then the program. An error has the name of
+/// the first that can't be read, and the fault.
 pub fn read_files<'a, F: FileSystem>(
     alloc: Global,
     files: &F,
     bay: &'a str,
     program: &'a str,
-) -> Result<BothFiles, Unread<'a>>
+) -> Result<BothFiles, UnreadFile<'a>>
     ensures ok { IfOk result
         (λ both. ReadsBoth F.reads files.now bay.entry.now program.entry.now
         (Ok (record { bay = both.bay.items; program = both.program.items }))) }
@@ -177,6 +184,7 @@ pub struct SystemFiles<'a, R> {
 }
 
 impl<'a, R: Files> SystemFiles<'a, R> {
+    /// Creates a view of the system's files.
     pub fn new(rt: &'a R) -> Self {
         SystemFiles { rt }
     }
@@ -196,28 +204,28 @@ fn file_fault(error: &io::Error) -> FileFault {
     if error.kind() == ErrorKind::OutOfMemory {
         FileFault::OutOfMemory
     } else {
-        FileFault::Failed
+        FileFault::Failed(error.kind())
     }
 }
 
-// Opens a file to read it, and returns its mode with it.
+// Opens a file for reading, and returns it with its mode.
 fn opened_with_mode<R: Files>(rt: &R, name: &str) -> io::Result<(R::File, u32)> {
     let file = fs::open(rt, name)?;
     let mode = file.metadata()?.permissions().mode();
     Ok((file, mode))
 }
 
-// Where a name leads.
+// The file that a name leads to.
 #[derive(Drop)]
 struct Target {
-    /// The name behind all links.
+    /// The name after following all links.
     name: PathBuf,
-    /// The mode of the regular file that stands there; `None` if nothing does.
+    /// The mode of the regular file with this name; `None` if there is no file.
     mode: Option<Permissions>,
 }
 
 impl<R: Files> SystemFiles<'_, R> {
-    // Returns where a link leads, from the folder that it is in.
+    // Returns the name that a link leads to, resolved from the link's folder.
     fn led_by(&self, alloc: Global, link: &PathBuf) -> Result<PathBuf, FileFault> {
         let to = self
             .rt
@@ -229,7 +237,8 @@ impl<R: Files> SystemFiles<'_, R> {
         }
     }
 
-    // Returns where a name leads, by at most 40 links, if a regular file or nothing is there.
+    // Returns the file that a name leads to, over at most 39 links. Fails if there is anything but
+    // a regular file or nothing.
     fn target_of(&self, alloc: Global, name: &str) -> Result<Target, FileFault> {
         let mut name = PathBuf::from_str(alloc, name)?;
         for _ in 0..LINKS {
@@ -239,18 +248,18 @@ impl<R: Files> SystemFiles<'_, R> {
                     let mode = Some(found.permissions());
                     return Ok(Target { name, mode });
                 }
-                Ok(_) => return Err(FileFault::Failed),
+                Ok(_) => return Err(FileFault::Failed(ErrorKind::InvalidInput)),
                 Err(error) if error.kind() == ErrorKind::NotFound => {
                     return Ok(Target { name, mode: None });
                 }
                 Err(error) => return Err(file_fault(&error)),
             }
         }
-        Err(FileFault::Failed)
+        Err(FileFault::Failed(ErrorKind::FilesystemLoop))
     }
 
-    // Fills the new file named `beside`, waits until the system has stored it, and gives it the
-    // name of the target.
+    // Fills the new file named `beside`, waits until the system has stored it, and renames it to
+    // the target.
     fn fill(
         &self,
         mut file: R::File,
@@ -275,10 +284,10 @@ impl<R: Files<File = File>> FileSystem for SystemFiles<'_, R> {
         }
     }
 
-    fn read_guarded(&self, alloc: Global, name: &str) -> Result<Guarded, ReadFault> {
+    fn read_guarded(&self, alloc: Global, name: &str) -> Result<ProtectedFile, ReadFault> {
         let (file, mode) = opened_with_mode(self.rt, name).map_err(|error| read_fault(&error))?;
         let octets = read_all(alloc, &mut WatchedReader::new(file), FILE_LIMIT)?;
-        Ok(Guarded {
+        Ok(ProtectedFile {
             octets,
             is_private: mode & OTHERS == 0,
         })
@@ -322,9 +331,10 @@ impl<R: Files<File = File>> FileSystem for SystemFiles<'_, R> {
     }
 }
 
-/// Writes octets to a file of this name: all of them or none. Tries a hundred names beside it, one
-/// after the other, until one is free.
-pub fn write_whole<F: FileSystem>(
+/// Writes octets to the file with this name: all of them or none. Tries a hundred names beside the
+/// file, one after the other, until one is free. Fails with `Failed` if all are taken or the file
+/// can't be written, and with `OutOfMemory`.
+pub fn write_atomically<F: FileSystem>(
     alloc: Global,
     files: &mut F,
     name: &str,
@@ -342,5 +352,5 @@ pub fn write_whole<F: FileSystem>(
             Err(fault) => return Err(fault),
         }
     }
-    Err(FileFault::Failed)
+    Err(FileFault::Failed(ErrorKind::Other))
 }

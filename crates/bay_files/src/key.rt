@@ -1,11 +1,11 @@
-// The file of a key.
+// Reading a key file.
 ghost use Rattle.std.specs.Prelude.{◌≡◌, ◌≤◌, length, option_map, Ok, Err, IfErr, IfOk};
 ghost use Rattle.std.specs.Char.{is_ascii_hexdigit};
 ghost use Rattle.std.specs.List.{prefix_len};
 ghost use Rattle.bay_files.specs.Keys.{ReadsKey, ReadsNamedKey, key_in, keyless_view};
 ghost use Rattle.bay_files.specs.Keys as spec;
 
-use crate::files::{FileSystem, Guarded};
+use crate::files::{FileSystem, ProtectedFile};
 use bay_io::input::ReadFault;
 use std::alloc::Global;
 use thiserror::Error;
@@ -21,22 +21,22 @@ pub enum KeyFault {
     /// The file can't be read.
     #[error("{0}")]
     Unread(ReadFault),
-    /// Its mode does not keep all but its owner from it.
+    /// The file's mode permits some access to its group or others.
     #[error("only its owner may read it")]
     Exposed,
-    /// It does not hold 32 to 64 hexadecimal digits, with one line end behind them or none.
+    /// The file does not hold 32 to 64 hexadecimal digits, followed by one line end or nothing.
     #[error("a key has 32 to 64 hexadecimal digits")]
     Malformed,
 }
 
-/// The name of a file that gives no key, and why.
+/// The name of a key file without a valid key, and why.
 #[derive(Drop)]
-pub struct Keyless<'a> {
+pub struct KeyFileFault<'a> {
     pub name: &'a str,
     pub fault: KeyFault,
 }
 
-// Counts the hexadecimal digits at the front of a text.
+// Returns how many hexadecimal digits a text begins with.
 fn digit_len(text: &[u8]) -> usize
     ensures len { result ≡ prefix_len is_ascii_hexdigit text.now }
     ensures within { result ≤ length text.now }
@@ -44,7 +44,7 @@ fn digit_len(text: &[u8]) -> usize
     text.iter().take_while(|x| x.is_ascii_hexdigit()).count()
 }
 
-// Whether a text is empty or a line end.
+// Returns whether a text is empty or one line end.
 #[tactic(auto, unfolding(crate::specs::Keys::is_end))]
 fn is_end(text: &[u8]) -> bool
     ensures { result ≡ spec.is_end text.now }
@@ -52,7 +52,7 @@ fn is_end(text: &[u8]) -> bool
     matches!(text, b"" | b"\n" | b"\r\n")
 }
 
-// Returns how many digits the key has that a text holds.
+// Returns the number of digits of the key in a text, or `None` if the text holds no valid key.
 fn key_length(text: &[u8]) -> Option<usize>
     ensures { result ≡ option_map length (key_in text.now) }
 {
@@ -64,12 +64,12 @@ fn key_length(text: &[u8]) -> Option<usize>
     }
 }
 
-// Reads the file of a key, and returns its digits.
+// Reads a key file, and returns the digits of the key.
 fn read_digits<F: FileSystem>(alloc: Global, files: &F, name: &str) -> Result<Vec<u8>, KeyFault>
     ensures ok { IfOk result (λ key. ReadsKey F.guards files.now name.now (Ok key.items)) }
     ensures err { IfErr result (λ fault. ReadsKey F.guards files.now name.now (Err fault)) }
 {
-    let Guarded {
+    let ProtectedFile {
         octets: mut key,
         is_private,
     } = match files.read_guarded(alloc, name) {
@@ -88,13 +88,15 @@ fn read_digits<F: FileSystem>(alloc: Global, files: &F, name: &str) -> Result<Ve
     }
 }
 
-/// Reads the file of a key, which only its owner may read, and returns its digits; nothing without
-/// a name.
+/// Reads a key file, which only its owner may use, and returns the 32 to 64 digits of the key.
+/// Returns `None` if there is no name. An error has the file's name and the fault: `Unread` if the
+/// file can't be read, `Exposed` if its mode permits some access to its group or others,
+/// `Malformed` if it holds no key.
 pub fn read_key<'a, F: FileSystem>(
     alloc: Global,
     files: &F,
     name: Option<&'a str>,
-) -> Result<Option<Vec<u8>>, Keyless<'a>>
+) -> Result<Option<Vec<u8>>, KeyFileFault<'a>>
     ensures ok { IfOk result
         (λ key. ReadsNamedKey F.guards files.now (option_map (λ n. n.now) name.entry)
         (Ok (option_map (λ digits. digits.items) key))) }
@@ -107,6 +109,6 @@ pub fn read_key<'a, F: FileSystem>(
     };
     match read_digits(alloc, files, name) {
         Ok(digits) => Ok(Some(digits)),
-        Err(fault) => Err(Keyless { name, fault }),
+        Err(fault) => Err(KeyFileFault { name, fault }),
     }
 }

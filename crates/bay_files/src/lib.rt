@@ -1,7 +1,7 @@
 // The files that a command reads and writes.
 //
-// `files` has files by their names: any, and those of a system. `key` reads the file of a key,
-// which only its owner may read.
+// `files`: files by name, in any file system or in the system's. `key`: reads a key file, which
+// only its owner may use.
 #![tactic(auto)]
 
 pub mod files;

@@ -1,7 +1,7 @@
 -- Lemmas on the calls that a source or a sink was asked.
 use Rattle.std.proofs.Common.{◌≡◌, ℕ, ◌+◌, ◌≤◌, Bool, true, false, ◌||◌, List, [], ◌∷◌, ◌++◌, length-append, Result, Ok, Err, is_err, refl, ap, sym, subst, ◌∙◌, arith}
 use Rattle.std.proofs.Math.Bool.{or_assoc}
-use Rattle.bay_io.specs.Calls.{Asked, AskedFew, Talks, flushes, read_failed, reads, some_call, write_failed, writes}
+use Rattle.bay_io.specs.Calls.{CallsMade, AskedFew, MakesCalls, flushes, read_failed, reads, some_call, write_failed, writes}
 use Rattle.bay_io.specs.Watched.{write_fails}
 
 pub or-false : (b : Bool) → b ≡ (b || false)
@@ -16,18 +16,18 @@ some-append f (x ∷ xs) ys =
     ∙ sym (or_assoc (f x) (some_call f xs) (some_call f ys))
 
 pub talks-append : {S C : Type 0} (does : S → C → S → Type 0) (a b c : S) (xs ys : List C)
-    → Talks does a xs b → Talks does b ys c → Talks does a (xs ++ ys) c
-talks-append does a b c [] ys t u = subst (λ s. Talks does s ys c) (sym t) u
+    → MakesCalls does a xs b → MakesCalls does b ys c → MakesCalls does a (xs ++ ys) c
+talks-append does a b c [] ys t u = subst (λ s. MakesCalls does s ys c) (sym t) u
 talks-append does a b c (x ∷ xs) ys t u = (t.0, t.1, talks-append does t.0 b c xs ys t.2 u)
 
 module _ {S C : Type 0} {does : S → C → S → Type 0} {fails : C → Bool} where
   -- nothing was asked
-  abbrev pub Asked-none : (s : S) (b : Bool) → Asked does fails s b s b
+  abbrev pub Asked-none : (s : S) (b : Bool) → CallsMade does fails s b s b
   Asked-none s b = record { calls = []; talks = refl; failed = or-false b }
 
   -- one call
   abbrev pub Asked-one : (old new : S) (was is : Bool) (call : C) → does old call new
-      → is ≡ (was || fails call) → Asked does fails old was new is
+      → is ≡ (was || fails call) → CallsMade does fails old was new is
   Asked-one old new was is call d e = record {
     calls = call ∷ [];
     talks = (new, d, refl);
@@ -35,9 +35,9 @@ module _ {S C : Type 0} {does : S → C → S → Type 0} {fails : C → Bool} w
   }
 
   -- some, and then others
-  abbrev pub Asked-then : (a b c : S) (x y z : Bool) → Asked does fails a x b y
-      → Asked does fails b y c z
-      → Asked does fails a x c z
+  abbrev pub Asked-then : (a b c : S) (x y z : Bool) → CallsMade does fails a x b y
+      → CallsMade does fails b y c z
+      → CallsMade does fails a x c z
   Asked-then a b c x y z p q = record {
     calls = p.calls ++ q.calls;
     talks = talks-append does a b c p.calls q.calls p.talks q.talks;

@@ -3,7 +3,7 @@ use Rattle.std.proofs.Common.{◌≡◌, ◌≢◌, ℕ, Bool, true, false, cond
 use Rattle.std.proofs.lemmas.Bool.{ne_eqb}
 use Rattle.std.specs.Io.KnownBytes.{Appends, Keeps}
 use Rattle.std.proofs.KnownBytes.{Appends-nil, Appends-trans, Appends-kept}
-use Rattle.bay_io.specs.Calls.{Asked, Unlogged, WriteCall, write_failed}
+use Rattle.bay_io.specs.Calls.{CallsMade, Unlogged, WriteCall, write_failed}
 use Rattle.bay_io.specs.Sent.{Sends, SendsPart, Puts}
 use Rattle.bay_io.specs.Watched.{Watching, Writing}
 use Rattle.bay_io.proofs.AskedLemmas.{Asked-none, Asked-then}
@@ -164,7 +164,7 @@ module _ {W : Type 0} {contents : W → Option (List ℕ)} {does : W → WriteCa
       → OnErr r (SendsPart (contents old.inner) (contents new.inner) (old.pending ++ text))
       → OnOk r (new.pending ≡ []) → is_err r ≡ new.has_failed
       → (old.has_failed ≡ true → (new.inner ≡ old.inner) × (new.has_failed ≡ true))
-      → Asked (Unlogged does) write_failed old.inner old.has_failed new.inner new.has_failed
+      → CallsMade (Unlogged does) write_failed old.inner old.has_failed new.inner new.has_failed
       → new.logs ≡ old.logs → Puts contents does old text new
   Puts-out {X} {E} old new text (Ok x) all part none failed kept asked logs =
       record {
@@ -235,7 +235,7 @@ module _ {W : Type 0} {contents : W → Option (List ℕ)} {does : W → WriteCa
       → OnOk r (Appends (contents old.inner) (contents mid.inner) old.pending)
       → OnOk r (mid.pending ≡ []) → is_err r ≡ mid.has_failed
       → (old.has_failed ≡ true → mid ≡ old)
-      → Asked (Unlogged does) write_failed old.inner old.has_failed mid.inner mid.has_failed
+      → CallsMade (Unlogged does) write_failed old.inner old.has_failed mid.inner mid.has_failed
       → mid.logs ≡ old.logs
       → is_ok r ≡ true → Puts contents does mid text new → Puts contents does old text new
   Puts-after {X} {E} old mid new text (Ok x) all none failed kept asked logs is put =
@@ -252,7 +252,7 @@ module _ {W : Type 0} {contents : W → Option (List ℕ)} {does : W → WriteCa
   pub Puts-stuck : {X E : Type 0} (old mid : Writing W) (text : List ℕ) (r : Result X E)
       → OnErr r (SendsPart (contents old.inner) (contents mid.inner) old.pending)
       → is_err r ≡ mid.has_failed → (old.has_failed ≡ true → mid ≡ old)
-      → Asked (Unlogged does) write_failed old.inner old.has_failed mid.inner mid.has_failed
+      → CallsMade (Unlogged does) write_failed old.inner old.has_failed mid.inner mid.has_failed
       → mid.logs ≡ old.logs
       → is_ok r ≡ false → Puts contents does old text mid
   Puts-stuck {X} {E} old mid text (Ok x) part failed kept asked logs is = absurd cc

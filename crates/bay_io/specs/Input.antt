@@ -1,37 +1,38 @@
--- What reads gave, and how reading ends.
+-- The octets of reads, and how reading ends.
 use Rattle.std.specs.Prelude.{◌≡◌, ℕ, ◌+◌, ◌<◌, ◌≤◌, Bool, true, false, List, [], ◌∷◌, ◌++◌, length, Some, unwrap_or, Result, Ok, Err, MatchResult}
 use Rattle.bay_io.specs.Calls.{AskedFew, ReadCall, read_failed}
 use Rattle.bay_io.specs.declared.input.ReadFault.{ReadFault}
 use Rattle.bay_io.specs.declared.input.ReadFault.TheVariants.{TooLong, Failed, OutOfMemory}
 
--- a read has failed
+-- whether a result means that a read failed
 abbrev pub failed_of : {A : Type 0} → Result A ReadFault → Bool
 failed_of (Ok octets) = false
 failed_of (Err TooLong) = false
 failed_of (Err (Failed kind)) = true
 failed_of (Err OutOfMemory) = false
 
--- the octets that reads gave, in their order
+-- the octets of all reads, in their order
 abbrev pub octets_of : List ReadCall → List ℕ
 octets_of [] = []
 octets_of (call ∷ calls) = unwrap_or call.came [] ++ octets_of calls
 
--- The last of these reads had room, and gave nothing: that is the end.
+-- The last of these reads had room and returned no octets: that is the end.
 pub record IsEnded (calls : List ReadCall) : Type 0 where
   pub before : List ReadCall
   pub room : ℕ
   pub some : 0 < room
   pub split : calls ≡ before ++ record { room = room; came = Some [] } ∷ []
 
--- Where reads up to a limit come to a fault: they gave more than that; or they gave no more, up to
--- the end.
+-- When reads up to a limit end with a fault: with `TooLong` if they returned more octets than the
+-- limit; with `OutOfMemory` only if they reached the end within the limit; `Failed` follows from
+-- any reads (a failed read is stated by `CallsMade`).
 abbrev pub FailsAs : ℕ → List ReadCall → ReadFault → Type 0
 FailsAs limit calls TooLong = limit < length (octets_of calls)
 FailsAs limit calls (Failed kind) = Unit {0}
 FailsAs limit calls OutOfMemory = IsEnded calls × (length (octets_of calls) ≤ limit)
 
--- What was asked of a source up to a limit, and what came of it: all that its reads gave, in their
--- order, up to the end; or a fault.
+-- At most `limit` + 1 reads were made. The result is all octets that they returned, in their order,
+-- up to the end; or a fault.
 pub record ReadsAll {S A : Type 0} (does : S → ReadCall → S → Type 0) (octets : A → List ℕ)
     (limit : ℕ) (old : S) (was : Bool) (new : S) (is : Bool) (result : Result A ReadFault)
     : Type 0 where

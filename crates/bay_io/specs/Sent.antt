@@ -1,38 +1,40 @@
--- What reached a writer, and what it logged.
+-- Which octets reached a sink, and what was logged.
 use Rattle.std.specs.Prelude.{◌≡◌, ℕ, ◌+◌, nat_le, Bool, true, false, List, [], ◌++◌, length, Option, Result, Ok, Err, MatchBool}
 use Rattle.std.specs.Io.KnownBytes.{Appends, Keeps}
-use Rattle.bay_io.specs.Calls.{Asked, WriteCall, Log, Unlogged, write_failed}
+use Rattle.bay_io.specs.Calls.{CallsMade, WriteCall, Log, Unlogged, write_failed}
 use Rattle.bay_io.specs.Watched.{Writing}
 
--- a buffer of 65,536 octets has room for these too
+-- whether a text fits after the pending octets in a buffer of 65,536 octets
 abbrev pub has_room : List ℕ → List ℕ → Bool
 has_room pending text = nat_le (length pending + length text) 65536
 
--- the writer took the front of what was given, and `left` is what it did not take
+-- the sink accepted a prefix of the given octets, `taken`, and not the rest, `left`
 pub record Sends (old new : Option (List ℕ)) (given left : List ℕ) : Type 0 where
   pub taken : List ℕ
   pub appended : Appends old new taken
   pub parts : given ≡ taken ++ left
 
--- the writer took a front of what was given, and nothing else
+-- the sink accepted a prefix of the given octets, and nothing else
 pub record SendsPart (old new : Option (List ℕ)) (given : List ℕ) : Type 0 where
   pub left : List ℕ
   pub sends : Sends old new given left
 
--- a text was added to what a writer has pending: the writer took a front of both, and the rest is
--- pending; or a write failed, then or before, and the writer took a front of both; and what the
--- writer was asked, which logs nothing
+-- A text was put after the pending octets. Either no write has failed: the sink accepted a prefix
+-- of both, and the rest is pending. Or a write failed, now or before: the sink accepted a prefix of
+-- both. `asked` has the calls of the sink, none of which logs.
 pub record Puts {W : Type 0} (contents : W → Option (List ℕ)) (does : W → WriteCall → W → Type 0)
     (old : Writing W) (text : List ℕ) (new : Writing W) : Type 0 where
-  pub asked : Asked (Unlogged does) write_failed old.inner old.has_failed new.inner new.has_failed
+  pub asked : CallsMade (Unlogged does) write_failed old.inner old.has_failed new.inner
+      new.has_failed
   pub sent : MatchBool new.has_failed
       (SendsPart (contents old.inner) (contents new.inner) (old.pending ++ text))
       (Sends (contents old.inner) (contents new.inner) (old.pending ++ text) new.pending)
   pub kept : old.has_failed ≡ true → (new.inner ≡ old.inner) × (new.has_failed ≡ true)
   pub same_logs : new.logs ≡ old.logs
 
--- a writer took all that was pending, and was flushed; or a write or the flush failed, then or
--- before, and the writer took a front of it, which is nothing after a failure
+-- The sink accepted all pending octets and was flushed. Or a write or the flush failed, now or
+-- before, and the sink accepted a prefix of the pending octets (and is unchanged if a call had
+-- failed before).
 abbrev pub Ends : {W X E : Type 0} → (W → Option (List ℕ)) → Writing W → Writing W → Result X E
     → Type 0
 Ends contents old new (Ok x) =
@@ -42,14 +44,15 @@ Ends contents old new (Err e) =
     SendsPart (contents old.inner) (contents new.inner) old.pending
     × (old.has_failed ≡ true → new.inner ≡ old.inner) × (new.has_failed ≡ true)
 
--- and what the writer was asked, which logs nothing
+-- the same, with the calls of the sink, none of which logs
 pub record Finishes {W X E : Type 0} (contents : W → Option (List ℕ))
     (does : W → WriteCall → W → Type 0) (old new : Writing W) (result : Result X E) : Type 0 where
   pub ends : Ends contents old new result
-  pub asked : Asked (Unlogged does) write_failed old.inner old.has_failed new.inner new.has_failed
+  pub asked : CallsMade (Unlogged does) write_failed old.inner old.has_failed new.inner
+      new.has_failed
   pub same_logs : new.logs ≡ old.logs
 
--- A line is logged where logging was started, by one call of the sink; else nothing happens. In
+-- A line is logged, by one call of the sink, if logging was started; else nothing happens. In
 -- neither case does anything else of the writer change.
 pub record Logs {W : Type 0} (contents : W → Option (List ℕ)) (does : W → WriteCall → W → Type 0)
     (old : Writing W) (line : List ℕ) (new : Writing W) : Type 0 where

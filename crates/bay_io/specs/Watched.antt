@@ -1,4 +1,4 @@
--- What is known of a reader and of a writer that are watched.
+-- What is known of a reader, a sink and a writer that record failures.
 use Rattle.std.specs.Prelude.{ℕ, Bool, true, ◌&&◌, ◌==◌, nat_lt, List, length, Result, Ok, Err}
 
 -- a reader, and whether a read has failed
@@ -6,15 +6,15 @@ pub record Reading (R : Type 0) : Type 0 where
   pub inner : R
   pub has_failed : Bool
 
--- a sink, whether a write or a flush has failed, whether it was flushed since its last write, and
--- whether lines are logged
+-- a sink, whether a write or a flush has failed, whether the sink was flushed since its last write,
+-- and whether lines are logged
 pub record Watching (W : Type 0) : Type 0 where
   pub inner : W
   pub has_failed : Bool
   pub is_flushed : Bool
   pub logs : Bool
 
--- the same of a writer, with what is not yet written
+-- a writer: the same of its sink, and the octets not yet written
 pub record Writing (W : Type 0) : Type 0 where
   pub inner : W
   pub has_failed : Bool
@@ -22,7 +22,7 @@ pub record Writing (W : Type 0) : Type 0 where
   pub logs : Bool
   pub pending : List ℕ
 
--- a write fails, or takes nothing of what it is given
+-- whether a write fails, or accepts none of the octets offered
 abbrev pub write_fails : {E : Type 0} → List ℕ → Result ℕ E → Bool
 write_fails given (Ok n) = n == 0 && nat_lt 0 (length given)
 write_fails given (Err e) = true

@@ -8,7 +8,7 @@ use std::alloc::{AllocError, Global};
 use std::io::ErrorKind;
 use thiserror::Error;
 
-// How many octets a single read asks for.
+// The number of octets that one read requests.
 const PIECE: usize = 65_536;
 
 /// Why reading the input failed.
@@ -17,14 +17,14 @@ pub enum ReadFault {
     /// There are more octets than the limit.
     #[error("there are too many octets")]
     TooLong,
-    /// A read failed, as the system says.
+    /// A read failed, with the system's error.
     #[error("a read failed: {0}")]
     Failed(ErrorKind),
     #[error("out of memory")]
     OutOfMemory,
 }
 
-// Adds octets to those kept, if all octets before them were kept.
+// Appends octets to the buffer, if all octets before them were appended.
 fn keep(all: &mut Vec<u8>, kept: Result<(), AllocError>, octets: &[u8]) -> Result<(), AllocError>
     ensures { is_ok result ≡ true
         → (is_ok kept ≡ true) × (all.new.items ≡ all.old.items ++ octets.now) }
@@ -33,9 +33,11 @@ fn keep(all: &mut Vec<u8>, kept: Result<(), AllocError>, octets: &[u8]) -> Resul
     all.extend_from_slice(octets)
 }
 
-/// Reads all octets that the reader has left, if there are at most `limit`. Makes at most `limit` +
-/// 1 reads, and none after a failed read. If an allocation fails it reads on, because there may be
-/// too many octets.
+/// Reads all remaining octets of the reader, if there are at most `limit`. Makes at most `limit` +
+/// 1 reads, and none after a failed read. Fails with `TooLong` if there are more octets than
+/// `limit`, with `Failed` if a read fails or had failed before the call, and with `OutOfMemory` if
+/// an allocation fails and the octets up to the end are within the limit. If an allocation fails it
+/// reads on, since there may be too many octets.
 pub fn read_all<R: OctetSource>(
     alloc: Global,
     reader: &mut WatchedReader<R>,
@@ -49,7 +51,7 @@ pub fn read_all<R: OctetSource>(
     ensures memory { result ≡ Err ReadFault.OutOfMemory
         → IfSome (R.remaining reader.old.inner) (λ xs. length xs ≤ limit) }
     ensures failed { reader.new.has_failed ≡ failed_of result }
-    // What the source was asked, and that the result is all that it gave.
+    // The reads that were made, and that the result is all octets that they returned.
     ensures asked { ReadsAll R.does (λ v. v.items) limit reader.old.inner reader.old.has_failed
         reader.new.inner reader.new.has_failed result }
 {

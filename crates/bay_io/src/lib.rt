@@ -1,9 +1,9 @@
-// Reading and writing that can fail, without what is read and written.
+// Reading and writing octets, if any call may fail.
 //
-// `calls` are what is read and written call by call, with the few lines that make std's readers and
-// writers such. `reader` and `watched` (a sink) know whether a read or a write has failed, and
-// nothing else can say so. `input` has all octets of a reader, up to a limit; `writer` is a sink
-// that is watched, with a buffer before it, the `outbox`. `moments` has moments as texts.
+// `calls`: a source and a sink of octets, as traits that std's readers and writers implement.
+// `reader` and `watched`: a reader and a sink that record whether a call has failed, in fields that
+// no other module can write. `input`: all octets of a reader, up to a limit. `writer`: a watched
+// sink with a buffer, the `outbox`. `moments`: moments as texts.
 #![tactic(auto)]
 
 pub mod calls;

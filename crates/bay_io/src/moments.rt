@@ -6,6 +6,9 @@ ghost use Rattle.bay_io.specs.Moments as spec;
 // The milliseconds of a day.
 const DAY: u64 = 86_400_000;
 
+// The last millisecond of the year 9999.
+const LAST: u64 = 253_402_300_799_999;
+
 // Returns whether a year has 366 days.
 fn is_leap_year(year: u64) -> bool
     ensures { result ≡ spec.is_leap_year year }
@@ -31,15 +34,15 @@ fn days_in_month(year: u64, month: u64) -> u64
     }
 }
 
-// Returns the year, up to 2107, of the day that comes so many days behind the first of January
-// 1970, and how many days behind the first of its own it comes.
+// Returns the year, up to 9999, of the day that comes `days` days after the first of January 1970,
+// and how many days after the first day of this year it comes.
 fn year_of(days: u64) -> (u64, u64)
-    ensures value { result ≡ year_from 137 1970 days }
-    ensures within { (result.0 < 4000) × (result.1 ≤ days) }
+    ensures value { result ≡ year_from 8029 1970 days }
+    ensures within { (result.0 < 10000) × (result.1 ≤ days) }
 {
     let mut year = 1970;
     let mut left = days;
-    for i in 0..137u64 {
+    for i in 0..8029u64 {
         let length = days_in_year(year);
         if left < length {
             break;
@@ -50,8 +53,8 @@ fn year_of(days: u64) -> (u64, u64)
     (year, left)
 }
 
-// Returns the month, 1 to 12, of the day that comes so many days behind the first of a year, and
-// how many days behind the first of the month it comes.
+// Returns the month, 1 to 12, of the day `days` days after the first of a year, and its offset from
+// the first of that month.
 fn month_of(year: u64, days: u64) -> (u64, u64)
     ensures value { result ≡ month_from 11 year 1 days }
     ensures within { result.1 ≤ days }
@@ -77,12 +80,13 @@ fn digit(number: u64, unit: u64) -> u8
     b'0' + (number / unit % 10) as u8
 }
 
-/// Returns a moment in milliseconds since 1970 as `YYYY-MM-DDThh:mm:ss.mmmZ` (ISO 8601, in UTC). A
-/// moment behind the year 2107 has no meaning there; a device takes none.
+/// Returns a moment in milliseconds since 1970 as `YYYY-MM-DDThh:mm:ss.mmmZ` (ISO 8601, in UTC). For
+/// a moment after the year 9999 it returns the last millisecond of that year.
 #[tactic(auto, unfolding(crate::specs::Moments::utc_text))]
 pub fn utc_text(moment: u64) -> [u8; 24]
     ensures { result ≡ spec.utc_text moment }
 {
+    let moment = moment.min(LAST);
     let (year, days) = year_of(moment / DAY);
     let (month, before) = month_of(year, days);
     let ms = moment % DAY;

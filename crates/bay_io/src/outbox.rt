@@ -1,4 +1,4 @@
-// Octets that are not yet written.
+// A buffer of octets that are not yet written.
 ghost use Rattle.std.specs.Prelude.{◌≡◌, ◌+◌, ◌≤◌, ◌++◌, [], length, take, drop, if◌then◌else◌};
 ghost use Rattle.std.specs.Fmt.{decimal};
 ghost use Rattle.bay_io.specs.Sent.{has_room};
@@ -10,13 +10,13 @@ use thiserror::Error;
 // The capacity of the buffer in octets.
 const ROOM: usize = 65_536;
 
-/// A write or a flush failed, or a write accepted none of the octets it was given.
+/// A write or a flush failed, or a write accepted none of the octets offered.
 #[derive(Clone, Copy, Debug, PartialEq, Eq, Error)]
 #[error("a write failed")]
 pub struct WriteFault;
 
-// Copies a text behind the first `count` octets of a room, if it fits there, and counts it. Returns
-// whether it fitted.
+// Copies a text after the first `count` octets of a buffer, if it fits there, and adds its length
+// to `count`. Returns whether it fitted.
 #[inline(always)]
 fn append(room: &mut [u8; ROOM], count: &mut usize, text: &[u8]) -> bool
     requires { count.old ≤ 65536 }
@@ -34,14 +34,14 @@ fn append(room: &mut [u8; ROOM], count: &mut usize, text: &[u8]) -> bool
     true
 }
 
-/// Octets that are not yet written, at most 65,536. Needs no memory beyond its own.
+/// Octets that are not yet written, at most 65,536. Does not allocate.
 #[derive(Drop)]
 pub struct Outbox {
     room: [u8; ROOM],
-    // How many octets at the front of the room were added.
+    // The number of octets in use, from the first on.
     count: usize,
-    // Where a number's digits are made; it stays, so that it is emptied once and not for each
-    // number.
+    // The digits of a number are formatted here. The buffer is kept, so that it is initialised once
+    // and not for each number.
     digits: Buffer,
 }
 
@@ -67,7 +67,7 @@ impl Outbox {
         }
     }
 
-    /// Adds a text if it fits in the buffer. Returns whether it fitted.
+    /// Appends a text if it fits in the buffer. Returns whether it fitted.
     #[inline(always)]
     pub fn keep(&mut self, text: &[u8]) -> bool
         ensures fits { result ≡ has_room self.old text.now }
@@ -76,9 +76,10 @@ impl Outbox {
         append(&mut self.room, &mut self.count, text)
     }
 
-    /// Adds the decimal digits of a number if they fit in the buffer. Returns whether they fitted.
+    /// Appends the decimal digits of a number if they fit in the buffer. Returns whether they
+    /// fitted.
     #[inline(always)]
-    pub fn keep_number(&mut self, number: u64) -> bool
+    pub fn append_number(&mut self, number: u64) -> bool
         ensures fits { result ≡ has_room self.old (decimal number) }
         ensures after { self.new ≡ (if result then self.old ++ decimal number else self.old) }
     {
@@ -86,7 +87,7 @@ impl Outbox {
         append(&mut self.room, &mut self.count, digits.as_bytes())
     }
 
-    /// Returns the octets that were added.
+    /// Returns the octets in the buffer.
     pub fn as_slice(&self) -> &[u8]
         ensures octets { result.now ≡ self.now }
         ensures within { length self.now ≤ 65536 }

@@ -1,4 +1,4 @@
-// A reader that is watched: nothing but a read changes what is known of it.
+// A reader that records whether a read has failed. Only a read changes the record.
 ghost use Rattle.std.specs.Prelude.{◌≡◌, ◌||◌, false, is_err, length};
 ghost use Rattle.std.specs.Io.{ReadsAtMost};
 ghost use Rattle.std.specs.Io.KnownBytes.{ReadConsumes};
@@ -43,12 +43,13 @@ impl<R> WatchedReader<R> {
 }
 
 impl<R: OctetSource> WatchedReader<R> {
-    /// Reads once, at most as many octets as fit in `room`. A result of 0 means the end.
+    /// Reads once, at most as many octets as fit in `room`, and returns their number. A result of 0
+    /// means the end, if `room` is not empty.
     pub fn read(&mut self, room: &mut [u8]) -> io::Result<usize>
         ensures bound { ReadsAtMost result room.new }
         ensures bytes { ReadConsumes (R.remaining self.old.inner) (R.remaining self.new.inner)
             result room.new }
-        // The source was read once, with this room, and gave this.
+        // The source was read once, with this room and this result.
         ensures call { R.does self.old.inner (reads (length room.old) result room.new)
             self.new.inner }
         ensures failed { self.new.has_failed ≡ (self.old.has_failed || is_err result) }

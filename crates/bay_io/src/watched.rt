@@ -1,5 +1,5 @@
-// A sink that is watched: nothing but a write or a flush changes what is known of it, and nothing
-// is logged before logging is started.
+// A sink that records whether a call has failed. Only a write or a flush changes the record, and
+// nothing is logged before the log is started.
 ghost use Rattle.std.specs.Prelude.{◌≡◌, ◌||◌, true, false, is_ok, is_err, if◌then◌else◌, MatchBool};
 ghost use Rattle.std.specs.Io.{WritesAtMost};
 ghost use Rattle.std.specs.Io.KnownBytes.{WriteAppends, Keeps};
@@ -11,7 +11,7 @@ use std::io;
 use std::marker::Model;
 
 /// A sink that records whether a write or a flush has failed, or a write accepted none of the
-/// octets it was given; whether the sink was flushed since its last write; and whether it logs.
+/// octets offered; whether the sink was flushed since its last write; and whether it logs.
 #[derive(Drop)]
 pub struct Watched<W> {
     inner: W,
@@ -73,8 +73,8 @@ impl<W> Watched<W> {
         self.logs
     }
 
-    /// Returns whether a write or a flush has failed, or a write accepted none of the octets it was
-    /// given.
+    /// Returns whether a write or a flush has failed, or a write accepted none of the octets
+    /// offered.
     pub fn has_failed(&self) -> bool
         ensures { result ≡ self.now.has_failed }
     {
@@ -93,12 +93,13 @@ fn write_fails(text: &[u8], outcome: &io::Result<usize>) -> bool
 }
 
 impl<W: Sink> Watched<W> {
-    /// Writes a prefix of the octets in one call and returns its length.
+    /// Writes a prefix of the octets in one call and returns its length. Fails if the sink does,
+    /// and records that, or that the sink accepted none of the octets.
     pub fn write(&mut self, octets: &[u8]) -> io::Result<usize>
         ensures bound { WritesAtMost result octets.now }
         ensures bytes { WriteAppends (W.contents self.old.inner) (W.contents self.new.inner) result
             octets.now }
-        // The sink was offered these octets once, and took so many.
+        // The sink was offered these octets once, with this result.
         ensures call { W.does self.old.inner (writes octets.now result) self.new.inner }
         ensures failed { self.new.has_failed
             ≡ (self.old.has_failed || spec.write_fails octets.now result) }
@@ -113,7 +114,7 @@ impl<W: Sink> Watched<W> {
         outcome
     }
 
-    /// Flushes the sink.
+    /// Flushes the sink. Fails if the sink does, and records that.
     pub fn flush(&mut self) -> io::Result<()>
         ensures bytes { Keeps (W.contents self.old.inner) (W.contents self.new.inner) }
         ensures call { W.does self.old.inner (flushes result) self.new.inner }

@@ -1,10 +1,10 @@
-// A writer that is watched, with a buffer before it, so that it is asked for 64 KiB at a time.
+// A buffered writer over a sink that records failures; it writes 64 KiB at a time.
 //
-// Whether a write has failed is kept in it: what prints puts text after text, and asks once.
+// The writer records whether a write has failed: a caller puts text after text, and checks once.
 ghost use Rattle.std.specs.Prelude.{◌≡◌, [], true, false, is_err, OnOk, OnErr};
 ghost use Rattle.std.specs.Fmt.{decimal};
 ghost use Rattle.std.specs.Io.KnownBytes.{Appends, Keeps};
-ghost use Rattle.bay_io.specs.Calls.{Asked, Unlogged, parts_text, write_failed};
+ghost use Rattle.bay_io.specs.Calls.{CallsMade, Unlogged, parts_text, write_failed};
 ghost use Rattle.bay_io.specs.Sent.{Finishes, Logs, Puts, SendsPart};
 
 use crate::calls::{LinePart, Sink};
@@ -13,14 +13,15 @@ use crate::watched::Watched;
 use itoa::Buffer;
 use std::marker::Model;
 
-// Writes the whole text; on a fault only a prefix of it. Does not write to a sink that has failed.
+// Writes the whole text. If a write fails, only a prefix is written. Does not write to a sink that
+// has failed.
 fn write_out<W: Sink>(sink: &mut Watched<W>, text: &[u8]) -> Result<(), WriteFault>
     ensures ok { OnOk result
         (Appends (W.contents sink.old.inner) (W.contents sink.new.inner) text.now) }
     ensures err { OnErr result
         (SendsPart (W.contents sink.old.inner) (W.contents sink.new.inner) text.now) }
     ensures fault { is_err result ≡ sink.new.has_failed }
-    ensures asked { Asked (Unlogged W.does) write_failed sink.old.inner sink.old.has_failed
+    ensures asked { CallsMade (Unlogged W.does) write_failed sink.old.inner sink.old.has_failed
         sink.new.inner sink.new.has_failed }
     ensures kept { sink.old.has_failed ≡ true → sink.new ≡ sink.old }
     ensures logs { sink.new.logs ≡ sink.old.logs }
@@ -44,7 +45,7 @@ fn flush_out<W: Sink>(sink: &mut Watched<W>) -> Result<(), WriteFault>
     ensures kept { Keeps (W.contents sink.old.inner) (W.contents sink.new.inner) }
     ensures flushed { OnOk result (sink.new.is_flushed ≡ true) }
     ensures fault { is_err result ≡ sink.new.has_failed }
-    ensures asked { Asked (Unlogged W.does) write_failed sink.old.inner sink.old.has_failed
+    ensures asked { CallsMade (Unlogged W.does) write_failed sink.old.inner sink.old.has_failed
         sink.new.inner sink.new.has_failed }
     ensures logs { sink.new.logs ≡ sink.old.logs }
 {
@@ -57,10 +58,10 @@ fn flush_out<W: Sink>(sink: &mut Watched<W>) -> Result<(), WriteFault>
     }
 }
 
-/// A writer with a buffer of 65,536 octets that records whether a write or a flush has failed, or a
-/// write accepted none of the octets it was given; whether the sink was flushed since its last
-/// write; and whether it logs. A line of the log goes to the sink at once: it waits for nothing in
-/// the buffer.
+/// A writer with a buffer of 65,536 octets. It records whether a write or a flush has failed, or a
+/// write accepted none of the octets offered; whether the sink was flushed since its last write;
+/// and whether it logs. A line of the log goes to the sink at once: it does not wait for the octets
+/// in the buffer.
 #[derive(Drop)]
 pub struct WatchedWriter<W> {
     sink: Watched<W>,
@@ -98,15 +99,15 @@ impl<W> WatchedWriter<W> {
         }
     }
 
-    /// Returns whether a write or a flush has failed, or a write accepted none of the octets it was
-    /// given.
+    /// Returns whether a write or a flush has failed, or a write accepted none of the octets
+    /// offered.
     pub fn has_failed(&self) -> bool
         ensures { result ≡ self.now.has_failed }
     {
         self.sink.has_failed()
     }
 
-    /// Returns the sink. What is in the buffer is lost.
+    /// Returns the sink. The octets in the buffer are lost.
     pub fn into_inner(self) -> W
         ensures { result ≡ self.inner }
     {
@@ -138,7 +139,7 @@ impl<W: Sink> WatchedWriter<W> {
             (SendsPart (W.contents self.old.inner) (W.contents self.new.inner) self.old.pending) }
         ensures empty { OnOk result (self.new.pending ≡ []) }
         ensures fault { is_err result ≡ self.new.has_failed }
-        ensures asked { Asked (Unlogged W.does) write_failed self.old.inner self.old.has_failed
+        ensures asked { CallsMade (Unlogged W.does) write_failed self.old.inner self.old.has_failed
             self.new.inner self.new.has_failed }
         ensures kept { self.old.has_failed ≡ true → self.new ≡ self.old }
         ensures logs { self.new.logs ≡ self.old.logs }
@@ -148,7 +149,7 @@ impl<W: Sink> WatchedWriter<W> {
         Ok(())
     }
 
-    // Adds the text to the empty buffer, or writes it out directly if it is longer than the
+    // Appends the text to the empty buffer, or writes it out directly if it is longer than the
     // buffer.
     fn put_first(&mut self, text: &[u8])
         requires { self.old.pending ≡ [] }
@@ -159,7 +160,7 @@ impl<W: Sink> WatchedWriter<W> {
         }
     }
 
-    // Writes out the buffer and then adds the text.
+    // Writes out the buffer and then appends the text.
     #[inline(never)]
     fn put_after_flush(&mut self, text: &[u8])
         ensures { Puts W.contents W.does self.old text.now self.new }
@@ -169,7 +170,8 @@ impl<W: Sink> WatchedWriter<W> {
         }
     }
 
-    /// Adds the text. Writes out the buffer first if the text does not fit.
+    /// Appends the text. Writes out the buffer first if the text does not fit. A failure is
+    /// recorded (see `has_failed`); after one nothing is written.
     #[inline(always)]
     pub fn put(&mut self, text: &[u8])
         ensures { Puts W.contents W.does self.old text.now self.new }
@@ -179,17 +181,18 @@ impl<W: Sink> WatchedWriter<W> {
         }
     }
 
-    /// Adds a number in decimal digits.
+    /// Appends a number in decimal digits, like `put`.
     #[inline(always)]
     pub fn put_number(&mut self, number: u64)
         ensures { Puts W.contents W.does self.old (decimal number) self.new }
     {
-        if !self.outbox.keep_number(number) {
+        if !self.outbox.append_number(number) {
             self.put_after_flush(Buffer::new().format(number).as_bytes());
         }
     }
 
-    /// Writes out the buffer and flushes the sink.
+    /// Writes out the buffer and flushes the sink. Fails if a write or the flush fails or one has
+    /// failed before.
     pub fn finish(&mut self) -> Result<(), WriteFault>
         ensures { Finishes W.contents W.does self.old self.new result }
     {
@@ -197,7 +200,7 @@ impl<W: Sink> WatchedWriter<W> {
         flush_out(&mut self.sink)
     }
 
-    /// Logs the line of these parts, if the log was started. What is in the buffer stays there.
+    /// Logs the line of these parts, if the log was started. The buffer does not change.
     pub fn log(&mut self, parts: &[LinePart<'_>])
         ensures { Logs W.contents W.does self.old (parts_text parts.now) self.new }
     {

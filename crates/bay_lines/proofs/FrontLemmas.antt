@@ -6,7 +6,7 @@ use Rattle.std.proofs.lemmas.List.Elements.{All-from_get_or}
 use Rattle.std.proofs.lemmas.List.Quantifiers.{position-Some}
 use Rattle.std.specs.List.{position}
 use Rattle.bay_lines.specs.Cuttings.{AreLines, Comes, Cutting, IsLine, LosesNothing, Move, Takes, all_of, cutting_of, took}
-use Rattle.bay_lines.specs.Fronts.{Front, Overlong, Waiting, Whole, front, front_at, is_end, without_return}
+use Rattle.bay_lines.specs.FirstLines.{LineSearchData, Overlong, Waiting, Whole, first_line_of, front_at, is_end, without_return}
 
 -- where the end of a line was looked for
 pub first-within : (xs : List ℕ) (o : Option ℕ) → o ≡ position is_end (take 257 xs)
@@ -53,7 +53,7 @@ cuts-at xs k e =
       };
     }
 
-cuts-front : (xs line rest : List ℕ) → front xs ≡ Whole line rest → Cuts xs line rest
+cuts-front : (xs line rest : List ℕ) → first_line_of xs ≡ Whole line rest → Cuts xs line rest
 cuts-front xs line rest e = by-place (position is_end (take 257 xs)) refl e
   where
     by-long : (v : Bool) → (if v then Overlong else Waiting) ≡ Whole line rest → Cuts xs line rest
@@ -75,7 +75,8 @@ record LosesFrom (kept all : List ℕ) (c : Cutting) : Type 0 where
   lines : AreLines c.lines text
   whole : kept ++ all ≡ text ++ c.kept
 
-took-whole : (f : Front) (kept all : List ℕ) (later : List ℕ → Cutting) → front kept ≡ f
+took-whole : (f : LineSearchData) (kept all : List ℕ) (later : List ℕ → Cutting)
+    → first_line_of kept ≡ f
     → ((k : List ℕ) → LosesFrom k all (later k)) → LosesFrom kept all (took f kept later)
 took-whole Waiting kept all later e h = h kept
 took-whole Overlong kept all later e h = h kept
@@ -100,7 +101,8 @@ loses-nothing (Comes octets ∷ moves) kept =
       whole = sym (append_assoc kept octets (all_of moves)) ∙ l.whole;
     }
 loses-nothing (Takes ∷ moves) kept =
-    took-whole (front kept) kept (all_of moves) (cutting_of moves) refl (loses-nothing moves)
+    took-whole (first_line_of kept) kept (all_of moves) (cutting_of moves) refl
+    (loses-nothing moves)
 
 pub nothing-is-lost : (moves : List Move) → LosesNothing moves
 nothing-is-lost moves =

@@ -1,11 +1,12 @@
--- Lines out of bytes that arrive in pieces. `Fronts` is the main file: what stands in front of the
--- bytes is no whole line yet, more bytes than a line may have, or a line and what follows its end.
--- `Cuttings` says how lines are taken while bytes arrive, and that nothing is lost: the lines
--- taken, each with its end, and then what is kept, are all that arrived. `Puts`: texts that are put
--- behind what is kept. `Room`: the room that is taken at first. `Shown`: a line as a log shows it.
+-- Lines from octets that arrive in pieces. `FirstLines` is the main file: octets begin with no
+-- complete line yet, with more octets than a line may have, or with a line, followed by the octets
+-- after its end. `Cuttings`: lines are removed while octets arrive, and nothing is lost: the
+-- removed lines, each with its end, followed by the octets still in the buffer, are all octets that
+-- arrived. `Puts`: texts that are appended to the buffer. `Room`: the capacity of the buffer.
+-- `Escaped`: a line escaped for a log.
 
 pub mod Cuttings
-pub mod Fronts
+pub mod FirstLines
 pub mod Puts
 pub mod Room
-pub mod Shown
+pub mod Escaped

@@ -2,8 +2,9 @@
 ghost use Rattle.std.specs.Prelude.{List};
 ghost use Rattle.bay_lines.specs.Cuttings.{LosesNothing, Move};
 
-/// However the octets are cut into pieces, and whenever a line is taken: the lines that were taken,
-/// each with its end, followed by what is kept, are all octets that arrived.
+/// However the octets are cut into pieces, and whenever a line is removed from the buffer: the
+/// removed lines, each with its line end, followed by the octets still in the buffer, are all
+/// octets that arrived.
 pub fn no_line_is_lost_repeated_or_joined()
     ensures { (moves : List Move) → LosesNothing moves }
 {}

@@ -1,11 +1,10 @@
-// Octets that come in pieces become lines.
+// Splitting octets that arrive in pieces into lines.
 //
-// Handed out: `kept` (octets that are kept, at most so many), `front` (the line that stands in
-// front of them), `laws` (what holds of every cutting of the octets), `shown` (a line as a log shows
-// it).
+// `bounded_buffer`: a buffer of bounded size. `first_line`: finds the first line in octets. `laws`:
+// a law about lines, for every way to cut the octets. `escaped`: a line escaped for a log.
 #![tactic(auto)]
 
-pub mod front;
-pub mod kept;
+pub mod bounded_buffer;
+pub mod escaped;
+pub mod first_line;
 pub mod laws;
-pub mod shown;

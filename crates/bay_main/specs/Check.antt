@@ -12,7 +12,7 @@ use Rattle.bay_report.specs.LogLines.{PrintsLogs, Refuses}
 use Rattle.bay_report.specs.declared.load.Form.{Form}
 use Rattle.bay_report.specs.Report.{IsLast, Prints, report_text}
 
--- of a device the line of its load is printed; that a load is refused is printed, and why is logged
+-- the line of a load is printed; or that it is refused is printed, and the reason is logged
 abbrev pub TellsLoad : {W : Type 0} → (W → Option (List ℕ)) → (W → WriteCall → W → Type 0)
     → Result State LoadFault → Writing W → Writing W → Result ℕ WriteFault → Type 0
 TellsLoad contents asks (Ok s) old new answer =
@@ -21,7 +21,8 @@ TellsLoad contents asks (Ok s) old new answer =
 TellsLoad contents asks (Err fault) old new answer =
     PrintsLogs contents asks (Refuses fault) old new answer
 
--- a bay file and a program or an image are loaded, and that is told; their load may want memory
+-- a bay file and a program or an image are loaded, and the result is reported; memory may run out
+-- for the load
 pub record ChecksOctets {W : Type 0} (contents : W → Option (List ℕ))
     (asks : W → WriteCall → W → Type 0) (bay : List ℕ) (form : Form) (program : List ℕ)
     (old new : Writing W) (answer : Result ℕ WriteFault) : Type 0 where

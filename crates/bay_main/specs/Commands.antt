@@ -1,6 +1,6 @@
--- What the commands come to: what is printed, the exit status, and what becomes of files.
+-- What the commands do: what is printed, the exit status, and what becomes of files.
 use Rattle.bay_io.specs.Calls.{WriteCall}
-use Rattle.std.specs.Prelude.{◌≡◌, ℕ, Bool, true, false, List, codes, Option, None, Some, Result, Ok, Err, is_err, ◌⊎◌, if◌then◌else◌}
+use Rattle.std.specs.Prelude.{◌≡◌, ℕ, Bool, true, false, List, codes, Option, None, Some, is_some, Result, Ok, Err, is_err, ◌⊎◌, if◌then◌else◌}
 use Rattle.il_image.specs.Images.{image_octets}
 use Rattle.il_image.specs.declared.opcode.Version.TheVariants.{Two}
 use Rattle.bay_device.specs.Device.{State}
@@ -13,28 +13,30 @@ use Rattle.bay_io.specs.declared.outbox.WriteFault.{WriteFault}
 use Rattle.bay_files.specs.Files.{FileGuards, FileReads, FileWrites, FilesData, ReadsBoth, UnreadData, WritesWhole}
 use Rattle.bay_files.specs.declared.files.FileFault.{FileFault}
 use Rattle.bay_files.specs.declared.files.FileFault.TheVariants as unwritten
+use Rattle.std.specs.declared.io.ErrorKind.{ErrorKind}
+use Rattle.std.specs.declared.io.ErrorKind.TheVariants as kind
 use Rattle.bay_report.specs.declared.load.Form.{Form}
 use Rattle.bay_report.specs.declared.load.Form.TheVariants as form
-use Rattle.bay_words.specs.Jobs.{task_in}
-use Rattle.bay_words.specs.declared.task.ProgramFile.{ProgramFile}
-use Rattle.bay_words.specs.declared.task.ProgramFile.TheVariants.{Logic, Image}
-use Rattle.bay_words.specs.declared.task.Asked.{Asked}
-use Rattle.bay_words.specs.declared.task.Task.{Task}
-use Rattle.bay_words.specs.declared.task.Task.TheVariants.{Check, Replay, Serve, Compile, Audit}
-use Rattle.bay_main.specs.declared.ending.Ended.{Ended}
-use Rattle.bay_main.specs.declared.ending.Ended.TheVariants.{Status, WriteFailed, Refused}
+use Rattle.bay_cli.specs.Jobs.{task_in}
+use Rattle.bay_cli.specs.declared.task.ProgramFile.{ProgramFile}
+use Rattle.bay_cli.specs.declared.task.ProgramFile.TheVariants.{Logic, Image}
+use Rattle.bay_cli.specs.declared.task.Invoked.{Invoked}
+use Rattle.bay_cli.specs.declared.task.Task.{Task}
+use Rattle.bay_cli.specs.declared.task.Task.TheVariants.{Check, Replay, Serve, Compile, Audit}
+use Rattle.bay_main.specs.declared.ending.CommandResult.{CommandResult}
+use Rattle.bay_main.specs.declared.ending.CommandResult.TheVariants.{Status, WriteFailed, Refused}
 use Rattle.bay_report.specs.Load.{load_of}
 use Rattle.bay_main.specs.Check.{ChecksOctets}
 use Rattle.bay_io.specs.Sent.{Logs}
 use Rattle.bay_report.specs.LogLines.{LogsSome, PrintsLogs, Refuses, UnreadReport, unwritten_line}
 use Rattle.bay_report.specs.Report.{IsLast, Prints, report_text}
-use Rattle.bay_replay.specs.Replay.{IsReplay}
-use Rattle.bay_auditing.specs.Auditing.{Audits}
-use Rattle.bay_serving_files.specs.Serve.{ServesFiles}
-use Rattle.bay_serving.specs.Host.{HostCall}
-use Rattle.bay_serve.specs.Calls.{Call}
+use Rattle.cmd_replay.specs.Replay.{IsReplay}
+use Rattle.cmd_audit.specs.Auditing.{Audits}
+use Rattle.cmd_serve.specs.Serve.{ServesFiles}
+use Rattle.bay_server.specs.Host.{HostCall}
+use Rattle.bay_server_turn.specs.Calls.{Call}
 
--- what was read is checked; or that it can't be read is told
+-- the files that were read are checked; or it is reported that one can't be read
 abbrev pub ChecksRead : {W : Type 0} → (W → Option (List ℕ)) → (W → WriteCall → W → Type 0) → Form
     → Result FilesData UnreadData → Writing W → Writing W → Result ℕ WriteFault → Type 0
 ChecksRead contents asks form (Err unread) old new answer =
@@ -42,8 +44,8 @@ ChecksRead contents asks form (Err unread) old new answer =
 ChecksRead contents asks form (Ok both) old new answer =
     ChecksOctets contents asks both.bay form both.program old new answer
 
--- a check of a bay file and of a program or an image, by their names: both are read, and what they
--- load to is told
+-- a check of a bay file and of a program or an image, by their names: both are read, and the result
+-- of the load is reported
 pub record Checks {F W : Type 0} (reads : FileReads F)
     (contents : W → Option (List ℕ)) (asks : W → WriteCall → W → Type 0) (form : Form)
     (bay program : List ℕ) (files : F)
@@ -52,39 +54,25 @@ pub record Checks {F W : Type 0} (reads : FileReads F)
   pub is_read : ReadsBoth reads files bay program read
   pub checks : ChecksRead contents asks form read old new answer
 
--- that a file can't be written is logged, and answered
+-- a file can't be written: this is logged, and the result of the command is a fault
 abbrev pub Unwritten : {W : Type 0} → (W → Option (List ℕ)) → (W → WriteCall → W → Type 0)
-    → List ℕ → Writing W → Writing W → Result ℕ WriteFault → Type 0
-Unwritten contents asks out old new answer =
-    Logs contents asks old (unwritten_line out) new × (is_err answer ≡ true)
+    → List ℕ → ErrorKind → Writing W → Writing W → Result ℕ WriteFault → Type 0
+Unwritten contents asks out kind old new answer =
+    Logs contents asks old (unwritten_line out kind) new × (is_err answer ≡ true)
 
--- a file for a record can't be made new, which is logged, or there is no memory, which is told
-abbrev pub Unrecorded : {W : Type 0} → (W → Option (List ℕ)) → (W → WriteCall → W → Type 0)
-    → List ℕ → Writing W → Writing W → Result ℕ WriteFault → Type 0
-Unrecorded contents asks name old new answer =
-    Unwritten contents asks name old new answer
-    ⊎ Prints contents asks (IsLast (codes "fault memory\n") 3) old new answer
-
--- so it is of a file that was named
-abbrev pub NoRecord : {W : Type 0} → (W → Option (List ℕ)) → (W → WriteCall → W → Type 0)
-    → Option (List ℕ) → Writing W → Writing W → Result ℕ WriteFault → Type 0
-NoRecord contents asks None old new answer = ⊥
-NoRecord contents asks (Some name) old new answer =
-    Unrecorded contents asks name old new answer
-
--- how a file was written to which a program is compiled: whole; not at all; or there was no memory,
--- which is told
+-- the result of writing a compiled program: the whole file; a failure, which is logged; or memory
+-- ran out, which is printed
 abbrev pub EndsWritten : {W : Type 0} → (W → Option (List ℕ)) → (W → WriteCall → W → Type 0)
     → List ℕ → Option FileFault → Writing W
     → Writing W → Result ℕ WriteFault → Type 0
 EndsWritten contents asks out None old new answer = (new ≡ old) × (answer ≡ Ok 0)
-EndsWritten contents asks out (Some unwritten.Failed) old new answer =
-    Unwritten contents asks out old new answer
+EndsWritten contents asks out (Some (unwritten.Failed kind)) old new answer =
+    Unwritten contents asks out kind old new answer
 EndsWritten contents asks out (Some unwritten.OutOfMemory) old new answer =
     Prints contents asks (IsLast (codes "fault memory\n") 3) old new answer
 
--- a command that has printed a load's line makes the image, and writes it to the file of this name;
--- or there is no memory for it, which is told, and no file is touched
+-- after the line of the load, a command makes the image, and writes it to the file of this name; or
+-- memory runs out for it, which is printed, and no file is touched
 abbrev pub WritesImage : {F W : Type 0} → FileWrites F
     → (W → Option (List ℕ)) → (W → WriteCall → W → Type 0) → List ℕ → State → F → F → Writing W
     → Writing W → Result ℕ WriteFault
@@ -95,7 +83,7 @@ WritesImage writes contents asks out s before after old new answer =
     × EndsWritten contents asks out fault old new answer)
     ⊎ (Prints contents asks (IsLast (codes "fault memory\n") 3) old new answer × (after ≡ before))
 
--- what follows a load's line: the image, where it was printed
+-- the continuation after a load's line, if this was printed: writing the image
 abbrev pub GoesOn : {F W : Type 0} → FileWrites F → (W → Option (List ℕ))
     → (W → WriteCall → W → Type 0) → List ℕ → State → F → F
     → Writing W → Writing W → Result ℕ WriteFault → Result ℕ WriteFault → Type 0
@@ -104,7 +92,7 @@ GoesOn writes contents asks out s before after old new (Err fault) answer =
 GoesOn writes contents asks out s before after old new (Ok status) answer =
     WritesImage writes contents asks out s before after old new answer
 
--- a device is compiled to: its load's line is printed, and then the image is written
+-- a device is compiled: the line of its load is printed, and then its image is written
 pub record CompilesDevice {F W : Type 0} (writes : FileWrites F) (contents : W → Option (List ℕ))
     (asks : W → WriteCall → W → Type 0)
     (out : List ℕ) (s : State) (before after : F) (old new : Writing W)
@@ -116,7 +104,7 @@ pub record CompilesDevice {F W : Type 0} (writes : FileWrites F) (contents : W �
   pub printed : Prints contents asks (IsLast (report_text report) 0) old middle told
   pub goes_on : GoesOn writes contents asks out s before after middle new told answer
 
--- what was loaded is compiled; that a load is refused is told, and no file is touched
+-- a loaded device is compiled; the refusal of a load is reported, and no file is touched
 abbrev pub CompilesLoaded : {F W : Type 0} → FileWrites F
     → (W → Option (List ℕ)) → (W → WriteCall → W → Type 0) → List ℕ → Result State LoadFault → F → F
     → Writing W → Writing W
@@ -126,7 +114,7 @@ CompilesLoaded writes contents asks out (Err fault) before after old new answer 
 CompilesLoaded writes contents asks out (Ok s) before after old new answer =
     CompilesDevice writes contents asks out s before after old new answer
 
--- what was read is loaded and compiled; its load may want memory
+-- the files that were read are loaded and compiled; memory may run out for the load
 abbrev pub CompilesOctets : {F W : Type 0} → FileWrites F
     → (W → Option (List ℕ)) → (W → WriteCall → W → Type 0) → List ℕ → FilesData → F
     → F → Writing W → Writing W
@@ -136,7 +124,7 @@ CompilesOctets writes contents asks out both before after old new answer =
     × ((load_of both.bay both.program ≡ loaded) ⊎ (loaded ≡ Err wants_memory))
     × CompilesLoaded writes contents asks out loaded before after old new answer
 
--- the same of what could be read. Where it can't be, that is told, and no file is touched
+-- the same if the files could be read; otherwise this is reported, and no file is touched
 abbrev pub CompilesRead : {F W : Type 0} → FileWrites F → (W → Option (List ℕ))
     → (W → WriteCall → W → Type 0) → List ℕ → Result FilesData UnreadData → F → F → Writing W
     → Writing W → Result ℕ WriteFault → Type 0
@@ -147,7 +135,7 @@ CompilesRead writes contents asks out (Ok both) before after old new answer =
     CompilesOctets writes contents asks out both before after old new answer
 
 -- a compilation of a bay file and a program to a file, by their names: both are read, loaded and
--- compiled; where the file is one of the two, nothing is read, printed or touched, and the write
+-- compiled; if the file is one of the two, nothing is read, printed or touched, and the write
 -- counts as failed, which is logged
 abbrev pub Compiles : {F W : Type 0} → FileReads F
     → FileWrites F → (F → List ℕ → List ℕ → Bool → Type 0)
@@ -156,23 +144,23 @@ abbrev pub Compiles : {F W : Type 0} → FileReads F
     → Result ℕ WriteFault → Type 0
 Compiles reads writes same contents asks bay logic out before after old new answer =
     ((same before out bay true ⊎ same before out logic true) × (after ≡ before)
-    × Unwritten contents asks out old new answer)
+    × Unwritten contents asks out kind.InvalidInput old new answer)
     ⊎ (same before out bay false × same before out logic false
     × ((read : Result FilesData UnreadData) × ReadsBoth reads before bay logic read
     × CompilesRead writes contents asks out read before after old new answer))
 
--- how a command ends by what it answers
-abbrev pub Ends : Result ℕ WriteFault → Ended → Type 0
+-- the result of a command, from that of its function
+abbrev pub Ends : Result ℕ WriteFault → CommandResult → Type 0
 Ends (Ok status) ended = ended ≡ Status status
 Ends (Err fault) ended = ended ≡ WriteFailed
 
--- the words were refused
-abbrev pub IsRefused : Ended → Type 0
+-- the arguments were refused
+abbrev pub IsRefused : CommandResult → Type 0
 IsRefused (Status status) = ⊥
 IsRefused WriteFailed = ⊥
 IsRefused (Refused text) = Unit {0}
 
--- which form a program has, and the name of its file
+-- the form of a program, and the name of its file
 abbrev pub form_of : ProgramFile (List ℕ) → Form
 form_of (Logic name) = form.Logic
 form_of (Image name) = form.Image
@@ -181,14 +169,14 @@ abbrev pub name_of : ProgramFile (List ℕ) → List ℕ
 name_of (Logic name) = name
 name_of (Image name) = name
 
--- the log is started, if it is asked for
+-- the log is started, if the command has this option
 abbrev pub logging : {W : Type 0} → Bool → Writing W → Writing W
 logging log writer = if log then record writer { logs = true } else writer
 
--- the line of standard output that can't be written, where it can't
+-- the log line if standard output can't be written
 abbrev pub unprinted_line : {W : Type 0} → Writing W → Option (List ℕ)
 unprinted_line writer =
-    if writer.has_failed then Some (unwritten_line (codes "standard output")) else None
+    if writer.has_failed then Some (unwritten_line (codes "standard output") kind.Other) else None
 
 -- what a command works on: files, ports and a clock, a reader, and a writer
 pub record Around (F H R W : Type 0) : Type 0 where
@@ -202,9 +190,8 @@ module _ {F L H R W : Type 0} (reads : FileReads F) (guards : FileGuards F) (wri
     (step : L → Call → L → Type 0) (acts : H → HostCall L → H → Type 0)
     (remaining : R → Option (List ℕ)) (contents : W → Option (List ℕ))
     (asks : W → WriteCall → W → Type 0) where
-  -- A task is done: what is printed and answered, and what becomes of files and ports. Only a
-  -- replay reads what the reader has. What is served is recorded in a new file, if one is named;
-  -- where that can't be made, nothing is served.
+  -- A task is executed: what is printed and returned, and what becomes of files and ports. Only a
+  -- replay reads from the reader. Only a service that is recorded and a compilation write a file.
   abbrev pub DoesTask : Task (List ℕ) → Around F H R W → Around F H R W → Result ℕ WriteFault
       → Type 0
   DoesTask (Check bay program) old new answer =
@@ -222,10 +209,9 @@ module _ {F L H R W : Type 0} (reads : FileReads F) (guards : FileGuards F) (wri
   DoesTask Replay old new answer =
       PrintsLogs contents asks (IsReplay (remaining old.reader.inner) new.reader.has_failed)
       old.writer new.writer answer × (new.files ≡ old.files) × (new.host ≡ old.host)
-  DoesTask (Serve bay program port turns trace process tells limit key file most) old new answer =
-      (NoRecord contents asks file old.writer new.writer answer × (new.host ≡ old.host)
-      × (new.reader ≡ old.reader))
-      ⊎ (ServesFiles step acts contents asks reads guards new.files
+  DoesTask (Serve bay program port turns trace process tells limit key file most idle) old new
+      answer =
+      ServesFiles step acts contents asks reads guards old.files
       (record {
         bay = bay;
         form = form_of program;
@@ -239,13 +225,15 @@ module _ {F L H R W : Type 0} (reads : FileReads F) (guards : FileGuards F) (wri
         process = process;
         tells_releases = tells;
         limit_ms = limit;
+        idle_s = idle;
+        records = is_some file;
       }) old.host new.host old.writer new.writer answer
-      × (file ≡ None → new.files ≡ old.files) × (new.reader ≡ old.reader))
+      × (is_some file ≡ false → new.files ≡ old.files) × (new.reader ≡ old.reader)
 
-  -- The words ask for a task, and it is done, with the log if they ask for it.
-  pub record Obeyed (words : List (List ℕ)) (old new : Around F H R W) (ended : Ended)
+  -- The arguments spell a task, and it is executed, with the log if they have this option.
+  pub record Obeyed (words : List (List ℕ)) (old new : Around F H R W) (ended : CommandResult)
       : Type 0 where
-    pub asked : Asked (List ℕ)
+    pub asked : Invoked (List ℕ)
     pub is : task_in words ≡ Some asked
     pub answer : Result ℕ WriteFault
     pub done : Around F H R W
@@ -255,22 +243,22 @@ module _ {F L H R W : Type 0} (reads : FileReads F) (guards : FileGuards F) (wri
     pub rest : new ≡ record done { writer = new.writer }
     pub ends : Ends answer ended
 
-  -- The words ask for nothing that is done, and are refused: nothing is read, printed or touched.
-  pub record Declined (words : List (List ℕ)) (old new : Around F H R W) (ended : Ended)
+  -- The arguments spell no task, and are refused: nothing is read, printed or touched.
+  pub record Declined (words : List (List ℕ)) (old new : Around F H R W) (ended : CommandResult)
       : Type 0 where
     pub none : task_in words ≡ None
     pub refused : IsRefused ended
     pub untouched : new ≡ old
 
-  -- There is no memory to read the words, which is told.
-  pub record Unread (old new : Around F H R W) (ended : Ended) : Type 0 where
+  -- Memory runs out while the arguments are read, which is printed.
+  pub record Unread (old new : Around F H R W) (ended : CommandResult) : Type 0 where
     pub answer : Result ℕ WriteFault
     pub told : Prints contents asks (IsLast (codes "fault memory\n") 3) old.writer new.writer answer
     pub ends : Ends answer ended
     pub untouched : (new.files ≡ old.files) × (new.host ≡ old.host) × (new.reader ≡ old.reader)
 
-  -- Words are obeyed: the task that they ask for is done; or they ask for none, and are refused; or
-  -- there is no memory to read them.
-  abbrev pub Obeys : List (List ℕ) → Around F H R W → Around F H R W → Ended → Type 0
+  -- Arguments are obeyed: the task that they spell is executed; or they spell none, and are
+  -- refused; or memory runs out while they are read.
+  abbrev pub Obeys : List (List ℕ) → Around F H R W → Around F H R W → CommandResult → Type 0
   Obeys words old new ended =
       Obeyed words old new ended ⊎ (Declined words old new ended ⊎ Unread old new ended)

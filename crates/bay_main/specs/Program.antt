@@ -1,23 +1,23 @@
--- The program as a whole: its output, what is done with it, and the exit status.
+-- The program as a whole: its output, its command, and the exit status.
 use Rattle.std.specs.Prelude.{◌≡◌, ℕ, Bool, false, not, List, [], ◌∷◌, codes, Option, Some, None, if◌then◌else◌}
 use Rattle.std.specs.Str.{bytes_eq}
 use Rattle.bay_files.specs.Files.{FileGuards, FileReads, FileWrites}
 use Rattle.bay_io.specs.Calls.{WriteCall, Log}
 use Rattle.bay_io.specs.Watched.{Writing}
-use Rattle.bay_output.specs.Descriptor.{DescriptorData, taken_by}
-use Rattle.bay_output.specs.Output.{Does, Drains, OutputData, written}
-use Rattle.bay_serve.specs.Calls.{Call}
-use Rattle.bay_serving.specs.Host.{HostCall}
+use Rattle.bay_stdio.specs.Descriptor.{DescriptorData, taken_by}
+use Rattle.bay_stdio.specs.Output.{Does, Drains, OutputData, written}
+use Rattle.bay_server_turn.specs.Calls.{Call}
+use Rattle.bay_server.specs.Host.{HostCall}
 use Rattle.bay_main.specs.Commands.{Around, Obeys}
 use Rattle.bay_main.specs.Ending.{complaint_of, status_of}
-use Rattle.bay_main.specs.declared.ending.Ended.{Ended}
-use Rattle.bay_main.specs.declared.ending.Ended.TheVariants.{Status, WriteFailed, Refused}
+use Rattle.bay_main.specs.declared.ending.CommandResult.{CommandResult}
+use Rattle.bay_main.specs.declared.ending.CommandResult.TheVariants.{Status, WriteFailed, Refused}
 
 -- the output of a program over two writers
 abbrev pub SystemOutput : Type 0 → Type 0 → Type 0
 SystemOutput O E = OutputData (DescriptorData O) (DescriptorData E)
 
--- the words begin with `serve`
+-- the first argument is `serve`
 abbrev pub serves : List (List ℕ) → Bool
 serves [] = false
 serves (word ∷ words) = bytes_eq word (codes "serve")
@@ -42,25 +42,25 @@ unused sink = record {
   pending = [];
 }
 
--- of a call of the system nothing is known but the octets that it takes
+-- nothing is known of a call of the system but the octets that it takes
 abbrev pub AnyCall : {S : Type 0} → S → WriteCall → S → Type 0
 AnyCall old call new = Unit {0}
 
--- what waits is written; where some is left, that is a failed write
+-- what is queued is written; if some is left, that is a failed write
 abbrev pub EndsDrained : {O E : Type 0} → (O → Option (List ℕ)) → (E → Option (List ℕ))
-    → OutputData O E → Ended → OutputData O E → Ended → Type 0
+    → OutputData O E → CommandResult → OutputData O E → CommandResult → Type 0
 EndsDrained contents log_contents old ended new last =
     (done : Bool) × Drains contents log_contents AnyCall old new done
     × (last ≡ (if done then ended else WriteFailed))
 
--- What waits of the output of a command that has ended is written, and the program ends as the
--- command, or, where some is left, by a failed write. After a failed write nothing more is written.
-abbrev pub Drained : {O E : Type 0} → (O → Option (List ℕ)) → (E → Option (List ℕ))
-    → OutputData O E → Ended → OutputData O E → Ended → Type 0
-Drained contents log_contents old WriteFailed new last = (new ≡ old) × (last ≡ WriteFailed)
-Drained contents log_contents old (Status status) new last =
+-- After a command its queued output is written, and the program has the result of the command, or,
+-- if some output is left, a failed write. After a failed write nothing more is written.
+abbrev pub OutputDrained : {O E : Type 0} → (O → Option (List ℕ)) → (E → Option (List ℕ))
+    → OutputData O E → CommandResult → OutputData O E → CommandResult → Type 0
+OutputDrained contents log_contents old WriteFailed new last = (new ≡ old) × (last ≡ WriteFailed)
+OutputDrained contents log_contents old (Status status) new last =
     EndsDrained contents log_contents old (Status status) new last
-Drained contents log_contents old (Refused text) new last =
+OutputDrained contents log_contents old (Refused text) new last =
     EndsDrained contents log_contents old (Refused text) new last
 
 -- what is known of a program's output at a call
@@ -68,8 +68,8 @@ abbrev pub SystemDoes : {O E : Type 0} → (O → Option (List ℕ)) → (E → 
     → SystemOutput O E → WriteCall → SystemOutput O E → Type 0
 SystemDoes contents log_contents = Does (taken_by contents) AnyCall (taken_by log_contents) AnyCall
 
--- The program obeys its words: what then waits of the output is written, a failed write is told in
--- the log, and the exit status tells how that ended.
+-- The program obeys its arguments; then it writes what is queued of its output, logs a failed
+-- write, and exits with the status of the result.
 pub record Runs {F L H R O E : Type 0} (reads : FileReads F) (guards : FileGuards F)
     (writes : FileWrites F) (same : F → List ℕ → List ℕ → Bool → Type 0)
     (step : L → Call → L → Type 0) (acts : H → HostCall L → H → Type 0)
@@ -77,19 +77,20 @@ pub record Runs {F L H R O E : Type 0} (reads : FileReads F) (guards : FileGuard
     (log_contents : E → Option (List ℕ)) (words : List (List ℕ))
     (old : Around F H R (SystemOutput O E)) (status : ℕ) : Type 0 where
   pub new : Around F H R (SystemOutput O E)
-  pub ended : Ended
+  pub ended : CommandResult
   pub obeys : Obeys reads guards writes same step acts remaining
       (λ output. written (taken_by contents output.out) output.queue)
       (SystemDoes contents log_contents) words old new ended
   pub output : SystemOutput O E
-  pub last : Ended
-  pub drained : Drained (taken_by contents) (taken_by log_contents) new.writer.inner ended output
+  pub last : CommandResult
+  pub drained : OutputDrained (taken_by contents) (taken_by log_contents) new.writer.inner ended
+      output
       last
   pub complains : last ≡ WriteFailed → (told : SystemOutput O E)
       × SystemDoes contents log_contents output (Log (complaint_of last)) told
   pub tells : status ≡ status_of last
 
--- So it was of an output over these writers, of which nothing was used before.
+-- The same for an output over these writers, which were not used before.
 pub record Concludes {F L H R O E : Type 0} (reads : FileReads F) (guards : FileGuards F)
     (writes : FileWrites F) (same : F → List ℕ → List ℕ → Bool → Type 0)
     (step : L → Call → L → Type 0) (acts : H → HostCall L → H → Type 0)
@@ -98,4 +99,5 @@ pub record Concludes {F L H R O E : Type 0} (reads : FileReads F) (guards : File
     : Type 0 where
   pub old : Around F H R (SystemOutput O E)
   pub fresh : old.writer ≡ unused (fresh_output (serves words) out err)
-  pub runs : Runs reads guards writes same step acts remaining contents log_contents words old status
+  pub runs : Runs reads guards writes same step acts remaining contents log_contents words old
+      status

@@ -1,16 +1,17 @@
-// A load alone: what is printed and logged for it.
+// Checks a load: prints its line, or why it is refused.
 ghost use Rattle.bay_main.specs.Check.{ChecksOctets};
 
 use bay_io::calls::Sink;
 use bay_io::outbox::WriteFault;
 use bay_io::writer::WatchedWriter;
 use bay_report::load::{Form, load_program};
-use bay_report::log::tell_refusal;
+use bay_report::log::report_load_refusal;
 use bay_report::output::write_report;
 use std::alloc::Global;
 
 /// Loads the octets of a bay file and of a program or an image, and writes the line of the load.
-/// Logs why it is refused. Returns the exit status: 0, or 1 if the load is refused.
+/// Logs why it is refused. Returns the exit status: 0, or 1 if the load is refused. Fails if a
+/// write or a flush fails.
 pub fn check_run<W: Sink>(
     alloc: Global,
     bay: &[u8],
@@ -22,6 +23,6 @@ pub fn check_run<W: Sink>(
 {
     match load_program(alloc, bay, form, program) {
         Ok(device) => write_report(writer, device.report()),
-        Err(fault) => tell_refusal(writer, fault),
+        Err(fault) => report_load_refusal(writer, fault),
     }
 }

@@ -1,34 +1,34 @@
-// What a command does, over files by their names, a reader and a writer.
-ghost use Rattle.std.specs.Prelude.{◌≡◌, map, IfErr, None, OnOk, Result, Ok, option_map};
-ghost use Rattle.bay_serve.specs.Calls.{Called};
-ghost use Rattle.bay_main.specs.Commands.{Checks, Compiles, CompilesDevice, CompilesOctets, DoesTask, NoRecord, Obeys, Unwritten, WritesImage, logging, name_of, unprinted_line};
+// Executes a command, over files by their names, a reader and a writer.
+ghost use Rattle.std.specs.Prelude.{◌≡◌, map, None, Result, Ok, option_map};
+ghost use Rattle.bay_server_turn.specs.Calls.{Called};
+ghost use Rattle.bay_main.specs.Commands.{Checks, Compiles, CompilesDevice, CompilesOctets, DoesTask, Obeys, Unwritten, WritesImage, logging, name_of, unprinted_line};
 ghost use Rattle.bay_main.specs.Commands as spec;
 ghost use Rattle.bay_report.specs.LogLines.{LogsSome};
-ghost use Rattle.bay_words.specs.JobView.{program_view, task_view};
+ghost use Rattle.bay_cli.specs.JobView.{program_view, task_view};
 
 use crate::check::check_run;
-use crate::ending::Ended;
-use bay_auditing::audit_files::audit_files;
+use crate::ending::CommandResult;
+use bay_cli::parse::{WordsFault, task_of};
+use bay_cli::task::{Invoked, ProgramFile, Task};
 use bay_device::device::Device;
-use bay_files::files::{BothFiles, FileFault, FileSystem, read_files, write_whole};
+use bay_files::files::{BothFiles, FileFault, FileSystem, read_files, write_atomically};
 use bay_io::calls::{OctetSource, Sink};
 use bay_io::outbox::WriteFault;
 use bay_io::reader::WatchedReader;
 use bay_io::writer::WatchedWriter;
-use bay_replay::replay::replay_watched;
 use bay_report::load::{Form, load_octets};
-use bay_report::log::{log_unwritten, tell_refusal, tell_unread};
+use bay_report::log::{log_unwritten, report_load_refusal, report_unread};
 use bay_report::output::{NO_MEMORY, Status, write_report, write_text};
-use bay_serve::link::Link;
-use bay_serve::record::Record;
-use bay_serving::host::Host;
-use bay_serving_files::serve::{NamedFiles, Numbers, serve};
-use bay_words::task::{Asked, ProgramFile, Task};
-use bay_words::words::{WordsFault, task_of};
+use bay_server::host::Host;
+use bay_server_turn::link::Link;
+use cmd_audit::audit_files::audit_files;
+use cmd_replay::replay::run_replay;
+use cmd_serve::serve::{NamedFiles, Numbers, Recording, serve};
 use std::alloc::{AllocError, Global};
+use std::io::ErrorKind;
 
-// The maximum number of octets of a record, if nothing else is asked for: with the bay file and the
-// program it is a scenario that can be replayed.
+// The maximum number of octets of a record, unless the command has another: with the bay file and
+// the program such a record is a scenario that can be replayed.
 const MOST: u32 = 16_000_000;
 
 // Checks a bay file and a program or an image, by their names.
@@ -52,15 +52,19 @@ fn check<F: FileSystem, W: Sink>(
             both.program.as_slice(),
             writer,
         ),
-        Err(unread) => tell_unread(writer, unread.name, unread.fault),
+        Err(unread) => report_unread(writer, unread.name, unread.fault),
     }
 }
 
-// Logs that a file can't be written, and answers that.
-fn fail_unwritten<W: Sink>(writer: &mut WatchedWriter<W>, out: &str) -> Result<u8, WriteFault>
-    ensures { Unwritten W.contents W.does out.now writer.old writer.new result }
+// Logs that a file can't be written, and why, and fails.
+fn fail_unwritten<W: Sink>(
+    writer: &mut WatchedWriter<W>,
+    out: &str,
+    kind: ErrorKind,
+) -> Result<u8, WriteFault>
+    ensures { Unwritten W.contents W.does out.now kind writer.old writer.new result }
 {
-    log_unwritten(writer, out);
+    log_unwritten(writer, out, kind);
     Err(WriteFault)
 }
 
@@ -80,10 +84,10 @@ fn write_image<F: FileSystem, W: Sink>(
         Ok(image) => image,
         Err(AllocError) => return write_text(writer, NO_MEMORY, Status::Fault),
     };
-    match write_whole(alloc, files, out, image.as_slice()) {
+    match write_atomically(alloc, files, out, image.as_slice()) {
         Ok(()) => Ok(Status::Clean.code()),
         Err(FileFault::OutOfMemory) => write_text(writer, NO_MEMORY, Status::Fault),
-        Err(FileFault::Failed) => fail_unwritten(writer, out),
+        Err(FileFault::Failed(kind)) => fail_unwritten(writer, out, kind),
     }
 }
 
@@ -117,7 +121,7 @@ fn compile_files<F: FileSystem, W: Sink>(
 {
     match load_octets(alloc, both.bay.as_slice(), both.program.as_slice()) {
         Ok(device) => compile_device(alloc, &device, out, files, writer),
-        Err(fault) => tell_refusal(writer, fault),
+        Err(fault) => report_load_refusal(writer, fault),
     }
 }
 
@@ -134,11 +138,11 @@ fn compile<F: FileSystem, W: Sink>(
         files.new writer.old writer.new result }
 {
     if files.is_same(alloc, out, bay) || files.is_same(alloc, out, logic) {
-        return fail_unwritten(writer, out);
+        return fail_unwritten(writer, out, ErrorKind::InvalidInput);
     }
     match read_files(alloc, files, bay, logic) {
         Ok(both) => compile_files(alloc, &both, out, files, writer),
-        Err(unread) => tell_unread(writer, unread.name, unread.fault),
+        Err(unread) => report_unread(writer, unread.name, unread.fault),
     }
 }
 
@@ -153,36 +157,7 @@ fn form_of<'a>(program: ProgramFile<&'a str>) -> (Form, &'a str)
     }
 }
 
-// Creates the record of a session, if one is named, of at most 16,000,000 octets if nothing else is
-// asked for; or tells that it can't be made, and returns how the command ends then.
-fn make_record<F: FileSystem, W: Sink>(
-    alloc: Global,
-    name: Option<&str>,
-    most: Option<u32>,
-    files: &mut F,
-    writer: &mut WatchedWriter<W>,
-) -> Result<Option<Record>, Result<u8, WriteFault>>
-    ensures quiet { OnOk result (writer.new ≡ writer.old) }
-    ensures none { OnOk result
-        (option_map (λ n. n.now) name.entry ≡ None → files.new ≡ files.old) }
-    ensures told { IfErr result (λ answer. NoRecord W.contents W.does
-        (option_map (λ n. n.now) name.entry) writer.old writer.new answer) }
-{
-    let Some(name) = name else {
-        return Ok(None);
-    };
-    let file = match files.create(name) {
-        Ok(file) => file,
-        Err(FileFault::OutOfMemory) => return Err(write_text(writer, NO_MEMORY, Status::Fault)),
-        Err(FileFault::Failed) => return Err(fail_unwritten(writer, name)),
-    };
-    match Record::new(alloc, file, most.unwrap_or(MOST)) {
-        Ok(record_file) => Ok(Some(record_file)),
-        Err(AllocError) => Err(write_text(writer, NO_MEMORY, Status::Fault)),
-    }
-}
-
-// Does a task.
+// Executes a task.
 fn do_task<F: FileSystem, L: Link + Drop, H: Host<L>, R: OctetSource, W: Sink>(
     alloc: Global,
     task: Task<&str>,
@@ -202,7 +177,7 @@ fn do_task<F: FileSystem, L: Link + Drop, H: Host<L>, R: OctetSource, W: Sink>(
             let (form, program) = form_of(program);
             check(alloc, form, bay, program, files, writer)
         }
-        Task::Replay => replay_watched(alloc, reader, writer),
+        Task::Replay => run_replay(alloc, reader, writer),
         Task::Serve {
             bay,
             program,
@@ -215,11 +190,14 @@ fn do_task<F: FileSystem, L: Link + Drop, H: Host<L>, R: OctetSource, W: Sink>(
             key,
             record_file,
             record_most,
+            idle_s,
         } => {
-            let made = make_record(alloc, record_file, record_most, files, writer);
-            let record_file = match made {
-                Ok(record_file) => record_file,
-                Err(answer) => return answer,
+            let recording = match record_file {
+                Some(name) => Some(Recording {
+                    name,
+                    most: record_most.unwrap_or(MOST),
+                }),
+                None => None,
             };
             let (form, program) = form_of(program);
             let named = NamedFiles {
@@ -235,8 +213,10 @@ fn do_task<F: FileSystem, L: Link + Drop, H: Host<L>, R: OctetSource, W: Sink>(
                 process,
                 tells_releases,
                 limit_ms,
+                idle_s,
+                records: record_file.is_some(),
             };
-            serve(alloc, named, record_file, files, host, numbers, writer)
+            serve(alloc, named, recording, files, host, numbers, writer)
         }
         Task::Compile { bay, logic, out } => compile(alloc, bay, logic, out, files, writer),
         Task::Audit {
@@ -250,7 +230,7 @@ fn do_task<F: FileSystem, L: Link + Drop, H: Host<L>, R: OctetSource, W: Sink>(
     }
 }
 
-// Starts the log, if it is asked for.
+// Starts the log, if the command has this option.
 fn start_log_if<W>(writer: &mut WatchedWriter<W>, log: bool)
     ensures { writer.new ≡ logging log writer.old }
 {
@@ -259,19 +239,20 @@ fn start_log_if<W>(writer: &mut WatchedWriter<W>, log: bool)
     }
 }
 
-// Logs that standard output can't be written, if it can't.
+// Logs that standard output can't be written, if a write of it has failed.
 fn log_unprinted<W: Sink>(writer: &mut WatchedWriter<W>)
     ensures { LogsSome W.contents W.does writer.old (unprinted_line writer.old) writer.new }
 {
     if writer.has_failed() {
-        log_unwritten(writer, "standard output");
+        log_unwritten(writer, "standard output", ErrorKind::Other);
     }
 }
 
-/// Does what the words after the program's name ask for. A check and a compilation read files by
-/// their names, a replay reads from the reader, and a compilation writes a file. Serving reads
-/// files, and uses the ports and the clock of the host. What is printed goes to the writer, and so
-/// does the log, if the words ask for it.
+/// Executes the command that the arguments after the name of the program spell. A check, a
+/// compilation and an audit read files by their names, a replay reads from the reader, and a
+/// compilation writes a file. Serving reads files, may create one for its record, and uses the
+/// ports and the clock of the host. The output goes to the writer, and so does the log, if the
+/// command has this option.
 pub fn obey<F: FileSystem, L: Link + Drop, H: Host<L>, R: OctetSource, W: Sink>(
     alloc: Global,
     words: &[&str],
@@ -279,7 +260,7 @@ pub fn obey<F: FileSystem, L: Link + Drop, H: Host<L>, R: OctetSource, W: Sink>(
     host: &mut H,
     reader: &mut WatchedReader<R>,
     writer: &mut WatchedWriter<W>,
-) -> Ended
+) -> CommandResult
     ensures { Obeys F.reads F.guards F.writes F.same (Called L.does L.failures) H.does R.remaining
         W.contents W.does
         (map (λ w. w.now) words.now)
@@ -288,13 +269,17 @@ pub fn obey<F: FileSystem, L: Link + Drop, H: Host<L>, R: OctetSource, W: Sink>(
         result }
 {
     match task_of(alloc, words) {
-        Ok(Asked { task, log }) => {
+        Ok(Invoked { task, log }) => {
             start_log_if(writer, log);
             let answer = do_task(alloc, task, files, host, reader, writer);
             log_unprinted(writer);
-            Ended::of(answer)
+            CommandResult::of(answer)
         }
-        Err(WordsFault::OutOfMemory) => Ended::of(write_text(writer, NO_MEMORY, Status::Fault)),
-        Err(WordsFault::Refused(text)) => Ended::Refused(text),
+        Err(WordsFault::OutOfMemory) => CommandResult::of(write_text(
+            writer,
+            NO_MEMORY,
+            Status::Fault,
+        )),
+        Err(WordsFault::Refused(text)) => CommandResult::Refused(text),
     }
 }

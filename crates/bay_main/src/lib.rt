@@ -1,9 +1,10 @@
-// The bay controller's main part: what its program does. It checks a bay file with a program,
-// compiles the program, replays a scenario, or serves clients.
+// The commands of the bay controller's program: it checks a bay file with a program, compiles the
+// program, replays a scenario, audits a program, or serves clients.
 //
-// The way of the data: `commands` does what words ask for (words and files are read by bay_words
-// and bay_files, a scenario is replayed by bay_replay, and clients are served by bay_serving),
-// `check` is a load alone, `ending` is how that ends, and `program` a program's way in and out.
+// `commands` executes the command that the arguments spell (bay_cli parses arguments, bay_files
+// reads files, cmd_replay replays a scenario, cmd_audit audits, and bay_server serves clients),
+// `check` is a load alone, `ending` the result of a command, and `program` connects it to the
+// system.
 #![tactic(auto)]
 
 mod check;
@@ -11,14 +12,14 @@ pub mod commands;
 pub mod ending;
 pub mod program;
 
-// What a command line asks for, and what it is done on.
+// What a command line requests, and what a command works on.
+pub use bay_cli::parse;
 pub use bay_files::files;
-pub use bay_replay::replay;
-pub use bay_serving::{clock, host};
-pub use bay_words::words;
-// What serves a device over any link.
-pub use bay_serve::fault::ServeFault;
-pub use bay_serve::link::{Arrival, Link, LinkFault};
-pub use bay_serve::server::Server;
-pub use bay_serve::told::{Closing, Turn};
-pub use bay_serve::turn::serve_turn;
+pub use bay_server::{clock, host};
+pub use cmd_replay::replay;
+// The server of a device over any link.
+pub use bay_server_turn::fault::ServeFault;
+pub use bay_server_turn::link::{Link, LinkFault, ReadResult};
+pub use bay_server_turn::server::Server;
+pub use bay_server_turn::turn::serve_turn;
+pub use bay_server_turn::turn_report::{CloseReason, Turn};

@@ -1,25 +1,25 @@
-// The program's way in and out: its words, the files of its system, standard input, standard
-// output, standard error and the exit status.
+// The connection of the program to its system: arguments, files, standard input, standard output,
+// standard error and the exit status.
 ghost use Rattle.std.specs.Prelude.{◌≡◌, map, IfOk};
 ghost use Rattle.std.specs.Process.{exit_status};
-ghost use Rattle.bay_output.specs.Descriptor.{taken_by};
-ghost use Rattle.bay_serve.specs.Calls.{Called};
+ghost use Rattle.bay_stdio.specs.Descriptor.{taken_by};
+ghost use Rattle.bay_server_turn.specs.Calls.{Called};
 ghost use Rattle.bay_main.specs.Ending.{status_of};
-ghost use Rattle.bay_main.specs.Program.{Concludes, Drained, Runs, fresh_output, serves};
+ghost use Rattle.bay_main.specs.Program.{Concludes, OutputDrained, Runs, fresh_output, serves};
 
 use crate::commands::obey;
-use crate::ending::Ended;
+use crate::ending::CommandResult;
 use bay_files::files::{FileSystem, SystemFiles};
 use bay_io::calls::{LinePart, OctetSource, Sink};
 use bay_io::reader::WatchedReader;
 use bay_io::writer::WatchedWriter;
 use bay_net::tcp::TcpLink;
-use bay_output::descriptor::Descriptor;
-use bay_output::output::Output;
-use bay_output::queue::Queue;
 use bay_report::output::{NO_MEMORY, Status, write_text};
-use bay_serve::link::Link;
-use bay_serving::host::{Host, SystemHost};
+use bay_server::host::{Host, SystemHost};
+use bay_server_turn::link::Link;
+use bay_stdio::descriptor::Descriptor;
+use bay_stdio::output::Output;
+use bay_stdio::queue::OutputQueue;
 use std::alloc::{AllocError, Global};
 use std::fs::File;
 use std::io::{ErrorKind, Write};
@@ -32,45 +32,45 @@ use std::{env, io};
 // The output of the program, over its standard output and its standard error.
 type SystemOutput<'a, R, O, E> = Output<Descriptor<'a, R, O>, Descriptor<'a, R, E>>;
 
-// Why reading the program's words failed.
+// Why reading the program's arguments failed.
 #[derive(Drop)]
-enum Unheard {
-    /// A word is not UTF-8 text.
+enum ArgumentFault {
+    /// An argument is not UTF-8 text.
     NoText,
     OutOfMemory,
 }
 
-impl From<AllocError> for Unheard {
-    fn from(_: AllocError) -> Unheard {
-        Unheard::OutOfMemory
+impl From<AllocError> for ArgumentFault {
+    fn from(_: AllocError) -> ArgumentFault {
+        ArgumentFault::OutOfMemory
     }
 }
 
-impl From<io::Error> for Unheard {
-    fn from(error: io::Error) -> Unheard {
+impl From<io::Error> for ArgumentFault {
+    fn from(error: io::Error) -> ArgumentFault {
         if error.kind() == ErrorKind::OutOfMemory {
-            Unheard::OutOfMemory
+            ArgumentFault::OutOfMemory
         } else {
-            Unheard::NoText
+            ArgumentFault::NoText
         }
     }
 }
 
-// Returns the words after the program's name.
-fn words_of<R: Runtime<A = Global>>(rt: &R) -> Result<Vec<String>, Unheard> {
+// Returns the arguments after the program's name.
+fn words_of<R: Runtime<A = Global>>(rt: &R) -> Result<Vec<String>, ArgumentFault> {
     let words = env::args(rt)?.skip(1).collect(rt.alloc())?;
     Ok(words)
 }
 
-// Whether the words begin with `serve`.
+// Returns whether the first argument is `serve`.
 fn is_serving(words: &[&str]) -> bool
     ensures { result ≡ serves (map (λ w. w.now) words.now) }
 {
     matches!(words.first(), Some(word) if *word == "serve")
 }
 
-// Returns the output of a command. No reader of it holds up a server, nor does one of the log hold
-// up any command.
+// Creates the output of a command. A slow reader of standard output does not block a server, and
+// one of standard error blocks no command.
 fn output_of<'a, R: AllocGlobal, O: Drop, E: Drop>(
     rt: &'a R,
     out: O,
@@ -86,11 +86,11 @@ fn output_of<'a, R: AllocGlobal, O: Drop, E: Drop>(
         return Ok(Output::new(out, err, None));
     }
     out.stop_waiting();
-    let queue = Queue::new(rt.alloc())?;
+    let queue = OutputQueue::new(rt.alloc())?;
     Ok(Output::new(out, err, Some(queue)))
 }
 
-// Does what the words ask for, writes what then waits of the output, and concludes.
+// Executes the command, writes what is still queued of its output, and returns the exit status.
 fn obey_with<
     F: FileSystem,
     L: Link + Drop,
@@ -114,15 +114,15 @@ fn obey_with<
 {
     let ended = obey(rt.alloc(), words, files, host, reader, &mut writer);
     let mut output = writer.into_inner();
-    let ended = drained(&mut output, ended);
-    if matches!(&ended, Ended::WriteFailed) {
-        output.log_line(&[LinePart::Text(ended.complaint().as_bytes())]);
+    let ended = drain_output(&mut output, ended);
+    if matches!(&ended, CommandResult::WriteFailed) {
+        output.log_line(&[LinePart::Text(ended.error_message().as_bytes())]);
         return ExitCode::from(ended.status());
     }
     conclude(rt, &ended)
 }
 
-// Does what the words ask for, over the files, the sockets and the input of the program.
+// Executes the command over the files, the sockets and the standard input of the program.
 fn obey_words<
     'a,
     R: Runtime<A = Global, File = File> + Net<Listener = TcpListener, Stream = TcpStream>,
@@ -147,64 +147,65 @@ fn obey_words<
     Ok(obey_with(rt, words, &mut files, &mut host, &mut reader, writer))
 }
 
-// Does what the program's words ask for, and concludes.
+// Executes the command of the program's arguments, and returns the exit status.
 fn obey_program<
     R: Runtime<A = Global, File = File> + Net<Listener = TcpListener, Stream = TcpStream>,
     O: Write + AsRawFd + Drop,
     E: Write + AsRawFd + Drop,
->(rt: &R, out: O, err: E) -> Result<ExitCode, Unheard> {
+>(rt: &R, out: O, err: E) -> Result<ExitCode, ArgumentFault> {
     let words = words_of(rt)?;
     let texts: Vec<&str> = words.iter().map(|word| word.as_str()).collect(rt.alloc())?;
     Ok(obey_words(rt, out, err, texts.as_slice())?)
 }
 
-// Returns how the program ends if reading its words failed.
-fn end_unheard<R: Runtime<A = Global>>(rt: &R, why: Unheard) -> Ended {
+// Returns the result if reading the arguments failed.
+fn refuse_arguments<R: Runtime<A = Global>>(rt: &R, why: ArgumentFault) -> CommandResult {
     let text = match why {
-        Unheard::NoText => {
+        ArgumentFault::NoText => {
             String::from_str(rt.alloc(), "error: a word of the command line is no text\n")
         }
-        Unheard::OutOfMemory => Err(AllocError),
+        ArgumentFault::OutOfMemory => Err(AllocError),
     };
     match text {
-        Ok(text) => Ended::Refused(text),
+        Ok(text) => CommandResult::Refused(text),
         Err(AllocError) => {
             let mut writer = WatchedWriter::new(io::writer(rt));
-            Ended::of(write_text(&mut writer, NO_MEMORY, Status::Fault))
+            CommandResult::of(write_text(&mut writer, NO_MEMORY, Status::Fault))
         }
     }
 }
 
-// Writes what waits in the output, and returns how the program ends: as before, or, if some of it
-// is left, by a failed write. After a failed write nothing more is written.
-fn drained<R: Net + AllocGlobal, O: Write + AsRawFd, E: Write + AsRawFd>(
+// Writes what is queued in the output, and returns the result of the program: the same as before,
+// or a failed write if some of the output is left. After a failed write nothing more is written.
+fn drain_output<R: Net + AllocGlobal, O: Write + AsRawFd, E: Write + AsRawFd>(
     output: &mut SystemOutput<'_, R, O, E>,
-    ended: Ended,
-) -> Ended
-    ensures { Drained (taken_by O.contents) (taken_by E.contents) output.old ended output.new
+    ended: CommandResult,
+) -> CommandResult
+    ensures { OutputDrained (taken_by O.contents) (taken_by E.contents) output.old ended output.new
         result }
 {
     match ended {
-        Ended::WriteFailed => Ended::WriteFailed,
+        CommandResult::WriteFailed => CommandResult::WriteFailed,
         ended => match output.drain() {
             Ok(()) => ended,
-            Err(_) => Ended::WriteFailed,
+            Err(_) => CommandResult::WriteFailed,
         },
     }
 }
 
-// Writes complaints to standard error, and returns the exit status.
-fn conclude<R: Runtime<A = Global>>(rt: &R, ended: &Ended) -> ExitCode
+// Writes the error message to standard error, and returns the exit status.
+fn conclude<R: Runtime<A = Global>>(rt: &R, ended: &CommandResult) -> ExitCode
     ensures { exit_status result ≡ status_of ended.now }
 {
-    let _ = eprint!(rt; "{}", ended.complaint());
+    let _ = eprint!(rt; "{}", ended.error_message());
     ExitCode::from(ended.status())
 }
 
-/// Does what the program's words ask for: reads files or standard input, writes a report to `out`,
-/// the program's standard output, logs to `err`, its standard error, if it is asked to, and ends
-/// with its status. `clap`'s messages about wrong words go to standard error with the status 2, and
-/// `fault 122` for a failed write with the status 3.
+/// Executes the command of the program's arguments: reads files or standard input, writes the
+/// output to `out`, the program's standard output, logs to `err`, its standard error, if the
+/// command has this option, and returns the exit status. The messages of `clap` on invalid
+/// arguments go to standard error with the status 2, and `fault 122` for a failed write with the
+/// status 3.
 pub fn run<
     R: Runtime<A = Global, File = File> + Net<Listener = TcpListener, Stream = TcpStream>,
     O: Write + AsRawFd + Drop,
@@ -212,6 +213,6 @@ pub fn run<
 >(rt: &R, out: O, err: E) -> ExitCode {
     match obey_program(rt, out, err) {
         Ok(code) => code,
-        Err(why) => conclude(rt, &end_unheard(rt, why)),
+        Err(why) => conclude(rt, &refuse_arguments(rt, why)),
     }
 }

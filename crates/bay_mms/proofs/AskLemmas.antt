@@ -4,7 +4,7 @@ use Rattle.std.specs.Prelude.{◌↔◌}
 use Rattle.bay_ber.proofs.ReadLemmas.{IsBytes}
 use Rattle.bay_mms.specs.Requests.{Message, Denial, unknown, many}
 use Rattle.bay_mms.specs.Grammar.{request, front_id, told, answer_to}
-use Rattle.bay_mms.specs.Asks.{Asks, AsksUnknown, AsksMany, IsIdOf, AsksNothing}
+use Rattle.bay_mms.specs.RequestRelations.{Asks, AsksUnknown, AsksMany, IsIdOf, AsksNothing}
 use Rattle.bay_mms.specs.declared.fault.MmsFault.{MmsFault}
 use Rattle.bay_mms.specs.declared.fault.MmsFault.TheVariants as fault
 use Rattle.bay_mms.proofs.GrammarLemmas.{request-exact, front_id-exact}

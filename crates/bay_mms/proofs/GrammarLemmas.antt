@@ -1,7 +1,7 @@
 -- What each part of a request is read as is what spells it.
 use Rattle.std.proofs.Common.{ℕ, zero, suc}
 use Rattle.bay_ber.proofs.FormLemmas.{ExactIn, ExactAs, none-exact, made-exact, each-exact, choice-exact, front-exact, exacts}
-use Rattle.bay_initiate.proofs.InitiateLemmas.{proposal-exact}
+use Rattle.bay_mms_initiate.proofs.InitiateLemmas.{proposal-exact}
 use Rattle.bay_mms.specs.Grammar.{domain_parts, name, variable_parts, variable, access, string, simple, datum_at, scope, class_part, scope_part, listing_parts, listing, attributes_by, read_parts, write_parts, service_request, invoke_id, confirmed_parts, pdu, request, front_id}
 use Rattle.bay_mms.specs.Answers.{list_parts, list_pdu}
 use Rattle.bay_ber.specs.Forms.{one}

@@ -9,7 +9,7 @@ use Rattle.bay_mms.specs.Types.{type_text, components_text}
 use Rattle.bay_mms.specs.Data.{datum_text, data_text, leaf_datum}
 use Rattle.bay_tree.specs.declared.leaf.Leaf.{Leaf}
 use Rattle.bay_ber.specs.Writing.{element}
-use Rattle.bay_ber.specs.Sheets.{Sheet, sheet_with}
+use Rattle.bay_ber.specs.EncoderBuffers.{EncoderBuffer, sheet_with}
 use Rattle.bay_ber.proofs.SheetLemmas.{put_nil, put-put}
 use Rattle.bay_ber.specs.Tags.{context, constructed, sequence}
 use Rattle.bay_mms.specs.Nodes.{Nodes, no_nodes, node, node_of, nodes_in, node_at, node_datum, nodes_data, data_at, node_type, nodes_types, type_at}
@@ -178,13 +178,13 @@ next-part rows handle part next below is after =
 -- What was written, and the text of the parts that are left, are a tag, an octet of the length and
 -- the text of all parts.
 pub record Written (rows : List Row) (handle : ℕ) (text : Nodes → List ℕ) (octet : ℕ)
-    (front writer : Sheet) (next : Option ℕ) : Type 0 where
+    (front writer : EncoderBuffer) (next : Option ℕ) : Type 0 where
   pub is : sheet_with writer (text (nodes_since rows (name_at rows handle) next))
       ≡ sheet_with front (octet ∷ 0 ∷ text (parts_at rows handle))
   pub below : IfSome next (Below rows handle)
 
 pub written-first : (rows : List Row) (handle : ℕ) (text : Nodes → List ℕ) (octet : ℕ)
-    (front writer : Sheet) (next : Option ℕ) → writer ≡ sheet_with front (octet ∷ 0 ∷ [])
+    (front writer : EncoderBuffer) (next : Option ℕ) → writer ≡ sheet_with front (octet ∷ 0 ∷ [])
     → next ≡ first_below rows handle → IfSome next (λ k. (handle < k) × (k < length rows))
     → Written rows handle text octet front writer next
 written-first rows handle text octet front writer next opened is after =
@@ -197,7 +197,7 @@ written-first rows handle text octet front writer next opened is after =
     }
 
 pub written-more : (rows : List Row) (handle part : ℕ) (text : Nodes → List ℕ) (octet : ℕ)
-    (front writer new : Sheet) (one : List ℕ) (next : Option ℕ)
+    (front writer new : EncoderBuffer) (one : List ℕ) (next : Option ℕ)
     → text (nodes_since rows (name_at rows handle) (Some part))
     ≡ one ++ text (nodes_in (name_at rows handle) (drop (part + 1) rows))
     → Written rows handle text octet front writer (Some part)
@@ -208,14 +208,15 @@ written-more rows handle part text octet front writer new one next split w added
     let p = next-part rows handle part next w.below is after in
     let rest = text (nodes_since rows (name_at rows handle) next) in
     record {
-      is = ap (λ (s : Sheet). sheet_with s rest) added ∙ put-put writer one rest
+      is = ap (λ (s : EncoderBuffer). sheet_with s rest) added ∙ put-put writer one rest
           ∙ ap (λ (ps : Nodes). sheet_with writer (one ++ text ps)) (sym p.0)
           ∙ ap (λ (ys : List ℕ). sheet_with writer ys) (sym split) ∙ w.is;
       below = p.1;
     }
 
 pub written-end : (rows : List Row) (handle : ℕ) (text : Nodes → List ℕ) (octet : ℕ)
-    (front writer : Sheet) → text no_nodes ≡ [] → Written rows handle text octet front writer None
+    (front writer : EncoderBuffer) → text no_nodes ≡ []
+    → Written rows handle text octet front writer None
     → writer ≡ sheet_with front (octet ∷ 0 ∷ text (parts_at rows handle))
 written-end rows handle text octet front writer none w =
     sym (put_nil writer) ∙ ap (λ (ys : List ℕ). sheet_with writer ys) (sym none) ∙ w.is

@@ -1,14 +1,14 @@
 -- The texts of reports, by their data and part by part.
 use Rattle.std.proofs.Common.{◌≡◌, ℕ, List, [], ◌∷◌, ◌++◌, refl, sym, ◌∙◌}
 use Rattle.std.proofs.lemmas.List.{append-nil, append_assoc}
-use Rattle.bay_mms.specs.declared.control.Operate.{Operate}
+use Rattle.bay_mms.specs.declared.control.OperateData.{OperateData}
 use Rattle.bay_mms.specs.declared.report.LastApplError.{LastApplError}
 use Rattle.bay_mms.specs.Data.{Datum, no_data, datum, datum_text}
 use Rattle.bay_mms.specs.Controls.{operate_datum}
 use Rattle.bay_mms.specs.ControlViews.{operating}
 use Rattle.bay_mms.specs.Reports.{variable_text, report_text, failure_name, item_name, failure_datum, failure_data, operate_text, failure_text, termination_text, failed_text}
 use Rattle.bay_ber.specs.Tags.{constructed}
-use Rattle.bay_ber.specs.Sheets.{Sheet, sheet_with, close_sheet, IsEnd}
+use Rattle.bay_ber.specs.EncoderBuffers.{EncoderBuffer, sheet_with, close_sheet, IsEnd}
 use Rattle.bay_ber.specs.Writing.{element}
 use Rattle.bay_ber.proofs.SheetLemmas.{put-twice, long-value}
 
@@ -18,7 +18,7 @@ report_of names values =
     element (constructed 3) (element (constructed 0)
     (element (constructed 0) names ++ element (constructed 0) values))
 
-pub operate-is : (o : Operate) → datum_text (operate_datum (operating o)) ≡ operate_text o
+pub operate-is : (o : OperateData) → datum_text (operate_datum (operating o)) ≡ operate_text o
 operate-is o = simp (append-nil, append_assoc)
 
 pub failure-is : (e : LastApplError) → datum_text (failure_datum e) ≡ failure_data e
@@ -43,14 +43,14 @@ pub refused-is : (e : LastApplError)
     → report_of (variable_text failure_name) (failure_data e) ≡ failure_text e
 refused-is e = sym (one-report failure_name (failure_data e) (failure_datum e) (failure-is e))
 
-pub ended-is : (domain item : List ℕ) (o : Operate)
+pub ended-is : (domain item : List ℕ) (o : OperateData)
     → report_of (variable_text (item_name domain item)) (operate_text o)
     ≡ termination_text domain item o
 ended-is domain item o =
     sym (one-report (item_name domain item) (operate_text o) (operate_datum (operating o))
     (operate-is o))
 
-pub failed_is : (e : LastApplError) (domain item : List ℕ) (o : Operate)
+pub failed_is : (e : LastApplError) (domain item : List ℕ) (o : OperateData)
     → report_of (variable_text failure_name ++ variable_text (item_name domain item))
     (failure_data e ++ operate_text o) ≡ failed_text e domain item o
 failed_is e domain item o =
@@ -60,7 +60,7 @@ failed_is e domain item o =
 -- ---- a report that was opened, written and closed
 
 -- a report written part by part is its spelling
-pub reported : (old a b d e f g h new : Sheet) (report information results : ℕ)
+pub reported : (old a b d e f g h new : EncoderBuffer) (report information results : ℕ)
     (names values : List ℕ) → IsEnd report old → a ≡ sheet_with old (0xA3 ∷ 0 ∷ [])
     → IsEnd information a → b ≡ sheet_with a (0xA0 ∷ 0 ∷ [])
     → d ≡ sheet_with b (element (constructed 0) names)

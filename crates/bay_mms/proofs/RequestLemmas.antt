@@ -6,7 +6,7 @@ use Rattle.std.proofs.lemmas.List.{length-map, map-append}
 use Rattle.std.proofs.lemmas.List.Folds.{list_any-append}
 use Rattle.bay_base.specs.Exact.{Gives}
 use Rattle.bay_base.specs.Options.{◌>>=◌}
-use Rattle.bay_ber.specs.Forms.{answer, or_bad, made, each}
+use Rattle.bay_ber.specs.Forms.{answer, or_bad, map_form, each}
 use Rattle.bay_ber.specs.Judged.{or_fault}
 use Rattle.bay_ber.specs.Tags.{same_tag, constructed}
 use Rattle.bay_ber.specs.Values.{Part, values_in, onto, all_of, each_in}
@@ -55,7 +55,8 @@ listing-more octets rest new names more alternate both part one l step is are an
     one-any false false = refl
 
 pub listing-bad : (count : Option ℕ) (octets : List ℕ) → each_in variable.reads octets ≡ None
-    → answer Bad (made (λ vs. names_asked count (variables vs)) (each variable)) octets ≡ Err Bad
+    → answer Bad (map_form (λ vs. names_asked count (variables vs)) (each variable)) octets
+    ≡ Err Bad
 listing-bad count octets bad = rw bad refl
 
 pub counted_is : (count : Option ℕ) (names : List ObjectName) (alternate : Bool)
@@ -99,7 +100,7 @@ names-some (v ∷ vs) count some = pick (are_as_many count (suc (length (map (λ
 
 pub listing-some : (count : Option ℕ) (octets : List ℕ)
     → (each_in variable.reads octets ≡ Some [] → ⊥)
-    → names_none (answer Bad (made (λ vs. names_asked count (variables vs)) (each variable))
+    → names_none (answer Bad (map_form (λ vs. names_asked count (variables vs)) (each variable))
     octets) ≡ false
 listing-some count octets some = pick (each_in variable.reads octets) refl
   where

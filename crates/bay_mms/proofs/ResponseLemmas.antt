@@ -4,7 +4,7 @@ use Rattle.std.proofs.lemmas.Bool.{cases_lt}
 use Rattle.std.proofs.lemmas.List.{drop_all, drop_more, length-append}
 use Rattle.std.specs.Option.{option_map}
 use Rattle.bay_base.specs.Options.{◌>>=◌}
-use Rattle.bay_ber.specs.Sheets.{Sheet, within, text_with, sheet_with, message, value_around}
+use Rattle.bay_ber.specs.EncoderBuffers.{EncoderBuffer, within, text_with, sheet_with, message, value_around}
 use Rattle.bay_ber.specs.Writing.{element, element_length, integer_octets, truth_octets}
 use Rattle.bay_ber.specs.declared.tag.Tag.{Tag}
 use Rattle.bay_ber.proofs.SheetLemmas.{no-room, room, put_nil, put-put, heads-put, limit-put, message-front, within-longer}
@@ -47,18 +47,20 @@ page-is id texts more =
 
 -- ---- names, one behind another
 
-pub names-next : (writer new whole : Sheet) (names : List (List ℕ)) (i : ℕ) (name d : List ℕ)
+pub names-next : (writer new whole : EncoderBuffer) (names : List (List ℕ)) (i : ℕ)
+    (name d : List ℕ)
     → i < length names → name ≡ get_or names i d
     → new ≡ sheet_with writer (element visible_tag name)
     → sheet_with writer (names_text (drop i names)) ≡ whole
     → sheet_with new (names_text (drop (i + 1) names)) ≡ whole
 names-next writer new whole names i name d lt is added all =
     let rest = names_text (drop (i + 1) names) in
-    ap (λ (s : Sheet). sheet_with s rest) added ∙ put-put writer (element visible_tag name) rest
+    ap (λ (s : EncoderBuffer). sheet_with s rest) added
+    ∙ put-put writer (element visible_tag name) rest
     ∙ ap (λ (ys : List ℕ). sheet_with writer ys)
     (rw is (ap names_text (sym (drop_more names i d lt)))) ∙ all
 
-pub names-end : (writer whole : Sheet) (names : List (List ℕ)) (i : ℕ) → length names ≤ i
+pub names-end : (writer whole : EncoderBuffer) (names : List (List ℕ)) (i : ℕ) → length names ≤ i
     → sheet_with writer (names_text (drop i names)) ≡ whole → writer ≡ whole
 names-end writer whole names i past all =
     sym (put_nil writer) ∙ ap (λ (ns : List (List ℕ)). sheet_with writer (names_text ns))
@@ -66,13 +68,13 @@ names-end writer whole names i past all =
 
 -- ---- what a call adds to the results of a read
 
-text-is : (sheet : Sheet) (text : List ℕ)
+text-is : (sheet : EncoderBuffer) (text : List ℕ)
     → (sheet_with sheet text).text ≡ text_with sheet.limit sheet.text text
 unfolding sheet_with
 text-is sheet text = refl
 
 adds-by : (r : Result (Unit {0}) EncodeFault) (limit : ℕ) (old : Option (List ℕ))
-    (middle new : Sheet) (text : List ℕ) → is_none old ≡ false
+    (middle new : EncoderBuffer) (text : List ℕ) → is_none old ≡ false
     → middle.text ≡ text_with limit old text → Held middle r new
     → Adds limit (octets_in old) r (octets_in new.text) text
 adds-by r limit None middle new text some at h = absurd cc
@@ -82,7 +84,7 @@ adds-by (Ok done) limit (Some old) middle new text some at h =
           let no : is_none middle.text ≡ true = ap is_none (at ∙ no-room limit old text lt) in
           let both : true ≡ false = sym no ∙ h.0 in
           absurd cc
-      | inr le ↦ ap octets_in (ap (λ (s : Sheet). s.text) h.1 ∙ at ∙ room limit old text le)
+      | inr le ↦ ap octets_in (ap (λ (s : EncoderBuffer). s.text) h.1 ∙ at ∙ room limit old text le)
     ]
 adds-by (Err TooLong) limit (Some old) middle new text some at h =
     elim (cases_lt (limit - length old) (length text)) [
@@ -94,33 +96,35 @@ adds-by (Err TooLong) limit (Some old) middle new text some at h =
     ]
 adds-by (Err OutOfMemory) limit (Some old) middle new text some at h = tt
 
-pub adds-held : (r : Result (Unit {0}) EncodeFault) (old middle new : Sheet) (text : List ℕ)
+pub adds-held : (r : Result (Unit {0}) EncodeFault) (old middle new : EncoderBuffer) (text : List ℕ)
     → HoldsResults old → middle ≡ sheet_with old text → Held middle r new
     → Adds old.limit (octets_in old.text) r (octets_in new.text) text
 adds-held r old middle new text holds is h =
     adds-by r old.limit old.text middle new text holds.held
-    (ap (λ (s : Sheet). s.text) is ∙ text-is old text) h
+    (ap (λ (s : EncoderBuffer). s.text) is ∙ text-is old text) h
 
-pub holds-held : (r : Result (Unit {0}) EncodeFault) (old middle new : Sheet) (text : List ℕ)
+pub holds-held : (r : Result (Unit {0}) EncodeFault) (old middle new : EncoderBuffer)
+    (text : List ℕ)
     → HoldsResults old → middle ≡ sheet_with old text → Held middle r new → HoldsResults new
 holds-held (Ok done) old middle new text holds is h =
     record {
-      none = ap (λ (s : Sheet). s.heads) (h.1 ∙ is) ∙ heads-put old text ∙ holds.none;
-      held = ap (λ (s : Sheet). is_none s.text) h.1 ∙ h.0;
+      none = ap (λ (s : EncoderBuffer). s.heads) (h.1 ∙ is) ∙ heads-put old text ∙ holds.none;
+      held = ap (λ (s : EncoderBuffer). is_none s.text) h.1 ∙ h.0;
     }
 holds-held (Err TooLong) old middle new text holds is h =
     record {
-      none = ap (λ (s : Sheet). s.heads) h.1;
-      held = ap (λ (s : Sheet). is_none s.text) h.1;
+      none = ap (λ (s : EncoderBuffer). s.heads) h.1;
+      held = ap (λ (s : EncoderBuffer). is_none s.text) h.1;
     }
 holds-held (Err OutOfMemory) old middle new text holds is h = absurd h
 
-pub size-held : (r : Result (Unit {0}) EncodeFault) (old middle new : Sheet) (text : List ℕ)
+pub size-held : (r : Result (Unit {0}) EncodeFault) (old middle new : EncoderBuffer) (text : List ℕ)
     → middle ≡ sheet_with old text → Held middle r new → new.limit ≡ old.limit
 size-held (Ok done) old middle new text is h =
-    ap (λ (s : Sheet). s.limit) (h.1 ∙ is) ∙ limit-put old text
+    ap (λ (s : EncoderBuffer). s.limit) (h.1 ∙ is) ∙ limit-put old text
 size-held (Err TooLong) old middle new text is h =
-    ap (λ (s : Sheet). s.limit) h.1 ∙ ap (λ (s : Sheet). s.limit) is ∙ limit-put old text
+    ap (λ (s : EncoderBuffer). s.limit) h.1 ∙ ap (λ (s : EncoderBuffer). s.limit) is
+    ∙ limit-put old text
 size-held (Err OutOfMemory) old middle new text is h = absurd h
 
 -- ---- the response around them
@@ -132,7 +136,8 @@ unfolding message
 message-held heads None limit none some = absurd cc
 message-held heads (Some text) limit none some = rw none refl
 
-pub is-held : (sheet : Sheet) → HoldsResults sheet → message sheet ≡ Some (octets_in sheet.text)
+pub is-held : (sheet : EncoderBuffer) → HoldsResults sheet
+    → message sheet ≡ Some (octets_in sheet.text)
 is-held sheet holds = message-held sheet.heads sheet.text sheet.limit holds.none holds.held
 
 map-then : (g : List ℕ → List ℕ) (f : List ℕ → Option (List ℕ)) (m : Option (List ℕ))
@@ -164,7 +169,7 @@ read-is id size octets first second third last f s t l =
     (within size service)
     ∙ within-longer (λ u. element (constructed 1) (number ++ u)) size service (longer id service))
 
-pub number-few : (old new : Sheet) (tag : Tag) (value : ℤ)
+pub number-few : (old new : EncoderBuffer) (tag : Tag) (value : ℤ)
     → new ≡ record {
       limit = old.limit;
       heads = element tag (integer_octets value) ++ old.heads;
@@ -178,7 +183,7 @@ number-few old new tag value is =
       length-integer tag value,
     ))
 
-pub response-is : (id : ℕ) (old one four numbered whole : Sheet) → HoldsResults old
+pub response-is : (id : ℕ) (old one four numbered whole : EncoderBuffer) → HoldsResults old
     → one.limit ≡ old.limit → message one ≡ value_around (constructed 1) old.limit (message old)
     → four.limit ≡ one.limit → message four ≡ value_around (constructed 4) one.limit (message one)
     → numbered ≡ record {
@@ -192,7 +197,7 @@ response-is id old one four numbered whole holds one_limit is_one four_limit is_
     is_whole =
     let number = element int_tag (integer_octets (pos id)) in
     let limit : numbered.limit ≡ old.limit =
-    ap (λ (s : Sheet). s.limit) is_numbered ∙ four_limit ∙ one_limit in
+    ap (λ (s : EncoderBuffer). s.limit) is_numbered ∙ four_limit ∙ one_limit in
     read-is id old.limit (octets_in old.text) (message one) (message four) (message numbered)
     (message whole)
     (is_one ∙ ap (value_around (constructed 1) old.limit) (is-held old holds))

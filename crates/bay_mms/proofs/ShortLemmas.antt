@@ -2,7 +2,7 @@
 use Rattle.std.proofs.Common.{◌≡◌, ℕ, pos, ◌≤◌, Option, Some, None, ◌++◌, length, refl, arith}
 use Rattle.std.proofs.lemmas.List.{length-append}
 use Rattle.bay_ber.specs.Writing.{element, integer_octets, length_octets}
-use Rattle.bay_ber.specs.Sheets.{within}
+use Rattle.bay_ber.specs.EncoderBuffers.{within}
 use Rattle.bay_ber.proofs.SheetLemmas.{fits}
 use Rattle.bay_ber.proofs.SizeLemmas.{length-element, length-integer}
 use Rattle.bay_ber.specs.Tags.{context, constructed}

@@ -7,7 +7,7 @@ use Rattle.bay_mms.specs.declared.fault.DataAccessError.TheVariants.{ObjectAcces
 
 -- ---- own: numbers of faults
 
--- The faults of requests have the numbers 30 to 32; want of memory has none.
+-- The number of a fault of a request, 30 to 32; `OutOfMemory` has none.
 abbrev pub code_of : MmsFault → Option ℕ
 code_of (BadPdu id) = Some 30
 code_of (UnknownService id) = Some 31

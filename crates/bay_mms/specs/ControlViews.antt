@@ -1,20 +1,20 @@
--- Controls of the code, without where their octets lie in memory.
+-- Controls as values: as in the code, without the slices they borrow from.
 use Rattle.std.specs.Prelude.{pos, Result, Ok, Err}
 use Rattle.bay_mms.specs.declared.control.Origin as origin
-use Rattle.bay_mms.specs.declared.control.Cancel as cancel
-use Rattle.bay_mms.specs.declared.control.Operate as operate
+use Rattle.bay_mms.specs.declared.control.CancelData as cancel
+use Rattle.bay_mms.specs.declared.control.OperateData as operate
 use Rattle.bay_mms.specs.declared.shape.Shape.{Shape}
 use Rattle.bay_mms.specs.declared.fault.DataAccessError.{DataAccessError}
 use Rattle.bay_mms.specs.Controls.{Origin, Control, Operate}
 
 -- ---- own: views of the code
 
--- an originator
+-- the view of an originator
 abbrev pub originating : origin.Origin → Origin
 originating o = record { or_cat = o.or_cat; or_ident = o.or_ident.now }
 
--- a cancel
-abbrev pub cancelling : cancel.Cancel → Control
+-- the view of a cancel
+abbrev pub cancelling : cancel.CancelData → Control
 cancelling c =
     record {
       ctl_val = c.ctl_val;
@@ -24,11 +24,11 @@ cancelling c =
       test = c.test;
     }
 
--- an operate, or an enhanced select
-abbrev pub operating : operate.Operate → Operate
+-- the view of an operate, or of a select with value
+abbrev pub operating : operate.OperateData → Operate
 operating o = record { control = cancelling o.control; check = o.check }
 
--- what was read of a control, in any range
+-- the view of a control that was read, in any range
 abbrev pub shaping : Shape → Control
 shaping s =
     record {
@@ -39,7 +39,7 @@ shaping s =
       test = s.test;
     }
 
--- a result, seen through a view
+-- a result under a view of its value
 abbrev pub result_view : {A B : Type 0} → (A → B) → Result A DataAccessError
     → Result B DataAccessError
 result_view view (Ok x) = Ok (view x)

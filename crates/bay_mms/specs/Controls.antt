@@ -1,5 +1,5 @@
--- What a control is asked for, and the data that this is (IEC 61850-7-2, Select, SelectWithValue,
--- Operate and Cancel; IEC 61850-8-1, their mapping to SBOw, Oper and Cancel).
+-- The parameters of a control, and their data (IEC 61850-7-2, Select, SelectWithValue, Operate and
+-- Cancel; IEC 61850-8-1, their mapping to SBOw, Oper and Cancel).
 use Rattle.std.specs.Prelude.{ℕ, ℤ, pos, negsuc, ◌≡◌, ◌+◌, ◌*◌, ◌/◌, ◌==◌, ◌&&◌, Bool, true, false, List, [], ◌∷◌, length, Option, Some, None, Result, Ok, Err, nat_lt, if◌then◌else◌}
 use Rattle.bay_base.specs.Options.{◌>>=◌}
 use Rattle.bay_mms.specs.Data.{Datum, Data, structure, truth, bits, integer, unsigned, octets, utc, no_data, datum}
@@ -7,14 +7,14 @@ use Rattle.bay_mms.specs.declared.control.Check.{Check}
 use Rattle.bay_mms.specs.declared.fault.DataAccessError.{DataAccessError}
 use Rattle.bay_mms.specs.declared.fault.DataAccessError.TheVariants.{TypeInconsistent, ObjectValueInvalid}
 
--- ---- IEC 61850-8-1 Oper, SBOw, Cancel: what a control is asked for
+-- ---- IEC 61850-8-1 Oper, SBOw, Cancel: parameters
 
--- who controls (IEC 61850-7-3, Originator): orCat and orIdent, in any range
+-- the originator (IEC 61850-7-3, Originator): orCat and orIdent, in any range
 pub record Origin : Type 0 where
   pub or_cat : ℤ
   pub or_ident : List ℕ
 
--- what Cancel has: ctlVal, origin, ctlNum, T and Test, in any range
+-- the parameters of Cancel: ctlVal, origin, ctlNum, T and Test, in any range
 pub record Control : Type 0 where
   pub ctl_val : Bool
   pub origin : Origin
@@ -22,7 +22,7 @@ pub record Control : Type 0 where
   pub t : List ℕ
   pub test : Bool
 
--- what SBOw and Oper have: Check behind these
+-- the parameters of SBOw and Oper: those of Cancel, and Check
 pub record Operate : Type 0 where
   pub control : Control
   pub check : Check
@@ -37,7 +37,7 @@ check_octet c = (if c.synchrocheck then 0x80 else 0) + (if c.interlock_check the
 abbrev pub origin_datum : Origin → Datum
 origin_datum o = structure (datum (integer o.or_cat) (datum (octets o.or_ident) no_data))
 
--- the data of a control in front of others
+-- the data of a control, before other data
 abbrev pub control_before : Control → Data → Data
 control_before c later =
     datum (truth c.ctl_val) (datum (origin_datum c.origin)
@@ -52,22 +52,22 @@ operate_datum o =
 abbrev pub cancel_datum : Control → Datum
 cancel_datum c = structure (control_before c no_data)
 
--- The two bits are the highest of the first octet; what is behind them is not looked at.
+-- The two highest bits of the first octet are these checks; the other bits are ignored.
 pub record AreChecks (held : List ℕ) (check : Check) : Type 0 where
   pub first : ℕ
   pub later : List ℕ
   pub is : held ≡ first ∷ later
   pub high : first / 64 * 64 ≡ check_octet check
 
--- The data are an operate: those that it has, but for the octets of Check.
+-- The data are those of an operate, except for the ignored bits of Check.
 pub record IsOperate (d : Datum) (o : Operate) : Type 0 where
   pub held : List ℕ
   pub checks : AreChecks held o.check
   pub is : d ≡ structure (control_before o.control (datum (bits held 2) no_data))
 
--- ---- own: what simple data are read as
+-- ---- own: how simple data are read
 
--- the value of each kind, where data are of that kind
+-- the value of each kind, if the data are of that kind
 abbrev pub truth_as : Datum → Option Bool
 truth_as (truth value) = Some value
 truth_as d = None
@@ -88,13 +88,13 @@ abbrev pub moment_as : Datum → Option (List ℕ)
 moment_as (utc value) = Some value
 moment_as d = None
 
--- ---- IEC 61850-8-1 Oper, SBOw, Cancel: what data are read as
+-- ---- IEC 61850-8-1 Oper, SBOw, Cancel: how data are read
 
 -- synchrocheck and interlock-check
 abbrev pub checks : Bool → Bool → Check
 checks s i = record { synchrocheck = s; interlock_check = i }
 
--- the checks of two bits
+-- the checks of a number of two bits
 abbrev pub check_by : ℕ → Option Check
 check_by two =
     if two == 0 then Some (checks false false)
@@ -103,31 +103,31 @@ check_by two =
     else (if two == 3 then Some (checks true true)
     else None)))
 
--- the checks that the two highest bits of an octet are
+-- the checks in the two highest bits of an octet
 abbrev pub check_of : ℕ → Option Check
 check_of octet = check_by (octet / 64)
 
--- the checks that stand in the first octet
+-- the checks in the first octet, if there is one
 abbrev pub first_check : List ℕ → Option Check
 first_check [] = None
 first_check (first ∷ later) = check_of first
 
--- two bits
+-- the checks, if the data are two bits
 abbrev pub check_as : Datum → Option Check
 check_as (bits held count) = if count == 2 then first_check held else None
 check_as d = None
 
--- data one behind another, as a list (own)
+-- consecutive data as a list (own)
 abbrev pub list_of : Data → List Datum
 list_of no_data = []
 list_of (datum first later) = first ∷ list_of later
 
--- the parts, where data are a structure (own)
+-- the parts, if the data are a structure (own)
 abbrev pub parts_as : Datum → Option (List Datum)
 parts_as (structure parts) = Some (list_of parts)
 parts_as d = None
 
--- an originator out of its parts (IEC 61850-7-3, Originator)
+-- an originator from its parts (IEC 61850-7-3, Originator)
 abbrev pub origin_of : List Datum → Option Origin
 origin_of (category ∷ identity ∷ []) = do
   cat ← integer_as category
@@ -135,11 +135,11 @@ origin_of (category ∷ identity ∷ []) = do
   Some (record { or_cat = cat; or_ident = ident })
 origin_of parts = None
 
--- the originator that data are (IEC 61850-7-3, Originator)
+-- the originator that data are read as (IEC 61850-7-3, Originator)
 unfoldable pub origin_as : Datum → Option Origin
 origin_as d = parts_as d >>= origin_of
 
--- a control out of its parts, without Check
+-- a control from its parts, without Check
 unfoldable pub control_of : Datum → Datum → Datum → Datum → Datum → Option Control
 control_of value origin number moment test = do
   val ← truth_as value
@@ -149,13 +149,13 @@ control_of value origin number moment test = do
   flag ← truth_as test
   Some (record { ctl_val = val; origin = by; ctl_num = num; t = time; test = flag })
 
--- five parts are a cancel
+-- a cancel from its five parts
 abbrev pub cancel_of : List Datum → Option Control
 cancel_of (value ∷ origin ∷ number ∷ moment ∷ test ∷ []) =
     control_of value origin number moment test
 cancel_of parts = None
 
--- six parts are an operate, the last of them Check
+-- an operate from its six parts, the last of them Check
 abbrev pub operate_of : List Datum → Option Operate
 operate_of (value ∷ origin ∷ number ∷ moment ∷ test ∷ check ∷ []) = do
   control ← control_of value origin number moment test
@@ -163,22 +163,22 @@ operate_of (value ∷ origin ∷ number ∷ moment ∷ test ∷ check ∷ []) = 
   Some (record { control = control; check = two })
 operate_of parts = None
 
--- the cancel that data are, in any range
+-- the cancel that data are read as, in any range
 unfoldable pub cancel_as : Datum → Option Control
 cancel_as d = parts_as d >>= cancel_of
 
--- the operate that data are, in any range
+-- the operate that data are read as, in any range
 unfoldable pub operate_as : Datum → Option Operate
 operate_as d = parts_as d >>= operate_of
 
--- ---- own: ranges of what a control is asked for
+-- ---- own: ranges of the parameters
 
--- from -128 to 127
+-- whether a number is an orCat: from -128 to 127
 abbrev pub is_category : ℤ → Bool
 is_category (pos n) = nat_lt n 128
 is_category (negsuc n) = nat_lt n 128
 
--- from 0 to 255
+-- whether a number is a ctlNum: from 0 to 255
 abbrev pub is_number : ℤ → Bool
 is_number (pos n) = nat_lt n 256
 is_number (negsuc n) = false
@@ -188,15 +188,15 @@ abbrev pub is_in_range : Control → Bool
 is_in_range c =
     is_number c.ctl_num && (is_category c.origin.or_cat && nat_lt (length c.origin.or_ident) 65)
 
--- A control that is in range; data of another shape are told before one that is not.
+-- The control, if it is in range. A wrong shape is reported before a wrong range.
 abbrev pub within : {A : Type 0} → (A → Control) → Option A → Result A DataAccessError
 within control None = Err TypeInconsistent
 within control (Some x) = if is_in_range (control x) then Ok x else Err ObjectValueInvalid
 
--- the operate that data are, or why they are none
+-- the operate that data are read as, or why they are none
 abbrev pub operate_in : Datum → Result Operate DataAccessError
 operate_in d = within (λ o. o.control) (operate_as d)
 
--- the cancel that data are, or why they are none
+-- the cancel that data are read as, or why they are none
 abbrev pub cancel_in : Datum → Result Control DataAccessError
 cancel_in d = within (λ c. c) (cancel_as d)

@@ -29,7 +29,7 @@ mutual
     no_data : Data
     datum : Datum → Data → Data
 
--- the canonical text: each value under its tag, in the shortest spelling
+-- the canonical text: each value with its tag, in the shortest encoding
 abbrev mutual
   pub datum_text : Datum → List ℕ
   datum_text (structure parts) = element (constructed 2) (data_text parts)
@@ -48,15 +48,15 @@ abbrev mutual
 
 -- ---- IEC 61850-8-1 BasicTypes: the data of a leaf
 
--- the two bits of a position, or of a control's checks (IEC 61850-7-3, Dbpos)
+-- the octet with the two bits of a position (IEC 61850-7-3, Dbpos)
 abbrev pub position_octet : Dbpos → ℕ
 position_octet position.Intermediate = 0x00
 position_octet position.Off = 0x40
 position_octet position.On = 0x80
 position_octet position.Bad = 0xC0
 
--- the thirteen bits of a quality: the validity stands in the first two (IEC 61850-8-1, the mapping
--- of Quality)
+-- the thirteen bits of a quality: the validity is the first two (IEC 61850-8-1, the mapping of
+-- Quality)
 abbrev pub quality_octet : Quality → ℕ
 quality_octet quality.Good = 0x00
 quality_octet quality.Invalid = 0x40

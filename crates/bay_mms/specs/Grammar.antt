@@ -1,5 +1,5 @@
--- How requests are spelled (ISO 9506-2, with the profile of IEC 61850-8-1), as forms: each is read
--- as what spells it.
+-- How requests are encoded (ISO 9506-2, with the profile of IEC 61850-8-1), as forms, which also
+-- define how they are read.
 use Rattle.std.specs.Prelude.{ℕ, zero, suc, ℤ, pos, negsuc, ◌==◌, ◌&&◌, ◌||◌, Bool, true, false, not, Option, Some, None, Result, Ok, Err, List, length, map, nat_lt, if◌then◌else◌}
 use Rattle.std.specs.List.{list_any}
 use Rattle.bay_base.specs.Results.{◌>>=◌ as ◌>>◌}
@@ -7,8 +7,8 @@ use Rattle.bay_ber.specs.declared.tag.Class.TheVariants.{ContextSpecific}
 use Rattle.bay_ber.specs.declared.tag.Tag.{Tag}
 use Rattle.bay_ber.specs.Tags.{same_class, context, constructed, sequence, int_tag, visible_tag}
 use Rattle.bay_ber.specs.Values.{Part}
-use Rattle.bay_ber.specs.Forms.{Form, made, such, integer, truth, bits, octets, anything, empty, one, front, fields, each, whole, none, under, choice, done, next, maybe}
-use Rattle.bay_initiate.specs.Initiate.{proposal}
+use Rattle.bay_ber.specs.Forms.{Form, map_form, such, integer, truth, bits, octets, anything, empty, one, first_form, fields, each, whole, none, under, choice, done, next, maybe}
+use Rattle.bay_mms_initiate.specs.Initiate.{proposal}
 use Rattle.bay_mms.specs.Data as mms
 use Rattle.bay_mms.specs.Data.{Datum}
 use Rattle.bay_mms.specs.Views.{data_before}
@@ -27,138 +27,143 @@ domain_parts = next (under visible_tag octets) (next (under visible_tag octets) 
 -- ObjectName: vmd-specific, domain-specific or aa-specific
 unfoldable pub name : Form Part Naming
 name =
-    choice (context 0) (made vmd octets)
-    (choice (constructed 1) (made (λ x. domain x.0 x.1.0) (fields domain_parts))
-    (under (context 2) (made association octets)))
+    choice (context 0) (map_form vmd octets)
+    (choice (constructed 1) (map_form (λ x. domain x.0 x.1.0) (fields domain_parts))
+    (under (context 2) (map_form association octets)))
 
 -- ---- ISO 9506-2 VariableAccessSpecification: variables
 
+-- whether an optional part is present
 abbrev pub is_there : Option (Unit {0}) → Bool
 is_there (Some x) = true
 is_there None = false
 
+-- a variable, from the parts that were read
 abbrev pub variable_by : Naming × (Option (Unit {0}) × Unit {0}) → VariableSpecification
 variable_by x = record { name = x.0; is_alternate = is_there x.1.0 }
 
--- variableSpecification, a name, and alternateAccess, which is not looked at
+-- variableSpecification, a name, and alternateAccess, which is optional and not read
 unfoldable pub variable_parts : Form (List Part) (Naming × (Option (Unit {0}) × Unit {0}))
 variable_parts = next (under (constructed 0) (one name)) (maybe (constructed 5) anything done)
 
 -- an item of listOfVariable
 unfoldable pub variable : Form Part VariableSpecification
-variable = under sequence (made variable_by (fields variable_parts))
+variable = under sequence (map_form variable_by (fields variable_parts))
 
 -- VariableAccessSpecification: listOfVariable, or variableListName
 unfoldable pub access : Form Part Access
 access =
-    choice (constructed 0) (made variables (each variable))
-    (under (constructed 1) (made (λ n. named_list) (one name)))
+    choice (constructed 0) (map_form variables (each variable))
+    (under (constructed 1) (map_form (λ n. named_list) (one name)))
 
 -- ---- own: which names are served
 
--- whether of one of them only a part is asked for
+-- whether only a part of one of the variables is requested
 abbrev pub any_alternate : List VariableSpecification → Bool
 any_alternate vs = list_any (λ v. v.is_alternate) vs
 
--- whether there are as many as there are to be, where that is given
+-- whether there are `count` of them, if a count is given
 abbrev pub are_as_many : Option ℕ → ℕ → Bool
 are_as_many None number = true
 are_as_many (Some count) number = number == count
 
--- Of names, with whether only a part of a variable is asked for: at most 32, each as a whole.
+-- The names, if they are served: only whole variables, and at most 32.
 abbrev pub served_names : List Naming → Bool → Result (List Naming) Refusal
 served_names ns alternate =
     if alternate then Err Unknown else (if nat_lt 32 (length ns) then Err Many else Ok ns)
 
--- the same, and as many as there are to be
+-- the same, if there are `count` names
 abbrev pub counted_names : Option ℕ → List Naming → Bool → Result (List Naming) Refusal
 counted_names count ns alternate =
     if are_as_many count (length ns) then served_names ns alternate else Err Bad
 
--- Which names are asked for, as many as there are to be; how many a list by its name has is not
--- known.
+-- The requested names, `count` of them if a count is given; a named list of variables is not
+-- served.
 abbrev pub names_asked : Option ℕ → Access → Result (List Naming) Refusal
 names_asked count named_list = Err Unknown
 names_asked count (variables vs) = counted_names count (map (λ v. v.name) vs) (any_alternate vs)
 
 -- ---- ISO 9506-2 Data: data
 
--- a moment; one that has not eight octets is none, and taken as it is
+-- a utc-time; if it has not eight octets, data of another kind
 abbrev pub moment : List ℕ → Datum
 moment content =
     if length content == 8 then mms.utc content else mms.other (context 17) content
 
--- octet-string, visible-string and utc-time; a kind that is not listed is taken as it is
+-- octet-string, visible-string and utc-time; any other kind is kept as it is
 unfoldable pub string : Form Part Datum
 string =
-    choice (context 9) (made mms.octets octets)
-    (choice (context 10) (made mms.text octets)
-    (choice (context 17) (made moment octets) (made (λ p. mms.other p.tag p.content) whole)))
+    choice (context 9) (map_form mms.octets octets)
+    (choice (context 10) (map_form mms.text octets)
+    (choice (context 17) (map_form moment octets)
+    (map_form (λ p. mms.other p.tag p.content) whole)))
 
 -- boolean, bit-string, integer, unsigned, and strings
 unfoldable pub simple : Form Part Datum
 simple =
-    choice (context 3) (made mms.truth truth)
-    (choice (context 4) (made (λ b. mms.bits b.octets b.count) bits)
-    (choice (context 5) (made mms.integer integer)
-    (choice (context 6) (made mms.unsigned integer) string)))
+    choice (context 3) (map_form mms.truth truth)
+    (choice (context 4) (map_form (λ b. mms.bits b.octets b.count) bits)
+    (choice (context 5) (map_form mms.integer integer)
+    (choice (context 6) (map_form mms.unsigned integer) string)))
 
--- Data that is at most so deep; the parts of a structure are one deeper.
+-- Data nested at most n deep; the parts of a structure are one deeper.
 unfoldable pub datum_at : ℕ → Form Part Datum
 datum_at zero = none
 datum_at (suc depth) =
     choice (constructed 2)
-    (made (λ ds. mms.structure (data_before ds mms.no_data)) (each (datum_at depth))) simple
+    (map_form (λ ds. mms.structure (data_before ds mms.no_data)) (each (datum_at depth))) simple
 
--- ---- ISO 9506-2 GetNameList-Request: which names are asked for
+-- ---- ISO 9506-2 GetNameList-Request: the requested names
 
 -- objectScope: vmdSpecific, domainSpecific or aaSpecific
 unfoldable pub scope : Form Part Place
 scope =
-    choice (context 0) (made (λ x. whole_vmd) empty)
-    (choice (context 1) (made in_domain octets)
-    (under (context 2) (made (λ x. of_association) empty)))
+    choice (context 0) (map_form (λ x. whole_vmd) empty)
+    (choice (context 1) (map_form in_domain octets)
+    (under (context 2) (map_form (λ x. of_association) empty)))
 
--- objectClass, and objectScope, each under its tag
+-- objectClass, and objectScope, each with its tag
 unfoldable pub class_part : Form Part ℤ
 class_part = under (constructed 0) (one (under (context 0) integer))
 
 unfoldable pub scope_part : Form Part Place
 scope_part = under (constructed 1) (one scope)
 
+-- the request for names, from the parts that were read
 abbrev pub names_by : ℤ × (Place × (Option (List ℕ) × Unit {0})) → Asking
 names_by x = names x.0 x.1.0 x.1.1.0
 
--- objectClass, objectScope, and continueAfter, which may be left out
+-- objectClass, objectScope, and continueAfter, which is optional
 unfoldable pub listing_parts : Form (List Part) (ℤ × (Place × (Option (List ℕ) × Unit {0})))
 listing_parts = next class_part (next scope_part (maybe (context 2) octets done))
 
 -- GetNameList-Request
 unfoldable pub listing : Form (List ℕ) Asking
-listing = made names_by (fields listing_parts)
+listing = map_form names_by (fields listing_parts)
 
--- ---- ISO 9506-2 GetVariableAccessAttributes-Request: the type that is asked for
+-- ---- ISO 9506-2 GetVariableAccessAttributes-Request: the requested type
 
--- GetVariableAccessAttributes-Request: by a name; by the name of a list it is not served
+-- GetVariableAccessAttributes-Request: by the name of a variable; by the name of a list it is not
+-- served
 unfoldable pub attributes_by : Form Part (Result Asking Refusal)
 attributes_by =
-    choice (constructed 0) (made (λ n. Ok (attributes n)) (one name))
-    (under (constructed 1) (made (λ n. Err Unknown) (one name)))
+    choice (constructed 0) (map_form (λ n. Ok (attributes n)) (one name))
+    (under (constructed 1) (map_form (λ n. Err Unknown) (one name)))
 
 -- ---- ISO 9506-2 Read-Request: variables that are read
 
--- the variables that are read
+-- the read of these variables
 unfoldable pub reading : Access → Result Asking Refusal
 reading vs = names_asked None vs >> λ ns. Ok (read ns)
 
--- Read-Request: specificationWithResult, which is not looked at and may be left out, and
+-- Read-Request: specificationWithResult, which is optional and not read, and
 -- variableAccessSpecification
 unfoldable pub read_parts : Form (List Part) (Option (Unit {0}) × (Access × Unit {0}))
 read_parts = maybe (context 0) anything (next (under (constructed 1) (one access)) done)
 
 -- ---- ISO 9506-2 Write-Request: variables that are written
 
--- the variables that are written, and as many data
+-- the write of these data to as many variables
 unfoldable pub writing : Access × (List Datum × Unit {0}) → Result Asking Refusal
 writing x = names_asked (Some (length x.1.0)) x.0 >> λ ns. Ok (write ns x.1.0)
 
@@ -168,14 +173,14 @@ write_parts = next access (next (under (constructed 0) (each (datum_at 10))) don
 
 -- ---- ISO 9506-2 ConfirmedServiceRequest: services
 
--- the service's tag is context-specific, and its number is of no service that is listed
+-- whether the tag is context-specific, with a number of no service that is read here
 abbrev pub is_unlisted : Tag → Bool
 is_unlisted tag =
     same_class tag.class ContextSpecific
     && not ((tag.number == 1)
     || ((tag.number == 2) || ((tag.number == 4) || ((tag.number == 5) || (tag.number == 6)))))
 
--- a service that is not listed is not served
+-- the refusal of a service that is not read here
 abbrev pub unlisted : Part → Option (Result Asking Refusal)
 unlisted part = if is_unlisted part.tag then Some (Err Unknown) else None
 
@@ -183,15 +188,15 @@ unlisted part = if is_unlisted part.tag then Some (Err Unknown) else None
 -- others
 unfoldable pub service_request : Form Part (Result Asking Refusal)
 service_request =
-    choice (constructed 1) (made (λ x. Ok x) listing)
-    (choice (context 2) (made (λ x. Ok identify) empty)
-    (choice (constructed 4) (made (λ x. reading x.1.0) (fields read_parts))
-    (choice (constructed 5) (made writing (fields write_parts))
+    choice (constructed 1) (map_form (λ x. Ok x) listing)
+    (choice (context 2) (map_form (λ x. Ok identify) empty)
+    (choice (constructed 4) (map_form (λ x. reading x.1.0) (fields read_parts))
+    (choice (constructed 5) (map_form writing (fields write_parts))
     (choice (constructed 6) (one attributes_by) (such unlisted whole)))))
 
 -- ---- ISO 9506-2 MMSpdu: the request
 
--- an invoke id, of 32 bits
+-- a number, if it is an invoke id: 32 bits
 abbrev pub id_of : ℤ → Option ℕ
 id_of (pos n) = if nat_lt n 4294967296 then Some n else None
 id_of (negsuc n) = None
@@ -204,7 +209,8 @@ invoke_id = under int_tag (such id_of integer)
 unfoldable pub confirmed_parts : Form (List Part) (ℕ × (Result Asking Refusal × Unit {0}))
 confirmed_parts = next invoke_id (next service_request done)
 
--- the request of a service under an invoke id, or why it is denied; a bad one is none (own)
+-- the request for a service with an invoke id, or why it is refused; None if the service is
+-- malformed (own)
 abbrev pub under_id : ℕ → Result Asking Refusal → Option (Result Message Denial)
 under_id id (Ok asking) = Some (Ok (confirmed id asking))
 under_id id (Err Unknown) = Some (Err (unknown id))
@@ -215,28 +221,28 @@ under_id id (Err refusal) = None
 unfoldable pub pdu : Form Part (Result Message Denial)
 pdu =
     choice (constructed 0) (such (λ x. under_id x.0 x.1.0) (fields confirmed_parts))
-    (choice (constructed 8) (made (λ p. Ok (initiate p)) proposal)
-    (under (context 11) (made (λ x. Ok conclude) empty)))
+    (choice (constructed 8) (map_form (λ p. Ok (initiate p)) proposal)
+    (under (context 11) (map_form (λ x. Ok conclude) empty)))
 
 -- a request
 unfoldable pub request : Form (List ℕ) (Result Message Denial)
 request = one pdu
 
--- ---- own: what is answered
+-- ---- own: the result of reading a request
 
--- the invoke id, where a value of a confirmed request stands at the front, and an id at the front
--- of its content
+-- the invoke id, if the octets begin with a value of a confirmed request whose content begins with
+-- an id
 unfoldable pub front_id : Form (List ℕ) ℕ
-front_id = front (under (constructed 0) (front invoke_id))
+front_id = first_form (under (constructed 0) (first_form invoke_id))
 
--- what is answered of a request that was read, or of none, with the invoke id that can be read in
--- any case
+-- the result for a request that was read, or for none: then a bad PDU, with the invoke id if it can
+-- be read
 abbrev pub told : Option ℕ → Option (Result Message Denial) → Result Message MmsFault
 told known (Some (Ok message)) = Ok message
 told known (Some (Err (unknown id))) = Err (fault.UnknownService id)
 told known (Some (Err (many id))) = Err (fault.TooMany id)
 told known None = Err (fault.BadPdu known)
 
--- the request that octets are, or why they are none
+-- the request that octets are read as, or their fault
 unfoldable pub answer_to : List ℕ → Result Message MmsFault
 answer_to octets = told (front_id.reads octets) (request.reads octets)

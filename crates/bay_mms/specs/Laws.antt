@@ -1,4 +1,4 @@
--- What stands in texts.
+-- Words of the laws about texts: tags, contents, plain data and depth.
 use Rattle.std.specs.Prelude.{ℕ, suc, max, ◌≡◌, ◌*◌, ◌^◌, ◌<◌, ◌≤◌, FitsSigned, List, length}
 use Rattle.std.specs.Int.{w64}
 use Rattle.bay_ber.specs.declared.tag.Tag.{Tag}
@@ -21,7 +21,7 @@ datum_tag (text value) = context 10
 datum_tag (utc value) = context 17
 datum_tag (other tag value) = tag
 
--- what stands under the tag
+-- the content after the tag and the length
 abbrev pub datum_content : Datum → List ℕ
 datum_content (structure parts) = data_text parts
 datum_content (truth value) = truth_octets value
@@ -33,21 +33,21 @@ datum_content (text value) = value
 datum_content (utc value) = value
 datum_content (other tag value) = value
 
--- ---- own: what stands in texts
+-- ---- own: plain data and depth
 
--- The list is one value under the tag.
+-- The octets are one value with this tag.
 pub record IsOneValue (list : List ℕ) (tag : Tag) : Type 0 where
   pub content : List ℕ
   pub spelled : Spells list tag content
 
--- A bit string that has its octets, whose unused bits are 0.
+-- A bit string has as many octets as it needs, and its unused bits are 0.
 pub record IsHeld (held : List ℕ) (count : ℕ) : Type 0 where
   pub enough : count ≤ 8 * length held
   pub short : count < 2 ^ 35
   pub whole : bit_octets held count ≡ held
 
--- Data that stand in their text as they are: integers of 64 bits, such bit strings, moments of
--- eight octets, and no kind that is not listed.
+-- Data that can be read back from their text: integers of 64 bits, such bit strings, moments of
+-- eight octets, and no data of another kind.
 abbrev mutual
   pub IsPlain : Datum → Type 0
   IsPlain (structure parts) = ArePlain parts
@@ -64,7 +64,7 @@ abbrev mutual
   ArePlain no_data = Unit {0}
   ArePlain (datum first later) = IsPlain first × ArePlain later
 
--- how deep data are: what is no structure is 1 deep, and a structure one deeper than its deepest
+-- the depth of data: 1 for data that are no structure; a structure is one deeper than its deepest
 -- part
 abbrev mutual
   pub depth_of : Datum → ℕ

@@ -1,5 +1,5 @@
--- What stands below a row of the tree: a leaf's value, or the structure of the rows that are named
--- by the row's name, `$` and one word, in order.
+-- The node of a row of the tree: a leaf's value, or the structure of the rows that are named by the
+-- row's name, `$` and one word, in order.
 use Rattle.std.specs.Prelude.{ℕ, ◌+◌, Option, Some, None, List, [], ◌∷◌, drop, if◌then◌else◌}
 use Rattle.bay_tree.specs.declared.row.Row.{Row}
 use Rattle.bay_tree.specs.declared.leaf.Leaf.{Leaf}
@@ -10,7 +10,7 @@ use Rattle.bay_mms.specs.Data.{Datum, Data, leaf_datum}
 use Rattle.bay_mms.specs.Types as types
 use Rattle.bay_mms.specs.Types.{TypeSpec, Components, leaf_type_spec}
 
--- ---- own: what stands below a row
+-- ---- own: the node of a row
 
 mutual
   pub data Node : Type 0 where
@@ -21,13 +21,13 @@ mutual
     no_nodes : Nodes
     node : List ℕ → Node → Nodes → Nodes
 
--- a row with a leaf is its value, one without a structure
+-- the node of a row: its value if it is a leaf, and else a structure
 abbrev pub node_of : Option Leaf → Nodes → Node
 node_of (Some leaf) parts = value leaf
 node_of None parts = structure parts
 
--- The nodes of the rows in a list that are below a name, in order. A structure's rows stand behind
--- it.
+-- The nodes of the rows in a list that are directly below a name, in order. The rows of a structure
+-- follow it.
 abbrev pub nodes_in : List ℕ → List Row → Nodes
 nodes_in parent [] = no_nodes
 nodes_in parent (row ∷ later) =
@@ -36,12 +36,12 @@ nodes_in parent (row ∷ later) =
     (nodes_in parent later)
     else nodes_in parent later
 
--- the node of the row at a place
+-- the node of the row at an index
 abbrev pub node_at : List Row → ℕ → Node
 node_at rows place =
     node_of (leaf_at rows place) (nodes_in (name_at rows place) (drop (place + 1) rows))
 
--- ---- own: the data and the type of what stands there
+-- ---- own: the data and the type of a node
 
 abbrev mutual
   pub node_datum : Node → Datum
@@ -61,10 +61,10 @@ abbrev mutual
   nodes_types no_nodes = types.no_components
   nodes_types (node name first later) = types.component name (node_type first) (nodes_types later)
 
--- the data of the row at a place
+-- the data of the row at an index
 abbrev pub data_at : List Row → ℕ → Datum
 data_at rows place = node_datum (node_at rows place)
 
--- the type of the row at a place
+-- the type of the row at an index
 abbrev pub type_at : List Row → ℕ → TypeSpec
 type_at rows place = node_type (node_at rows place)

@@ -3,7 +3,7 @@
 use Rattle.std.specs.Prelude.{ℕ, pos, List, [], ◌∷◌, ◌++◌, codes}
 use Rattle.bay_ber.specs.Writing.{element, truth_octets, integer_octets, bit_string_octets}
 use Rattle.bay_mms.specs.declared.control.Origin.{Origin}
-use Rattle.bay_mms.specs.declared.control.Operate.{Operate}
+use Rattle.bay_mms.specs.declared.control.OperateData.{OperateData}
 use Rattle.bay_mms.specs.declared.report.LastApplError.{LastApplError}
 use Rattle.bay_mms.specs.Data.{Datum, Data, structure, integer, unsigned, text, no_data, datum, data_text}
 use Rattle.bay_mms.specs.Controls.{origin_datum, check_octet, operate_datum}
@@ -16,7 +16,7 @@ use Rattle.bay_ber.specs.Tags.{context, constructed, sequence, visible_tag}
 abbrev pub variable_text : List ℕ → List ℕ
 variable_text name = element sequence (element (constructed 0) name)
 
--- variables, one behind another
+-- variables, one after another
 abbrev pub variables_text : List (List ℕ) → List ℕ
 variables_text [] = []
 variables_text (name ∷ names) = variable_text name ++ variables_text names
@@ -29,7 +29,7 @@ report_text names values =
 
 -- ---- IEC 61850-8-1 LastApplError, CommandTermination: reports of controls
 
--- the name that reports of refused controls have (IEC 61850-8-1, LastApplError)
+-- the name of the variable in reports of refused controls (IEC 61850-8-1, LastApplError)
 abbrev pub failure_name : List ℕ
 failure_name = element (context 0) (codes "LastApplError")
 
@@ -46,23 +46,23 @@ failure_datum e =
     (datum (origin_datum (originating e.origin))
     (datum (unsigned (pos e.ctl_num)) (datum (integer (pos e.add_cause)) no_data)))))
 
--- a control was refused (IEC 61850-8-1, LastApplError)
+-- the report that a control was refused (IEC 61850-8-1, LastApplError)
 abbrev pub failure_text : LastApplError → List ℕ
 failure_text e = report_text (failure_name ∷ []) (datum (failure_datum e) no_data)
 
--- a control has done what it was asked for, and is told as it was written (IEC 61850-8-1,
--- CommandTermination)
-abbrev pub termination_text : List ℕ → List ℕ → Operate → List ℕ
+-- the report that a control has succeeded, which repeats the operate as it was written (IEC
+-- 61850-8-1, CommandTermination)
+abbrev pub termination_text : List ℕ → List ℕ → OperateData → List ℕ
 termination_text domain item o =
     report_text (item_name domain item ∷ []) (datum (operate_datum (operating o)) no_data)
 
--- a control has failed: why, and then what it was asked for
-abbrev pub failed_text : LastApplError → List ℕ → List ℕ → Operate → List ℕ
+-- the report that a control has failed: why, and then the operate
+abbrev pub failed_text : LastApplError → List ℕ → List ℕ → OperateData → List ℕ
 failed_text e domain item o =
     report_text (failure_name ∷ item_name domain item ∷ [])
     (datum (failure_datum e) (datum (operate_datum (operating o)) no_data))
 
--- ---- IEC 61850-8-1 LastApplError, Oper: the texts of their parts, one behind another
+-- ---- IEC 61850-8-1 LastApplError, Oper: the texts of their parts
 
 -- orCat and orIdent (IEC 61850-7-3, Originator)
 abbrev pub origin_parts : Origin → List ℕ
@@ -73,13 +73,14 @@ abbrev pub origin_text : Origin → List ℕ
 origin_text o = element (constructed 2) (origin_parts o)
 
 -- ctlVal, origin and ctlNum (IEC 61850-8-1, Oper)
-abbrev pub operate_front : Operate → List ℕ
+abbrev pub operate_front : OperateData → List ℕ
 operate_front o =
     element (context 3) (truth_octets o.control.ctl_val)
-    ++ (origin_text o.control.origin ++ element (context 6) (integer_octets (pos o.control.ctl_num)))
+    ++ (origin_text o.control.origin
+    ++ element (context 6) (integer_octets (pos o.control.ctl_num)))
 
 -- T, Test and Check (IEC 61850-8-1, Oper)
-abbrev pub operate_back : Operate → List ℕ
+abbrev pub operate_back : OperateData → List ℕ
 operate_back o =
     element (context 17) o.control.t
     ++ (element (context 3) (truth_octets o.control.test)
@@ -96,7 +97,7 @@ failure_back e =
     ++ element (context 5) (integer_octets (pos e.add_cause)))
 
 -- the data of an operate (IEC 61850-8-1, Oper)
-abbrev pub operate_text : Operate → List ℕ
+abbrev pub operate_text : OperateData → List ℕ
 operate_text o = element (constructed 2) (operate_front o ++ operate_back o)
 
 -- the data of a refused control (IEC 61850-8-1, LastApplError)

@@ -1,4 +1,4 @@
--- Requests of the code, without where they lie in memory.
+-- Requests as values: as in the code, without the slices they borrow from.
 use Rattle.std.specs.Prelude.{option_map, map}
 use Rattle.bay_mms.specs.declared.request.ObjectName.{ObjectName}
 use Rattle.bay_mms.specs.declared.request.ObjectName.TheVariants as name
@@ -14,23 +14,23 @@ use Rattle.bay_mms.specs.Requests.{Naming, vmd, domain, association, Place, whol
 
 -- ---- own: views of the code
 
--- the name of an object
+-- the view of the name of an object
 abbrev pub naming : ObjectName → Naming
 naming (name.Vmd text) = vmd text.now
 naming (name.Domain d item) = domain d.now item.now
 naming (name.Association text) = association text.now
 
--- where names are asked for
+-- the view of the scope of names
 abbrev pub place : Scope → Place
 place scope.Vmd = whole_vmd
 place (scope.Domain d) = in_domain d.now
 place scope.Association = of_association
 
--- a variable that is named
+-- the view of a named variable
 abbrev pub variable : code.VariableSpecification → VariableSpecification
 variable v = record { name = naming v.name; is_alternate = v.is_alternate }
 
--- a service and what it is asked for
+-- the view of a service with its arguments
 abbrev pub asking : Call → Asking
 asking call.Identify = identify
 asking (call.Names class s after) = names class (place s) (option_map (λ text. text.now) after)
@@ -38,7 +38,7 @@ asking (call.Attributes n) = attributes (naming n)
 asking (call.Read ns) = read (map naming ns.items)
 asking (call.Write ns values) = write (map naming ns.items) (data_in values.items)
 
--- a request
+-- the view of a request
 abbrev pub message : Request → Message
 message (request.Initiate proposal) = initiate proposal
 message request.Conclude = conclude

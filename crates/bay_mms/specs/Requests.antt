@@ -1,23 +1,22 @@
--- What a client asks (ISO 9506-2): data without where they lie in memory.
+-- The requests of clients (ISO 9506-2), as values, without the slices they borrow from.
 use Rattle.std.specs.Prelude.{ℕ, ℤ, Bool, Option, List}
 use Rattle.bay_mms.specs.Data.{Datum}
-use Rattle.bay_initiate.specs.declared.initiate.Proposal.{Proposal}
+use Rattle.bay_mms_initiate.specs.declared.initiate.Proposal.{Proposal}
 
--- the name of an object (ISO 9506-2, ObjectName): of the device's own, of a domain, or of the
--- association
+-- the name of an object (ISO 9506-2, ObjectName): in the VMD, in a domain, or in the association
 pub data Naming : Type 0 where
   vmd : List ℕ → Naming
   domain : List ℕ → List ℕ → Naming
   association : List ℕ → Naming
 
--- where names are asked for, objectScope (ISO 9506-2, GetNameList-Request)
+-- the scope whose names are requested, objectScope (ISO 9506-2, GetNameList-Request)
 pub data Place : Type 0 where
   whole_vmd : Place
   in_domain : List ℕ → Place
   of_association : Place
 
--- a variable that is named, and whether only a part of it is asked for, by alternate access (ISO
--- 9506-2, VariableAccessSpecification)
+-- a named variable, and whether only a part of it is requested, by alternate access (ISO 9506-2,
+-- VariableAccessSpecification)
 pub record VariableSpecification : Type 0 where
   pub name : Naming
   pub is_alternate : Bool
@@ -28,7 +27,7 @@ pub data Access : Type 0 where
   variables : List VariableSpecification → Access
   named_list : Access
 
--- a service that is read here, and what it is asked for (ISO 9506-2, ConfirmedServiceRequest)
+-- a confirmed service that is read here, with its arguments (ISO 9506-2, ConfirmedServiceRequest)
 pub data Asking : Type 0 where
   identify : Asking
   names : ℤ → Place → Option (List ℕ) → Asking
@@ -36,14 +35,14 @@ pub data Asking : Type 0 where
   read : List Naming → Asking
   write : List Naming → List Datum → Asking
 
--- a request; one that is confirmed has an invoke id (ISO 9506-2, MMSpdu)
+-- a request; a confirmed one has an invoke id (ISO 9506-2, MMSpdu)
 pub data Message : Type 0 where
   initiate : Proposal → Message
   conclude : Message
   confirmed : ℕ → Asking → Message
 
--- why a request that is well spelled is denied, with its invoke id: it asks for what is not served,
--- or names too many variables (own)
+-- why a well encoded request is refused, with its invoke id: it requests what is not served, or has
+-- too many variables (own)
 pub data Denial : Type 0 where
   unknown : ℕ → Denial
   many : ℕ → Denial

@@ -26,25 +26,25 @@ abbrev pub identity_text : List ℕ → List ℕ → List ℕ → List ℕ
 identity_text vendor model revision =
     element (context 0) vendor ++ (element (context 1) model ++ element (context 2) revision)
 
--- names, one behind another (ISO 9506-2, GetNameList-Response)
+-- names, one after another (ISO 9506-2, GetNameList-Response)
 abbrev pub names_text : List (List ℕ) → List ℕ
 names_text [] = []
 names_text (name ∷ names) = element visible_tag name ++ names_text names
 
--- the results of a read (ISO 9506-2, AccessResult), one behind another: data, a text in the place
--- of a row's own, or the number of an error
+-- a result of a read: a text instead of the data of a row (ISO 9506-2, AccessResult)
 abbrev pub text_result : List ℕ → List ℕ
 text_result text = element (context 10) text
 
--- the number of an error in the place of data (ISO 9506-2, DataAccessError)
+-- a result of a read or a write: the number of an error (ISO 9506-2, DataAccessError)
 abbrev pub failure_result : DataAccessError → List ℕ
 failure_result cause = element (context 0) (integer_octets (pos (access_code_of cause)))
 
--- and the other result of a write (ISO 9506-2, Write-Response)
+-- a result of a write: success (ISO 9506-2, Write-Response)
 abbrev pub success_result : List ℕ
 success_result = element (context 1) []
 
--- the result of one variable of a write: the error, where there is one (ISO 9506-2, Write-Response)
+-- the result of one variable of a write: the error, if there is one, or success (ISO 9506-2,
+-- Write-Response)
 abbrev pub result_text : Option DataAccessError → List ℕ
 result_text None = success_result
 result_text (Some cause) = failure_result cause
@@ -60,7 +60,8 @@ write_text id results = confirmed_response id (element (constructed 5) results)
 
 -- ---- ISO 9506-2 ServiceError, Confirmed-ErrorPDU: errors
 
--- no such object is 2 of the class access, another want of resources 0 of the class resource
+-- the class and number of an error: no such object is 2 of the class access, too few resources 0 of
+-- the class resource
 abbrev pub class_text : ErrorClass → List ℕ
 class_text error.NoSuchObject = element (context 7) (integer_octets (pos 2))
 class_text error.Resource = element (context 3) (integer_octets (pos 0))
@@ -73,23 +74,24 @@ error_text id class =
 
 -- ---- ISO 9506-2 RejectPDU: rejects
 
--- the invoke id, where one was read
+-- the invoke id, if one was read
 abbrev pub id_text : Option ℕ → List ℕ
 id_text None = []
 id_text (Some id) = element (context 0) (integer_octets (pos id))
 
--- an unrecognized service is 1 of confirmed requests, an invalid PDU 1 of errors of a PDU
+-- the reason of a reject: an unrecognized service is 1 of confirmed requests, an invalid PDU 1 of
+-- errors of a PDU
 abbrev pub reason_text : RejectReason → List ℕ
 reason_text reject.UnrecognizedService = element (context 1) (integer_octets (pos 1))
 reason_text reject.InvalidPdu = element (context 5) (integer_octets (pos 1))
 
--- a reject: the invoke id, where one was read, and the reason
+-- a reject: the invoke id, if one was read, and the reason
 abbrev pub reject_text : Option ℕ → RejectReason → List ℕ
 reject_text id reason = element (constructed 4) (id_text id ++ reason_text reason)
 
 -- ---- ISO 9506-2 Conclude-ResponsePDU: the answer to a conclude
 
--- the answer to a request for the end
+-- the answer to a conclude
 abbrev pub concluded_text : List ℕ
 concluded_text = element (context 12) []
 
@@ -112,7 +114,7 @@ service_number (service.Identify vendor model revision) = 2
 service_number (service.Names names more) = 1
 service_number (service.Attributes tree handle) = 6
 
--- what stands under the tag
+-- the content of a service
 abbrev pub content_text : Service → List ℕ
 content_text (service.Identify vendor model revision) =
     identity_text vendor.now model.now revision.now
@@ -125,7 +127,7 @@ content_text (service.Attributes tree handle) =
 abbrev pub service_text : Service → List ℕ
 service_text s = element (constructed (service_number s)) (content_text s)
 
--- The handles are the tree's (own).
+-- The handle is one of the tree (own).
 abbrev pub IsOfTree : Service → Type 0
 IsOfTree (service.Attributes tree handle) = IsHandle tree.now handle
 IsOfTree s = Unit {0}

@@ -17,9 +17,8 @@ mutual
     no_components : Components
     component : List ℕ → TypeSpec → Components → Components
 
--- The canonical text. A simple type is its tag and its size, a number of bits or octets; a size
--- below 0 is one that a value may fall short of. A structure is the names and the types of its
--- components.
+-- The canonical text. A simple type is its tag and its size, a number of bits or octets; a negative
+-- size is a maximum. A structure is the names and the types of its components.
 abbrev mutual
   pub type_text : TypeSpec → List ℕ
   type_text (structure parts) =
@@ -33,8 +32,8 @@ abbrev mutual
       element sequence (element (context 0) name ++ element (constructed 1) (type_text first))
       ++ components_text later
 
--- the type of a leaf: numbers by their bits, bit strings by theirs, octets and texts by the most
--- that they may have (IEC 61850-8-1, BasicTypes)
+-- the type of a leaf: numbers and bit strings with their number of bits, octets and texts with
+-- their greatest length (IEC 61850-8-1, BasicTypes)
 abbrev pub leaf_type_spec : Leaf → TypeSpec
 leaf_type_spec (leaf.Truth value) = plain 3
 leaf_type_spec (leaf.Dbpos value) = sized 4 (pos 2)

@@ -1,8 +1,9 @@
-// The names and the variables of requests (ISO 9506-2, ObjectName and VariableAccessSpecification).
+// Reading the names and the variables of requests (ISO 9506-2, ObjectName and
+// VariableAccessSpecification).
 ghost use Rattle.std.specs.Prelude.{◌≡◌, false, [], ◌∷◌, ◌++◌, map, option_map, IsErrOf, OnOk};
 ghost use Rattle.bay_base.specs.Exact.{Gives};
 ghost use Rattle.bay_base.specs.Results.{IsRead};
-ghost use Rattle.bay_ber.specs.Forms.{answer, made, one, each};
+ghost use Rattle.bay_ber.specs.Forms.{answer, map_form, one, each};
 ghost use Rattle.bay_ber.specs.Values.{part_of};
 ghost use Rattle.bay_mms.specs.Answers.{names_none};
 ghost use Rattle.bay_mms.specs.Grammar as spec;
@@ -16,17 +17,17 @@ use bay_ber::tag::Tag;
 use bay_ber::values::{Value, Values, few_values, whole_value};
 use std::alloc::{AllocError, Global};
 
-// A request names at most so many variables.
+// The most variables of a request.
 const VARIABLES_MAX: usize = 32;
 
-/// A named variable, and whether only a part of it is asked for.
+/// A named variable, and whether only a part of it is requested, by alternate access.
 #[derive(Clone, Copy)]
 pub struct VariableSpecification<'a> {
     pub name: ObjectName<'a>,
     pub is_alternate: bool,
 }
 
-// The name of an item in a domain.
+// Reads the two parts of a name of an item in a domain.
 #[tactic(auto, unfolding(crate::specs::Grammar::domain_parts))]
 fn domain_name<'a>(parts: &[Value<'a>]) -> Option<ObjectName<'a>>
     ensures { option_map naming result
@@ -34,17 +35,17 @@ fn domain_name<'a>(parts: &[Value<'a>]) -> Option<ObjectName<'a>>
 {
     match parts {
         [domain, item] => {
-            let domain = domain.under(Tag::universal(26))?;
-            let item = item.under(Tag::universal(26))?;
+            let domain = domain.content_with_tag(Tag::universal(26))?;
+            let item = item.content_with_tag(Tag::universal(26))?;
             Some(ObjectName::Domain { domain, item })
         }
         _ => None,
     }
 }
 
-// The name that a value is.
+// Reads a value as a name.
 #[tactic(auto, unfolding(crate::specs::Grammar::name))]
-fn name_as<'a>(value: &Value<'a>) -> Option<ObjectName<'a>>
+fn name_from_value<'a>(value: &Value<'a>) -> Option<ObjectName<'a>>
     ensures { option_map naming result ≡ name.reads (part_of value.now) }
 {
     if value.tag.is(Tag::context(0)) {
@@ -60,41 +61,41 @@ fn name_as<'a>(value: &Value<'a>) -> Option<ObjectName<'a>>
 }
 
 /// Reads octets as a name.
-pub(crate) fn name_in(octets: &[u8]) -> Option<ObjectName<'_>>
+pub(crate) fn parse_name(octets: &[u8]) -> Option<ObjectName<'_>>
     ensures { option_map naming result ≡ (one name).reads octets.now }
 {
     let value = whole_value(octets)?;
-    name_as(&value)
+    name_from_value(&value)
 }
 
-// The variable of a name, and of what may follow it.
+// Reads the parts of a variable: its name, and an alternate access, which is optional.
 #[tactic(auto, unfolding(crate::specs::Grammar::variable_parts))]
-fn variable_of<'a>(parts: &[Value<'a>]) -> Option<VariableSpecification<'a>>
+fn variable_from_parts<'a>(parts: &[Value<'a>]) -> Option<VariableSpecification<'a>>
     ensures { option_map view result
         ≡ option_map variable_by (variable_parts.reads (map part_of parts.now)) }
 {
     let (name, is_alternate) = match parts {
         [name] => (name, false),
         [name, access] => {
-            access.under(Tag::context_constructed(5))?;
+            access.content_with_tag(Tag::context_constructed(5))?;
             (name, true)
         }
         _ => return None,
     };
-    let name = name_in(name.under(Tag::context_constructed(0))?)?;
+    let name = parse_name(name.content_with_tag(Tag::context_constructed(0))?)?;
     Some(VariableSpecification { name, is_alternate })
 }
 
-// The variable of a list that a value is.
+// Reads a value as a variable of a list.
 #[tactic(auto, unfolding(crate::specs::Grammar::variable))]
-fn variable_as<'a>(value: &Value<'a>) -> Option<VariableSpecification<'a>>
+fn variable_from_value<'a>(value: &Value<'a>) -> Option<VariableSpecification<'a>>
     ensures { option_map view result ≡ variable.reads (part_of value.now) }
 {
-    let parts = few_values(value.under(Tag::sequence())?)?;
-    variable_of(parts.as_slice())
+    let parts = few_values(value.content_with_tag(Tag::sequence())?)?;
+    variable_from_parts(parts.as_slice())
 }
 
-// Keeps one name more, with room for as many as are served.
+// Appends a name; with the first one, allocates room for as many names as are served.
 fn push_name<'a>(names: &mut Vec<ObjectName<'a>>, name: ObjectName<'a>) -> Result<(), AllocError>
     ensures { OnOk result (map naming names.new.items
         ≡ map naming names.old.items ++ naming name.entry ∷ []) }
@@ -106,7 +107,7 @@ fn push_name<'a>(names: &mut Vec<ObjectName<'a>>, name: ObjectName<'a>) -> Resul
     Ok(())
 }
 
-// Whether there are as many as there are to be, where that is given.
+// Returns whether there are `count` of them, if a count is given.
 fn are_as_many(count: Option<usize>, number: usize) -> bool
     ensures { result ≡ spec.are_as_many count number }
 {
@@ -116,8 +117,9 @@ fn are_as_many(count: Option<usize>, number: usize) -> bool
     }
 }
 
-// Names that are served: as many as there are data, where that is given, each of a whole variable,
-// and no more than the limit.
+// Returns the names if the request is served. Fails with `Bad` if there are not `count` names, if a
+// count is given; with `Unknown` if only a part of a variable is requested; with `Many` if there
+// are more than the limit.
 #[tactic(auto, using(crate::proofs::RequestLemmas::counted_is))]
 fn counted<'a>(
     count: Option<usize>,
@@ -138,18 +140,18 @@ fn counted<'a>(
     }
 }
 
-// The names of the variables that octets are, one after another.
+// Reads consecutive variables, and returns their names.
 fn listed<'a>(
     alloc: Global,
     count: Option<usize>,
     octets: &'a [u8],
 ) -> Result<Vec<ObjectName<'a>>, Refusal>
     ensures asked { Gives Refusal.OutOfMemory (λ v. map naming v.items) result
-        (answer Refusal.Bad (made (λ vs. names_asked count (variables vs)) (each variable))
+        (answer Refusal.Bad (map_form (λ vs. names_asked count (variables vs)) (each variable))
         octets.now) }
     ensures memory { IsErrOf result Refusal.OutOfMemory
         → names_none (answer Refusal.Bad
-        (made (λ vs. names_asked count (variables vs)) (each variable)) octets.now) ≡ false }
+        (map_form (λ vs. names_asked count (variables vs)) (each variable)) octets.now) ≡ false }
 {
     let mut names = Vec::new(alloc);
     let mut is_alternate = false;
@@ -157,7 +159,7 @@ fn listed<'a>(
     loop {
         match values.next_value() {
             Ok(Some(value)) => {
-                let Some(one) = variable_as(&value) else {
+                let Some(one) = variable_from_value(&value) else {
                     return Err(Refusal::Bad);
                 };
                 is_alternate |= one.is_alternate;
@@ -169,24 +171,24 @@ fn listed<'a>(
     }
 }
 
-/// Reads the names of the variables that a value asks for. There must be `count` of them if `count`
-/// is given. Does not allocate for no variables.
+/// Reads the names of the variables of an access specification. There must be `count` of them if
+/// `count` is given. Does not allocate for no variables.
 #[tactic(auto, unfolding(crate::specs::Grammar::access))]
-pub(crate) fn names_as<'a>(
+pub(crate) fn names_from_value<'a>(
     alloc: Global,
     count: Option<usize>,
     value: &Value<'a>,
 ) -> Result<Vec<ObjectName<'a>>, Refusal>
     ensures asked { Gives Refusal.OutOfMemory (λ v. map naming v.items) result
-        (answer Refusal.Bad (made (names_asked count) access) (part_of value.now)) }
+        (answer Refusal.Bad (map_form (names_asked count) access) (part_of value.now)) }
     ensures memory { IsErrOf result Refusal.OutOfMemory
-        → names_none (answer Refusal.Bad (made (names_asked count) access) (part_of value.now))
+        → names_none (answer Refusal.Bad (map_form (names_asked count) access) (part_of value.now))
         ≡ false }
 {
     if value.tag.is(Tag::context_constructed(0)) {
         listed(alloc, count, value.content)
     } else if value.tag.is(Tag::context_constructed(1)) {
-        match name_in(value.content) {
+        match parse_name(value.content) {
             Some(_) => Err(Refusal::Unknown),
             None => Err(Refusal::Bad),
         }

@@ -1,5 +1,4 @@
-// Controls: what a client asks of them, out of the data that it writes (IEC 61850-8-1, SBOw, Oper
-// and Cancel).
+// Reading a control from the data that a client writes (IEC 61850-8-1, SBOw, Oper and Cancel).
 ghost use Rattle.std.specs.Prelude.{◌≡◌, option_map, Some, None, if◌then◌else◌};
 ghost use Rattle.bay_mms.specs.Views.{datum_of};
 ghost use Rattle.bay_mms.specs.Controls.{is_in_range, operate_in, cancel_in};
@@ -7,9 +6,9 @@ ghost use Rattle.bay_mms.specs.ControlViews.{cancelling, operating, shaping, res
 
 use crate::data::Data;
 use crate::fault::DataAccessError;
-use crate::shape::{Shape, cancel_as, operate_as};
+use crate::shape::{Shape, cancel_from_data, operate_from_data};
 
-// An originator's identity has at most so many octets.
+// The most octets of an originator's identity.
 const IDENTITY_MAX: usize = 64;
 
 /// The originator of a control (IEC 61850-7-3, Originator).
@@ -17,19 +16,19 @@ const IDENTITY_MAX: usize = 64;
 pub struct Origin<'a> {
     /// The category.
     pub or_cat: i8,
-    /// The identity, at most 64 octets if it was read.
+    /// The identity, at most 64 octets if it was read from data.
     pub or_ident: &'a [u8],
 }
 
 /// The parameters of a select with value or an operate (IEC 61850-8-1, SBOw and Oper).
 #[derive(Clone, Copy, Debug)]
-pub struct Operate<'a> {
-    /// What a cancel has too.
-    pub control: Cancel<'a>,
+pub struct OperateData<'a> {
+    /// The parameters that a cancel has, too.
+    pub control: CancelData<'a>,
     pub check: Check,
 }
 
-/// What is to be checked before the switch moves (IEC 61850-7-2, Check).
+/// The checks that are requested before the switch moves (IEC 61850-7-2, Check).
 #[derive(Clone, Copy, Debug)]
 pub struct Check {
     pub synchrocheck: bool,
@@ -38,7 +37,7 @@ pub struct Check {
 
 /// The parameters of a cancel (IEC 61850-8-1, Cancel).
 #[derive(Clone, Copy, Debug)]
-pub struct Cancel<'a> {
+pub struct CancelData<'a> {
     /// On or off; in a cancel, as in the request that is cancelled.
     pub ctl_val: bool,
     pub origin: Origin<'a>,
@@ -48,8 +47,8 @@ pub struct Cancel<'a> {
     pub test: bool,
 }
 
-// The control of this shape, if its numbers and its identity are in range.
-fn in_range<'a>(shape: &Shape<'a>) -> Option<Cancel<'a>>
+// Returns the control with this shape, if its numbers and its identity are in range.
+fn in_range<'a>(shape: &Shape<'a>) -> Option<CancelData<'a>>
     ensures { option_map cancelling result
         ≡ (if is_in_range (shaping shape.now) then Some (shaping shape.now) else None) }
 {
@@ -58,7 +57,7 @@ fn in_range<'a>(shape: &Shape<'a>) -> Option<Cancel<'a>>
     if shape.or_ident.len() > IDENTITY_MAX {
         return None;
     }
-    Some(Cancel {
+    Some(CancelData {
         ctl_val: shape.ctl_val,
         origin: Origin {
             or_cat,
@@ -70,23 +69,23 @@ fn in_range<'a>(shape: &Shape<'a>) -> Option<Cancel<'a>>
     })
 }
 
-/// Reads data as an operate or a select with value. `TypeInconsistent` if they have another shape:
-/// not six parts, a part of another kind, a T without eight octets, or a Check without two bits.
-/// Otherwise `ObjectValueInvalid` if ctlNum is outside 0 to 255, orCat is outside -128 to 127, or
-/// orIdent is longer than 64 octets.
-pub fn operate_of<'a>(given: &Data<'a>) -> Result<Operate<'a>, DataAccessError>
+/// Reads data as an operate or a select with value. Fails with `TypeInconsistent` if the data have
+/// another shape: not six parts, a part of another kind, a T without eight octets, or a Check
+/// without two bits. Otherwise fails with `ObjectValueInvalid` if ctlNum is outside 0 to 255, orCat
+/// is outside -128 to 127, or orIdent is longer than 64 octets.
+pub fn operate_of<'a>(given: &Data<'a>) -> Result<OperateData<'a>, DataAccessError>
     ensures { result_view operating result ≡ operate_in (datum_of given.now) }
 {
-    let (shape, check) = operate_as(given).ok_or(DataAccessError::TypeInconsistent)?;
+    let (shape, check) = operate_from_data(given).ok_or(DataAccessError::TypeInconsistent)?;
     let control = in_range(&shape).ok_or(DataAccessError::ObjectValueInvalid)?;
-    Ok(Operate { control, check })
+    Ok(OperateData { control, check })
 }
 
-/// Reads data as a cancel, with the errors of `operate_of`. A cancel has five parts, because it has
-/// no Check.
-pub fn cancel_of<'a>(given: &Data<'a>) -> Result<Cancel<'a>, DataAccessError>
+/// Reads data as a cancel. Fails like `operate_of`. A cancel has five parts, because it has no
+/// Check.
+pub fn cancel_of<'a>(given: &Data<'a>) -> Result<CancelData<'a>, DataAccessError>
     ensures { result_view cancelling result ≡ cancel_in (datum_of given.now) }
 {
-    let shape = cancel_as(given).ok_or(DataAccessError::TypeInconsistent)?;
+    let shape = cancel_from_data(given).ok_or(DataAccessError::TypeInconsistent)?;
     in_range(&shape).ok_or(DataAccessError::ObjectValueInvalid)
 }

@@ -30,7 +30,7 @@ pub enum Data<'a> {
     Other(Value<'a>),
 }
 
-// The data of a leaf.
+// Returns the data of a leaf.
 fn leaf_data(leaf: &Leaf) -> Data<'_>
     ensures { datum_of result ≡ leaf_datum leaf.now }
 {
@@ -65,7 +65,7 @@ pub(crate) fn push_data<'a>(parts: &mut Vec<Data<'a>>, part: Data<'a>) -> Result
 }
 
 /// Returns the data of a row (IEC 61850-8-1, the mapping of values to MMS data): the value of a
-/// leaf, or the data of the rows below a structure.
+/// leaf, or the data of the rows below a structure. Fails only if an allocation fails.
 pub fn data_of<'a>(alloc: Global, tree: &'a Tree, handle: Handle) -> Result<Data<'a>, AllocError>
     requires { IsHandle tree.now handle }
     ensures { IfOk result (λ found. datum_of found ≡ data_at tree.now handle) }
@@ -97,7 +97,7 @@ pub enum TypeSpec<'a> {
     Sized(u8, i16),
 }
 
-// The type of a leaf: its tag's number, and its size where it has one.
+// Returns the type of a leaf: the number of its tag, and its size if it has one.
 fn leaf_type_spec(leaf: &Leaf) -> TypeSpec<'_>
     ensures { type_of result ≡ spec.leaf_type_spec leaf.now }
 {
@@ -116,7 +116,7 @@ fn leaf_type_spec(leaf: &Leaf) -> TypeSpec<'_>
     }
 }
 
-// Puts a component behind others.
+// Appends a component.
 fn push_component<'a>(
     parts: &mut Vec<(&'a str, TypeSpec<'a>)>,
     name: &'a str,
@@ -129,8 +129,8 @@ fn push_component<'a>(
     Ok(())
 }
 
-/// Returns the type of a row (IEC 61850-8-1): that of a leaf, or a structure of the types of the
-/// rows below it, each named by the last word of its name.
+/// Returns the type of a row (IEC 61850-8-1): the type of a leaf, or a structure of the types of
+/// the rows below it, each named by the last word of its name. Fails only if an allocation fails.
 pub fn type_spec_of<'a>(
     alloc: Global,
     tree: &'a Tree,

@@ -1,11 +1,11 @@
-// Why nothing is read or written.
+// Why reading or writing failed.
 ghost use Rattle.std.specs.Prelude.{◌≡◌, Some, None};
 ghost use Rattle.bay_mms.specs.Code.{code_of, access_code_of};
 
 use std::alloc::AllocError;
 use thiserror::Error;
 
-/// Why encoding a text failed.
+/// Why writing a text failed.
 #[derive(Clone, Copy, Debug, Error)]
 pub enum EncodeFault {
     /// The text has more octets than allowed.
@@ -29,14 +29,14 @@ impl From<AllocError> for EncodeFault {
 /// Why octets are not a request that is served.
 #[derive(Clone, Copy, Debug, Error)]
 pub enum MmsFault {
-    /// The octets do not spell a request. Holds the invoke id if one can be read.
+    /// The octets encode no request. Has the invoke id if one can be read.
     #[error("the octets are no request")]
     BadPdu(Option<u32>),
-    /// The service is not served, or it asks for alternate access or a named list. Holds the invoke
-    /// id.
+    /// The service is not served, or the request has alternate access or a named list. Has the
+    /// invoke id.
     #[error("the service is not known")]
     UnknownService(u32),
-    /// The request reads or writes more than 32 variables. Holds the invoke id.
+    /// The request reads or writes more than 32 variables. Has the invoke id.
     #[error("there are too many variables")]
     TooMany(u32),
     /// Out of memory for the request.
@@ -45,7 +45,7 @@ pub enum MmsFault {
 }
 
 impl MmsFault {
-    /// Returns the number of the fault, 30 to 32 in the order of the variants. Out of memory has
+    /// Returns the number of the fault, 30 to 32 in the order of the variants. `OutOfMemory` has
     /// none.
     pub fn code(self) -> Option<u8>
         ensures { result ≡ code_of self }
@@ -62,7 +62,7 @@ impl MmsFault {
 /// Why a variable is not read or written (ISO 9506-2, DataAccessError).
 #[derive(Clone, Copy, Debug, Error)]
 pub enum DataAccessError {
-    /// What is written is no whole control, or the control is refused.
+    /// The written variable is not a whole control, or the control is refused.
     #[error("the access is denied")]
     ObjectAccessDenied,
     /// The data have another shape.
@@ -77,7 +77,7 @@ pub enum DataAccessError {
 }
 
 impl DataAccessError {
-    /// Returns the number of the error.
+    /// Returns the number of the error in ISO 9506-2.
     pub fn code(self) -> u8
         ensures { result ≡ access_code_of self }
     {
@@ -93,11 +93,11 @@ impl DataAccessError {
 /// Why reading a part of a request failed, before its invoke id is known.
 #[derive(Clone, Copy)]
 pub(crate) enum Refusal {
-    /// The spelling is wrong.
+    /// The part is wrongly encoded.
     Bad,
-    /// The spelling is right, but the request is not served.
+    /// The part is well encoded, but the request is not served.
     Unknown,
-    /// It has too many variables.
+    /// The request has too many variables.
     Many,
     /// Out of memory for the part.
     OutOfMemory,

@@ -1,4 +1,4 @@
-// Laws of the texts. Each function does nothing, and its contract is the law.
+// Laws about the texts and the grammar. Each function does nothing, and its contract is the law.
 ghost use Rattle.std.specs.Prelude.{◌≡◌, ◌<◌, ◌≤◌, ◌↔◌, IsTrue, Option, Some, Result, Ok, Err, List, ℕ, length};
 ghost use Rattle.bay_ber.specs.Octets.{AreOctets};
 ghost use Rattle.bay_ber.specs.Spelling.{Spells};
@@ -9,10 +9,10 @@ ghost use Rattle.bay_mms.specs.Responses.{concluded_text, confirmed_response, er
 ghost use Rattle.bay_ber.specs.Tags.{context, constructed};
 ghost use Rattle.bay_base.specs.Exact.{Gives};
 ghost use Rattle.bay_mms.specs.Answers.{IsAnswer};
-ghost use Rattle.bay_mms.specs.Asks.{Asks, AsksUnknown, AsksMany, AsksNothing};
+ghost use Rattle.bay_mms.specs.RequestRelations.{Asks, AsksUnknown, AsksMany, AsksNothing};
 ghost use Rattle.bay_mms.specs.Grammar.{datum_at, answer_to};
-ghost use Rattle.bay_initiate.specs.Agreed.{agreed_text};
-ghost use Rattle.bay_initiate.specs.Initiate.{initiate_in, IsInitiate};
+ghost use Rattle.bay_mms_initiate.specs.Agreed.{agreed_text};
+ghost use Rattle.bay_mms_initiate.specs.Initiate.{initiate_in, IsInitiate};
 ghost use Rattle.bay_ber.specs.Values.{value};
 ghost use Rattle.bay_mms.specs.Controls.{Control, Operate, IsOperate, operate_datum, cancel_datum, operate_as, cancel_as, is_in_range, operate_in};
 ghost use Rattle.bay_mms.specs.Laws.{IsPlain, IsOneValue, datum_tag, datum_content, depth_of};
@@ -21,14 +21,14 @@ ghost use Rattle.bay_mms.specs.RequestViews.{message};
 ghost use Rattle.bay_mms.specs.declared.fault.MmsFault.{MmsFault};
 ghost use Rattle.bay_mms.specs.declared.request.Request.{Request};
 ghost use Rattle.bay_mms.specs.declared.fault.MmsFault.TheVariants as MmsFault;
-ghost use Rattle.bay_initiate.specs.declared.initiate.Proposal.{Proposal};
-ghost use Rattle.bay_initiate.specs.declared.initiate.Agreed.{Agreed};
+ghost use Rattle.bay_mms_initiate.specs.declared.initiate.Proposal.{Proposal};
+ghost use Rattle.bay_mms_initiate.specs.declared.initiate.Agreed.{Agreed};
 ghost use Rattle.bay_mms.specs.declared.response.ErrorClass.{ErrorClass};
 ghost use Rattle.bay_mms.specs.declared.response.RejectReason.{RejectReason};
 
-/// What is written is read back as one value of BER (X.690 8.1): data under their tags, which have
-/// one octet, with their contents; responses and reports under the tags of their PDUs. Data that
-/// are plain in their text are received as the same data.
+/// Each written text below 2^32 octets is one value of BER (X.690 8.1): data with their tags, which
+/// have one octet, and their contents; responses and reports with the tags of their PDUs. Plain
+/// data are read back as the same data.
 pub fn written_is_read()
     ensures datum { (datum : Datum) → (datum_tag datum).number < 31
         → length (datum_text datum) < 4294967296
@@ -50,10 +50,10 @@ pub fn written_is_read()
         → IsOneValue (report_text names values) (constructed 3) }
 {}
 
-/// Octets ask for at most one request. Octets that spell a request by complete nested values are
-/// read as that request, and octets that are read as a request spell it. The same holds for the
-/// initiate that opens an association. The answer to octets is that request or the fault that they
-/// have, unless memory runs out.
+/// Octets encode at most one request. Octets that encode a request by complete nested values are
+/// read as that request, and octets that are read as a request encode it. The same holds for the
+/// initiate that opens an association. The result for octets is that request or the fault that they
+/// have, unless an allocation fails.
 pub fn one_request()
     ensures asked { (octets : List ℕ) (request : Message) → Asks request octets
         → answer_to octets ≡ Ok request }
@@ -68,7 +68,7 @@ pub fn one_request()
 {}
 
 /// Each fault has its own relation: a service that is not served, and too many variables. Anything
-/// else is a bad PDU, with the invoke id at its front.
+/// else is a bad PDU, with the invoke id if the octets begin with one.
 pub fn one_fault()
     ensures unknown { (octets : List ℕ) (id : ℕ) → AreOctets octets
         → (answer_to octets ≡ Err (MmsFault.UnknownService id)) ↔ AsksUnknown id octets }
@@ -80,7 +80,7 @@ pub fn one_fault()
 
 /// Controls and their data: which data are read as an operate or a cancel. The text of an operate,
 /// as in reports, is the text of the data that it was read from. The data of an operate in range
-/// are plain in their text, and are read back as that operate.
+/// are plain, and are read back as that operate.
 pub fn a_control_is_its_data()
     ensures operate { (given : Datum) (o : Operate) → (operate_as given ≡ Some o)
         ↔ IsOperate given o }

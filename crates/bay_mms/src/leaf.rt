@@ -1,6 +1,6 @@
-// The data and the type of a leaf.
+// Writing the data and the type of a leaf.
 ghost use Rattle.std.specs.Prelude.{[], ◌∷◌, ◌≡◌};
-ghost use Rattle.bay_ber.specs.Sheets.{sheet_with};
+ghost use Rattle.bay_ber.specs.EncoderBuffers.{sheet_with};
 ghost use Rattle.bay_mms.specs.Utc as spec;
 ghost use Rattle.bay_mms.specs.Data.{bits, utc, position_octet, quality_octet, datum_text, leaf_datum};
 ghost use Rattle.bay_mms.specs.Types.{type_text, leaf_type_spec};
@@ -11,7 +11,7 @@ use bay_tree::leaf::{Dbpos, Leaf, Quality};
 
 /// Converts a time in milliseconds since 1970 to a utc-time (IEC 61850-8-1, the mapping of
 /// TimeStamp): four octets of seconds, three octets of the fraction of a second rounded down, and
-/// the quality 2A. Seconds from 2^32 on start again at 0.
+/// the quality 2A. The seconds are counted modulo 2^32.
 pub(crate) fn utc_octets(ms: u64) -> [u8; 8]
     ensures { result ≡ spec.utc_octets ms }
 {
@@ -22,7 +22,7 @@ pub(crate) fn utc_octets(ms: u64) -> [u8; 8]
     [s1, s2, s3, s4, f1, f2, f3, 0x2A]
 }
 
-/// Returns the octet with the two bits of a position.
+/// Returns the octet of the two bits of a position.
 pub(crate) fn position_octets(position: Dbpos) -> &'static [u8]
     ensures { result.now ≡ position_octet position ∷ [] }
 {
@@ -34,7 +34,7 @@ pub(crate) fn position_octets(position: Dbpos) -> &'static [u8]
     }
 }
 
-/// Returns the octets with the thirteen bits of a quality.
+/// Returns the octets of the thirteen bits of a quality.
 pub(crate) fn quality_octets(quality: Quality) -> &'static [u8]
     ensures { result.now ≡ quality_octet quality ∷ 0 ∷ [] }
 {
@@ -44,7 +44,7 @@ pub(crate) fn quality_octets(quality: Quality) -> &'static [u8]
     }
 }
 
-// The text of a position.
+// Returns the text of a position.
 #[tactic(auto, unfolding(bay_ber::specs::Writing::element, bay_ber::specs::Writing::length_octets))]
 fn position_text(position: Dbpos) -> &'static [u8]
     ensures { result.now ≡ datum_text (bits (position_octet position ∷ []) 2) }
@@ -57,7 +57,7 @@ fn position_text(position: Dbpos) -> &'static [u8]
     }
 }
 
-// The text of a quality.
+// Returns the text of a quality.
 #[tactic(auto, unfolding(bay_ber::specs::Writing::element, bay_ber::specs::Writing::length_octets))]
 fn quality_text(quality: Quality) -> &'static [u8]
     ensures { result.now ≡ datum_text (bits (quality_octet quality ∷ 0 ∷ []) 13) }
@@ -68,7 +68,7 @@ fn quality_text(quality: Quality) -> &'static [u8]
     }
 }
 
-// The text of a moment.
+// Returns the text of a moment in milliseconds since 1970.
 #[tactic(auto, unfolding(bay_ber::specs::Writing::element, bay_ber::specs::Writing::length_octets))]
 fn utc_text(ms: u64) -> [u8; 10]
     ensures { result ≡ datum_text (utc (spec.utc_octets ms)) }
@@ -77,7 +77,7 @@ fn utc_text(ms: u64) -> [u8; 10]
     [0x91, 8, s1, s2, s3, s4, f1, f2, f3, quality]
 }
 
-/// Writes the data of a leaf.
+/// Appends the data of a leaf.
 pub(crate) fn put_leaf(writer: &mut Writer, leaf: &Leaf)
     ensures { writer.new ≡ sheet_with writer.old (datum_text (leaf_datum leaf.now)) }
 {
@@ -96,7 +96,7 @@ pub(crate) fn put_leaf(writer: &mut Writer, leaf: &Leaf)
     }
 }
 
-/// Writes the type of a leaf.
+/// Appends the type of a leaf.
 #[tactic(auto, unfolding(bay_ber::specs::Writing::element, bay_ber::specs::Writing::length_octets))]
 pub(crate) fn put_leaf_type(writer: &mut Writer, leaf: &Leaf)
     ensures { writer.new ≡ sheet_with writer.old (type_text (leaf_type_spec leaf.now)) }
@@ -109,7 +109,7 @@ pub(crate) fn put_leaf_type(writer: &mut Writer, leaf: &Leaf)
         Leaf::Int32(_) => writer.append(&[0x85, 1, 32]),
         Leaf::Unsigned8(_) => writer.append(&[0x86, 1, 8]),
         Leaf::Unsigned32(_) => writer.append(&[0x86, 1, 32]),
-        // A size below 0 is one that a value may fall short of: at most 64, 129 and 255.
+        // A negative size is a maximum: at most 64, 129 and 255.
         Leaf::Octets(_) => writer.append(&[0x89, 1, 0xC0]),
         Leaf::Reference(_) => writer.append(&[0x8A, 2, 0xFF, 0x7F]),
         Leaf::Text(_) => writer.append(&[0x8A, 2, 0xFF, 0x01]),

@@ -1,4 +1,4 @@
-// The names of a tree as responses list them (ISO 9506-2, GetNameList).
+// The names of a tree, encoded as responses list them (ISO 9506-2, GetNameList).
 ghost use Rattle.std.specs.Prelude.{◌≡◌, ◌+◌, ◌-◌, ◌≤◌, IfOk, List, ℕ, drop, length, take};
 ghost use Rattle.bay_tree.specs.Rows.{names_of};
 ghost use Rattle.bay_mms.specs.Pages.{begin_at, text_of_names};
@@ -10,8 +10,8 @@ use bay_tree::tree::Tree;
 use std::alloc::{AllocError, Global};
 use std::marker::Model;
 
-/// The names of a tree as responses list them, one after another, and where each ends. They are
-/// written once, and a page copies a part of them.
+/// The names of a tree, encoded as responses list them, one after another, and the end of each.
+/// They are encoded once, and each page copies a part of them.
 #[derive(Drop)]
 pub struct NameTexts {
     octets: Vec<u8>,
@@ -29,7 +29,7 @@ impl Model for NameTexts {
     ghost invariant = { λ n. AreEnds n.ends.items (length n.octets.items) };
 }
 
-// Where the names from a place on begin, by where each ends.
+// Returns the offset at which the name with this index begins, from the ends of all names.
 fn begin(ends: &[usize], place: usize) -> usize
     requires { place ≤ length ends.now }
     ensures { result ≡ begin_at ends.now place }
@@ -38,7 +38,7 @@ fn begin(ends: &[usize], place: usize) -> usize
 }
 
 impl NameTexts {
-    /// Writes the texts of a tree's names, in the order of its rows.
+    /// Encodes the names of a tree, in the order of its rows. Fails only if an allocation fails.
     pub fn of_tree(alloc: Global, tree: &Tree) -> Result<Self, AllocError>
         ensures { IfOk result (λ names. names ≡ text_of_names (names_of tree.now)) }
     {
@@ -53,14 +53,14 @@ impl NameTexts {
         Ok(NameTexts { octets, ends })
     }
 
-    /// How many names there are.
+    /// Returns the number of names.
     pub(crate) fn count(&self) -> usize
         ensures { result ≡ length self.now.ends }
     {
         self.ends.len()
     }
 
-    /// How many octets so many names from a place on take.
+    /// Returns the number of octets of `count` names from index `start` on.
     pub(crate) fn size(&self, start: usize, count: usize) -> usize
         requires { start + count ≤ length self.now.ends }
         ensures { result ≡ begin_at self.now.ends (start + count) - begin_at self.now.ends start }
@@ -68,7 +68,7 @@ impl NameTexts {
         begin(&self.ends, start + count) - begin(&self.ends, start)
     }
 
-    /// The texts of so many names from a place on.
+    /// Returns the texts of `count` names from index `start` on.
     pub(crate) fn texts(&self, start: usize, count: usize) -> &[u8]
         requires { start + count ≤ length self.now.ends }
         ensures { (names : List (List ℕ)) → self.now ≡ text_of_names names

@@ -1,7 +1,7 @@
 // Pages of names (ISO 9506-2, GetNameList).
 ghost use Rattle.std.specs.Prelude.{Err, ◌≡◌, ◌^◌, ◌+◌, ◌<◌, ◌≤◌, ◌↔◌, List, ℕ, drop, pos, IsTrue, IfOk, length, take, nat_lt};
 ghost use Rattle.std.specs.Option.{option_copied};
-ghost use Rattle.bay_ber.specs.Sheets.{sheet_with};
+ghost use Rattle.bay_ber.specs.EncoderBuffers.{sheet_with};
 ghost use Rattle.bay_ber.specs.Writing.{integer_octets};
 ghost use Rattle.bay_ber.specs.Writing as ber;
 ghost use Rattle.bay_tree.specs.Page.{rows_after, IsUnknown};
@@ -18,10 +18,10 @@ use bay_tree::fault::NamesFault;
 use bay_tree::tree::Tree;
 use std::alloc::Global;
 
-// A page has at most so many names.
+// The most names of a page.
 const NAMES_MAX: usize = 100;
 
-// How many octets an invoke id has as a value.
+// Returns the number of octets of an encoded invoke id.
 fn id_length(id: u32) -> u32
     ensures value { result ≡ ber.element_length (length (integer_octets (pos id))) }
     ensures few { result ≤ 10 }
@@ -29,7 +29,8 @@ fn id_length(id: u32) -> u32
     element_length(integer_length(i64::from(id)) as u32) as u32
 }
 
-// How many octets the response has whose invoke id and names take so many.
+// Returns the number of octets of a response whose invoke id takes `id` octets and whose names take
+// `names` octets.
 fn page_length(id: u32, names: u32) -> u64
     requires id { id ≤ 10 }
     requires names { names < 2 ^ 31 }
@@ -40,7 +41,8 @@ fn page_length(id: u32, names: u32) -> u64
     element_length(id + service as u32)
 }
 
-// Whether names of so many octets fit a page, where the invoke id takes so many.
+// Returns whether names of `names` octets fit into a page of `size` octets, if the invoke id takes
+// `id` octets.
 fn has_room(id: u32, names: usize, size: u32) -> bool
     requires id { id ≤ 10 }
     requires size { size < 2 ^ 31 }
@@ -49,7 +51,7 @@ fn has_room(id: u32, names: usize, size: u32) -> bool
     names <= size as usize && page_length(id, names as u32) <= u64::from(size)
 }
 
-// How many of the names from a place on a page has.
+// Returns how many of the names from index `start` on a page has.
 fn fitting(names: &NameTexts, start: usize, id: u32, size: u32) -> usize
     requires size { size < 2 ^ 31 }
     requires within { start ≤ length names.now.ends }
@@ -72,7 +74,7 @@ fn fitting(names: &NameTexts, start: usize, id: u32, size: u32) -> usize
     count
 }
 
-// Writes the response that lists names of these texts.
+// Appends the response that lists the names with these texts.
 #[tactic(auto, using(bay_ber::proofs::SheetLemmas::sheet_rules))]
 fn put_page(writer: &mut Writer, id: u32, texts: &[u8], more: bool)
     ensures { writer.new ≡ sheet_with writer.old (spec.response_of_texts id texts.now more) }
@@ -88,10 +90,10 @@ fn put_page(writer: &mut Writer, id: u32, texts: &[u8], more: bool)
     writer.close(start);
 }
 
-/// Writes the response, with an invoke id, that lists the names after a name, or from the first on
-/// without one. It lists as many as fit in a PDU of `size` octets, at most 100, and says whether
-/// more follow. `NoSuchName` if no row has the name. The response has at most `size` octets.
-/// `names` must be the texts of the tree's names.
+/// Returns the response, with an invoke id, that lists the names after a name, or all names from
+/// the first on if `after` is `None`. It lists as many as fit into a PDU of `size` octets, at most
+/// 100, and whether more follow. Fails with `NoSuchName` if no row has the name `after`, and with
+/// `OutOfMemory`. `names` must be the texts of the tree's names.
 pub fn write_page(
     alloc: Global,
     id: u32,
@@ -115,5 +117,5 @@ pub fn write_page(
     let count = fitting(names, start, id, size);
     let more = count < names.count() - start;
     put_page(&mut writer, id, names.texts(start, count), more);
-    Ok(writer.finish_held())
+    Ok(writer.finish_untruncated())
 }

@@ -1,6 +1,6 @@
-// The reports of controls (IEC 61850-8-1, LastApplError and CommandTermination).
+// Writing the reports of controls (IEC 61850-8-1, LastApplError and CommandTermination).
 ghost use Rattle.std.specs.Prelude.{◌≡◌, ◌++◌, codes};
-ghost use Rattle.bay_ber.specs.Sheets.{sheet_with};
+ghost use Rattle.bay_ber.specs.EncoderBuffers.{sheet_with};
 ghost use Rattle.bay_ber.specs.Writing.{element};
 ghost use Rattle.bay_mms.specs.Controls as spec;
 ghost use Rattle.bay_ber.specs.Tags.{constructed};
@@ -8,7 +8,7 @@ ghost use Rattle.bay_mms.specs.Reports.{variable_text, origin_text, operate_fron
 ghost use Rattle.bay_mms.specs.Writing.{text_within};
 ghost use Rattle.bay_base.specs.Exact.{Gives};
 
-use crate::control::{Check, Operate, Origin};
+use crate::control::{Check, OperateData, Origin};
 use crate::fault::EncodeFault;
 use crate::put::finish;
 use bay_ber::content::Bits;
@@ -17,7 +17,8 @@ use bay_ber::tag::Tag;
 use bay_ber::writer::Writer;
 use std::alloc::Global;
 
-/// Why a control was refused or ended (IEC 61850-8-1, LastApplError). Its Error is 0.
+/// Why a control was refused or has failed (IEC 61850-8-1, LastApplError). The component Error is
+/// always 0.
 #[derive(Clone, Copy)]
 pub struct LastApplError<'a> {
     /// The control (CntrlObj): its domain, `/` and its item.
@@ -28,7 +29,7 @@ pub struct LastApplError<'a> {
     pub add_cause: u8,
 }
 
-// Writes an originator, a structure of its category and its identity.
+// Appends an originator, a structure of its category and its identity.
 #[tactic(auto, using(bay_ber::proofs::SheetLemmas::sheet_rules))]
 fn put_origin(writer: &mut Writer, origin: &Origin<'_>)
     ensures { writer.new ≡ sheet_with writer.old (origin_text origin.now) }
@@ -39,9 +40,9 @@ fn put_origin(writer: &mut Writer, origin: &Origin<'_>)
     writer.close(start);
 }
 
-// Writes what is asked for, the originator and the control number.
+// Appends the requested position (ctlVal), the originator and the control number.
 #[tactic(auto, using(bay_ber::proofs::SheetLemmas::sheet_rules))]
-fn put_operate_front(writer: &mut Writer, operate: &Operate<'_>)
+fn put_operate_front(writer: &mut Writer, operate: &OperateData<'_>)
     ensures { writer.new ≡ sheet_with writer.old (operate_front operate.now) }
 {
     writer.boolean(Tag::context(3), operate.control.ctl_val);
@@ -49,16 +50,16 @@ fn put_operate_front(writer: &mut Writer, operate: &Operate<'_>)
     writer.int(Tag::context(6), i64::from(operate.control.ctl_num));
 }
 
-// The octet with the two bits of Check.
+// Returns the octet with the two bits of Check.
 fn check_octet(check: Check) -> u8
     ensures { result ≡ spec.check_octet check }
 {
     u8::from(check.synchrocheck) * 0x80 + u8::from(check.interlock_check) * 0x40
 }
 
-// Writes the moment, whether it is a test, and the checks.
+// Appends the moment, whether it is a test, and the checks.
 #[tactic(auto, using(bay_ber::proofs::SheetLemmas::sheet_rules))]
-fn put_operate_back(writer: &mut Writer, operate: &Operate<'_>)
+fn put_operate_back(writer: &mut Writer, operate: &OperateData<'_>)
     ensures { writer.new ≡ sheet_with writer.old (operate_back operate.now) }
 {
     writer.octets(Tag::context(17), &operate.control.t);
@@ -73,9 +74,9 @@ fn put_operate_back(writer: &mut Writer, operate: &Operate<'_>)
     );
 }
 
-// Writes the data of an operate.
+// Appends the data of an operate.
 #[tactic(auto, using(bay_ber::proofs::SheetLemmas::sheet_rules))]
-fn put_operate(writer: &mut Writer, operate: &Operate<'_>)
+fn put_operate(writer: &mut Writer, operate: &OperateData<'_>)
     ensures { writer.new ≡ sheet_with writer.old (operate_text operate.now) }
 {
     let start = writer.open(Tag::context_constructed(2));
@@ -84,7 +85,7 @@ fn put_operate(writer: &mut Writer, operate: &Operate<'_>)
     writer.close(start);
 }
 
-// Writes the object that was refused, and the error, which is 0 for none.
+// Appends the control object, and the error, which is 0.
 #[tactic(auto, using(bay_ber::proofs::SheetLemmas::sheet_rules))]
 fn put_failure_front(writer: &mut Writer, failure: &LastApplError<'_>)
     ensures { writer.new ≡ sheet_with writer.old (failure_front failure.now) }
@@ -93,7 +94,7 @@ fn put_failure_front(writer: &mut Writer, failure: &LastApplError<'_>)
     writer.int(Tag::context(5), 0);
 }
 
-// Writes the originator, the control number and the cause (IEC 61850-7-2, AddCause).
+// Appends the originator, the control number and the cause (IEC 61850-7-2, AddCause).
 #[tactic(auto, using(bay_ber::proofs::SheetLemmas::sheet_rules))]
 fn put_failure_back(writer: &mut Writer, failure: &LastApplError<'_>)
     ensures { writer.new ≡ sheet_with writer.old (failure_back failure.now) }
@@ -103,7 +104,7 @@ fn put_failure_back(writer: &mut Writer, failure: &LastApplError<'_>)
     writer.int(Tag::context(5), i64::from(failure.add_cause));
 }
 
-// Writes the data of a failure.
+// Appends the data of a LastApplError.
 #[tactic(auto, using(bay_ber::proofs::SheetLemmas::sheet_rules))]
 fn put_failure(writer: &mut Writer, failure: &LastApplError<'_>)
     ensures { writer.new ≡ sheet_with writer.old (failure_data failure.now) }
@@ -114,14 +115,14 @@ fn put_failure(writer: &mut Writer, failure: &LastApplError<'_>)
     writer.close(start);
 }
 
-// The name under which a failure is reported.
+// Returns the name of the variable that reports a failure.
 fn failure_object() -> &'static str
     ensures { result.now ≡ codes "LastApplError" }
 {
     "LastApplError"
 }
 
-// Writes the variable of that name, which is in no domain.
+// Appends the variable with this name, which is in no domain.
 #[tactic(auto, using(bay_ber::proofs::SheetLemmas::sheet_rules))]
 fn put_failure_name(writer: &mut Writer)
     ensures { writer.new ≡ sheet_with writer.old (variable_text failure_name) }
@@ -133,7 +134,7 @@ fn put_failure_name(writer: &mut Writer)
     writer.close(start);
 }
 
-// Writes a name in a domain.
+// Appends a name in a domain.
 #[tactic(auto, using(bay_ber::proofs::SheetLemmas::sheet_rules))]
 fn put_item(writer: &mut Writer, domain: &str, item: &str)
     ensures { writer.new ≡ sheet_with writer.old (item_name domain.now item.now) }
@@ -144,7 +145,7 @@ fn put_item(writer: &mut Writer, domain: &str, item: &str)
     writer.close(start);
 }
 
-// Writes the variable of a name in a domain.
+// Appends the variable with a name in a domain.
 #[tactic(auto, using(bay_ber::proofs::SheetLemmas::sheet_rules))]
 fn put_item_name(writer: &mut Writer, domain: &str, item: &str)
     ensures { writer.new ≡ sheet_with writer.old (variable_text (item_name domain.now item.now)) }
@@ -156,7 +157,7 @@ fn put_item_name(writer: &mut Writer, domain: &str, item: &str)
     writer.close(start);
 }
 
-// Writes a list of the variable of a control that was refused.
+// Appends the list with the variable that reports a failure.
 #[tactic(auto, using(bay_ber::proofs::SheetLemmas::sheet_rules))]
 fn put_failure_list(writer: &mut Writer)
     ensures { writer.new ≡ sheet_with writer.old
@@ -167,7 +168,7 @@ fn put_failure_list(writer: &mut Writer)
     writer.close(start);
 }
 
-// Writes a list of the variable of a control that ended.
+// Appends the list with the variable of a control.
 #[tactic(auto, using(bay_ber::proofs::SheetLemmas::sheet_rules))]
 fn put_item_list(writer: &mut Writer, domain: &str, item: &str)
     ensures { writer.new ≡ sheet_with writer.old
@@ -178,7 +179,7 @@ fn put_item_list(writer: &mut Writer, domain: &str, item: &str)
     writer.close(start);
 }
 
-// Writes the list of both.
+// Appends the list with both variables.
 #[tactic(auto, using(bay_ber::proofs::SheetLemmas::sheet_rules))]
 fn put_both_list(writer: &mut Writer, domain: &str, item: &str)
     ensures { writer.new ≡ sheet_with writer.old
@@ -191,7 +192,7 @@ fn put_both_list(writer: &mut Writer, domain: &str, item: &str)
     writer.close(start);
 }
 
-// Writes the report of a control that was refused.
+// Appends the report of a refused control.
 #[tactic(auto, using(bay_ber::proofs::SheetLemmas::sheet_rules))]
 fn put_refused(writer: &mut Writer, failure: &LastApplError<'_>)
     ensures { writer.new ≡ sheet_with writer.old (failure_text failure.now) }
@@ -206,9 +207,9 @@ fn put_refused(writer: &mut Writer, failure: &LastApplError<'_>)
     writer.close(report);
 }
 
-// Writes the report of a control that ended.
+// Appends the report of a control that succeeded.
 #[tactic(auto, using(bay_ber::proofs::SheetLemmas::sheet_rules))]
-fn put_ended(writer: &mut Writer, domain: &str, item: &str, operate: &Operate<'_>)
+fn put_ended(writer: &mut Writer, domain: &str, item: &str, operate: &OperateData<'_>)
     ensures { writer.new ≡ sheet_with writer.old
         (termination_text domain.now item.now operate.now) }
 {
@@ -222,14 +223,14 @@ fn put_ended(writer: &mut Writer, domain: &str, item: &str, operate: &Operate<'_
     writer.close(report);
 }
 
-// Writes the report of a control that failed.
+// Appends the report of a control that failed.
 #[tactic(auto, using(bay_ber::proofs::SheetLemmas::sheet_rules))]
 fn put_failed(
     writer: &mut Writer,
     failure: &LastApplError<'_>,
     domain: &str,
     item: &str,
-    operate: &Operate<'_>,
+    operate: &OperateData<'_>,
 )
     ensures { writer.new ≡ sheet_with writer.old
         (failed_text failure.now domain.now item.now operate.now) }
@@ -245,8 +246,8 @@ fn put_failed(
     writer.close(report);
 }
 
-/// Writes the report that a control was refused (IEC 61850-8-1, LastApplError; ISO 9506-2,
-/// informationReport). `TooLong` if it has more than `size` octets.
+/// Returns the report that a control was refused (IEC 61850-8-1, LastApplError; ISO 9506-2,
+/// informationReport). Fails with `TooLong` if it has more than `size` octets.
 #[tactic(auto, using(bay_ber::proofs::SheetLemmas::message_put))]
 pub fn write_last_appl_error(
     alloc: Global,
@@ -261,15 +262,15 @@ pub fn write_last_appl_error(
     finish(writer)
 }
 
-/// Writes the report that the control with this item of a domain has done what it was asked for
-/// (IEC 61850-8-1, positive CommandTermination): the operate, as it was written. `TooLong` if it
-/// has more than `size` octets.
+/// Returns the report that the control with this item of a domain has succeeded (IEC 61850-8-1,
+/// positive CommandTermination). It repeats the operate as the client wrote it. Fails with
+/// `TooLong` if it has more than `size` octets.
 #[tactic(auto, using(bay_ber::proofs::SheetLemmas::message_put))]
 pub fn write_termination(
     alloc: Global,
     domain: &str,
     item: &str,
-    operate: &Operate<'_>,
+    operate: &OperateData<'_>,
     size: u32,
 ) -> Result<Outgoing, EncodeFault>
     ensures { Gives EncodeFault.OutOfMemory (λ octets. octets) result
@@ -280,16 +281,16 @@ pub fn write_termination(
     finish(writer)
 }
 
-/// Writes the report that the control with this item of a domain has failed (IEC 61850-8-1,
-/// negative CommandTermination): one report of two variables, LastApplError and then the operate,
-/// as it was written. `TooLong` if it has more than `size` octets.
+/// Returns the report that the control with this item of a domain has failed (IEC 61850-8-1,
+/// negative CommandTermination): one report of two variables, LastApplError and then the operate as
+/// the client wrote it. Fails with `TooLong` if it has more than `size` octets.
 #[tactic(auto, using(bay_ber::proofs::SheetLemmas::message_put))]
 pub fn write_failed_termination(
     alloc: Global,
     failure: &LastApplError<'_>,
     domain: &str,
     item: &str,
-    operate: &Operate<'_>,
+    operate: &OperateData<'_>,
     size: u32,
 ) -> Result<Outgoing, EncodeFault>
     ensures { Gives EncodeFault.OutOfMemory (λ octets. octets) result

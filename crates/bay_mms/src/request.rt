@@ -1,4 +1,4 @@
-// Requests of clients.
+// Reading requests of clients.
 ghost use Rattle.std.specs.Prelude.{◌≡◌, IsSome, IsErrOf, map, option_map};
 ghost use Rattle.bay_base.specs.Exact.{Gives};
 ghost use Rattle.bay_ber.specs.Forms.{such, one};
@@ -12,12 +12,12 @@ ghost use Rattle.bay_mms.specs.RequestViews.{message};
 
 use crate::data::Data;
 use crate::fault::{MmsFault, Refusal};
-use crate::service::service_as;
+use crate::service::service_from_value;
 use bay_ber::content::int_of;
 use bay_ber::tag::Tag;
 use bay_ber::tlv::read_tlv;
 use bay_ber::values::{Value, few_values, whole_value};
-use bay_initiate::initiate::{Proposal, proposal_in};
+use bay_mms_initiate::initiate::{Proposal, parse_proposal};
 use std::alloc::Global;
 
 /// The name of an object (ISO 9506-2, ObjectName), in arbitrary octets.
@@ -31,7 +31,7 @@ pub enum ObjectName<'a> {
     Association(&'a [u8]),
 }
 
-/// The scope in which names are asked for (ISO 9506-2, GetNameList, objectScope).
+/// The scope whose names are requested (ISO 9506-2, GetNameList, objectScope).
 #[derive(Clone, Copy, Debug)]
 pub enum Scope<'a> {
     Vmd,
@@ -42,7 +42,7 @@ pub enum Scope<'a> {
 /// A request for a confirmed service.
 #[derive(Drop)]
 pub enum Call<'a> {
-    /// The maker of the device.
+    /// The vendor, model and revision of the device.
     Identify,
     /// The names of the objects of a class, after a name if one is given.
     Names {
@@ -68,29 +68,29 @@ pub enum Request<'a> {
     Initiate(Proposal),
     /// Closes the association.
     Conclude,
-    /// Asks for a service, with an invoke id.
+    /// Requests a confirmed service, with an invoke id.
     Confirmed { id: u32, call: Call<'a> },
 }
 
-// An invoke id: a number of 32 bits without a sign.
-fn id_of(number: i64) -> Option<u32>
+// Returns the invoke id with this number: 32 bits without a sign.
+fn id_from_number(number: i64) -> Option<u32>
     ensures { result ≡ spec.id_of number }
 {
     u32::try_from(number).ok()
 }
 
-// The invoke id that a value is.
+// Reads a value as an invoke id.
 #[tactic(auto, unfolding(crate::specs::Grammar::invoke_id))]
-fn id_as(value: &Value<'_>) -> Option<u32>
+fn id_from_value(value: &Value<'_>) -> Option<u32>
     ensures { result ≡ invoke_id.reads (part_of value.now) }
 {
-    let number = int_of(value.under(Tag::universal(2))?).ok()?;
-    id_of(number)
+    let number = int_of(value.content_with_tag(Tag::universal(2))?).ok()?;
+    id_from_number(number)
 }
 
-// The value at the front of octets.
-fn front_of(octets: &[u8]) -> Option<Value<'_>>
-    ensures { option_map part_of result ≡ forms.front_of (tlv_at octets.now) }
+// Reads the value that octets begin with.
+fn first_value(octets: &[u8]) -> Option<Value<'_>>
+    ensures { option_map part_of result ≡ forms.first_value_part (tlv_at octets.now) }
 {
     let tlv = read_tlv(octets).ok()?;
     Some(Value {
@@ -99,24 +99,24 @@ fn front_of(octets: &[u8]) -> Option<Value<'_>>
     })
 }
 
-// The invoke id at the front of octets, where one can be read.
+// Reads the invoke id of a confirmed request that octets begin with, if it can be read.
 #[tactic(auto, unfolding(crate::specs::Grammar::front_id))]
-fn id_in(octets: &[u8]) -> Option<u32>
+fn parse_id(octets: &[u8]) -> Option<u32>
     ensures { result ≡ front_id.reads octets.now }
 {
-    let pdu = front_of(octets)?;
-    let id = front_of(pdu.under(Tag::context_constructed(0))?)?;
-    id_as(&id)
+    let pdu = first_value(octets)?;
+    let id = first_value(pdu.content_with_tag(Tag::context_constructed(0))?)?;
+    id_from_value(&id)
 }
 
-// The fault of octets that are no request.
+// Returns the fault of octets that are no request.
 fn bad_pdu(octets: &[u8]) -> MmsFault
     ensures { result ≡ MmsFault.BadPdu (front_id.reads octets.now) }
 {
-    MmsFault::BadPdu(id_in(octets))
+    MmsFault::BadPdu(parse_id(octets))
 }
 
-// The request for a service under an invoke id.
+// Reads the request for a service with this invoke id.
 fn with_id<'a>(
     alloc: Global,
     octets: &[u8],
@@ -127,7 +127,7 @@ fn with_id<'a>(
         ((such (under_id id) service_request).reads (part_of service.now))) }
     ensures memory { IsErrOf result MmsFault.OutOfMemory → IsSome (list_of (part_of service.now)) }
 {
-    match service_as(alloc, service) {
+    match service_from_value(alloc, service) {
         Ok(call) => Ok(Request::Confirmed { id, call }),
         Err(Refusal::Bad) => Err(bad_pdu(octets)),
         Err(Refusal::Unknown) => Err(MmsFault::UnknownService(id)),
@@ -136,9 +136,9 @@ fn with_id<'a>(
     }
 }
 
-// A request with an invoke id.
+// Reads the parts of a confirmed request.
 #[tactic(auto, unfolding(crate::specs::Grammar::confirmed_parts, crate::specs::Answers::list_parts))]
-fn confirmed_of<'a>(
+fn confirmed_from_parts<'a>(
     alloc: Global,
     octets: &[u8],
     parts: &[Value<'a>],
@@ -150,16 +150,20 @@ fn confirmed_of<'a>(
 {
     match parts {
         [id, service] => {
-            let id = id_as(id).ok_or_else(|| bad_pdu(octets))?;
+            let id = id_from_value(id).ok_or_else(|| bad_pdu(octets))?;
             with_id(alloc, octets, id, service)
         }
         _ => Err(bad_pdu(octets)),
     }
 }
 
-// The request that a PDU is, by its tag: confirmed, initiate or conclude.
+// Reads a PDU as a request, by its tag: confirmed, initiate or conclude.
 #[tactic(auto, unfolding(crate::specs::Grammar::pdu, crate::specs::Answers::list_pdu))]
-fn pdu_as<'a>(alloc: Global, octets: &[u8], value: &Value<'a>) -> Result<Request<'a>, MmsFault>
+fn pdu_from_value<'a>(
+    alloc: Global,
+    octets: &[u8],
+    value: &Value<'a>,
+) -> Result<Request<'a>, MmsFault>
     ensures asked { Gives MmsFault.OutOfMemory message result
         (told (front_id.reads octets.now) (pdu.reads (part_of value.now))) }
     ensures memory { IsErrOf result MmsFault.OutOfMemory
@@ -167,9 +171,9 @@ fn pdu_as<'a>(alloc: Global, octets: &[u8], value: &Value<'a>) -> Result<Request
 {
     if value.tag.is(Tag::context_constructed(0)) {
         let parts = few_values(value.content).ok_or_else(|| bad_pdu(octets))?;
-        confirmed_of(alloc, octets, parts.as_slice())
+        confirmed_from_parts(alloc, octets, parts.as_slice())
     } else if value.tag.is(Tag::context_constructed(8)) {
-        match proposal_in(value.content) {
+        match parse_proposal(value.content) {
             Some(proposal) => Ok(Request::Initiate(proposal)),
             None => Err(bad_pdu(octets)),
         }
@@ -180,7 +184,7 @@ fn pdu_as<'a>(alloc: Global, octets: &[u8], value: &Value<'a>) -> Result<Request
     }
 }
 
-// The request that octets are, as it is read.
+// Reads octets as a request.
 #[tactic(auto, unfolding(crate::specs::Grammar::request, crate::specs::Grammar::answer_to))]
 fn answer_to<'a>(alloc: Global, octets: &'a [u8]) -> Result<Request<'a>, MmsFault>
     ensures asked { Gives MmsFault.OutOfMemory message result (spec.answer_to octets.now) }
@@ -188,15 +192,16 @@ fn answer_to<'a>(alloc: Global, octets: &'a [u8]) -> Result<Request<'a>, MmsFaul
         → IsSome ((one list_pdu).reads octets.now) }
 {
     let value = whole_value(octets).ok_or_else(|| bad_pdu(octets))?;
-    pdu_as(alloc, octets, &value)
+    pdu_from_value(alloc, octets, &value)
 }
 
 /// Reads octets as a request (ISO 9506-2, in the profile of IEC 61850-8-1). Its names, texts and
-/// data are slices of the octets. `BadPdu` if they spell no request, with the invoke id if one is
-/// at their front. `UnknownService` for a service that is not served, for alternate access and for
-/// a named list. `TooMany` for more than 32 variables in a request that is otherwise well spelled.
-/// Data may nest at most 10 deep. Allocates only for a read or a write, and not for one of no
-/// variables.
+/// data are slices of the octets. Data may nest at most 10 deep.
+///
+/// Fails with `BadPdu` if the octets encode no request, with the invoke id if they begin with one;
+/// with `UnknownService` for a service that is not served, for alternate access and for a named
+/// list; with `TooMany` for more than 32 variables in a request that is otherwise well formed; and
+/// with `OutOfMemory`. Allocates only for a read or a write, and not for one of no variables.
 pub fn read_request<'a>(alloc: Global, octets: &'a [u8]) -> Result<Request<'a>, MmsFault>
     ensures { IsAnswer octets.now result }
 {

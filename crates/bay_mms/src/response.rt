@@ -1,7 +1,7 @@
-// Responses, and their canonical texts.
+// Writing responses in their canonical texts.
 ghost use Rattle.std.specs.Prelude.{◌≡◌, ◌≤◌, ◌<◌, ◌++◌, false, length, pos, IfOk, IfSome};
 ghost use Rattle.bay_base.specs.Exact.{Gives};
-ghost use Rattle.bay_ber.specs.Sheets.{sheet_with};
+ghost use Rattle.bay_ber.specs.EncoderBuffers.{sheet_with};
 ghost use Rattle.bay_ber.specs.Writing.{element, integer_octets, truth_octets};
 ghost use Rattle.bay_tree.specs.Rows.{IsHandle};
 ghost use Rattle.bay_ber.specs.Tags.{context, constructed, int_tag};
@@ -17,16 +17,16 @@ use bay_base::text::Text;
 use bay_ber::outgoing::Outgoing;
 use bay_ber::tag::Tag;
 use bay_ber::writer::Writer;
-use bay_initiate::initiate::put_number;
+use bay_mms_initiate::initiate::put_number;
 use bay_tree::tree::{Handle, Tree};
 use std::alloc::{AllocError, Global};
 
-/// Why a request is answered with an error (ISO 9506-2, ServiceError).
+/// The error that answers a request (ISO 9506-2, ServiceError).
 #[derive(Clone, Copy)]
 pub enum ErrorClass {
-    /// There is no such object: error 2 of the class access.
+    /// No such object: error 2 of the class access.
     NoSuchObject,
-    /// Resources are lacking: error 0 of the class resource.
+    /// Too few resources: error 0 of the class resource.
     Resource,
 }
 
@@ -39,10 +39,10 @@ pub enum RejectReason {
     InvalidPdu,
 }
 
-/// The answer to a confirmed request, except for reads and writes, which `results` answers.
+/// The answer to a confirmed request other than a read or a write, which `results` answers.
 #[derive(Clone, Copy)]
 pub enum Service<'a> {
-    /// The maker, the model and the revision of the device.
+    /// The vendor, the model and the revision of the device.
     Identify {
         vendor: &'a str,
         model: &'a str,
@@ -68,7 +68,7 @@ pub struct Response<'a> {
     pub service: Service<'a>,
 }
 
-// Writes who made the device, its model and its revision (ISO 9506-2, Identify).
+// Appends the vendor, the model and the revision of the device (ISO 9506-2, Identify).
 #[tactic(auto, using(bay_ber::proofs::SheetLemmas::sheet_rules))]
 fn put_identity(writer: &mut Writer, vendor: &str, model: &str, revision: &str)
     ensures { writer.new ≡ sheet_with writer.old
@@ -81,7 +81,7 @@ fn put_identity(writer: &mut Writer, vendor: &str, model: &str, revision: &str)
     writer.close(start);
 }
 
-// Writes names, one behind the other.
+// Appends names, one after another.
 fn put_names(writer: &mut Writer, names: &[Text])
     ensures { writer.new ≡ sheet_with writer.old (names_text names.now) }
 {
@@ -90,7 +90,7 @@ fn put_names(writer: &mut Writer, names: &[Text])
     }
 }
 
-// Writes names, and whether more follow (ISO 9506-2, GetNameList).
+// Appends names, and whether more follow (ISO 9506-2, GetNameList).
 #[tactic(auto, using(bay_ber::proofs::SheetLemmas::sheet_rules))]
 fn put_listing(writer: &mut Writer, names: &[Text], more: bool)
     ensures { writer.new ≡ sheet_with writer.old
@@ -104,7 +104,7 @@ fn put_listing(writer: &mut Writer, names: &[Text], more: bool)
     writer.close(start);
 }
 
-// Writes that a variable can't be deleted, and its type (ISO 9506-2, GetVariableAccessAttributes).
+// Appends that a variable can't be deleted, and its type (ISO 9506-2, GetVariableAccessAttributes).
 #[tactic(auto, using(bay_ber::proofs::SheetLemmas::sheet_rules))]
 fn put_attributes(writer: &mut Writer, tree: &Tree, handle: &Handle)
     requires { IsHandle tree.now handle.now }
@@ -121,14 +121,14 @@ fn put_attributes(writer: &mut Writer, tree: &Tree, handle: &Handle)
     writer.close(start);
 }
 
-/// Writes an invoke id.
+/// Appends an invoke id.
 pub(crate) fn put_id(writer: &mut Writer, id: u32)
     ensures { writer.new ≡ sheet_with writer.old (element int_tag (integer_octets (pos id))) }
 {
     writer.int(Tag::universal(2), i64::from(id));
 }
 
-// Writes what answers a confirmed request.
+// Appends the answer to a confirmed request.
 fn put_service(writer: &mut Writer, service: &Service<'_>)
     requires { IsOfTree service.now }
     ensures { writer.new ≡ sheet_with writer.old (service_text service.now) }
@@ -144,7 +144,7 @@ fn put_service(writer: &mut Writer, service: &Service<'_>)
     }
 }
 
-// Writes the PDU of the response to a confirmed request.
+// Appends the PDU of the response to a confirmed request.
 #[tactic(auto, using(bay_ber::proofs::SheetLemmas::sheet_rules))]
 fn put_confirmed(writer: &mut Writer, id: u32, service: &Service<'_>)
     requires { IsOfTree service.now }
@@ -157,7 +157,7 @@ fn put_confirmed(writer: &mut Writer, id: u32, service: &Service<'_>)
     writer.close(start);
 }
 
-// The class of an error, and the error's number.
+// Returns the class of an error and the error's number, encoded.
 #[tactic(auto, unfolding(bay_ber::specs::Writing::element, bay_ber::specs::Writing::length_octets))]
 fn error_octets(class: ErrorClass) -> &'static [u8]
     ensures { result.now ≡ element (constructed 0) (class_text class) }
@@ -168,7 +168,7 @@ fn error_octets(class: ErrorClass) -> &'static [u8]
     }
 }
 
-// Writes the PDU of an error.
+// Appends the PDU of an error.
 #[tactic(auto, using(bay_ber::proofs::SheetLemmas::sheet_rules))]
 fn put_error(writer: &mut Writer, id: u32, class: ErrorClass)
     ensures { writer.new ≡ sheet_with writer.old (error_text id class) }
@@ -179,7 +179,7 @@ fn put_error(writer: &mut Writer, id: u32, class: ErrorClass)
     writer.close(start);
 }
 
-// Writes an invoke id, where it is known.
+// Appends an invoke id, if it is known.
 #[tactic(auto, using(bay_ber::proofs::SheetLemmas::put_nil))]
 fn put_known(writer: &mut Writer, id: Option<u32>)
     ensures { writer.new ≡ sheet_with writer.old (id_text id) }
@@ -189,7 +189,7 @@ fn put_known(writer: &mut Writer, id: Option<u32>)
     }
 }
 
-// Writes the reason of a reject.
+// Appends the reason of a reject.
 #[tactic(auto, unfolding(bay_ber::specs::Writing::element, bay_ber::specs::Writing::length_octets))]
 fn put_reason(writer: &mut Writer, reason: RejectReason)
     ensures { writer.new ≡ sheet_with writer.old (reason_text reason) }
@@ -200,7 +200,7 @@ fn put_reason(writer: &mut Writer, reason: RejectReason)
     }
 }
 
-// Writes the PDU of a reject, with the invoke id where it is known.
+// Appends the PDU of a reject, with the invoke id if it is known.
 #[tactic(auto, using(bay_ber::proofs::SheetLemmas::sheet_rules))]
 fn put_reject(writer: &mut Writer, id: Option<u32>, reason: RejectReason)
     ensures { writer.new ≡ sheet_with writer.old (reject_text id reason) }
@@ -211,7 +211,7 @@ fn put_reject(writer: &mut Writer, id: Option<u32>, reason: RejectReason)
     writer.close(start);
 }
 
-// Writes the PDU that answers a conclude.
+// Appends the PDU that answers a conclude.
 #[tactic(auto, unfolding(bay_ber::specs::Writing::element, bay_ber::specs::Writing::length_octets))]
 fn put_concluded(writer: &mut Writer)
     ensures { writer.new ≡ sheet_with writer.old concluded_text }
@@ -219,8 +219,8 @@ fn put_concluded(writer: &mut Writer)
     writer.append(&[0x8C, 0]);
 }
 
-/// Writes a response in its one canonical spelling (ISO 9506-2). `TooLong` if it has more than
-/// `size` octets. A handle must be of its tree.
+/// Returns a response in its one canonical encoding (ISO 9506-2). Fails with `TooLong` if it has
+/// more than `size` octets. A handle must be of its tree.
 #[tactic(auto, using(bay_ber::proofs::SheetLemmas::message_put))]
 pub fn write_response(
     alloc: Global,
@@ -236,7 +236,8 @@ pub fn write_response(
     finish(writer)
 }
 
-/// Writes a confirmed error with an invoke id (ISO 9506-2, Confirmed-ErrorPDU), at most 60 octets.
+/// Returns a confirmed error with an invoke id (ISO 9506-2, Confirmed-ErrorPDU), at most 60 octets.
+/// Fails only if the allocation fails.
 #[tactic(auto, using(bay_ber::proofs::SheetLemmas::message_put, crate::proofs::ShortLemmas::error_short, crate::proofs::ShortLemmas::error_within))]
 pub fn write_error(alloc: Global, id: u32, class: ErrorClass) -> Result<Outgoing, AllocError>
     ensures text { IfOk result (λ octets. octets ≡ error_text id class) }
@@ -244,10 +245,11 @@ pub fn write_error(alloc: Global, id: u32, class: ErrorClass) -> Result<Outgoing
 {
     let mut writer = Writer::new(alloc, 60)?;
     put_error(&mut writer, id, class);
-    Ok(writer.finish_held())
+    Ok(writer.finish_untruncated())
 }
 
-/// Writes a reject, with the invoke id if it was read (ISO 9506-2, RejectPDU), at most 60 octets.
+/// Returns a reject, with the invoke id if it was read (ISO 9506-2, RejectPDU), at most 60 octets.
+/// Fails only if the allocation fails.
 #[tactic(auto, using(bay_ber::proofs::SheetLemmas::message_put, crate::proofs::ShortLemmas::reject_short, crate::proofs::ShortLemmas::reject_within))]
 pub fn write_reject(
     alloc: Global,
@@ -259,15 +261,16 @@ pub fn write_reject(
 {
     let mut writer = Writer::new(alloc, 60)?;
     put_reject(&mut writer, id, reason);
-    Ok(writer.finish_held())
+    Ok(writer.finish_untruncated())
 }
 
-/// Writes the answer to a conclude (ISO 9506-2, Conclude-ResponsePDU), two octets.
+/// Returns the answer to a conclude (ISO 9506-2, Conclude-ResponsePDU), two octets. Fails only if
+/// the allocation fails.
 #[tactic(auto, using(bay_ber::proofs::SheetLemmas::message_put, crate::proofs::ShortLemmas::concluded_within))]
 pub fn write_conclude(alloc: Global) -> Result<Outgoing, AllocError>
     ensures { IfOk result (λ octets. octets ≡ concluded_text) }
 {
     let mut writer = Writer::new(alloc, 2)?;
     put_concluded(&mut writer);
-    Ok(writer.finish_held())
+    Ok(writer.finish_untruncated())
 }

@@ -1,10 +1,10 @@
-// The responses to reads and writes, made variable by variable (ISO 9506-2, Read-Response and
+// The responses to reads and writes, written variable by variable (ISO 9506-2, Read-Response and
 // Write-Response).
 ghost use Rattle.std.specs.Prelude.{◌≡◌, ◌+◌, ◌≤◌, ◌++◌, [], pos, length, IfOk, OnOk};
 ghost use Rattle.std.specs.List.{flat_map};
 ghost use Rattle.bay_base.specs.Exact.{Gives};
 ghost use Rattle.bay_tree.specs.Rows.{IsHandle};
-ghost use Rattle.bay_ber.specs.Sheets.{sheet_with};
+ghost use Rattle.bay_ber.specs.EncoderBuffers.{sheet_with};
 ghost use Rattle.bay_ber.specs.Writing.{element, integer_octets};
 ghost use Rattle.bay_ber.specs.Tags.{constructed, int_tag};
 ghost use Rattle.bay_mms.specs.Data.{datum_text};
@@ -12,10 +12,10 @@ ghost use Rattle.bay_mms.specs.Nodes.{data_at};
 ghost use Rattle.bay_mms.specs.Responses.{text_result, failure_result, success_result, result_text, read_text, write_text};
 ghost use Rattle.bay_mms.specs.Writing.{Adds, Held, no_results, text_within};
 
+use crate::client_view::ClientView;
 use crate::fault::{DataAccessError, EncodeFault};
 use crate::put::finish;
 use crate::response::put_id;
-use crate::seen::Seen;
 use crate::value::write_value;
 use bay_ber::outgoing::Outgoing;
 use bay_ber::tag::Tag;
@@ -24,9 +24,9 @@ use bay_tree::tree::Handle;
 use std::alloc::{AllocError, Global};
 use std::marker::Model;
 
-/// The results of a read so far, which contracts see as their octets, next to the size that the
-/// response may have. Each call appends one result, in the order of the variables. Returns
-/// `TooLong` and drops the results if they alone have more octets than that size.
+/// The results of a read so far, which contracts view as their octets, with the most octets that
+/// the response may have. Each call appends one result, in the order of the variables. A call fails
+/// with `TooLong`, and drops the results, if they alone have more octets than that.
 #[derive(Drop)]
 pub struct ReadResponse {
     results: Writer,
@@ -43,7 +43,8 @@ impl Model for ReadResponse {
 }
 
 impl ReadResponse {
-    /// Creates a response without results.
+    /// Creates a response without results, of at most `size` octets. Allocates the whole buffer;
+    /// fails only if the allocation fails.
     pub fn new(alloc: Global, size: u32) -> Result<Self, AllocError>
         ensures { IfOk result (λ response. response ≡ no_results size) }
     {
@@ -52,8 +53,8 @@ impl ReadResponse {
         })
     }
 
-    /// Appends the data of a row, as a client sees it.
-    pub fn value(&mut self, seen: &Seen<'_>, handle: Handle) -> Result<(), EncodeFault>
+    /// Appends the data of a row of the client view.
+    pub fn value(&mut self, seen: &ClientView<'_>, handle: Handle) -> Result<(), EncodeFault>
         requires { IsHandle seen.now handle }
         ensures added { Adds self.old.size self.old.octets result self.new.octets
             (datum_text (data_at seen.now handle)) }
@@ -63,7 +64,7 @@ impl ReadResponse {
         held(&mut self.results)
     }
 
-    /// Appends a text in place of the text of a row.
+    /// Appends a text instead of the data of a row.
     pub fn text(&mut self, text: &str) -> Result<(), EncodeFault>
         ensures added { Adds self.old.size self.old.octets result self.new.octets
             (text_result text.now) }
@@ -83,7 +84,8 @@ impl ReadResponse {
         held(&mut self.results)
     }
 
-    /// Returns the response with an invoke id. `TooLong` if it has more octets than the size.
+    /// Returns the response with an invoke id. Fails with `TooLong` if it has more octets than the
+    /// size.
     pub fn finish(self, id: u32) -> Result<Outgoing, EncodeFault>
         ensures { Gives EncodeFault.OutOfMemory (λ octets. octets) result
             (text_within self.size (read_text id self.octets)) }
@@ -91,22 +93,22 @@ impl ReadResponse {
         let ReadResponse { mut results } = self;
         results.wrap(Tag::context_constructed(1));
         results.wrap(Tag::context_constructed(4));
-        front_id(&mut results, id);
+        prepend_id(&mut results, id);
         results.wrap(Tag::context_constructed(1));
         finish(results)
     }
 }
 
-// Writes an invoke id in front of what was written.
-fn front_id(writer: &mut Writer, id: u32)
+// Writes an invoke id before the message.
+fn prepend_id(writer: &mut Writer, id: u32)
     requires { length writer.old.heads + 14 ≤ 64 }
     ensures { writer.new ≡ record writer.old
         { heads = element int_tag (integer_octets (pos id)) ++ writer.old.heads } }
 {
-    writer.front_int(Tag::universal(2), i64::from(id));
+    writer.prepend_int(Tag::universal(2), i64::from(id));
 }
 
-// Whether results are held; they are given up where they are not.
+// Fails with `TooLong` if the results are over the limit, and then drops them.
 fn held(results: &mut Writer) -> Result<(), EncodeFault>
     ensures { Held results.old result results.new }
 {
@@ -117,7 +119,7 @@ fn held(results: &mut Writer) -> Result<(), EncodeFault>
     Ok(())
 }
 
-// Writes the result of one variable.
+// Appends the result of one variable.
 fn put_result(writer: &mut Writer, outcome: Option<DataAccessError>)
     ensures { writer.new ≡ sheet_with writer.old (result_text outcome) }
 {
@@ -127,7 +129,7 @@ fn put_result(writer: &mut Writer, outcome: Option<DataAccessError>)
     }
 }
 
-// Writes the results of variables.
+// Appends the results of all variables.
 #[tactic(auto, using(bay_ber::proofs::SheetLemmas::sheet_rules))]
 fn put_results(writer: &mut Writer, results: &[Option<DataAccessError>])
     ensures { writer.new ≡ sheet_with writer.old
@@ -140,12 +142,12 @@ fn put_results(writer: &mut Writer, results: &[Option<DataAccessError>])
     writer.close(start);
 }
 
-/// The results of a write so far, which contracts see as their octets. Each call appends one
-/// result, in the order of the variables.
+/// The results of a write so far, which contracts view as their octets. Each call appends one
+/// result, in the order of the variables, and fails only if an allocation fails.
 #[derive(Drop)]
 pub struct WriteResponse {
     alloc: Global,
-    // The error, where a variable is not written.
+    // Of each variable the error, or `None` if it was written.
     results: Vec<Option<DataAccessError>>,
 }
 
@@ -160,7 +162,7 @@ impl Model for WriteResponse {
 }
 
 impl WriteResponse {
-    /// Creates a response without results.
+    /// Creates a response without results. Does not allocate.
     pub fn new(alloc: Global) -> Self
         ensures { result ≡ [] }
     {
@@ -170,7 +172,7 @@ impl WriteResponse {
         }
     }
 
-    /// Appends that the variable was written.
+    /// Appends the result of a variable that was written.
     pub fn success(&mut self) -> Result<(), AllocError>
         ensures { OnOk result (self.new ≡ self.old ++ success_result) }
     {
@@ -186,7 +188,8 @@ impl WriteResponse {
         Ok(())
     }
 
-    /// Returns the response with an invoke id. `TooLong` if it has more than `size` octets.
+    /// Returns the response with an invoke id. Fails with `TooLong` if it has more than `size`
+    /// octets.
     #[tactic(auto, using(bay_ber::proofs::SheetLemmas::sheet_rules, bay_ber::proofs::SheetLemmas::message_put))]
     pub fn finish(self, id: u32, size: u32) -> Result<Outgoing, EncodeFault>
         ensures { Gives EncodeFault.OutOfMemory (λ octets. octets) result

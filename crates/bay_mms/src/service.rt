@@ -1,7 +1,7 @@
-// The services that are asked for (ISO 9506-2, ConfirmedServiceRequest).
+// Reading the requested service (ISO 9506-2, ConfirmedServiceRequest).
 ghost use Rattle.std.specs.Prelude.{◌≡◌, false, [], ◌∷◌, IsSome, IsErrOf, map, option_map};
 ghost use Rattle.bay_base.specs.Exact.{Gives};
-ghost use Rattle.bay_ber.specs.Forms.{answer, made, such, empty, one, whole, under};
+ghost use Rattle.bay_ber.specs.Forms.{answer, map_form, such, empty, one, whole, under};
 ghost use Rattle.bay_ber.specs.Tags.{constructed};
 ghost use Rattle.bay_ber.specs.Values.{part_of};
 ghost use Rattle.bay_mms.specs.Answers.{is_empty, list_of};
@@ -10,27 +10,27 @@ ghost use Rattle.bay_mms.specs.Grammar.{access, scope, class_part, scope_part, n
 ghost use Rattle.bay_mms.specs.Grammar as spec;
 ghost use Rattle.bay_mms.specs.RequestViews.{place, asking};
 
-use crate::access::{name_in, names_as};
+use crate::access::{names_from_value, parse_name};
+use crate::data_parser::read_data;
 use crate::fault::Refusal;
-use crate::received::read_data;
 use crate::request::{Call, Scope};
 use bay_ber::tag::{Class, Tag};
 use bay_ber::values::{Value, few_values, whole_value};
 use std::alloc::Global;
 
-// Data nests at most so deep.
+// The deepest nesting of data.
 const DEPTH_MAX: u8 = 10;
 
-// The one value inside a value of this tag.
+// Returns the one value inside a value with this tag.
 fn inner_value<'a>(tag: Tag, value: &Value<'a>) -> Option<Value<'a>>
     ensures { option_map part_of result ≡ (under tag (one whole)).reads (part_of value.now) }
 {
-    whole_value(value.under(tag)?)
+    whole_value(value.content_with_tag(tag)?)
 }
 
-// Where names are asked for, by its tag: of the device (VMD), of a domain, or of the association.
+// Reads the scope of names, by its tag: the device (VMD), a domain, or the association.
 #[tactic(auto, unfolding(crate::specs::Grammar::scope))]
-fn scope_as<'a>(value: &Value<'a>) -> Option<Scope<'a>>
+fn scope_from_value<'a>(value: &Value<'a>) -> Option<Scope<'a>>
     ensures { option_map place result ≡ scope.reads (part_of value.now) }
 {
     if value.tag.is(Tag::context(0)) {
@@ -52,33 +52,33 @@ fn scope_as<'a>(value: &Value<'a>) -> Option<Scope<'a>>
     }
 }
 
-// The number of the class of objects whose names are asked for.
+// Reads the number of the class of objects whose names are requested.
 #[tactic(auto, unfolding(crate::specs::Grammar::class_part, bay_ber::specs::Values::integer_under))]
 fn class_of(value: &Value<'_>) -> Option<i64>
     ensures { result ≡ class_part.reads (part_of value.now) }
 {
     let class = inner_value(Tag::context_constructed(0), value)?;
-    class.integer_under(Tag::context(0))
+    class.integer_with_tag(Tag::context(0))
 }
 
-// Where names are asked for, under its tag.
+// Reads the scope of names, inside its outer tag.
 #[tactic(auto, unfolding(crate::specs::Grammar::scope_part))]
 fn scope_of<'a>(value: &Value<'a>) -> Option<Scope<'a>>
     ensures { option_map place result ≡ scope_part.reads (part_of value.now) }
 {
     let scope = inner_value(Tag::context_constructed(1), value)?;
-    scope_as(&scope)
+    scope_from_value(&scope)
 }
 
-// The names that are asked for (ISO 9506-2, GetNameList).
+// Reads the parts of a request for names (ISO 9506-2, GetNameList).
 #[tactic(auto, unfolding(crate::specs::Grammar::listing_parts))]
-fn names_of<'a>(parts: &[Value<'a>]) -> Option<Call<'a>>
+fn name_list_from_parts<'a>(parts: &[Value<'a>]) -> Option<Call<'a>>
     ensures { option_map asking result
         ≡ option_map names_by (listing_parts.reads (map part_of parts.now)) }
 {
     let (class, scope, after) = match parts {
         [class, scope] => (class, scope, None),
-        [class, scope, after] => (class, scope, Some(after.under(Tag::context(2))?)),
+        [class, scope, after] => (class, scope, Some(after.content_with_tag(Tag::context(2))?)),
         _ => return None,
     };
     let class = class_of(class)?;
@@ -90,81 +90,87 @@ fn names_of<'a>(parts: &[Value<'a>]) -> Option<Call<'a>>
     })
 }
 
-// The variable whose type is asked for (ISO 9506-2, GetVariableAccessAttributes).
+// Reads the name of the variable whose type is requested (ISO 9506-2, GetVariableAccessAttributes).
 #[tactic(auto, unfolding(crate::specs::Grammar::attributes_by))]
-fn attributes_as<'a>(value: &Value<'a>) -> Result<Call<'a>, Refusal>
+fn attributes_from_value<'a>(value: &Value<'a>) -> Result<Call<'a>, Refusal>
     ensures asked { Gives Refusal.OutOfMemory asking result
         (answer Refusal.Bad attributes_by (part_of value.now)) }
     ensures memory { IsErrOf result Refusal.OutOfMemory → ⊥ }
 {
-    match name_in(value.content) {
+    match parse_name(value.content) {
         Some(name) if value.tag.is(Tag::context_constructed(0)) => Ok(Call::Attributes(name)),
         Some(_) if value.tag.is(Tag::context_constructed(1)) => Err(Refusal::Unknown),
         _ => Err(Refusal::Bad),
     }
 }
 
-// The variables that are read, by the specification of their access.
+// Reads the access specification of a read.
 #[tactic(auto, unfolding(crate::specs::Grammar::reading))]
-fn read_as<'a>(alloc: Global, value: &Value<'a>) -> Result<Call<'a>, Refusal>
+fn read_from_value<'a>(alloc: Global, value: &Value<'a>) -> Result<Call<'a>, Refusal>
     ensures asked { Gives Refusal.OutOfMemory asking result
-        (answer Refusal.Bad (made reading (under (constructed 1) (one access)))
+        (answer Refusal.Bad (map_form reading (under (constructed 1) (one access)))
         (part_of value.now)) }
     ensures memory { IsErrOf result Refusal.OutOfMemory
-        → is_empty (answer Refusal.Bad (made reading (under (constructed 1) (one access)))
+        → is_empty (answer Refusal.Bad (map_form reading (under (constructed 1) (one access)))
         (part_of value.now)) ≡ false }
 {
     let spec = inner_value(Tag::context_constructed(1), value).ok_or(Refusal::Bad)?;
-    let names = names_as(alloc, None, &spec)?;
+    let names = names_from_value(alloc, None, &spec)?;
     Ok(Call::Read(names))
 }
 
-// The variables that are read.
+// Reads the parts of a read.
 #[tactic(auto, unfolding(crate::specs::Grammar::read_parts))]
-fn read_of<'a>(alloc: Global, parts: &[Value<'a>]) -> Result<Call<'a>, Refusal>
+fn read_from_parts<'a>(alloc: Global, parts: &[Value<'a>]) -> Result<Call<'a>, Refusal>
     ensures asked { Gives Refusal.OutOfMemory asking result
-        (answer Refusal.Bad (made (λ x. reading x.1.0) read_parts) (map part_of parts.now)) }
+        (answer Refusal.Bad (map_form (λ x. reading x.1.0) read_parts) (map part_of parts.now)) }
     ensures memory { IsErrOf result Refusal.OutOfMemory
-        → is_empty (answer Refusal.Bad (made (λ x. reading x.1.0) read_parts)
+        → is_empty (answer Refusal.Bad (map_form (λ x. reading x.1.0) read_parts)
         (map part_of parts.now)) ≡ false }
 {
     match parts {
-        [spec] => read_as(alloc, spec),
-        [flag, spec] if flag.tag.is(Tag::context(0)) => read_as(alloc, spec),
+        [spec] => read_from_value(alloc, spec),
+        [flag, spec] if flag.tag.is(Tag::context(0)) => read_from_value(alloc, spec),
         _ => Err(Refusal::Bad),
     }
 }
 
-// The variables that are written, and as many data.
+// Reads the access specification of a write, and its data, one for each variable.
 #[tactic(auto, unfolding(crate::specs::Grammar::write_parts, crate::specs::Grammar::writing))]
-fn write_as<'a>(alloc: Global, spec: &Value<'a>, list: &Value<'a>) -> Result<Call<'a>, Refusal>
+fn write_from_values<'a>(
+    alloc: Global,
+    spec: &Value<'a>,
+    list: &Value<'a>,
+) -> Result<Call<'a>, Refusal>
     ensures asked { Gives Refusal.OutOfMemory asking result (answer Refusal.Bad
-        (made writing write_parts) (part_of spec.now ∷ part_of list.now ∷ [])) }
+        (map_form writing write_parts) (part_of spec.now ∷ part_of list.now ∷ [])) }
     ensures memory { IsErrOf result Refusal.OutOfMemory → is_empty (answer Refusal.Bad
-        (made writing write_parts) (part_of spec.now ∷ part_of list.now ∷ [])) ≡ false }
+        (map_form writing write_parts) (part_of spec.now ∷ part_of list.now ∷ [])) ≡ false }
 {
-    let octets = list.under(Tag::context_constructed(0)).ok_or(Refusal::Bad)?;
+    let octets = list
+        .content_with_tag(Tag::context_constructed(0))
+        .ok_or(Refusal::Bad)?;
     let values = read_data(alloc, octets, DEPTH_MAX)?;
-    let names = names_as(alloc, Some(values.len()), spec)?;
+    let names = names_from_value(alloc, Some(values.len()), spec)?;
     Ok(Call::Write { names, values })
 }
 
-// The same of the parts of a write.
+// Reads the parts of a write.
 #[tactic(auto, unfolding(crate::specs::Grammar::write_parts))]
-fn write_of<'a>(alloc: Global, parts: &[Value<'a>]) -> Result<Call<'a>, Refusal>
+fn write_from_parts<'a>(alloc: Global, parts: &[Value<'a>]) -> Result<Call<'a>, Refusal>
     ensures asked { Gives Refusal.OutOfMemory asking result
-        (answer Refusal.Bad (made writing write_parts) (map part_of parts.now)) }
+        (answer Refusal.Bad (map_form writing write_parts) (map part_of parts.now)) }
     ensures memory { IsErrOf result Refusal.OutOfMemory
-        → is_empty (answer Refusal.Bad (made writing write_parts) (map part_of parts.now))
+        → is_empty (answer Refusal.Bad (map_form writing write_parts) (map part_of parts.now))
         ≡ false }
 {
     match parts {
-        [spec, list] => write_as(alloc, spec, list),
+        [spec, list] => write_from_values(alloc, spec, list),
         _ => Err(Refusal::Bad),
     }
 }
 
-// Whether this is the tag of another service than those that are read here.
+// Returns whether this is the tag of a service other than those that are read here.
 fn is_unlisted(tag: Tag) -> bool
     ensures { result ≡ spec.is_unlisted tag }
 {
@@ -174,8 +180,9 @@ fn is_unlisted(tag: Tag) -> bool
     }
 }
 
-// A service that is not offered is unknown; anything else is no service.
-fn other_as<'a>(value: &Value<'a>) -> Result<Call<'a>, Refusal>
+// Refuses a value that is none of the services read here: as `Unknown` if it has the tag of another
+// service, and else as `Bad`.
+fn other_from_value<'a>(value: &Value<'a>) -> Result<Call<'a>, Refusal>
     ensures asked { Gives Refusal.OutOfMemory asking result
         (answer Refusal.Bad (such spec.unlisted whole) (part_of value.now)) }
     ensures memory { IsErrOf result Refusal.OutOfMemory → ⊥ }
@@ -187,9 +194,9 @@ fn other_as<'a>(value: &Value<'a>) -> Result<Call<'a>, Refusal>
     }
 }
 
-// An identify, which has no content.
+// Reads an identify, which has no content.
 fn identify(content: &[u8]) -> Option<Call<'_>>
-    ensures { option_map asking result ≡ (made (λ x. asked.identify) empty).reads content.now }
+    ensures { option_map asking result ≡ (map_form (λ x. asked.identify) empty).reads content.now }
 {
     if content.is_empty() {
         Some(Call::Identify)
@@ -198,19 +205,19 @@ fn identify(content: &[u8]) -> Option<Call<'_>>
     }
 }
 
-// A request for names by its content.
+// Reads the content of a request for names.
 #[tactic(auto, unfolding(crate::specs::Grammar::listing))]
 fn listing(content: &[u8]) -> Option<Call<'_>>
     ensures { option_map asking result ≡ spec.listing.reads content.now }
 {
     let parts = few_values(content)?;
-    names_of(parts.as_slice())
+    name_list_from_parts(parts.as_slice())
 }
 
-/// Reads the service that a value asks for. Allocates only for a read or a write, and not for one
+/// Reads the service that a value requests. Allocates only for a read or a write, and not for one
 /// of no variables.
 #[tactic(auto, unfolding(crate::specs::Grammar::service_request))]
-pub(crate) fn service_as<'a>(alloc: Global, value: &Value<'a>) -> Result<Call<'a>, Refusal>
+pub(crate) fn service_from_value<'a>(alloc: Global, value: &Value<'a>) -> Result<Call<'a>, Refusal>
     ensures asked { Gives Refusal.OutOfMemory asking result
         (answer Refusal.Bad service_request (part_of value.now)) }
     ensures memory { IsErrOf result Refusal.OutOfMemory → IsSome (list_of (part_of value.now)) }
@@ -221,14 +228,14 @@ pub(crate) fn service_as<'a>(alloc: Global, value: &Value<'a>) -> Result<Call<'a
         identify(value.content).ok_or(Refusal::Bad)
     } else if value.tag.is(Tag::context_constructed(4)) {
         let parts = few_values(value.content).ok_or(Refusal::Bad)?;
-        read_of(alloc, parts.as_slice())
+        read_from_parts(alloc, parts.as_slice())
     } else if value.tag.is(Tag::context_constructed(5)) {
         let parts = few_values(value.content).ok_or(Refusal::Bad)?;
-        write_of(alloc, parts.as_slice())
+        write_from_parts(alloc, parts.as_slice())
     } else if value.tag.is(Tag::context_constructed(6)) {
         let spec = whole_value(value.content).ok_or(Refusal::Bad)?;
-        attributes_as(&spec)
+        attributes_from_value(&spec)
     } else {
-        other_as(value)
+        other_from_value(value)
     }
 }

@@ -1,4 +1,4 @@
-// The shape of controls: what data are read as, in any range.
+// Reading the shape of a control from data, with numbers in any range.
 ghost use Rattle.std.specs.Prelude.{◌≡◌, option_map, Some, None};
 ghost use Rattle.bay_mms.specs.Views.{datum_of, data_in};
 ghost use Rattle.bay_mms.specs.Controls.{Operate};
@@ -19,9 +19,8 @@ pub struct Shape<'a> {
     pub test: bool,
 }
 
-// The value of data, where they are a truth value; each of the next four takes data of one other
-// type.
-fn truth_as(given: &Data<'_>) -> Option<bool>
+// Returns the value if the data are a boolean.
+fn truth_from_data(given: &Data<'_>) -> Option<bool>
     ensures { result ≡ spec.truth_as (datum_of given.now) }
 {
     match given {
@@ -30,8 +29,8 @@ fn truth_as(given: &Data<'_>) -> Option<bool>
     }
 }
 
-// The number, where the data are an integer.
-fn integer_as(given: &Data<'_>) -> Option<i64>
+// Returns the number if the data are an integer.
+fn integer_from_data(given: &Data<'_>) -> Option<i64>
     ensures { result ≡ spec.integer_as (datum_of given.now) }
 {
     match given {
@@ -40,8 +39,8 @@ fn integer_as(given: &Data<'_>) -> Option<i64>
     }
 }
 
-// The number, where the data are an unsigned one.
-fn unsigned_as(given: &Data<'_>) -> Option<i64>
+// Returns the number if the data are an unsigned number.
+fn unsigned_from_data(given: &Data<'_>) -> Option<i64>
     ensures { result ≡ spec.unsigned_as (datum_of given.now) }
 {
     match given {
@@ -50,8 +49,8 @@ fn unsigned_as(given: &Data<'_>) -> Option<i64>
     }
 }
 
-// The octets, where the data are a string of octets.
-fn octets_as<'a>(given: &Data<'a>) -> Option<&'a [u8]>
+// Returns the octets if the data are an octet string.
+fn octets_from_data<'a>(given: &Data<'a>) -> Option<&'a [u8]>
     ensures { option_map (λ octets. octets.now) result ≡ spec.octets_as (datum_of given.now) }
 {
     match given {
@@ -60,8 +59,8 @@ fn octets_as<'a>(given: &Data<'a>) -> Option<&'a [u8]>
     }
 }
 
-// The eight octets, where the data are a utc-time.
-fn moment_as(given: &Data<'_>) -> Option<[u8; 8]>
+// Returns the eight octets if the data are a utc-time.
+fn moment_from_data(given: &Data<'_>) -> Option<[u8; 8]>
     ensures { result ≡ spec.moment_as (datum_of given.now) }
 {
     match given {
@@ -70,8 +69,8 @@ fn moment_as(given: &Data<'_>) -> Option<[u8; 8]>
     }
 }
 
-// The checks that the two highest bits of an octet are.
-fn check_of(octet: u8) -> Check
+// Returns the checks in the two highest bits of an octet.
+fn check_from_octet(octet: u8) -> Check
     ensures { Some result ≡ spec.check_of octet }
 {
     Check {
@@ -80,18 +79,18 @@ fn check_of(octet: u8) -> Check
     }
 }
 
-// Two bits (IEC 61850-8-1, Check).
-fn check_as(given: &Data<'_>) -> Option<Check>
+// Returns the checks if the data are two bits (IEC 61850-8-1, Check).
+fn check_from_data(given: &Data<'_>) -> Option<Check>
     ensures { result ≡ spec.check_as (datum_of given.now) }
 {
     match given {
-        Data::Bits(bits) if bits.count == 2 => Some(check_of(*bits.octets.first()?)),
+        Data::Bits(bits) if bits.count == 2 => Some(check_from_octet(*bits.octets.first()?)),
         _ => None,
     }
 }
 
-// The components of a structure.
-fn parts_as<'b, 'a>(given: &'b Data<'a>) -> Option<&'b [Data<'a>]>
+// Returns the components if the data are a structure.
+fn parts_from_data<'b, 'a>(given: &'b Data<'a>) -> Option<&'b [Data<'a>]>
     ensures { option_map (λ parts. data_in parts.now) result ≡ spec.parts_as (datum_of given.now) }
 {
     match given {
@@ -100,31 +99,32 @@ fn parts_as<'b, 'a>(given: &'b Data<'a>) -> Option<&'b [Data<'a>]>
     }
 }
 
-// An originator: its category and its identity.
-fn origin_of<'a>(parts: &[Data<'a>]) -> Option<(i64, &'a [u8])>
+// Returns the category and the identity of an originator from its components.
+fn origin_from_parts<'a>(parts: &[Data<'a>]) -> Option<(i64, &'a [u8])>
     ensures { option_map (λ origin. record { or_cat = origin.0; or_ident = origin.1.now }) result
         ≡ spec.origin_of (data_in parts.now) }
 {
     match parts {
         [category, identity] => {
-            let category = integer_as(category)?;
-            let identity = octets_as(identity)?;
+            let category = integer_from_data(category)?;
+            let identity = octets_from_data(identity)?;
             Some((category, identity))
         }
         _ => None,
     }
 }
 
-// An originator, where data are a structure of the two.
+// Returns the category and the identity of an originator if the data are a structure of the two.
 #[tactic(auto, unfolding(crate::specs::Controls::origin_as))]
-fn origin_as<'a>(given: &Data<'a>) -> Option<(i64, &'a [u8])>
+fn origin_from_data<'a>(given: &Data<'a>) -> Option<(i64, &'a [u8])>
     ensures { option_map (λ origin. record { or_cat = origin.0; or_ident = origin.1.now }) result
         ≡ spec.origin_as (datum_of given.now) }
 {
-    origin_of(parts_as(given)?)
+    origin_from_parts(parts_from_data(given)?)
 }
 
-// A control of its value, its origin, its number, its moment and whether it is a test.
+// Returns a control from its value, its originator, its number, its moment and whether it is a
+// test.
 #[tactic(auto, unfolding(crate::specs::Controls::control_of))]
 fn control_of<'a>(
     value: &Data<'a>,
@@ -137,11 +137,11 @@ fn control_of<'a>(
         ≡ spec.control_of (datum_of value.now) (datum_of origin.now) (datum_of number.now)
         (datum_of moment.now) (datum_of test.now) }
 {
-    let ctl_val = truth_as(value)?;
-    let (or_cat, or_ident) = origin_as(origin)?;
-    let ctl_num = unsigned_as(number)?;
-    let t = moment_as(moment)?;
-    let test = truth_as(test)?;
+    let ctl_val = truth_from_data(value)?;
+    let (or_cat, or_ident) = origin_from_data(origin)?;
+    let ctl_num = unsigned_from_data(number)?;
+    let t = moment_from_data(moment)?;
+    let test = truth_from_data(test)?;
     Some(Shape {
         ctl_val,
         or_cat,
@@ -152,8 +152,8 @@ fn control_of<'a>(
     })
 }
 
-// A Cancel has the five components of a control, in this order.
-fn cancel_of<'a>(parts: &[Data<'a>]) -> Option<Shape<'a>>
+// Returns the control of a Cancel, which has these five components in this order.
+fn cancel_from_parts<'a>(parts: &[Data<'a>]) -> Option<Shape<'a>>
     ensures { option_map shaping result ≡ spec.cancel_of (data_in parts.now) }
 {
     match parts {
@@ -162,15 +162,16 @@ fn cancel_of<'a>(parts: &[Data<'a>]) -> Option<Shape<'a>>
     }
 }
 
-// An Oper has the five components of a control, and its checks behind them.
-fn operate_of<'a>(parts: &[Data<'a>]) -> Option<(Shape<'a>, Check)>
+// Returns the control of an Oper, which has the five components of a Cancel, followed by its
+// checks.
+fn operate_from_parts<'a>(parts: &[Data<'a>]) -> Option<(Shape<'a>, Check)>
     ensures { option_map (λ found. record { control = shaping found.0; check = found.1 }) result
         ≡ spec.operate_of (data_in parts.now) }
 {
     match parts {
         [value, origin, number, moment, test, check] => {
             let control = control_of(value, origin, number, moment, test)?;
-            let check = check_as(check)?;
+            let check = check_from_data(check)?;
             Some((control, check))
         }
         _ => None,
@@ -179,17 +180,17 @@ fn operate_of<'a>(parts: &[Data<'a>]) -> Option<(Shape<'a>, Check)>
 
 /// Reads the control in data with the shape of a Cancel.
 #[tactic(auto, unfolding(crate::specs::Controls::cancel_as))]
-pub(crate) fn cancel_as<'a>(given: &Data<'a>) -> Option<Shape<'a>>
+pub(crate) fn cancel_from_data<'a>(given: &Data<'a>) -> Option<Shape<'a>>
     ensures { option_map shaping result ≡ spec.cancel_as (datum_of given.now) }
 {
-    cancel_of(parts_as(given)?)
+    cancel_from_parts(parts_from_data(given)?)
 }
 
 /// Reads the control and its checks in data with the shape of an Oper.
 #[tactic(auto, unfolding(crate::specs::Controls::operate_as))]
-pub(crate) fn operate_as<'a>(given: &Data<'a>) -> Option<(Shape<'a>, Check)>
+pub(crate) fn operate_from_data<'a>(given: &Data<'a>) -> Option<(Shape<'a>, Check)>
     ensures { option_map (λ found. record { control = shaping found.0; check = found.1 }) result
         ≡ spec.operate_as (datum_of given.now) }
 {
-    operate_of(parts_as(given)?)
+    operate_from_parts(parts_from_data(given)?)
 }

@@ -1,20 +1,19 @@
-// The data and the type of a row of the tree, written as they stand.
+// Writing the data and the type of a row of the tree.
 ghost use Rattle.std.specs.Prelude.{◌≡◌};
-ghost use Rattle.bay_ber.specs.Sheets.{sheet_with};
+ghost use Rattle.bay_ber.specs.EncoderBuffers.{sheet_with};
 ghost use Rattle.bay_tree.specs.Rows.{IsHandle};
 ghost use Rattle.bay_mms.specs.Data.{datum_text};
 ghost use Rattle.bay_mms.specs.Types.{type_text};
 ghost use Rattle.bay_mms.specs.Nodes.{data_at, type_at};
 
+use crate::client_view::ClientView;
 use crate::leaf::{put_leaf, put_leaf_type};
-use crate::seen::Seen;
 use bay_ber::tag::Tag;
 use bay_ber::writer::Writer;
 use bay_tree::tree::{Handle, Tree};
 
-/// Writes the data of a row (IEC 61850-8-1, the mapping of values to MMS data) behind what the
-/// writer holds.
-pub fn write_value(writer: &mut Writer, seen: &Seen<'_>, handle: Handle)
+/// Appends the data of a row (IEC 61850-8-1, the mapping of values to MMS data).
+pub fn write_value(writer: &mut Writer, seen: &ClientView<'_>, handle: Handle)
     requires { IsHandle seen.now handle }
     ensures { writer.new ≡ sheet_with writer.old (datum_text (data_at seen.now handle)) }
 {
@@ -32,7 +31,7 @@ pub fn write_value(writer: &mut Writer, seen: &Seen<'_>, handle: Handle)
     }
 }
 
-/// Writes the type of a row (ISO 9506-2, TypeSpecification) behind what the writer holds.
+/// Appends the type of a row (ISO 9506-2, TypeSpecification).
 pub fn write_type(writer: &mut Writer, tree: &Tree, handle: Handle)
     requires { IsHandle tree.now handle }
     ensures { writer.new ≡ sheet_with writer.old (type_text (type_at tree.now handle)) }

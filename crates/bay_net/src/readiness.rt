@@ -1,4 +1,4 @@
-// A wait until a socket is ready.
+// Waits until a socket is ready.
 use mio::unix::SourceFd;
 use mio::{Events, Interest, Poll, Registry, Token};
 use std::alloc::Global;
@@ -9,16 +9,17 @@ use std::os::fd::AsRawFd;
 use std::rc::Rc;
 use std::time::Duration;
 
-// The maximum number of events that one wait takes. The next wait takes more.
+// The maximum number of events that one wait returns. The next wait returns more.
 const EVENTS: usize = 32;
 
-// The token of every connection: after a wait, all connections are looked at.
+// The token of every connection: after a wait, all connections are read.
 const ANY: Token = Token(usize::MAX);
 
-/// Reports when sockets of links are ready.
+/// Waits until sockets of links are ready.
 ///
-/// An event comes at a change, so waiting is correct only if every call on these sockets has either
-/// reported that it would block, or has read less than its room, which also empties a socket.
+/// An event is reported at a change, so waiting is correct only if every call on these sockets has
+/// either reported that it would block, or has read less than its room, which also empties a
+/// socket.
 #[derive(Drop)]
 pub struct Readiness {
     alloc: Global,
@@ -27,23 +28,23 @@ pub struct Readiness {
     bells: Vec<Rc<Bell, Global>>,
 }
 
-/// What is known of the connections that wait at a listener.
+/// Whether connections wait at a listener, as far as this is known.
 #[derive(Drop)]
 pub(crate) struct Bell {
-    /// An accept would have blocked, and no event of the listener has come since.
+    /// The last accept would have blocked, and the listener has had no event since.
     is_empty: Cell<bool>,
-    /// A wait has ended so, and no connection was asked for since.
+    /// A wait has ended in this state, and no accept was tried since.
     is_quiet: Cell<bool>,
 }
 
 impl Bell {
-    /// Whether a wait has just ended and no connection waits. True once for each wait, so that a
-    /// listener is asked as often as no wait comes between.
+    /// Returns whether a wait has just ended and no connection waits. Returns true once for each
+    /// wait, so a listener is called as often as no wait comes between.
     pub(crate) fn was_quiet(&self) -> bool {
         self.is_quiet.replace(false)
     }
 
-    /// Notes whether an accept would have blocked.
+    /// Records whether an accept would have blocked.
     pub(crate) fn set_empty(&self, is_empty: bool) {
         self.is_empty.set(is_empty);
     }
@@ -57,7 +58,8 @@ pub(crate) fn add_stream(registry: &Registry, stream: &TcpStream) -> io::Result<
 }
 
 impl Readiness {
-    /// Creates a readiness without any registered sockets.
+    /// Creates a readiness without registered sockets. Fails if the system has no poll for it or
+    /// memory runs out.
     pub fn new<R: Net>(rt: &R, alloc: Global) -> io::Result<Readiness> {
         let poll = Poll::new(rt)?;
         let events = Events::with_capacity(alloc, EVENTS)?;
@@ -89,7 +91,7 @@ impl Readiness {
         self.poll.registry().try_clone()
     }
 
-    /// Waits until a socket is ready or the time is up.
+    /// Waits until a socket is ready or the time is up. Fails if the wait of the system fails.
     pub fn wait(&mut self, most: Duration) -> io::Result<()> {
         self.poll.poll(&mut self.events, Some(most))?;
         for event in self.events.iter() {

@@ -1,10 +1,10 @@
-// A link over the sockets of the system, none of which waits.
+// A link over the sockets of the system. No call blocks.
 ghost use Rattle.std.specs.Prelude.{◌≡◌, ◌+◌, ◌-◌, ◌<◌, min};
 ghost use Rattle.std.specs.Io.{ReadsAtMost, WritesAtMost};
 
 use crate::readiness::{Bell, Readiness, add_stream};
 use bay_device::event::ASSOCIATIONS;
-use bay_serve::link::{Arrival, Link, LinkFault};
+use bay_server_turn::link::{Link, LinkFault, ReadResult};
 use mio::Registry;
 use std::alloc::Global;
 use std::io;
@@ -16,11 +16,13 @@ use std::time::{Clock, Instant};
 // The number of seconds for which a connection may send nothing at all before it counts as failed.
 const SILENCE: u64 = 10;
 
-// An accepted connection, and the time of accepting it until its first octet has come.
+// An accepted connection; since when it has sent nothing, if that is limited: since it was accepted,
+// or since its last octets came; and for how many seconds it may send nothing.
 #[derive(Drop)]
 struct Peer {
     stream: TcpStream,
     silent_since: Option<Instant>,
+    limit_s: u64,
 }
 
 /// A listener on 127.0.0.1 and the accepted connections, indexed by their numbers.
@@ -31,15 +33,16 @@ pub struct TcpLink<'a, C> {
     listener: TcpListener,
     bell: Rc<Bell, Global>,
     peers: [Option<Peer>; ASSOCIATIONS],
+    idle_s: Option<u32>,
     failures: u64,
 }
 
-// Whether a call would have blocked.
+// Returns whether a call would have blocked.
 fn would_wait(error: &io::Error) -> bool {
     error.kind() == ErrorKind::WouldBlock || error.kind() == ErrorKind::Interrupted
 }
 
-// Whether an accept would have blocked.
+// Returns whether an accept would have blocked.
 fn is_blocked<T>(accepted: &io::Result<T>) -> bool {
     match accepted {
         Ok(_) => false,
@@ -53,11 +56,15 @@ fn not_connected() -> io::Error {
 }
 
 impl Peer {
-    // Whether no octet has come for so long that the connection counts as failed.
+    // Whether no octet has come for longer than the connection may send nothing. The clock is read
+    // only if that is limited.
     fn is_idle<C: Clock>(&self, clock: &C) -> bool {
-        match (&self.silent_since, Instant::now(clock)) {
-            (Some(since), Ok(now)) => now.saturating_duration_since(*since).as_secs() >= SILENCE,
-            _ => false,
+        let Some(since) = &self.silent_since else {
+            return false;
+        };
+        match Instant::now(clock) {
+            Ok(now) => now.saturating_duration_since(*since).as_secs() >= self.limit_s,
+            Err(_) => false,
         }
     }
 }
@@ -85,12 +92,14 @@ fn write_some(peer: &Option<Peer>, octets: &[u8]) -> io::Result<usize>
 impl<'a, C: Clock> TcpLink<'a, C> {
     /// Listens on 127.0.0.1 at a port, or for port 0 at one that the system picks. `readiness`
     /// reports when a socket of the link is ready, and `clock` how long a connection has been
-    /// silent.
+    /// silent. A connection fails that sends nothing for 10 seconds after it was accepted, and if
+    /// `idle_s` is given, one that has sent nothing for this many seconds.
     pub fn bind<R: Net<Listener = TcpListener, Stream = TcpStream>>(
         rt: &R,
         clock: &'a C,
         readiness: &mut Readiness,
         port: u16,
+        idle_s: Option<u32>,
     ) -> io::Result<TcpLink<'a, C>> {
         let registry = readiness.registry()?;
         let address = SocketAddr::from((Ipv4Addr::LOCALHOST, port));
@@ -103,6 +112,7 @@ impl<'a, C: Clock> TcpLink<'a, C> {
             listener,
             bell,
             peers: [None, None, None, None, None, None, None, None],
+            idle_s,
             failures: 0,
         })
     }
@@ -133,11 +143,12 @@ impl<'a, C: Clock> TcpLink<'a, C> {
         let peer = Peer {
             stream,
             silent_since,
+            limit_s: SILENCE,
         };
         Ok((peer, from))
     }
 
-    // Whether a connection has been silent for too long since it was accepted.
+    // Whether a connection has sent nothing for too long.
     fn is_idle(&self, place: usize) -> bool {
         match self.peers.get(place) {
             Some(Some(peer)) => peer.is_idle(self.clock),
@@ -145,12 +156,17 @@ impl<'a, C: Clock> TcpLink<'a, C> {
         }
     }
 
-    // Notes that a connection has sent octets.
+    // Records that a connection has sent octets.
     fn hear(&mut self, place: usize)
         ensures { self.new.failures ≡ self.old.failures }
     {
+        let since = match self.idle_s {
+            Some(_) => Instant::now(self.clock).ok(),
+            None => None,
+        };
         if let Some(Some(peer)) = self.peers.get_mut(place) {
-            peer.silent_since = None;
+            peer.silent_since = since;
+            peer.limit_s = u64::from(self.idle_s.unwrap_or(0));
         }
     }
 
@@ -166,8 +182,8 @@ impl<'a, C: Clock> TcpLink<'a, C> {
 impl<C: Clock> Link for TcpLink<'_, C> {
     ghost failures = { λ link. link.failures };
 
-    // Asks the system for nothing behind a wait that told of no connection. A connection that
-    // can't be accepted, as for want of descriptors, is asked for again.
+    // Does not call the system after a wait that found no connection. A connection that can't be
+    // accepted, for example for lack of descriptors, is tried again.
     fn accept(&mut self, association: u16) -> Result<Option<SocketAddrV4>, LinkFault> {
         if self.bell.was_quiet() {
             return Ok(None);
@@ -184,15 +200,15 @@ impl<C: Clock> Link for TcpLink<'_, C> {
         }
     }
 
-    fn read(&mut self, association: u16, room: &mut [u8]) -> Result<Arrival, LinkFault> {
+    fn read(&mut self, association: u16, room: &mut [u8]) -> Result<ReadResult, LinkFault> {
         let place = association as usize - 1;
         match read_some(&self.peers[place], room) {
-            Ok(0) => Ok(Arrival::End),
+            Ok(0) => Ok(ReadResult::End),
             Ok(n) => {
                 self.hear(place);
-                Ok(Arrival::Bytes(n))
+                Ok(ReadResult::Bytes(n))
             }
-            Err(error) if would_wait(&error) && !self.is_idle(place) => Ok(Arrival::Nothing),
+            Err(error) if would_wait(&error) && !self.is_idle(place) => Ok(ReadResult::Nothing),
             Err(_) => Err(self.failed()),
         }
     }

@@ -1,5 +1,5 @@
--- The names of the rows that are found by them (IEC 61850-7-4: XCBR, XSWI, CSWI, CILO and MMXU; IEC
--- 61850-8-1: names of variables).
+-- The names by which rows are found (IEC 61850-7-4: XCBR, XSWI, CSWI, CILO and MMXU; IEC 61850-8-1:
+-- names of variables).
 use Rattle.std.specs.Prelude.{ℕ, ◌+◌, List, ◌++◌, codes}
 use Rattle.bay_nodes.specs.declared.paths.StatusPaths.{StatusPaths}
 use Rattle.bay_nodes.specs.declared.switch.Switch.{Switch}
@@ -7,13 +7,13 @@ use Rattle.bay_nodes.specs.Node.{class_of, node_name, node_number}
 
 -- ---- own: names of rows
 
--- the names of a value, its quality and its moment (IEC 61850-7-3)
+-- the names of a value, its quality and its time stamp (IEC 61850-7-3)
 pub record StatusNames : Type 0 where
   pub value : List ℕ
   pub quality : List ℕ
   pub time : List ℕ
 
--- those that stand at these paths from a node
+-- the names at these paths below a node
 abbrev pub names_at : List ℕ → StatusPaths → StatusNames
 names_at node paths = record {
   value = node ++ paths.value.now;
@@ -21,7 +21,7 @@ names_at node paths = record {
   time = node ++ paths.time.now;
 }
 
--- those of a data object of a node, whose value has this name in it
+-- the names of a data object of a node; `value` is the path from the object to its value
 abbrev pub value_names : List ℕ → List ℕ → List ℕ → StatusNames
 value_names node object value = record {
   value = node ++ (object ++ value);
@@ -29,7 +29,7 @@ value_names node object value = record {
   time = node ++ (object ++ codes "$t");
 }
 
--- those of a status value (IEC 61850-7-3, stVal)
+-- the names of a status value (IEC 61850-7-3, stVal)
 abbrev pub status_names : List ℕ → List ℕ → StatusNames
 status_names node object = value_names node object (codes "$stVal")
 
@@ -38,13 +38,13 @@ status_names node object = value_names node object (codes "$stVal")
 abbrev pub position_names : List ℕ → StatusNames
 position_names node = status_names node (codes "$ST$Pos")
 
--- the names of the count of its operations, below XCBR or XSWI (IEC 61850-7-4, OpCnt)
+-- the names of a switch's operation count, below XCBR or XSWI (IEC 61850-7-4, OpCnt)
 abbrev pub operation_names : List ℕ → StatusNames
 operation_names node = status_names node (codes "$ST$OpCnt")
 
 -- ---- IEC 61850-7-4 CILO: names of interlocking values
 
--- the names of its two interlocking values, below CILO
+-- the names of the two interlocking values, below CILO
 abbrev pub opening_names : List ℕ → StatusNames
 opening_names node = status_names node (codes "$ST$EnaOpn")
 
@@ -53,8 +53,8 @@ closing_names node = status_names node (codes "$ST$EnaCls")
 
 -- ---- own: names of a switch
 
--- the names of a switch's position, of its position as its control repeats it, of the count of its
--- operations and of its two interlocking values
+-- the names of a switch's position, of the position below its control, of its operation count and
+-- of its two interlocking values
 pub record SwitchNames : Type 0 where
   pub position : StatusNames
   pub control : StatusNames
@@ -62,7 +62,7 @@ pub record SwitchNames : Type 0 where
   pub ena_opn : StatusNames
   pub ena_cls : StatusNames
 
--- those of a node XCBR or XSWI, a node CSWI and a node CILO
+-- the names below a node XCBR or XSWI, a node CSWI and a node CILO
 abbrev pub names_by_nodes : List ℕ → List ℕ → List ℕ → SwitchNames
 names_by_nodes node control interlocking = record {
   position = position_names node;
@@ -72,39 +72,38 @@ names_by_nodes node control interlocking = record {
   ena_cls = closing_names interlocking;
 }
 
--- a switch's node is XCBR or XSWI, with its number among the switches of its class (IEC 61850-7-4,
--- XCBR, XSWI)
+-- the node of a switch is XCBR or XSWI, with its number among the switches of its class (IEC
+-- 61850-7-4, XCBR, XSWI)
 abbrev pub node_of : List Switch → ℕ → Switch → List ℕ
 node_of switches k switch = node_name (class_of switch.kind) (node_number switches switch k)
 
--- the nodes of its control and of its interlocking have the number of its place, from 1 (IEC
--- 61850-7-4, CSWI)
+-- the node of the control of the switch at index k; its number is k + 1 (IEC 61850-7-4, CSWI)
 abbrev pub control_of : ℕ → List ℕ
 control_of k = node_name (codes "CSWI") (k + 1)
 
--- (IEC 61850-7-4, CILO)
+-- the node of the interlocking of the switch at index k (IEC 61850-7-4, CILO)
 abbrev pub interlocking_of : ℕ → List ℕ
 interlocking_of k = node_name (codes "CILO") (k + 1)
 
--- ---- IEC 61850-7-4 CILO: names of interlocking values by place
+-- ---- IEC 61850-7-4 CILO: names of interlocking values by index
 
--- the names of the two interlocking values of the switch at a place
+-- the names of the two interlocking values of the switch at index k
 abbrev pub opening_of : ℕ → StatusNames
 opening_of k = opening_names (interlocking_of k)
 
 abbrev pub closing_of : ℕ → StatusNames
 closing_of k = closing_names (interlocking_of k)
 
--- the names of the switch at a place (own)
+-- the names of the switch at index k (own)
 abbrev pub switch_names : List Switch → ℕ → Switch → SwitchNames
 switch_names switches k switch =
     names_by_nodes (node_of switches k switch) (control_of k) (interlocking_of k)
 
 -- ---- IEC 61850-8-1 SBO, SBOw, Oper, Cancel: names of controls
 
--- the names of a control: whether its switch is selected, and the rows by which it is selected,
--- selected with a value and operated, and its selection given up (IEC 61850-7-2, control; IEC
--- 61850-8-1, SBO, SBOw, Oper and Cancel)
+-- the names of a control: stSeld, and the rows that select the switch, select it with value,
+-- operate it, and cancel its selection (IEC 61850-7-2, control; IEC 61850-8-1, SBO, SBOw, Oper and
+-- Cancel)
 pub record ControlNames : Type 0 where
   pub selected : List ℕ
   pub select : List ℕ
@@ -112,7 +111,7 @@ pub record ControlNames : Type 0 where
   pub operate : List ℕ
   pub cancel : List ℕ
 
--- those of a node CSWI
+-- the names below a node CSWI
 abbrev pub control_names_of : List ℕ → ControlNames
 control_names_of node = record {
   selected = node ++ codes "$ST$Pos$stSeld";
@@ -122,13 +121,13 @@ control_names_of node = record {
   cancel = node ++ codes "$CO$Pos$Cancel";
 }
 
--- those of the switch at a place
+-- the names of the control of the switch at index k
 abbrev pub control_names : ℕ → ControlNames
 control_names k = control_names_of (control_of k)
 
 -- ---- IEC 61850-7-3 MV, CMV: names of measured values
 
--- the names of a measured value, and of that of a phase (IEC 61850-7-3, MV and CMV)
+-- the names of a measured value, and of the measured value of a phase (IEC 61850-7-3, MV and CMV)
 abbrev pub total_names : List ℕ → List ℕ → StatusNames
 total_names node object = value_names node object (codes "$mag$i")
 
@@ -146,7 +145,7 @@ pub record MeterNames : Type 0 where
   pub phase_b : StatusNames
   pub phase_c : StatusNames
 
--- those of a node MMXU
+-- the names below a node MMXU
 abbrev pub meter_names_of : List ℕ → MeterNames
 meter_names_of node = record {
   tot_w = total_names node (codes "$MX$TotW");
@@ -157,6 +156,6 @@ meter_names_of node = record {
   phase_c = phase_names node (codes "$MX$A$phsC");
 }
 
--- those of the meter at a place, whose node has its number, from 1
+-- the names of the meter at index k; the number of its node is k + 1
 abbrev pub meter_names : ℕ → MeterNames
 meter_names k = meter_names_of (node_name (codes "MMXU") (k + 1))

@@ -32,7 +32,7 @@ mutual
 abbrev pub row : List ℕ → Option Leaf → Row
 row name leaf = record { name = name; leaf = leaf }
 
--- the rows of a part and of parts, depth first, with the name that leads to them in front
+-- the rows of a part and of a list of parts, depth first; each name begins with `path`
 abbrev mutual
   pub rows_of : List ℕ → NodePart → List Row
   rows_of path (value name leaf) = row (path ++ codes "$" ++ name) (Some leaf) ∷ []
@@ -43,12 +43,13 @@ abbrev mutual
   rows_of_parts path end = []
   rows_of_parts path (part p ps) = rows_of path p ++ rows_of_parts path ps
 
--- a logical node: its name, and what stands below it
+-- a logical node: its name and its parts
 pub record Node : Type 0 where
   pub name : List ℕ
   pub parts : Parts
 
--- the rows of a logical node: its own, and those of its parts, which its name leads to
+-- the rows of a logical node: its own row, then those of its parts; each name begins with the
+-- node's
 abbrev pub node_rows : Node → List Row
 node_rows node =
     row node.name None ∷ map (λ r. row (node.name ++ r.name) r.leaf) (rows_of_parts [] node.parts)
@@ -61,20 +62,19 @@ parts_of (p ∷ ps) = part p (parts_of ps)
 abbrev pub inside : List ℕ → List NodePart → NodePart
 inside name ps = structure name (parts_of ps)
 
--- the quality of a value, and its moment, 0 (IEC 61850-7-3, Quality; IEC 61850-7-2,
--- TimeStamp)
+-- the quality of a value, and its time stamp, 0 (IEC 61850-7-3, Quality; IEC 61850-7-2, TimeStamp)
 abbrev pub stamp : Validity → List NodePart
 stamp q = value (codes "q") (Quality q) ∷ value (codes "t") (Utc 0) ∷ []
 
--- a value with its quality and its moment (IEC 61850-7-3, stVal)
+-- a data object with a value, its quality and its time stamp (IEC 61850-7-3, stVal)
 abbrev pub status : List ℕ → Leaf → Validity → NodePart
 status name v q = inside name (value (codes "stVal") v ∷ stamp q)
 
--- a data object that shows its status alone: its control model is 0 (IEC 61850-7-3, ctlModel)
+-- a data object with status only: its control model is 0 (IEC 61850-7-3, ctlModel)
 abbrev pub status_only : List ℕ → NodePart
 status_only name = inside name (value (codes "ctlModel") (Int8 (pos 0)) ∷ [])
 
--- the parts of LLN0, with the texts of the nameplate: mode, behaviour and health are 1, `on` and
+-- the parts of LLN0, with the texts of the nameplate; mode, behaviour and health are 1: `on` and
 -- `ok` (IEC 61850-7-4, LLN0)
 abbrev pub device_parts : Nameplate → Parts
 device_parts n =
@@ -88,7 +88,7 @@ device_parts n =
     ∷ value (codes "d") (Text n.model) ∷ []) ∷ [])
     ∷ [])
 
--- the parts of the device itself (IEC 61850-7-4, LPHD)
+-- the parts of LPHD (IEC 61850-7-4, LPHD)
 abbrev pub physical_parts : Nameplate → Parts
 physical_parts n =
     parts_of
@@ -98,13 +98,14 @@ physical_parts n =
     ∷ [])
     ∷ [])
 
--- a breaker has no type; a disconnector's is 2, an earthing switch's 3 (IEC 61850-7-4, SwTyp)
+-- the type of a switch: a breaker has none, a disconnector has 2, an earthing switch 3 (IEC
+-- 61850-7-4, SwTyp)
 abbrev pub switch_type : SwitchKind → List NodePart
 switch_type Breaker = []
 switch_type Disconnector = status (codes "SwTyp") (Int8 (pos 2)) Good ∷ []
 switch_type Earthing = status (codes "SwTyp") (Int8 (pos 3)) Good ∷ []
 
--- the parts of a position (IEC 61850-7-4, XCBR, XSWI)
+-- the parts of the node of a switch's position (IEC 61850-7-4, XCBR, XSWI)
 abbrev pub position_parts : SwitchKind → Parts
 position_parts kind =
     parts_of
@@ -117,7 +118,8 @@ position_parts kind =
     ∷ inside (codes "CF") (status_only (codes "Pos") ∷ [])
     ∷ [])
 
--- what is written to operate a switch, or to select it with a value (IEC 61850-8-1, Oper and SBOw)
+-- the structure that a client writes to operate a switch, or to select it with value (IEC
+-- 61850-8-1, Oper and SBOw)
 abbrev pub operation : List ℕ → NodePart
 operation name =
     inside name
@@ -130,7 +132,7 @@ operation name =
     ∷ value (codes "Check") (Dbpos Intermediate)
     ∷ [])
 
--- what is written to give a selection up, which has no checks (IEC 61850-8-1, Cancel)
+-- the structure that a client writes to cancel a selection; it has no Check (IEC 61850-8-1, Cancel)
 abbrev pub cancelling : NodePart
 cancelling =
     inside (codes "Cancel")
@@ -142,12 +144,11 @@ cancelling =
     ∷ value (codes "Test") (Truth false)
     ∷ [])
 
--- the functional constraint CO, with what may be written to a position (IEC 61850-7-2, CO)
+-- the functional constraint CO with these parts below Pos (IEC 61850-7-2, CO)
 abbrev pub controls_by : List NodePart → List NodePart
 controls_by ps = inside (codes "CO") (inside (codes "Pos") ps ∷ []) ∷ []
 
--- what may be written to a switch with each kind of control (IEC 61850-8-1, SBO, SBOw, Oper,
--- Cancel)
+-- the control rows of a switch, by its kind of control (IEC 61850-8-1, SBO, SBOw, Oper, Cancel)
 abbrev pub commands : Control → List NodePart
 commands Status = []
 commands Direct = controls_by (operation (codes "Oper") ∷ [])
@@ -163,7 +164,7 @@ model_of Direct = 1
 model_of Sbo = 2
 model_of SboEnhanced = 4
 
--- the parts of a control, whose position repeats that of the switch (IEC 61850-7-4, CSWI)
+-- the parts of the node of a control; its position repeats that of the switch (IEC 61850-7-4, CSWI)
 abbrev pub control_parts : Control → ℕ → Parts
 control_parts control timeout =
     parts_of
@@ -176,7 +177,7 @@ control_parts control timeout =
     ∷ value (codes "sboTimeout") (Unsigned32 timeout) ∷ []) ∷ [])
     ∷ [])
 
--- the parts of interlocking (IEC 61850-7-4, CILO)
+-- the parts of the node of the interlocking (IEC 61850-7-4, CILO)
 abbrev pub interlocking_parts : Parts
 interlocking_parts =
     parts_of (inside (codes "ST")
@@ -185,18 +186,18 @@ interlocking_parts =
 
 -- ---- IEC 61850-7-3 MV, CMV: measured values
 
--- the magnitude of a measured value, as a whole number (IEC 61850-7-3, AnalogueValue)
+-- the magnitude of a measured value, an integer (IEC 61850-7-3, AnalogueValue)
 abbrev pub magnitude : NodePart
 magnitude = inside (codes "mag") (value (codes "i") (Int32 (pos 0)) ∷ [])
 
--- a measured value, and that of a phase (IEC 61850-7-3, MV and CMV)
+-- a measured value, and the measured value of a phase (IEC 61850-7-3, MV and CMV)
 abbrev pub measured_value : List ℕ → NodePart
 measured_value name = inside name (magnitude ∷ stamp Invalid)
 
 abbrev pub phase : List ℕ → NodePart
 phase name = inside name (inside (codes "cVal") (magnitude ∷ []) ∷ stamp Invalid)
 
--- the parts of a meter (IEC 61850-7-4, MMXU)
+-- the parts of the node of a meter (IEC 61850-7-4, MMXU)
 abbrev pub meter_parts : Parts
 meter_parts =
     parts_of
@@ -208,13 +209,13 @@ meter_parts =
 
 -- ---- IEC 61850-7-4 XCBR, XSWI: classes of switches
 
--- a breaker has nodes of another class than the other switches (own)
+-- only a breaker has the class XCBR (own)
 abbrev pub is_breaker : SwitchKind → Bool
 is_breaker Breaker = true
 is_breaker Disconnector = false
 is_breaker Earthing = false
 
--- the class of a switch's node: XCBR for a breaker, XSWI for another switch
+-- the class of a switch's node: XCBR for a breaker, XSWI for any other switch
 abbrev pub class_of : SwitchKind → List ℕ
 class_of Breaker = codes "XCBR"
 class_of Disconnector = codes "XSWI"
@@ -224,20 +225,20 @@ class_of Earthing = codes "XSWI"
 abbrev pub node_name : List ℕ → ℕ → List ℕ
 node_name class number = class ++ decimal number
 
--- the nodes of the device itself (IEC 61850-7-4, LLN0)
+-- the node LLN0, of the logical device (IEC 61850-7-4, LLN0)
 abbrev pub device_node : Nameplate → Node
 device_node nameplate = record { name = codes "LLN0"; parts = device_parts nameplate }
 
--- (IEC 61850-7-4, LPHD)
+-- the node LPHD1, of the physical device (IEC 61850-7-4, LPHD)
 abbrev pub physical_node : Nameplate → Node
 physical_node nameplate = record { name = codes "LPHD1"; parts = physical_parts nameplate }
 
--- the nodes of a switch with its number (IEC 61850-7-4, XCBR, XSWI)
+-- the node of the position of a switch, with its number (IEC 61850-7-4, XCBR, XSWI)
 abbrev pub position_node : ℕ × Switch → Node
 position_node s =
     record { name = node_name (class_of s.1.kind) s.0; parts = position_parts s.1.kind }
 
--- (IEC 61850-7-4, CSWI)
+-- the node of the control of a switch, with its number (IEC 61850-7-4, CSWI)
 abbrev pub control_node : ℕ × Switch → Node
 control_node s =
     record {
@@ -245,7 +246,7 @@ control_node s =
       parts = control_parts s.1.control s.1.sbo_timeout_ms;
     }
 
--- (IEC 61850-7-4, CILO)
+-- the node of the interlocking of a switch, with its number (IEC 61850-7-4, CILO)
 abbrev pub interlocking_node : ℕ × Switch → Node
 interlocking_node s = record { name = node_name (codes "CILO") s.0; parts = interlocking_parts }
 
@@ -255,17 +256,17 @@ meter_node m = record { name = node_name (codes "MMXU") m.0; parts = meter_parts
 
 -- ---- own: which nodes a bay has, in what order
 
--- the breakers, or the other switches
+-- the switch is a breaker; or it is not, if the first argument is false
 abbrev pub is_of : Bool → Switch → Bool
 is_of true s = is_breaker s.kind
 is_of false s = not (is_breaker s.kind)
 
--- the nodes of the breakers or of the other switches, numbered from 1 among themselves
+-- the nodes of the breakers or of the other switches, each group numbered from 1
 abbrev pub position_nodes : Bool → List Switch → List Node
 position_nodes breakers switches =
     map position_node (enumerate_from 1 (filter (is_of breakers) switches))
 
--- the nodes of the controls and of the interlocking, numbered by the switches' places from 1
+-- the nodes of the controls and of the interlocking, numbered in the order of the switches, from 1
 abbrev pub control_nodes : List Switch → List Node
 control_nodes switches = map control_node (enumerate_from 1 switches)
 
@@ -288,6 +289,6 @@ nodes_of nameplate switches meters =
 abbrev pub rows_of_all : Nameplate → List Switch → List (List ℕ) → List Row
 rows_of_all nameplate switches meters = flat_map node_rows (nodes_of nameplate switches meters)
 
--- the number of the switch at a place: one more than there are of its class before it
+-- the number of the switch at an index: one more than the number of switches of its class before it
 abbrev pub node_number : List Switch → Switch → ℕ → ℕ
 node_number switches s place = length (filter (is_of (is_breaker s.kind)) (take place switches)) + 1

@@ -1,5 +1,5 @@
--- The rows of nodes as tables hold them: what the lines of a table begin with, and the rows of the
--- groups that are appended one after the other.
+-- The rows of the logical nodes as the tables of the code hold them: the initial value of a line,
+-- and the groups of rows that the code appends one after the other.
 use Rattle.std.specs.Prelude.{ℕ, zero, suc, ◌+◌, pos, false, List, [], ◌∷◌, ◌++◌, map, codes, Option, None, Some}
 use Rattle.std.specs.Borrow.{Bor}
 use Rattle.bay_tree.specs.declared.row.Row.{Row}
@@ -16,7 +16,7 @@ use Rattle.bay_nodes.specs.Node.{node_name, row, rows_of, rows_of_parts, parts_o
 
 -- ---- own: the same rows line by line
 
--- the value that a row begins with, where the nameplate says this
+-- the initial value of a row, with the texts of the nameplate
 abbrev pub leaf_from : Nameplate → InitialValue → Option Leaf
 leaf_from n Structure = None
 leaf_from n False = Some (leaf.Truth false)
@@ -37,15 +37,15 @@ leaf_from n Revision = Some (leaf.Text n.revision)
 abbrev pub line_row : Nameplate → Bor (List ℕ) × InitialValue → Row
 line_row n line = row line.0.now (leaf_from n line.1)
 
--- a row of a node, by its row within the node
+-- a row of a node, from its path within the node
 abbrev pub under : List ℕ → Row → Row
 under node r = row (node ++ r.name) r.leaf
 
--- the rows of a node that a table holds
+-- the rows of a node, from its table
 abbrev pub table_rows : Nameplate → List ℕ → List (Bor (List ℕ) × InitialValue) → List Row
 table_rows n node table = map (under node) (map (line_row n) table)
 
--- the rows of so many nodes of a class, with the rows of a table, numbered from n
+-- the rows of `k` nodes of a class, each with the rows of a table, numbered from `n`
 abbrev pub tabled_nodes : Nameplate → List ℕ → List (Bor (List ℕ) × InitialValue) → ℕ → ℕ → List Row
 tabled_nodes p class table n zero = []
 tabled_nodes p class table n (suc k) =
@@ -63,11 +63,11 @@ status_group =
     ∷ status (codes "OpCnt") (leaf.Int32 (pos 0)) validity.Good
     ∷ []))
 
--- the type of a switch, which a breaker has not (IEC 61850-7-4, SwTyp)
+-- the type of a switch; a breaker has none (IEC 61850-7-4, SwTyp)
 abbrev pub type_rows : SwitchKind → List Row
 type_rows kind = rows_of_parts (codes "$ST") (parts_of (switch_type kind))
 
--- the model of a position that is not controlled there (IEC 61850-7-3, ctlModel)
+-- the control model below XCBR and XSWI: status only (IEC 61850-7-3, ctlModel)
 abbrev pub position_model : List Row
 position_model = rows_of [] (inside (codes "CF") (status_only (codes "Pos") ∷ []))
 
@@ -78,19 +78,20 @@ control_group =
     (inside (codes "Pos") (value (codes "stVal") (leaf.Dbpos position.Intermediate)
     ∷ stamp validity.Invalid ++ value (codes "stSeld") (leaf.Truth false) ∷ []) ∷ []))
 
--- the rows above what may be written to a position (IEC 61850-7-2, CO)
+-- the two rows above the control rows (IEC 61850-7-2, CO)
 abbrev pub group_row : List Row
 group_row = row (codes "$CO") None ∷ row (codes "$CO$Pos") None ∷ []
 
--- the row by which a switch is selected with a read (IEC 61850-8-1, SBO)
+-- the row that selects a switch when a client reads it (IEC 61850-8-1, SBO)
 abbrev pub select_row : List Row
 select_row = row (codes "$CO$Pos$SBO") (Some (leaf.Reference [])) ∷ []
 
--- what may be written, or read to select (IEC 61850-8-1, SBO, SBOw, Oper, Cancel)
+-- the control rows: those that a client writes, and the one that it reads to select (IEC 61850-8-1,
+-- SBO, SBOw, Oper, Cancel)
 abbrev pub command_rows : Control → List Row
 command_rows control = rows_of_parts [] (parts_of (commands control))
 
--- the model of a control, and how long it stays selected (IEC 61850-7-3, ctlModel)
+-- the control model of a switch (IEC 61850-7-3, ctlModel)
 abbrev pub control_model : Control → List Row
 control_model control =
     row (codes "$CF") None ∷ row (codes "$CF$Pos") None

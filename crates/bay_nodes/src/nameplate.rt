@@ -1,4 +1,4 @@
-// What a device tells of itself.
+// The identity of a device, as the bay file gives it.
 use bay_base::text::Text;
 
 /// The section `bay` of a bay file: the name and maker of the device, and the maximum age of a

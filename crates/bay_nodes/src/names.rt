@@ -15,14 +15,14 @@ pub const INTERLOCKING: &str = "CILO";
 /// The class of a meter.
 pub const METER: &str = "MMXU";
 
-/// Returns whether a switch is a circuit breaker.
+/// Returns whether a switch of this kind is a circuit breaker.
 pub fn is_breaker(kind: SwitchKind) -> bool
     ensures { result ≡ spec.is_breaker kind }
 {
     kind == SwitchKind::Breaker
 }
 
-/// Returns whether the switch is a breaker, or whether it is none if `breakers` is false.
+/// Returns whether the switch is a breaker; if `breakers` is false, whether it is not a breaker.
 pub fn is_of(breakers: bool, switch: &Switch) -> bool
     ensures { result ≡ spec.is_of breakers switch.now }
 {
@@ -44,14 +44,15 @@ pub fn class_of(kind: SwitchKind) -> &'static str
     }
 }
 
-/// Returns the name of a node: its class and its number.
+/// Returns the name of a node: its class and its number. Fails only if an allocation fails.
 pub fn node_name(alloc: Global, class: &str, number: usize) -> Result<Text, AllocError>
     ensures { IfOk result (λ name. name ≡ spec.node_name class.now number) }
 {
     Ok(Text::new(format!(in alloc; "{class}{number}")?))
 }
 
-/// Returns the name of the row at a path of a node: the node's name with the path behind it.
+/// Returns the name of a row: the node's name followed by the path of the row within the node.
+/// Fails only if an allocation fails.
 pub fn row_name(alloc: Global, node: &str, path: &str) -> Result<Text, AllocError>
     ensures { IfOk result (λ name. name ≡ node.now ++ path.now) }
 {

@@ -1,5 +1,5 @@
-// The paths of the rows that are found by their names: what stands behind a node's name (IEC
-// 61850-8-1, names of variables).
+// The paths of the rows that are found by their names: the part of the name after the node's name
+// (IEC 61850-8-1, names of variables).
 
 /// The paths of a data object, its value, and the quality and time stamp of the value (IEC
 /// 61850-7-3).
@@ -19,7 +19,7 @@ pub const POSITION: StatusPaths = StatusPaths {
     time: "$ST$Pos$t",
 };
 
-/// How often a switch reached an end position.
+/// The number of times a switch has reached an end position.
 pub const OPERATIONS: StatusPaths = StatusPaths {
     object: "$ST$OpCnt",
     value: "$ST$OpCnt$stVal",
@@ -67,7 +67,7 @@ pub const FREQUENCY: StatusPaths = StatusPaths {
     time: "$MX$Hz$t",
 };
 
-/// The current of phase A. `PHASE_B` and `PHASE_C` are those of the other phases.
+/// The current of phase A. `PHASE_B` and `PHASE_C` are the currents of the other phases.
 pub const PHASE_A: StatusPaths = StatusPaths {
     object: "$MX$A$phsA",
     value: "$MX$A$phsA$cVal$mag$i",

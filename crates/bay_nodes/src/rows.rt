@@ -1,4 +1,4 @@
-// The rows of a bay's logical nodes, with the values of the start.
+// The rows of a bay's logical nodes, with their initial values.
 ghost use Rattle.std.specs.Prelude.{◌≡◌, ◌<◌, ◌^◌, length, ◌++◌, ◌∷◌, [], codes, map, None, IfOk};
 ghost use Rattle.std.specs.List.{flat_map};
 ghost use Rattle.bay_tree.specs.Rows.{IsTree};
@@ -125,7 +125,7 @@ fn push_position_node(
     Ok(())
 }
 
-// Adds the control rows (`$CO`) of a switch that is selected by the rows of the table `select`.
+// Adds the control rows (`$CO`) of a switch. The table `select` has the rows that select it.
 fn push_selection(
     alloc: Global,
     rows: &mut Vec<Row>,
@@ -242,7 +242,7 @@ fn push_control(
     Ok(())
 }
 
-// Adds so many nodes of a class, with the rows of a table, numbered from 1.
+// Adds `count` nodes of a class, each with the rows of a table, numbered from 1.
 fn push_nodes(
     alloc: Global,
     rows: &mut Vec<Row>,
@@ -298,13 +298,14 @@ fn push_controls(
     Ok(())
 }
 
-// About how many rows a switch has, and a meter.
+// The approximate number of rows of a switch, and of a meter: a hint for the capacity.
 const ROWS_OF_SWITCH: usize = 64;
 
 const ROWS_OF_METER: usize = 40;
 
 /// Returns the rows of a bay's nodes with their initial values: those of the device, the breakers,
-/// the other switches, the controls, the interlocking, and the meters.
+/// the other switches, the controls, the interlocking, and the meters. Fails only if an allocation
+/// fails.
 pub fn rows_of(
     alloc: Global,
     nameplate: &Nameplate,

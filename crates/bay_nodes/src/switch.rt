@@ -1,10 +1,10 @@
-// What a switch is.
+// The switches of a bay.
 use bay_base::text::Text;
 
 /// A switching device (IEC 61850-7-4, XCBR and XSWI) and the way it is controlled.
 #[derive(Debug, Drop)]
 pub struct Switch {
-    /// The name as it is spelled in the file: a letter, then letters, digits and `_`, at most 16
+    /// The name as the file spells it: a letter, then letters, digits and `_`, at most 16
     /// characters.
     pub id: Text,
     pub kind: SwitchKind,
@@ -35,12 +35,12 @@ pub enum Control {
     Direct,
     /// Select before operate with normal security.
     Sbo,
-    /// Select before operate with enhanced security: select with value, and a report of the end of
-    /// the control.
+    /// Select before operate with enhanced security: select with value, and a report when the
+    /// control ends.
     SboEnhanced,
 }
 
-/// What a switch is told to do (IEC 61850-7-3, DPC: ctlVal; FALSE opens, TRUE closes).
+/// The operation that a command requests (IEC 61850-7-3, DPC: ctlVal; FALSE opens, TRUE closes).
 #[derive(Clone, Copy, Debug, PartialEq, Eq)]
 pub enum Operation {
     Open,

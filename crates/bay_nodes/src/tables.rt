@@ -1,5 +1,5 @@
 // The rows of each logical node, in the order of the tree: the path from the node to the row, and
-// what the row begins with (IEC 61850-7-4; IEC 61850-8-1, names of variables).
+// the row's initial value (IEC 61850-7-4; IEC 61850-8-1, names of variables).
 ghost use Rattle.std.specs.Prelude.{◌≡◌, map, codes, ◌∷◌, []};
 ghost use Rattle.bay_nodes.specs.Node as node;
 ghost use Rattle.bay_nodes.specs.NodeRows.{line_row, status_group, type_rows, position_model, group_row, select_row, control_group, control_model};
@@ -15,7 +15,7 @@ pub enum InitialValue {
     Structure,
     /// FALSE.
     False,
-    /// The intermediate position, or no checks.
+    /// The intermediate position, or no checks set.
     Intermediate,
     Good,
     Invalid,
@@ -119,7 +119,7 @@ pub fn position_table() -> &'static [(&'static str, InitialValue)]
     ]
 }
 
-/// Returns the rows with the type of a switch that is not a breaker.
+/// Returns the rows with the type of a switch; a breaker has none.
 pub fn type_table(kind: SwitchKind) -> &'static [(&'static str, InitialValue)]
     ensures { (n : Nameplate) → map (line_row n) result.now ≡ type_rows kind }
 {

@@ -10,7 +10,7 @@ use Rattle.bay_nodes.specs.declared.switch.Switch.{Switch}
 use Rattle.il_image.proofs.SetLemmas.{set-elsewhere, set-here}
 use Rattle.bay_process.specs.Layout.{switches_of}
 use Rattle.bay_process.specs.Releases.{Shows, digit, digit_of, digits_from, lead, released_text, switch_text}
-use Rattle.bay_process.specs.Told.{AreKept, IsTold, enabled_at, enabled_from}
+use Rattle.bay_process.specs.ReportedRows.{AreKept, HoldsRelease, enabled_at, enabled_from}
 use Rattle.bay_process.specs.Values.{is_truth, with_enabled, with_output}
 use Rattle.bay_process.specs.declared.releases.Releases.{Releases}
 use Rattle.bay_process.specs.declared.switch.BoundSwitch.{BoundSwitch}
@@ -52,7 +52,7 @@ record Keeping (rows : List Row) (ss : List Switch) (n : ℕ) (r : Releases)
   shows : Shows ss told r.text.items r.places.items
   shown : (k : ℕ) (e : Enabled) → slice_get told k ≡ Some e → enabled_at rows k ≡ e
   written : (k : ℕ) (e : Enabled) → slice_get told k ≡ Some e
-      → (r.is_written ≡ true) ⊎ (k < n) → IsTold rows k e
+      → (r.is_written ≡ true) ⊎ (k < n) → HoldsRelease rows k e
 
 kept-by : (rows : List Row) (ss : List Switch) (n : ℕ) (r : Releases) (told : List Enabled)
     → Keeping rows ss n r told → AreKept rows ss n r
@@ -63,7 +63,7 @@ kept-by rows ss n r told k =
     record {
       shows = subst (λ es. Shows ss es r.text.items r.places.items) is k.shows;
       written = subst (λ es. (j : ℕ) (e : Enabled) → slice_get es j ≡ Some e
-          → (r.is_written ≡ true) ⊎ (j < n) → IsTold rows j e) is k.written;
+          → (r.is_written ≡ true) ⊎ (j < n) → HoldsRelease rows j e) is k.written;
     }
 
 -- what is said of a switch stands where its node's names keep their values
@@ -71,8 +71,9 @@ abbrev StaysAt : ℕ → List Row → List Row → Type 0
 StaysAt k rows new = (s : List ℕ)
     → leaf_of (interlocking_of k ++ 36 ∷ s) new ≡ leaf_of (interlocking_of k ++ 36 ∷ s) rows
 
-told-stays : (rows new : List Row) (k : ℕ) (e : Enabled) → StaysAt k rows new → IsTold rows k e
-    → IsTold new k e
+told-stays : (rows new : List Row) (k : ℕ) (e : Enabled) → StaysAt k rows new
+    → HoldsRelease rows k e
+    → HoldsRelease new k e
 told-stays rows new k e stays is = record {
   opening =
       record {
@@ -116,7 +117,7 @@ beq-true : (b : Bool) → beq true b ≡ b
 beq-true true = refl
 beq-true false = refl
 
-told-shown : (rows : List Row) (k : ℕ) (e : Enabled) → IsTold rows k e → enabled_at rows k ≡ e
+told-shown : (rows : List Row) (k : ℕ) (e : Enabled) → HoldsRelease rows k e → enabled_at rows k ≡ e
 told-shown rows k e is =
     ap (λ o. let d : Enabled = record {
       may_open = is_truth true o;
@@ -133,7 +134,7 @@ told-shown rows k e is =
 
 -- what stands is not written again
 pub output-same : (rows : List Row) (k : ℕ) (stood e : Enabled) (names : SwitchNames) (now : ℕ)
-    → names.ena_opn ≡ opening_of k → names.ena_cls ≡ closing_of k → IsTold rows k stood
+    → names.ena_opn ≡ opening_of k → names.ena_cls ≡ closing_of k → HoldsRelease rows k stood
     → beq e.may_open stood.may_open ≡ true → beq e.may_close stood.may_close ≡ true
     → with_output names e.may_open e.may_close now rows ≡ rows
 output-same rows k stood e names now opens closes is one other =
@@ -147,12 +148,12 @@ output-same rows k stood e names now opens closes is one other =
 -- one switch more was written
 module _ (rows new : List Row) (ss : List Switch) (i : ℕ) (r q : Releases) (enabled : Enabled)
     (now : ℕ) (kept : AreKept rows ss i r) (within : i < length ss) (few : length ss < 2 ^ 64)
-    (flag : q.is_written ≡ r.is_written) (own : IsTold new i enabled)
+    (flag : q.is_written ≡ r.is_written) (own : HoldsRelease new i enabled)
     (is : new ≡ with_enabled (closing_of i) enabled.may_close now
     (with_enabled (opening_of i) enabled.may_open now rows)) where
   abbrev AtPlace : ℕ → Enabled → Type 0
   AtPlace k e =
-      (enabled_at new k ≡ e) × ((q.is_written ≡ true) ⊎ (k < i + 1) → IsTold new k e)
+      (enabled_at new k ≡ e) × ((q.is_written ≡ true) ⊎ (k < i + 1) → HoldsRelease new k e)
 
   at-place : (b : Bool) (k : ℕ) (e : Enabled) → nat_eq k i ≡ b
       → slice_get (slice_set (enabled_from rows 0 ss) i enabled) k ≡ Some e → AtPlace k e
@@ -162,8 +163,8 @@ module _ (rows new : List Row) (ss : List Switch) (i : ℕ) (r q : Releases) (en
       let one : enabled ≡ e =
       same_Some enabled e (sym (set-here (enabled_from rows 0 ss) i enabled inside)
       ∙ ap (slice_get (slice_set (enabled_from rows 0 ss) i enabled)) (sym at) ∙ here) in
-      let stands : IsTold new k e =
-      subst (λ n. IsTold new n e) (sym at) (subst (IsTold new i) one own) in
+      let stands : HoldsRelease new k e =
+      subst (λ n. HoldsRelease new n e) (sym at) (subst (HoldsRelease new i) one own) in
       (told-shown new k e stands, λ by. stands)
   at-place false k e same here =
       let apart : k ≡ i → ⊥ = λ at. let no : nat_eq k i ≡ true =
@@ -219,7 +220,8 @@ module _ (rows : List Row) (bs : List BoundSwitch) (i : ℕ) (b : BoundSwitch)
   abbrev more : List ℕ
   more = ((t ++ (32 ∷ [])) ++ b.switch.id) ++ (61 ∷ digit o ∷ digit c ∷ [])
 
-  pub text-turn : t ++ rest-text rows i (drop i bs) ≡ more ++ rest-text rows (i + 1) (drop (i + 1) bs)
+  pub text-turn : t ++ rest-text rows i (drop i bs)
+      ≡ more ++ rest-text rows (i + 1) (drop (i + 1) bs)
   text-turn =
       let rest = rest-text rows (i + 1) (drop (i + 1) bs) in
       ap (λ xs. t ++ rest-text rows i xs) next

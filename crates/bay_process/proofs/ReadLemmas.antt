@@ -24,8 +24,8 @@ use Rattle.il_image.specs.declared.value.Value.TheVariants.{Long}
 use Rattle.bay_process.specs.Layout.{AreBound, AreMetersBound, Layout, field_rows, layout_of, name_in, status_in, switch_in, switches_of}
 use Rattle.bay_process.specs.Names.{field_names}
 use Rattle.bay_process.specs.Scans.{bound_value, outputs_put, switch_value, meter_value}
-use Rattle.bay_process.specs.Told.{AreEnabling, AreInterlocked}
-use Rattle.bay_process.specs.Values.{is_operation, number_of_leaf, operation_counted, position_quality, position_value, rows_after_change, rows_after_contact, tells, with_count, with_enabled, with_output, with_status}
+use Rattle.bay_process.specs.ReportedRows.{AreEnabling, AreInterlocked}
+use Rattle.bay_process.specs.Values.{is_operation, number_of_leaf, operation_counted, position_quality, position_value, rows_after_change, rows_after_contact, has_position, with_count, with_enabled, with_output, with_status}
 use Rattle.bay_process.specs.declared.meter.BoundMeter.{BoundMeter}
 use Rattle.bay_process.specs.declared.rows.SwitchRows.{SwitchRows}
 use Rattle.bay_process.specs.declared.switch.BoundSwitch.{BoundSwitch}
@@ -84,7 +84,7 @@ module _ (name : List ℕ) (start : List Row) where
       let both : Stays after =
       stays-status names.control _ _ now told control
       (stays-status names.position _ _ now start own refl) in
-      stays-if (tells names.position position start) start
+      stays-if (has_position names.position position start) start
       (rows_after_change names position now start) refl
       (stays-if (is_operation position (leaf_of names.position.value start))
       (operation_counted names.operations now after) after

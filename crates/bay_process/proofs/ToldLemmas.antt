@@ -25,11 +25,11 @@ use Rattle.bay_base.specs.declared.point.MeterField.TheVariants.{TotW, TotVAr, H
 use Rattle.bay_nodes.specs.declared.switch.Switch.{Switch}
 use Rattle.bay_nodes.specs.declared.switch.SwitchKind.{SwitchKind}
 use Rattle.bay_nodes.specs.declared.switch.SwitchKind.TheVariants.{Breaker, Disconnector, Earthing}
-use Rattle.bay_process.specs.Values.{is_truth, is_quality, with_status, with_enabled, with_count, operation_counted, is_operation, tells, position_quality, rows_after_change, rows_after_contact, tells_doubt, tells_measure, rows_after_doubt, rows_after_measure}
+use Rattle.bay_process.specs.Values.{is_truth, is_quality, with_status, with_enabled, with_count, operation_counted, is_operation, has_position, position_quality, rows_after_change, rows_after_contact, tells_doubt, tells_measure, rows_after_doubt, rows_after_measure}
 use Rattle.bay_nodes.specs.Names.{StatusNames, switch_names, node_of, meter_names, interlocking_of, opening_of, closing_of}
 use Rattle.bay_process.specs.Names.{field_names}
 use Rattle.bay_process.specs.declared.switch.Enabled.{Enabled}
-use Rattle.bay_process.specs.Told.{AreValued, IsTold, Stands}
+use Rattle.bay_process.specs.ReportedRows.{AreValued, HoldsRelease, HoldsTruth}
 
 -- ---- one row
 
@@ -120,7 +120,8 @@ same-node k i s t few less e =
 abbrev pub IsAway : List ℕ → Type 0
 IsAway other = (k : ℕ) (s : List ℕ) → interlocking_of k ++ s ≢ other
 
-pub away-position : (kind : SwitchKind) (n : ℕ) (t : List ℕ) → IsAway (node_name (class_of kind) n ++ t)
+pub away-position : (kind : SwitchKind) (n : ℕ) (t : List ℕ)
+    → IsAway (node_name (class_of kind) n ++ t)
 away-position Breaker n t k s e = let first : 67 ≡ 88 =
     ap (λ l. get_or l 0 0) e in omega (arith, first)
 away-position Disconnector n t k s e = let first : 67 ≡ 88 =
@@ -205,7 +206,7 @@ keeps-contact switches j switch position now rows =
     then-keeps rows told after (keeps-status names.position _ _ now rows places)
     (keeps-status names.control _ _ now told controls) in
     let with_count = operation_counted names.operations now after in
-    keeps-if (tells names.position position rows) rows rows
+    keeps-if (has_position names.position position rows) rows rows
     (rows_after_change names position now rows) (λ k s. refl)
     (keeps-if (is_operation position (leaf_of names.position.value rows)) rows with_count after
     (then-keeps rows after with_count both
@@ -269,20 +270,20 @@ good-is (Some (leaf.Utc n)) h = absurd cc
 
 -- what stands is not written again
 pub enabled-same : (names : StatusNames) (b c : Bool) (now : ℕ) (rows : List Row)
-    → Stands rows names c → beq b c ≡ true → with_enabled names b now rows ≡ rows
+    → HoldsTruth rows names c → beq b c ≡ true → with_enabled names b now rows ≡ rows
 enabled-same names b c now rows s e =
     let is : is_truth b (Some (leaf.Truth c)) ≡ true = e in
     rw (s.value_is, s.quality_is, is) refl
 
 -- and what differs is written
 pub enabled-changed : (names : StatusNames) (b c : Bool) (now : ℕ) (rows : List Row)
-    → Stands rows names c → beq b c ≡ false
+    → HoldsTruth rows names c → beq b c ≡ false
     → with_enabled names b now rows ≡ with_status names (leaf.Truth b) Good now rows
 enabled-changed names b c now rows s e =
     let is : is_truth b (Some (leaf.Truth c)) ≡ false = e in
     rw (s.value_is, s.quality_is, is) refl
 
-pub stands-valued : (rows : List Row) (names : StatusNames) (b : Bool) → Stands rows names b
+pub stands-valued : (rows : List Row) (names : StatusNames) (b : Bool) → HoldsTruth rows names b
     → AreValued rows names
 stands-valued rows names b s = record {
   value_there = λ e. let none : Some (leaf.Truth b) ≡ None = sym s.value_is ∙ e in absurd cc;
@@ -300,7 +301,7 @@ record AreOwn (rows : List Row) (names : StatusNames) : Type 0 where
 stands-if : (t : Bool) (names : StatusNames) (b : Bool) (now : ℕ) (rows : List Row)
     → AreOwn rows names → (is_truth b (leaf_of names.value rows)
     && is_quality Good (leaf_of names.quality rows)) ≡ t
-    → Stands (cond t rows (with_status names (leaf.Truth b) Good now rows)) names b
+    → HoldsTruth (cond t rows (with_status names (leaf.Truth b) Good now rows)) names b
 stands-if true names b now rows own same =
     let parts =
     and_parts (is_truth b (leaf_of names.value rows))
@@ -322,7 +323,7 @@ stands-if false names b now rows own same =
     }
 
 stands-enabled : (names : StatusNames) (b : Bool) (now : ℕ) (rows : List Row) → AreOwn rows names
-    → Stands (with_enabled names b now rows) names b
+    → HoldsTruth (with_enabled names b now rows) names b
 stands-enabled names b now rows own = stands-if _ names b now rows own refl
 
 -- a name is none of a status value's
@@ -398,8 +399,9 @@ opening-other k s at =
     record { value_other = apart _ refl; quality_other = apart _ refl; time_other = apart _ refl }
 
 -- what is said of closing stands after opening was written
-pub closing-stands : (k : ℕ) (b c : Bool) (now : ℕ) (rows : List Row) → Stands rows (closing_of k) c
-    → Stands (with_enabled (opening_of k) b now rows) (closing_of k) c
+pub closing-stands : (k : ℕ) (b c : Bool) (now : ℕ) (rows : List Row)
+    → HoldsTruth rows (closing_of k) c
+    → HoldsTruth (with_enabled (opening_of k) b now rows) (closing_of k) c
 closing-stands k b c now rows s = record {
   value_is = other-enabled _ (opening_of k) b now rows (opening-other k _ refl) ∙ s.value_is;
   quality_is = other-enabled _ (opening_of k) b now rows (opening-other k _ refl) ∙ s.quality_is;
@@ -431,11 +433,11 @@ closing-own rows k valued = record {
 pub told-here : (k : ℕ) (enabled : Enabled) (now : ℕ) (rows mid new : List Row)
     → AreValued rows (opening_of k) → mid ≡ with_enabled (opening_of k) enabled.may_open now rows
     → AreValued mid (closing_of k) → new ≡ with_enabled (closing_of k) enabled.may_close now mid
-    → IsTold new k enabled
+    → HoldsRelease new k enabled
 told-here k enabled now rows mid new opens first closes second =
     let opened =
     stands-enabled (opening_of k) enabled.may_open now rows (opening-own rows k opens) in
-    let stood : Stands mid (opening_of k) enabled.may_open = rw first opened in
+    let stood : HoldsTruth mid (opening_of k) enabled.may_open = rw first opened in
     let closed =
     stands-enabled (closing_of k) enabled.may_close now mid (closing-own mid k closes) in
     rw second record {

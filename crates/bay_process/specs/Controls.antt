@@ -1,4 +1,4 @@
--- The rows of a bay's controls by their names, and the handles that a tree gives for them.
+-- The rows of a bay's controls by their names, and the handles that a tree returns for them.
 use Rattle.std.specs.Prelude.{◌≡◌, ℕ, ◌<◌, List, Some, slice_get}
 use Rattle.bay_tree.specs.Rows.{place_of}
 use Rattle.bay_tree.specs.declared.row.Row.{Row}
@@ -8,13 +8,12 @@ use Rattle.bay_process.specs.Layout.{HasLeafType, layout_of}
 use Rattle.bay_process.specs.Nodes.{HasLeaf}
 use Rattle.bay_process.specs.declared.controls.ControlRows.{ControlRows}
 
--- the rows tell of each of so many switches whether it is selected
+-- the rows have the value stSeld for each of the first `count` switches
 abbrev pub HaveSelected : List Row → ℕ → Type 0
 HaveSelected rows count =
     (k : ℕ) → k < count → HasLeaf rows (control_names k).selected leaf_type.Truth
 
--- each handle is where the row of its name stands, if there is one; there is one that tells whether
--- the switch is selected
+-- each handle is the index of the row with its name, if there is one; the row stSeld always exists
 pub record AreControlRows (rows : List Row) (names : ControlNames) (handles : ControlRows)
     : Type 0 where
   pub selected : place_of rows names.selected ≡ Some handles.selected
@@ -24,7 +23,7 @@ pub record AreControlRows (rows : List Row) (names : ControlNames) (handles : Co
   pub operate : handles.operate ≡ place_of rows names.operate
   pub cancel : handles.cancel ≡ place_of rows names.cancel
 
--- those of the switch at each place
+-- the handles of the control of the switch at each index
 abbrev pub AreAllControlRows : List Row → List ControlRows → Type 0
 AreAllControlRows rows controls = (k : ℕ) (handles : ControlRows)
     → slice_get controls k ≡ Some handles → AreControlRows rows (control_names k) handles

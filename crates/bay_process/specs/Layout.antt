@@ -1,5 +1,4 @@
--- Where the values of switches and meters stand in a tree: the names and the types of the rows at
--- their handles.
+-- The names and the types of the rows at the handles of switches and meters.
 use Rattle.std.specs.Prelude.{◌≡◌, ℕ, ◌+◌, List, [], ◌∷◌, map, Option, Some, None, All, position, slice_get, slice_index_or}
 use Rattle.bay_tree.specs.Rows.{names_of, leaf_types_of}
 use Rattle.bay_tree.specs.declared.row.Row.{Row}
@@ -19,7 +18,7 @@ use Rattle.bay_process.specs.declared.rows.StatusRows.{StatusRows}
 use Rattle.bay_process.specs.declared.rows.SwitchRows.{SwitchRows}
 use Rattle.bay_process.specs.declared.switch.BoundSwitch.{BoundSwitch}
 
--- the names and the types of a tree's rows, which no new value changes
+-- the names and the types of a tree's rows, which no write changes
 pub record Layout : Type 0 where
   pub names : List (List ℕ)
   pub leaf_types : List (Option LeafType)
@@ -32,7 +31,7 @@ layout_of rows = record { names = names_of rows; leaf_types = leaf_types_of rows
 abbrev pub name_in : Layout → ℕ → List ℕ
 name_in layout handle = slice_index_or layout.names handle []
 
--- the names at the handles of a value, its quality and its moment
+-- the names at the handles of a value, its quality and its time stamp
 abbrev pub status_in : Layout → StatusRows → StatusNames
 status_in layout rows =
     record {
@@ -51,17 +50,18 @@ switch_in layout rows = record {
   ena_cls = status_in layout rows.ena_cls;
 }
 
--- a value of this type stands at the handle
+-- the row at the handle has a value of this type
 abbrev pub HasLeafType : Layout → ℕ → LeafType → Type 0
 HasLeafType layout handle leaf_type = slice_index_or layout.leaf_types handle None ≡ Some leaf_type
 
--- a value of this type, with its quality and its moment
+-- the rows have a value of this type, its quality and its time stamp
 pub record AreStatusRows (layout : Layout) (value : LeafType) (rows : StatusRows) : Type 0 where
   pub value_type : HasLeafType layout rows.value value
   pub quality_type : HasLeafType layout rows.quality leaf_type.Quality
   pub time_type : HasLeafType layout rows.time leaf_type.Utc
 
--- a switch's position, twice, how often it moved, and its two interlocking values
+-- the rows have a switch's position, the same below its control, its operation count, and its two
+-- interlocking values
 pub record AreSwitchRows (layout : Layout) (rows : SwitchRows) : Type 0 where
   pub position : AreStatusRows layout leaf_type.Dbpos rows.position
   pub control : AreStatusRows layout leaf_type.Dbpos rows.control
@@ -69,7 +69,7 @@ pub record AreSwitchRows (layout : Layout) (rows : SwitchRows) : Type 0 where
   pub ena_opn : AreStatusRows layout leaf_type.Truth rows.ena_opn
   pub ena_cls : AreStatusRows layout leaf_type.Truth rows.ena_cls
 
--- those of each switch
+-- the rows of each switch have their types
 abbrev pub AreLeafTyped : Layout → List BoundSwitch → Type 0
 AreLeafTyped layout bound = All (λ b. AreSwitchRows layout b.rows) bound
 
@@ -77,8 +77,7 @@ AreLeafTyped layout bound = All (λ b. AreSwitchRows layout b.rows) bound
 abbrev pub switches_of : List BoundSwitch → List Switch
 switches_of bound = map (λ b. b.switch) bound
 
--- among the points that may be written, the places of the interlocking values of the switch at a
--- place
+-- the indices of the interlocking values of the switch at an index among the writable points
 abbrev pub outputs_at : List Source → ℕ → SwitchOutputs
 outputs_at writes k =
     record {
@@ -86,19 +85,19 @@ outputs_at writes k =
       ena_cls = position (is_point k EnableClose) writes;
     }
 
--- the handles of the switch at a place have its names, and its outputs are those of its points
+-- the handles of the switch at index k have its names, and its outputs are those of its points
 pub record IsBound (layout : Layout) (writes : List Source) (switches : List Switch) (k : ℕ)
     (bound : BoundSwitch) : Type 0 where
   pub named : switch_in layout bound.rows ≡ switch_names switches k bound.switch
   pub leaf_typed : AreSwitchRows layout bound.rows
   pub outputs : bound.outputs ≡ outputs_at writes k
 
--- each switch is bound at its place
+-- each switch is bound at its index
 abbrev pub AreBound : Layout → List Source → List BoundSwitch → Type 0
 AreBound layout writes bound = (k : ℕ) (b : BoundSwitch) → slice_get bound k ≡ Some b
     → IsBound layout writes (switches_of bound) k b
 
--- the switches with their rows, from place k on, and the places of their interlocking values
+-- the switches with their rows and the indices of their interlocking values; the first has index k
 abbrev pub bound_from : List Source → ℕ → List Switch → List SwitchRows → List BoundSwitch
 bound_from writes k [] rows = []
 bound_from writes k (s ∷ ss) [] = []
@@ -116,7 +115,7 @@ meter_in layout rows = record {
   phase_c = status_in layout rows.phase_c;
 }
 
--- where the value of a field stands
+-- the rows of a field of a meter
 abbrev pub field_rows : MeterRows → MeterField → StatusRows
 field_rows rows TotW = rows.tot_w
 field_rows rows TotVAr = rows.tot_var
@@ -125,7 +124,7 @@ field_rows rows PhaseA = rows.phase_a
 field_rows rows PhaseB = rows.phase_b
 field_rows rows PhaseC = rows.phase_c
 
--- the measured values of a meter
+-- the rows have the measured values of a meter
 pub record AreMeterRows (layout : Layout) (rows : MeterRows) : Type 0 where
   pub tot_w : AreStatusRows layout leaf_type.Int32 rows.tot_w
   pub tot_var : AreStatusRows layout leaf_type.Int32 rows.tot_var
@@ -134,7 +133,7 @@ pub record AreMeterRows (layout : Layout) (rows : MeterRows) : Type 0 where
   pub phase_b : AreStatusRows layout leaf_type.Int32 rows.phase_b
   pub phase_c : AreStatusRows layout leaf_type.Int32 rows.phase_c
 
--- those of each meter
+-- the rows of each meter have their types
 abbrev pub AreMetersLeafTyped : Layout → List BoundMeter → Type 0
 AreMetersLeafTyped layout bound = All (λ m. AreMeterRows layout m.rows) bound
 
@@ -142,12 +141,12 @@ AreMetersLeafTyped layout bound = All (λ m. AreMeterRows layout m.rows) bound
 abbrev pub meters_of : List BoundMeter → List (List ℕ)
 meters_of bound = map (λ m. m.id) bound
 
--- the handles of the meter at a place have its names
+-- the handles of the meter at index k have its names
 pub record IsMeterBound (layout : Layout) (k : ℕ) (rows : MeterRows) : Type 0 where
   pub named : meter_in layout rows ≡ meter_names k
   pub leaf_typed : AreMeterRows layout rows
 
--- each meter is bound at its place
+-- each meter is bound at its index
 abbrev pub AreMetersBound : Layout → List BoundMeter → Type 0
 AreMetersBound layout bound =
     (k : ℕ) (m : BoundMeter) → slice_get bound k ≡ Some m → IsMeterBound layout k m.rows

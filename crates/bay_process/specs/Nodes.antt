@@ -1,4 +1,4 @@
--- The rows of a bay's switches by the names of their nodes, and the handles that a tree gives for
+-- The rows of a bay's switches by the names of their nodes, and the handles that a tree returns for
 -- them.
 use Rattle.std.specs.Prelude.{◌≡◌, ◌≢◌, ℕ, ◌+◌, codes, List, Some, None, option_map, slice_get}
 use Rattle.bay_tree.specs.LeafTypes.{leaf_type_of}
@@ -16,7 +16,7 @@ use Rattle.bay_process.specs.declared.nodes.Nodes.{Nodes}
 use Rattle.bay_process.specs.declared.rows.StatusRows.{StatusRows}
 use Rattle.bay_process.specs.declared.rows.SwitchRows.{SwitchRows}
 
--- the nodes are those of the switch at a place
+-- the nodes are those of the switch at an index
 pub record AreNodesOf (bay : Bay) (place : ℕ) (nodes : Nodes) : Type 0 where
   pub position_named : NamesPosition bay place nodes.position
   pub control_named : NamesControl bay place nodes.control
@@ -30,11 +30,11 @@ AreAllNodes bay nodes = (k : ℕ) (n : Nodes) → slice_get nodes k ≡ Some n �
 abbrev pub nodes_names : Nodes → SwitchNames
 nodes_names nodes = names_by_nodes nodes.position nodes.control nodes.interlocking
 
--- the rows have a value of this name and type
+-- the rows have a value with this name and type
 abbrev pub HasLeaf : List Row → List ℕ → LeafType → Type 0
 HasLeaf rows name leaf_type = option_map leaf_type_of (leaf_of name rows) ≡ Some leaf_type
 
--- the rows have a value of these names and type, with its quality and its moment
+-- the rows have a value of this type with these names, its quality and its time stamp
 pub record HasStatus (rows : List Row) (names : StatusNames) (value : LeafType) : Type 0 where
   pub value_leaf : HasLeaf rows names.value value
   pub quality_leaf : HasLeaf rows names.quality leaf_type.Quality
@@ -53,18 +53,18 @@ abbrev pub HasSwitches : List Row → List Nodes → Type 0
 HasSwitches rows nodes =
     (k : ℕ) (n : Nodes) → slice_get nodes k ≡ Some n → HasSwitch rows (nodes_names n)
 
--- the rows have a value of each of these names
+-- the rows have a value for each of these names
 pub record AreThere (rows : List Row) (names : StatusNames) : Type 0 where
   pub value_there : leaf_of names.value rows ≢ None
   pub quality_there : leaf_of names.quality rows ≢ None
   pub time_there : leaf_of names.time rows ≢ None
 
--- the handle of a name: its row has the name, and the name's value
+-- the handle's row has the name and the value of the name
 pub record IsFound (rows : List Row) (name : List ℕ) (handle : ℕ) : Type 0 where
   pub named : name_at rows handle ≡ name
   pub value : leaf_at rows handle ≡ leaf_of name rows
 
--- handles at which a value, its quality and its moment stand
+-- the handles of a value, its quality and its time stamp
 pub record AreFound (rows : List Row) (names : StatusNames) (handles : StatusRows) : Type 0 where
   pub value_found : IsFound rows names.value handles.value
   pub quality_found : IsFound rows names.quality handles.quality
@@ -94,7 +94,7 @@ pub record HasMeterLeaves (rows : List Row) (names : MeterNames) : Type 0 where
   pub phase_b : HasStatus rows names.phase_b leaf_type.Int32
   pub phase_c : HasStatus rows names.phase_c leaf_type.Int32
 
--- those of the meters at their places, which the nodes name
+-- the node is that of the meter at index k, and the rows have the meter's values
 pub record IsMeterThere (rows : List Row) (k : ℕ) (node : List ℕ) : Type 0 where
   pub named : node ≡ node_name (codes "MMXU") (k + 1)
   pub leaves : HasMeterLeaves rows (meter_names_of node)

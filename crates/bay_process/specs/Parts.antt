@@ -1,4 +1,4 @@
--- The parts that the state of a device is made of.
+-- The parts of the state of a device.
 use Rattle.std.specs.Prelude.{◌≡◌, true, false, ℕ, List, length}
 use Rattle.bay_base.specs.declared.point.Source.{Source}
 use Rattle.bay_base.specs.declared.point.Point.{Point}
@@ -11,17 +11,17 @@ use Rattle.bay_process.specs.Sources.{sources_of}
 use Rattle.bay_process.specs.Nodes.{AreAllRows}
 use Rattle.bay_process.specs.declared.nodes.Nodes.{Nodes}
 use Rattle.bay_process.specs.declared.parts.BoundRows.{BoundRows}
-use Rattle.bay_process.specs.declared.parts.WiredMachine.{WiredMachine}
+use Rattle.bay_process.specs.declared.parts.BoundMachine.{BoundMachine}
 use Rattle.bay_process.specs.declared.rows.SwitchRows.{SwitchRows}
 use Rattle.bay_process.specs.declared.switch.BoundSwitch.{BoundSwitch}
 
--- a machine with an image before its first scan, what the image's points stand for among the bay's
-pub record IsWired (bay : List Point) (image : Image) (wired : WiredMachine) : Type 0 where
+-- a machine with an image in its state before the first scan, and the sources of the image's points
+pub record IsWired (bay : List Point) (image : Image) (wired : BoundMachine) : Type 0 where
   pub machine : wired.machine ≡ held_first image
   pub reads : wired.reads.items ≡ sources_of false bay image.points
   pub writes : wired.writes.items ≡ sources_of true bay image.points
 
--- the switches, each with rows that its nodes name, and the places of their interlocking values
+-- the switches, each with the rows below its nodes and the indices of its interlocking values
 pub record AreBoundSwitches (layout : Layout) (writes : List Source) (switches : List Switch)
     (nodes : List Nodes) (bound : List BoundSwitch) : Type 0 where
   pub rows : List SwitchRows
@@ -29,7 +29,7 @@ pub record AreBoundSwitches (layout : Layout) (writes : List Source) (switches :
   pub named : AreAllRows layout nodes rows
   pub is : bound ≡ bound_from writes 0 switches rows
 
--- a tree of these rows, and the switches and the meters with the rows that their nodes name
+-- a tree of these rows, and the switches and the meters with the rows below their nodes
 pub record AreBoundRows (rows : List Row) (switches : List Switch) (meters : List (List ℕ))
     (nodes : List Nodes) (writes : List Source) (bound : BoundRows) : Type 0 where
   pub tree : bound.tree ≡ rows

@@ -1,13 +1,13 @@
--- The text of the releases of the switches, and where its digits stand.
+-- The text of the releases of the switches, and the offsets of its digits.
 use Rattle.std.specs.Prelude.{◌≡◌, ℕ, ◌+◌, Bool, List, [], ◌∷◌, ◌++◌, codes, length, if◌then◌else◌}
 use Rattle.bay_nodes.specs.declared.switch.Switch.{Switch}
 use Rattle.bay_process.specs.declared.switch.Enabled.{Enabled}
 
--- TRUE is 1
+-- the octet of a digit: `1` for TRUE, `0` for FALSE
 abbrev pub digit : Bool → ℕ
 digit b = if b then 49 else 48
 
--- TRUE is 1
+-- the text of a digit: `1` for TRUE, `0` for FALSE
 abbrev pub digit_of : Bool → List ℕ
 digit_of b = if b then codes "1" else codes "0"
 
@@ -16,23 +16,23 @@ abbrev pub switch_text : List ℕ → Bool → Bool → List ℕ
 switch_text id opens closes =
     codes " " ++ id ++ codes "=" ++ (digit_of opens ++ digit_of closes)
 
--- the text on switches with these releases
+-- the text of switches with these releases
 abbrev pub released_text : List Switch → List Enabled → List ℕ
 released_text [] told = []
 released_text (s ∷ ss) [] = []
 released_text (s ∷ ss) (e ∷ told) =
     switch_text s.id e.may_open e.may_close ++ released_text ss told
 
--- what stands before the digits of a switch
+-- the text before the digits of a switch
 abbrev pub lead : Switch → List ℕ
 lead s = codes " " ++ s.id ++ codes "="
 
--- the places of the first digits, where the text begins at n
+-- the offsets of the first digits, if the text begins at offset n
 abbrev pub digits_from : ℕ → List Switch → List ℕ
 digits_from n [] = []
 digits_from n (s ∷ ss) = (n + length (lead s)) ∷ digits_from (n + length (lead s) + 2) ss
 
--- The text tells these releases of these switches, and its digits are at these places.
+-- The text has these releases of these switches, and their first digits are at these offsets.
 pub record Shows (switches : List Switch) (told : List Enabled) (text : List ℕ)
     (places : List ℕ) : Type 0 where
   pub sized : length told ≡ length switches

@@ -1,4 +1,4 @@
--- What a scan reads and writes, where switches and meters stand in the tree.
+-- What a scan reads and writes, with switches and meters bound to the rows of the tree.
 use Rattle.std.specs.Prelude.{◌≡◌, ◌<◌, ◌≤◌, ℕ, Bool, false, List, [], ◌∷◌, slice_get, unwrap_or, Option, Some, None}
 use Rattle.bay_tree.specs.Rows.{leaf_of}
 use Rattle.bay_tree.specs.declared.leaf.Leaf.{Leaf}
@@ -20,18 +20,18 @@ use Rattle.bay_process.specs.declared.switch.BoundSwitch.{BoundSwitch}
 abbrev pub leaf_at : List Row → ℕ → Option Leaf
 leaf_at rows handle = leaf_of (name_in (layout_of rows) handle) rows
 
--- what the program reads of a switch
+-- the value that the program reads of a point of a switch
 abbrev pub switch_value : List Row → SwitchPoint → Option BoundSwitch → Value
 switch_value rows point None = position_value point None
 switch_value rows point (Some b) = position_value point (leaf_at rows b.rows.position.value)
 
--- what the program reads of a meter
+-- the value that the program reads of a field of a meter
 abbrev pub meter_value : List Row → MeterField → Option BoundMeter → Value
 meter_value rows field None = Long (number_of_leaf None)
 meter_value rows field (Some m) =
     Long (number_of_leaf (leaf_at rows (field_rows m.rows field).value))
 
--- what the contacts, the inputs and the measures give a point
+-- the value of a point, from the positions, the inputs or the measured values
 abbrev pub bound_value : List Row → List BoundSwitch → List Bool → List BoundMeter → Source → Value
 bound_value rows switches inputs meters (source.Switch k point) =
     switch_value rows point (slice_get switches k)
@@ -40,17 +40,17 @@ bound_value rows switches inputs meters (source.Input k) =
 bound_value rows switches inputs meters (source.Meter k field) =
     meter_value rows field (slice_get meters k)
 
--- The span has each point of the switch at a place that is read.
+-- The span has each read-only point of the switch at index k.
 abbrev pub HasPoints : List Source → ℕ → Span → Type 0
 HasPoints reads k span = (n : ℕ) (point : SwitchPoint)
     → slice_get reads n ≡ Some (source.Switch k point) → (span.from ≤ n) × (n < span.to)
 
--- Each span has the points of the switch at its place.
+-- Each span has the points of the switch at its index.
 abbrev pub AreSpanned : List Source → List Span → Type 0
 AreSpanned reads spans =
     (k : ℕ) (span : Span) → slice_get spans k ≡ Some span → HasPoints reads k span
 
--- the interlocking values of the switches take their points' values
+-- the rows after a scan has written its outputs to the interlocking values of the switches
 abbrev pub outputs_put : Layout → List BoundSwitch → List Value → ℕ → List Row → List Row
 outputs_put layout [] outputs now rows = rows
 outputs_put layout (b ∷ bs) outputs now rows =

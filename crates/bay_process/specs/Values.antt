@@ -1,5 +1,5 @@
--- What contacts, inputs, measures and a scan's outputs make of the rows of a tree (IEC 61850-7-4:
--- XCBR, XSWI, CSWI, CILO and MMXU; IEC 61850-7-3: status values and measured values).
+-- The effects of positions, inputs, measured values and a scan's outputs on the rows of a tree (IEC
+-- 61850-7-4: XCBR, XSWI, CSWI, CILO and MMXU; IEC 61850-7-3: status values and measured values).
 use Rattle.std.specs.Prelude.{ℕ, ℤ, ◌+◌, Bool, true, false, not, ◌&&◌, ◌==◌, pos, ◌+ℤ◌, int_lt, List, [], ◌∷◌, position, slice_get, Option, None, Some, if◌then◌else◌}
 use Rattle.std.specs.Bool.{beq}
 use Rattle.std.specs.Ordering.{int_eq}
@@ -23,27 +23,27 @@ use Rattle.il_scan.specs.Places.{is_true}
 use Rattle.bay_nodes.specs.Names.{StatusNames, SwitchNames, switch_names, meter_names}
 use Rattle.bay_process.specs.Names.{field_names}
 
--- a status value, its quality and its moment
+-- the rows with a status value, its quality and its time stamp
 abbrev pub with_status : StatusNames → Leaf → Quality → ℕ → List Row → List Row
 with_status names value quality now rows =
     with_leaf_of names.time (leaf.Utc now)
     (with_leaf_of names.quality (leaf.Quality quality) (with_leaf_of names.value value rows))
 
--- a position at which both end positions are reported is not to be trusted
+-- the quality of a position: invalid if both end positions are reported
 abbrev pub position_quality : Dbpos → Quality
 position_quality Bad = Invalid
 position_quality Intermediate = Good
 position_quality Off = Good
 position_quality On = Good
 
--- open or closed, and nothing between
+-- open or closed
 abbrev pub is_end_position : Dbpos → Bool
 is_end_position Off = true
 is_end_position On = true
 is_end_position Intermediate = false
 is_end_position Bad = false
 
--- two positions are one
+-- two positions are equal
 abbrev pub same_position : Dbpos → Dbpos → Bool
 same_position Intermediate Intermediate = true
 same_position Off Off = true
@@ -51,28 +51,28 @@ same_position On On = true
 same_position Bad Bad = true
 same_position p q = false
 
--- two qualities are one
+-- two qualities are equal
 abbrev pub same_quality : Quality → Quality → Bool
 same_quality Good Good = true
 same_quality Invalid Invalid = true
 same_quality p q = false
 
--- this position stands there
+-- the leaf is this position
 abbrev pub is_position : Dbpos → Option Leaf → Bool
 is_position p (Some (leaf.Dbpos q)) = same_position p q
 is_position p other = false
 
--- this quality stands there
+-- the leaf is this quality
 abbrev pub is_quality : Quality → Option Leaf → Bool
 is_quality q (Some (leaf.Quality r)) = same_quality q r
 is_quality q other = false
 
--- this truth value stands there
+-- the leaf is this truth value
 abbrev pub is_truth : Bool → Option Leaf → Bool
 is_truth b (Some (leaf.Truth c)) = beq b c
 is_truth b other = false
 
--- one operation more, up to the greatest value
+-- the rows with one operation more, up to the maximum of the count
 abbrev pub with_count : StatusNames → Option Leaf → ℕ → List Row → List Row
 with_count names (Some (leaf.Int32 n)) now rows =
     if int_lt n (pos 2147483647)
@@ -81,22 +81,21 @@ with_count names (Some (leaf.Int32 n)) now rows =
     else rows
 with_count names other now rows = rows
 
--- a contact counts where it moves the switch to an end position
+-- a reported position counts as an operation if it is an end position and the switch was not there
 abbrev pub is_operation : Dbpos → Option Leaf → Bool
 is_operation position before = is_end_position position && not (is_position position before)
 
--- the count of a switch's operations with one more
+-- the rows with one operation of a switch more
 abbrev pub operation_counted : StatusNames → ℕ → List Row → List Row
 operation_counted names now rows = with_count names (leaf_of names.value rows) now rows
 
--- the rows tell this position already
-abbrev pub tells : StatusNames → Dbpos → List Row → Bool
-tells names position rows =
+-- the rows already have this position, with its quality
+abbrev pub has_position : StatusNames → Dbpos → List Row → Bool
+has_position names position rows =
     is_position position (leaf_of names.value rows)
     && is_quality (position_quality position) (leaf_of names.quality rows)
 
--- the rows after a contact that changes the value or the quality of a position, which the control
--- repeats
+-- the rows after a reported position that changes the value or the quality; the control repeats it
 abbrev pub rows_after_change : SwitchNames → Dbpos → ℕ → List Row → List Row
 rows_after_change names position now rows =
     let told =
@@ -107,33 +106,35 @@ rows_after_change names position now rows =
     then operation_counted names.operations now after
     else after
 
--- the rows after a contact: one that leaves value and quality as they are changes nothing
+-- the rows after a reported position; one that changes neither value nor quality changes nothing
 abbrev pub rows_after_contact : SwitchNames → Dbpos → ℕ → List Row → List Row
 rows_after_contact names position now rows =
-    if tells names.position position rows then rows else rows_after_change names position now rows
+    if has_position names.position position rows
+    then rows
+    else rows_after_change names position now rows
 
--- this number stands there
+-- the leaf is this number
 abbrev pub is_number : ℤ → Option Leaf → Bool
 is_number n (Some (leaf.Int32 m)) = int_eq n m
 is_number n other = false
 
--- the rows tell this measured value already, with a good quality
+-- the rows already have this measured value, with good quality
 abbrev pub tells_measure : StatusNames → ℤ → List Row → Bool
 tells_measure names value rows =
     is_number value (leaf_of names.value rows) && is_quality Good (leaf_of names.quality rows)
 
--- the rows after a measure: one that leaves value and quality as they are changes nothing
+-- the rows after a measured value; one that changes neither value nor quality changes nothing
 abbrev pub rows_after_measure : StatusNames → ℤ → ℕ → List Row → List Row
 rows_after_measure names value now rows =
     if tells_measure names value rows then rows
     else with_status names (leaf.Int32 value) Good now rows
 
--- the rows tell already that this measured value is in doubt
+-- the rows already have this measured value as invalid
 abbrev pub tells_doubt : StatusNames → List Row → Bool
 tells_doubt names rows = is_quality Invalid (leaf_of names.quality rows)
 
--- the rows after a doubt of a measured value, which stays: one that leaves the quality as it is
--- changes nothing
+-- the rows after a report that a measured value is invalid, whose value stays; one that does not
+-- change the quality changes nothing
 abbrev pub rows_after_doubt : StatusNames → ℕ → List Row → List Row
 rows_after_doubt names now rows =
     if tells_doubt names rows then rows
@@ -147,7 +148,7 @@ number_of_position (Some (leaf.Dbpos On)) = pos 2
 number_of_position (Some (leaf.Dbpos Bad)) = pos 3
 number_of_position other = pos 0
 
--- what the points of a switch say of its position; those that the program writes say nothing
+-- the value of a point of a switch from its position; the points that the program writes are FALSE
 abbrev pub position_value : SwitchPoint → Option Leaf → Value
 position_value Position position = Short (number_of_position position)
 position_value Open position = Truth (is_position Off position)
@@ -155,23 +156,23 @@ position_value Closed position = Truth (is_position On position)
 position_value EnableOpen position = Truth false
 position_value EnableClose position = Truth false
 
--- the position of the switch at a place, as the rows have it
+-- the position of the switch at index k in the rows
 abbrev pub position_leaf : List Switch → List Row → ℕ → Option Switch → Option Leaf
 position_leaf switches rows k None = None
 position_leaf switches rows k (Some switch) =
     leaf_of (switch_names switches k switch).position.value rows
 
--- a measured value, in whole units
+-- a measured value, as an integer
 abbrev pub number_of_leaf : Option Leaf → ℤ
 number_of_leaf (Some (leaf.Int32 n)) = n
 number_of_leaf other = pos 0
 
--- the value of a field of the meter at a place, as the rows have it
+-- the value of a field of the meter at index k in the rows
 abbrev pub measure_leaf : List Row → ℕ → MeterField → Option (List ℕ) → Option Leaf
 measure_leaf rows k field None = None
 measure_leaf rows k field (Some id) = leaf_of (field_names field (meter_names k)).value rows
 
--- two points of a switch are one
+-- two points of a switch are equal
 abbrev pub same_point : SwitchPoint → SwitchPoint → Bool
 same_point Position Position = true
 same_point Open Open = true
@@ -180,22 +181,24 @@ same_point EnableOpen EnableOpen = true
 same_point EnableClose EnableClose = true
 same_point p q = false
 
--- this point of the switch at a place
+-- the source is this point of the switch at index k
 abbrev pub is_point : ℕ → SwitchPoint → Source → Bool
 is_point k point (source.Switch j which) = j == k && same_point which point
 is_point k point (source.Input j) = false
 is_point k point (source.Meter j field) = false
 
--- the value at a place, if there is one
+-- the value at an index, if there is one
 abbrev pub output_at : Option ℕ → List Value → Option Value
 output_at None outputs = None
 output_at (Some n) outputs = slice_get outputs n
 
--- what the program gave a point of the switch at a place; FALSE where it does not name it
+-- the value that the program wrote to a point of the switch at index k; FALSE if it does not name
+-- the point
 abbrev pub output_of : ℕ → SwitchPoint → List Source → List Value → Bool
 output_of k point writes outputs = is_true (output_at (position (is_point k point) writes) outputs)
 
--- an interlocking value and its quality, with the moment where one of them changed
+-- the rows with an interlocking value of good quality; the time is set if the value or quality
+-- changes
 abbrev pub with_enabled : StatusNames → Bool → ℕ → List Row → List Row
 with_enabled names value now rows =
     if is_truth value (leaf_of names.value rows) && is_quality Good (leaf_of names.quality rows)
@@ -207,7 +210,8 @@ abbrev pub with_output : SwitchNames → Bool → Bool → ℕ → List Row → 
 with_output names opens closes now rows =
     with_enabled names.ena_cls closes now (with_enabled names.ena_opn opens now rows)
 
--- the interlocking values of all switches take their points' values, from place k on
+-- the rows after a scan has written its outputs to the interlocking values of switches; the first
+-- of these switches has index k
 abbrev pub with_outputs : List Switch → List Source → List Value → ℕ → ℕ → List Switch → List Row
     → List Row
 with_outputs switches writes outputs now k [] rows = rows

@@ -1,4 +1,4 @@
-// The points of a verified image on those of a bay.
+// Finds the bay's points for the points of a verified image.
 ghost use Rattle.std.specs.Prelude.{◌≡◌, false, length, map, option_map, position, find, IfOk};
 ghost use Rattle.il_verify.specs.Binding.{is_point as is_image_point};
 ghost use Rattle.bay_process.specs.Values as spec;
@@ -9,7 +9,7 @@ ghost use Rattle.bay_process.specs.Sources as spec_sources;
 
 use crate::rows::SwitchRows;
 use crate::switch::{BoundSwitch, SwitchOutputs};
-use crate::values::Truths;
+use crate::values::InputValues;
 use bay_base::names::same_name;
 use bay_base::text::Text;
 use bay_config::bay::{Point, Source, Switch, SwitchPoint};
@@ -17,7 +17,7 @@ use il_image::image::ImagePoint;
 use il_scan::span::Span;
 use std::alloc::{AllocError, Global};
 
-// Returns whether a point of an image is this point of the bay.
+// Returns whether a point of an image is this point of the bay: same name, type and writability.
 fn is_same(point: &ImagePoint, other: &Point) -> bool
     ensures { result ≡ is_image_point point.now other.now }
 {
@@ -26,7 +26,7 @@ fn is_same(point: &ImagePoint, other: &Point) -> bool
         && point.writable == other.writable
 }
 
-// Returns what a point of an image stands for in the bay, if the bay has it.
+// Returns the source of a point of an image, if the bay has the point.
 fn source_of(bay: &[Point], point: &ImagePoint) -> Option<Source>
     ensures { result ≡ spec_sources.source_of bay.now point.now }
 {
@@ -34,8 +34,9 @@ fn source_of(bay: &[Point], point: &ImagePoint) -> Option<Source>
     Some(found.source)
 }
 
-/// Returns what the points of an image stand for, in their order: the writable ones or, if
-/// `writable` is false, the others.
+/// Returns the sources of the points of an image, in the order of the points: of the writable ones
+/// or, if `writable` is false, of the others. Leaves out a point that the bay does not have. Fails
+/// only if an allocation fails.
 pub fn sources_of(
     alloc: Global,
     writable: bool,
@@ -69,8 +70,8 @@ fn is_point(source: Source, switch: usize, point: SwitchPoint) -> bool
     }
 }
 
-/// Returns the place of a point of a switch among the sources of the writable points, if it is
-/// there.
+/// Returns the index of a point of a switch among the sources of the writable points; `None` if it
+/// is not there.
 pub fn output_place(writes: &[Source], switch: usize, point: SwitchPoint) -> Option<usize>
     ensures { result ≡ position (spec.is_point switch point) writes.now }
 {
@@ -79,7 +80,7 @@ pub fn output_place(writes: &[Source], switch: usize, point: SwitchPoint) -> Opt
         .position(|source| is_point(*source, switch, point))
 }
 
-// Returns the places of the interlocking values of a switch among the writable points.
+// Returns the indices of the interlocking values of a switch among the writable points.
 fn outputs_at(writes: &[Source], switch: usize) -> SwitchOutputs
     ensures { result ≡ spec_layout.outputs_at writes.now switch }
 {
@@ -89,7 +90,8 @@ fn outputs_at(writes: &[Source], switch: usize) -> SwitchOutputs
     }
 }
 
-/// Binds the switches of a bay to their rows and to the places of their interlocking values.
+/// Binds the switches of a bay to their rows and to the indices of their interlocking values. Fails
+/// only if an allocation fails.
 pub fn bind_switches(
     alloc: Global,
     switches: Vec<Switch>,
@@ -111,7 +113,7 @@ pub fn bind_switches(
     Ok(bound)
 }
 
-// Returns the span of the points of the switch at an index.
+// Returns a span of `reads` that has all points of the switch at an index.
 fn span_of(reads: &[Source], switch: usize) -> Span
     ensures { HasPoints reads.now switch result }
 {
@@ -132,8 +134,8 @@ fn span_of(reads: &[Source], switch: usize) -> Span
     span
 }
 
-/// Returns, for each of `count` switches, the span of its points among the read-only points, which
-/// stand for `reads`.
+/// Returns, for each of `count` switches, a span of `reads`, the sources of the read-only points,
+/// that has all points of the switch. Fails only if an allocation fails.
 pub fn spans_of(alloc: Global, reads: &[Source], count: usize) -> Result<Vec<Span>, AllocError>
     ensures sized { IfOk result (λ spans. length spans.items ≡ count) }
     ensures spanned { IfOk result (λ spans. AreSpanned reads.now spans.items) }
@@ -145,13 +147,13 @@ pub fn spans_of(alloc: Global, reads: &[Source], count: usize) -> Result<Vec<Spa
     Ok(spans)
 }
 
-/// Returns the value FALSE for each input.
-pub fn falses(alloc: Global, inputs: &[Text]) -> Result<Truths, AllocError>
+/// Returns the value FALSE for each input. Fails only if an allocation fails.
+pub fn all_false(alloc: Global, inputs: &[Text]) -> Result<InputValues, AllocError>
     ensures { IfOk result (λ values. values ≡ map (λ _. false) inputs.now) }
 {
     let mut values = Vec::new(alloc);
     for _input in inputs {
         values.push(false)?;
     }
-    Ok(Truths::new(values))
+    Ok(InputValues::new(values))
 }

@@ -1,4 +1,5 @@
-// What a contact does to the rows of its switch (IEC 61850-7-4, XCBR and XSWI: Pos and OpCnt).
+// Applies a reported position to the rows of its switch (IEC 61850-7-4, XCBR and XSWI: Pos and
+// OpCnt).
 ghost use Rattle.std.specs.Prelude.{◌≡◌, not};
 ghost use Rattle.bay_tree.specs.declared.leaf.LeafType.TheVariants as leaf_type;
 ghost use Rattle.bay_process.specs.Values.{operation_counted, rows_after_change, rows_after_contact};
@@ -29,7 +30,7 @@ fn is_end_position(position: Dbpos) -> bool
     }
 }
 
-// Counts one more operation, unless the count has its greatest value.
+// Counts one more operation, unless the count has its maximum.
 fn count_operation(tree: &mut Tree, rows: StatusRows, now: u64)
     requires { AreStatusRows (layout_of tree.old) leaf_type.Int32 rows }
     ensures rows { tree.new ≡ operation_counted (status_in (layout_of tree.old) rows) now tree.old }
@@ -42,18 +43,18 @@ fn count_operation(tree: &mut Tree, rows: StatusRows, now: u64)
     }
 }
 
-// Returns whether the rows hold a position with its quality already.
-fn tells(tree: &Tree, rows: StatusRows, position: Dbpos) -> bool
+// Returns whether the rows already have this position, with its quality.
+fn has_position(tree: &Tree, rows: StatusRows, position: Dbpos) -> bool
     requires { AreStatusRows (layout_of tree.now) leaf_type.Dbpos rows }
-    ensures { result ≡ spec.tells (status_in (layout_of tree.now) rows) position tree.now }
+    ensures { result ≡ spec.has_position (status_in (layout_of tree.now) rows) position tree.now }
 {
     let is_same = is_position(tree, rows.value, position);
     let has_same_quality = is_quality(tree, rows.quality, position_quality(position));
     is_same && has_same_quality
 }
 
-// Writes a new position of a switch, to its control too. Counts an operation if the switch reaches
-// an end position.
+// Writes a new position of a switch, below its control too. Counts an operation if the switch
+// reaches an end position.
 fn put_position(tree: &mut Tree, rows: &SwitchRows, position: Dbpos, now: u64)
     requires { AreSwitchRows (layout_of tree.old) rows.now }
     ensures rows { tree.new ≡ rows_after_change (switch_in (layout_of tree.old) rows.now) position
@@ -81,16 +82,18 @@ fn put_position(tree: &mut Tree, rows: &SwitchRows, position: Dbpos, now: u64)
     }
 }
 
-/// Takes the position of a switch. Returns whether its value or its quality changed.
+/// Applies the reported position of a switch, at `now` in milliseconds since 1970. Returns whether
+/// its value or its quality changed.
 pub fn take_position(tree: &mut Tree, rows: &SwitchRows, position: Dbpos, now: u64) -> bool
     requires { AreSwitchRows (layout_of tree.old) rows.now }
     ensures changed { result
-        ≡ not (spec.tells (status_in (layout_of tree.old) rows.now.position) position tree.old) }
+        ≡ not (spec.has_position (status_in (layout_of tree.old) rows.now.position) position
+        tree.old) }
     ensures rows { tree.new ≡ rows_after_contact (switch_in (layout_of tree.old) rows.now) position
         now tree.old }
     ensures layout { layout_of tree.new ≡ layout_of tree.old }
 {
-    if tells(tree, rows.position, position) {
+    if has_position(tree, rows.position, position) {
         return false;
     }
     put_position(tree, rows, position, now);

@@ -1,4 +1,4 @@
-// Where the controls of a bay's switches stand in its tree (IEC 61850-8-1: stSeld, SBO, SBOw, Oper
+// The rows of the controls of a bay's switches in its tree (IEC 61850-8-1: stSeld, SBO, SBOw, Oper
 // and Cancel).
 ghost use Rattle.std.specs.Prelude.{◌≡◌, ◌++◌, ℕ, List, codes, length, Some, IfOk};
 ghost use Rattle.bay_tree.specs.Rows.{place_of};
@@ -15,8 +15,8 @@ use bay_nodes::paths::{CANCEL, OPERATE, SELECT, SELECT_WITH_VALUE, SELECTED};
 use bay_tree::tree::{Handle, Tree};
 use std::alloc::{AllocError, Global};
 
-/// The handles of the rows of a switch's control: the row that says whether the switch is selected,
-/// and the rows that control it, as far as its kind of control has them.
+/// The handles of the rows of a switch's control: `stSeld`, and those of its control rows that its
+/// kind of control has.
 #[derive(Clone, Copy, Debug)]
 pub struct ControlRows {
     /// Whether the switch is selected: `stSeld`.
@@ -47,7 +47,7 @@ fn handle_at(
     }
 }
 
-// Returns the handle of the row that says whether the switch of a control is selected.
+// Returns the handle of the row `stSeld` of a control.
 fn selected_at(alloc: Global, tree: &Tree, node: &str) -> Result<Handle, AllocError>
     requires { HasLeaf tree.now (control_names_of node.now).selected leaf_type.Truth }
     ensures { IfOk result (λ handle. place_of tree.now (control_names_of node.now).selected
@@ -59,7 +59,8 @@ fn selected_at(alloc: Global, tree: &Tree, node: &str) -> Result<Handle, AllocEr
     }
 }
 
-/// Returns the rows of the controls of `count` switches, in their order.
+/// Returns the handles of the rows of the controls of `count` switches, in the order of the
+/// switches. Fails only if an allocation fails.
 pub fn control_rows(
     alloc: Global,
     tree: &Tree,
@@ -89,7 +90,7 @@ pub fn control_rows(
     Ok(controls)
 }
 
-/// The rows of a control stay in place when the value of a row changes. Does nothing; its
+/// The handles of a control's rows stay valid when the value of a row changes. Does nothing; its
 /// contract is the law.
 pub fn control_rows_stay()
     ensures { (before after : List Row) (names : ControlNames) (handles : declared.ControlRows)

@@ -1,13 +1,13 @@
-// What contacts, inputs, measures and scans do to the values of a bay: the rows of its tree, the
-// values of its inputs, and the last EnaOpn and EnaCls written.
+// Applies positions, inputs, measured values and the outputs of scans to the values of a bay: the
+// rows of its tree, the values of its inputs, and the last EnaOpn and EnaCls written.
 //
-// `rows` (the handles of a switch's rows, and what is read and written at them), `switch` and
-// `meter` (a switch and a meter with their rows), `values` (truth values in a list), `releases`
-// (the EnaOpn and EnaCls last written, in the text that is printed of them). `contact` and `meter`
-// take a position and a measured value, and `scan` gives a machine its inputs and writes its
-// outputs. `nodes`, `meters` and `controls` find rows by the names of logical nodes, `bind` finds
-// what the points of a verified image stand for in the bay, and `parts` puts these together. All
-// but what makes these parts takes no memory.
+// `rows` (the handles of a switch's rows, and how to read and write them), `switch` and `meter` (a
+// switch and a meter with their rows), `values` (a list of truth values), `releases` (the last
+// EnaOpn and EnaCls written, as the text that is printed). `contact` and `meter` apply a position
+// and a measured value; `scan` reads the inputs of a scan and writes its outputs. `nodes`, `meters`
+// and `controls` find rows by the names of logical nodes, `bind` finds the sources of the points of
+// a verified image, and `parts` combines these. Only what makes these parts, when a device is
+// loaded, allocates.
 #![tactic(auto)]
 
 pub mod bind;

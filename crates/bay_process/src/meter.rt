@@ -26,13 +26,13 @@ pub struct MeterRows {
 /// A meter of the bay, with the handles of its values in the tree.
 #[derive(Drop)]
 pub struct BoundMeter {
-    /// Its id as it is spelled in the bay file.
+    /// The id as the bay file spells it.
     pub id: Text,
     pub rows: MeterRows,
 }
 
 impl MeterRows {
-    /// Returns the rows of a field.
+    /// Returns the rows of a field of the meter.
     pub fn field(self, field: MeterField) -> StatusRows
         ensures { result ≡ field_rows self field }
     {
@@ -47,7 +47,7 @@ impl MeterRows {
     }
 }
 
-// Returns whether a row holds this number.
+// Returns whether a row has this number.
 fn is_number(tree: &Tree, handle: Handle, number: i32) -> bool
     requires { HasLeafType (layout_of tree.now) handle leaf_type.Int32 }
     ensures { result ≡ spec.is_number number
@@ -56,7 +56,8 @@ fn is_number(tree: &Tree, handle: Handle, number: i32) -> bool
     number == count_at(tree, handle)
 }
 
-/// Takes a measured value. Returns whether the value or its quality changed.
+/// Applies a measured value, with good quality, at `now` in milliseconds since 1970. Returns
+/// whether the value or its quality changed.
 pub fn take_measure(tree: &mut Tree, rows: StatusRows, value: i32, now: u64) -> bool
     requires { AreStatusRows (layout_of tree.old) leaf_type.Int32 rows }
     ensures changed { result
@@ -74,8 +75,9 @@ pub fn take_measure(tree: &mut Tree, rows: StatusRows, value: i32, now: u64) -> 
     true
 }
 
-/// Takes a doubt of a measured value, which stays. Returns whether its quality changed.
-pub fn take_doubt(tree: &mut Tree, rows: StatusRows, now: u64) -> bool
+/// Applies the report that a measured value is invalid, at `now` in milliseconds since 1970. The
+/// value itself stays. Returns whether its quality changed.
+pub fn take_bad_measure(tree: &mut Tree, rows: StatusRows, now: u64) -> bool
     requires { AreStatusRows (layout_of tree.old) leaf_type.Int32 rows }
     ensures changed { result ≡ not (tells_doubt (status_in (layout_of tree.old) rows) tree.old) }
     ensures rows { tree.new ≡ rows_after_doubt (status_in (layout_of tree.old) rows) now tree.old }

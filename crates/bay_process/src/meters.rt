@@ -1,4 +1,4 @@
-// Where the values of a bay's meters stand in its tree.
+// The rows of a bay's meters in its tree.
 ghost use Rattle.std.specs.Prelude.{◌≡◌, length, map, IfOk};
 ghost use Rattle.bay_process.specs.Layout.{layout_of, AreMetersBound};
 ghost use Rattle.bay_nodes.specs.Names.{meter_names_of};
@@ -14,6 +14,7 @@ use bay_tree::tree::Tree;
 use std::alloc::{AllocError, Global};
 
 /// Returns the names of the nodes of the meters (IEC 61850-7-4, MMXU), in the order of the meters.
+/// Fails only if an allocation fails.
 pub fn all_meter_nodes(alloc: Global, bay: &Bay) -> Result<Vec<Text>, AllocError>
     ensures sized { IfOk result (λ nodes. length nodes.items ≡ length bay.now.meters) }
     ensures named { IfOk result (λ nodes. AreAllMeters bay.now nodes.items) }
@@ -47,7 +48,7 @@ fn meter_rows(alloc: Global, tree: &Tree, node: &str) -> Result<MeterRows, Alloc
     })
 }
 
-/// Binds the meters to their rows.
+/// Binds the meters to their rows. Fails only if an allocation fails.
 pub fn bind_meters(
     alloc: Global,
     tree: &Tree,

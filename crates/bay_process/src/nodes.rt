@@ -1,4 +1,4 @@
-// Where the values of a bay's switches stand in its tree.
+// The rows of a bay's switches in its tree.
 ghost use Rattle.std.specs.Prelude.{◌≡◌, ◌≢◌, ◌<◌, ◌++◌, length, None, IfOk};
 ghost use Rattle.bay_tree.specs.Rows.{leaf_of};
 ghost use Rattle.bay_process.specs.Layout.{layout_of};
@@ -40,7 +40,8 @@ fn nodes_at(alloc: Global, bay: &Bay, place: usize) -> Result<Nodes, AllocError>
     })
 }
 
-/// Returns the names of the nodes of the switches, in the order of the switches.
+/// Returns the names of the nodes of the switches, in the order of the switches. Fails only if an
+/// allocation fails.
 pub fn all_nodes(alloc: Global, bay: &Bay) -> Result<Vec<Nodes>, AllocError>
     ensures sized { IfOk result (λ nodes. length nodes.items ≡ length bay.now.switches) }
     ensures named { IfOk result (λ nodes. AreAllNodes bay.now nodes.items) }
@@ -73,7 +74,8 @@ fn handle_at(alloc: Global, tree: &Tree, node: &str, path: &str) -> Result<Handl
     Ok(handle_of(tree, name.as_str()))
 }
 
-/// Returns the rows at the paths of a node: the value, its quality and its time stamp.
+/// Returns the rows at the paths below a node: the value, its quality and its time stamp. Fails
+/// only if an allocation fails.
 pub fn status_rows(
     alloc: Global,
     tree: &Tree,
@@ -115,7 +117,8 @@ fn switch_rows(alloc: Global, tree: &Tree, nodes: &Nodes) -> Result<SwitchRows, 
     })
 }
 
-/// Returns the rows of the switches, in the order of the switches.
+/// Returns the rows of the switches, in the order of the switches. Fails only if an allocation
+/// fails.
 pub fn all_switch_rows(
     alloc: Global,
     tree: &Tree,

@@ -1,4 +1,4 @@
-// The parts that the state of a device is made of.
+// The parts of the state of a device.
 ghost use Rattle.std.specs.Prelude.{◌≡◌, length, IfOk};
 ghost use Rattle.bay_tree.specs.Rows.{IsTree};
 ghost use Rattle.il_scan.specs.Scans.{held_first};
@@ -19,17 +19,17 @@ use il_scan::machine::Machine;
 use il_verify::verify::Verified;
 use std::alloc::{AllocError, Global};
 
-/// A machine, and what the points of its program stand for in the bay.
+/// A machine, with the sources of the points of its program.
 #[derive(Drop)]
-pub struct WiredMachine {
+pub struct BoundMachine {
     pub machine: Machine,
-    /// What the read-only points stand for, in the order of the points; `writes` is the same for
-    /// the writable ones.
+    /// The sources of the read-only points, in the order of the points; `writes` has those of the
+    /// writable points.
     pub reads: Vec<Source>,
     pub writes: Vec<Source>,
 }
 
-// Creates a machine with a verified image, before its first scan.
+// Creates a machine with a verified image, in its state before the first scan.
 fn machine_of(alloc: Global, verified: Verified) -> Result<Machine, AllocError>
     ensures { IfOk result (λ machine. machine ≡ held_first verified) }
 {
@@ -37,19 +37,20 @@ fn machine_of(alloc: Global, verified: Verified) -> Result<Machine, AllocError>
     Ok(machine)
 }
 
-/// Creates a machine with a verified image, before its first scan, on the points of a bay.
-pub fn wired_machine(
+/// Creates a machine with a verified image, in its state before the first scan, and finds the
+/// sources of its points in the bay. Fails only if an allocation fails.
+pub fn bound_machine(
     alloc: Global,
     bay: &[Point],
     verified: Verified,
-) -> Result<WiredMachine, AllocError>
+) -> Result<BoundMachine, AllocError>
     ensures { IfOk result (IsWired bay.now verified) }
 {
     let points = verified.image().points();
     let reads = sources_of(alloc, false, bay, points)?;
     let writes = sources_of(alloc, true, bay, points)?;
     let machine = machine_of(alloc, verified)?;
-    Ok(WiredMachine {
+    Ok(BoundMachine {
         machine,
         reads,
         writes,
@@ -63,7 +64,8 @@ pub struct NodeNames {
     pub meters: Vec<Text>,
 }
 
-/// Returns the names of the nodes of a bay's switches and meters.
+/// Returns the names of the nodes of a bay's switches and meters. Fails only if an allocation
+/// fails.
 pub fn node_names(alloc: Global, bay: &Bay) -> Result<NodeNames, AllocError>
     ensures switches_sized { IfOk result
         (λ nodes. length nodes.switches.items ≡ length bay.now.switches) }
@@ -85,7 +87,7 @@ pub struct BoundRows {
     pub meters: Vec<BoundMeter>,
 }
 
-// Binds the switches of a bay to the rows that their nodes name, and to the places of their
+// Binds the switches of a bay to the rows below their nodes, and to the indices of their
 // interlocking values.
 fn bound_switches(
     alloc: Global,
@@ -104,8 +106,8 @@ fn bound_switches(
     Ok(bound)
 }
 
-/// Builds the tree of a bay's rows, and binds its switches and meters to the rows that their nodes
-/// name.
+/// Builds the tree of a bay's rows, and binds its switches and meters to the rows below their
+/// nodes. Fails only if an allocation fails.
 pub fn bound_rows(
     alloc: Global,
     rows: Vec<Row>,

@@ -1,10 +1,10 @@
-// The releases of the switches, kept from one scan to the next as the text that is printed of them.
+// The releases of the switches, stored from one scan to the next as the text that is printed.
 ghost use Rattle.std.specs.Prelude.{◌≡◌, ◌<◌, ℕ, List, IfOk, Some, length, slice_get, slice_set};
 ghost use Rattle.bay_nodes.specs.declared.switch.Switch.{Switch};
 ghost use Rattle.bay_process.specs.Layout.{layout_of, switches_of};
 ghost use Rattle.bay_process.specs.Releases.{Shows};
 ghost use Rattle.bay_process.specs.Releases as spec;
-ghost use Rattle.bay_process.specs.Told.{AreInterlocked, AreKept};
+ghost use Rattle.bay_process.specs.ReportedRows.{AreInterlocked, AreKept};
 ghost use Rattle.bay_process.specs.declared.switch.Enabled.{Enabled as Told};
 
 use crate::rows::is_truth;
@@ -12,14 +12,14 @@ use crate::switch::{BoundSwitch, Enabled};
 use bay_tree::tree::Tree;
 use std::alloc::{AllocError, Global};
 
-/// The EnaOpn and EnaCls of the switches, in the text that is printed of them: ` ID=xy` for each
-/// switch, where `x` is the digit of EnaOpn and `y` that of EnaCls, and a line end.
+/// The EnaOpn and EnaCls of the switches, as the text that is printed: ` ID=xy` for each switch,
+/// where `x` is the digit of EnaOpn and `y` that of EnaCls, and a line end.
 #[derive(Drop)]
 pub struct Releases {
     pub text: Vec<u8>,
-    /// Where each switch's first digit is in the text.
+    /// The offset of each switch's first digit in the text.
     pub places: Vec<usize>,
-    /// Whether a scan has written them. Before the first, their quality may not be good.
+    /// Whether a scan has written them. Before the first scan their quality may not be good.
     pub is_written: bool,
 }
 
@@ -32,7 +32,7 @@ fn digit(truth: bool) -> u8
 }
 
 impl Releases {
-    /// Returns what the text tells of the switch at an index.
+    /// Returns the releases of the switch at an index.
     #[inline(always)]
     pub fn get(&self, place: usize) -> Enabled
         requires within { place < length self.now.places.items }
@@ -49,7 +49,7 @@ impl Releases {
         }
     }
 
-    /// Changes what the text tells of the switch at an index.
+    /// Sets the releases of the switch at an index.
     pub fn set(&mut self, place: usize, enabled: Enabled)
         requires within { place < length self.old.places.items }
         requires shows { (ss : List Switch) × (told : List Told)
@@ -66,7 +66,8 @@ impl Releases {
     }
 }
 
-/// Returns the releases of the switches as a tree has them, before the first scan.
+/// Returns the releases of the switches as the tree has them, before the first scan. Fails only if
+/// an allocation fails.
 pub fn kept_releases(
     alloc: Global,
     tree: &Tree,

@@ -1,4 +1,4 @@
-// The rows of status values in the tree: a value, its quality and its moment (IEC 61850-7-3).
+// The rows of status values in the tree: a value, its quality and its time stamp (IEC 61850-7-3).
 ghost use Rattle.std.specs.Prelude.{◌≡◌, ◌≢◌, None, Some};
 ghost use Rattle.bay_tree.specs.declared.leaf.LeafType.TheVariants as leaf_type;
 ghost use Rattle.bay_tree.specs.declared.leaf.Leaf.TheVariants as leaves;
@@ -19,14 +19,14 @@ pub struct StatusRows {
     pub time: Handle,
 }
 
-/// The handles of the values of a switch that a step writes.
+/// The handles of the values of a switch that events and scans write.
 #[derive(Clone, Copy, Debug)]
 pub struct SwitchRows {
     /// Its position: `Pos` of its XCBR or XSWI.
     pub position: StatusRows,
     /// The same position in its control: `Pos` of its CSWI.
     pub control: StatusRows,
-    /// How often it reached an end position: `OpCnt`.
+    /// The number of times it has reached an end position: `OpCnt`.
     pub operations: StatusRows,
     /// Whether it may be opened: `EnaOpn` of its CILO.
     pub ena_opn: StatusRows,
@@ -34,7 +34,7 @@ pub struct SwitchRows {
     pub ena_cls: StatusRows,
 }
 
-/// Writes a value, which must have the type of the row.
+/// Writes a value to the row at a handle. The row must have a value of the same type.
 #[inline(always)]
 pub fn put(tree: &mut Tree, handle: Handle, leaf: Leaf)
     requires { HasLeafType (layout_of tree.old) handle (leaf_type_of leaf) }
@@ -60,7 +60,7 @@ pub fn put_status(tree: &mut Tree, rows: StatusRows, value: Leaf, quality: Quali
     put(tree, rows.time, Leaf::Utc(now));
 }
 
-/// Returns the position that a row holds.
+/// Returns the position in a row.
 pub fn position_at(tree: &Tree, handle: Handle) -> Dbpos
     requires { HasLeafType (layout_of tree.now) handle leaf_type.Dbpos }
     ensures { leaf_of (name_in (layout_of tree.now) handle) tree.now ≡ Some (leaves.Dbpos result) }
@@ -71,7 +71,7 @@ pub fn position_at(tree: &Tree, handle: Handle) -> Dbpos
     }
 }
 
-// The quality that stands there.
+// Returns the quality in a row.
 fn quality_at(tree: &Tree, handle: Handle) -> Quality
     requires { HasLeafType (layout_of tree.now) handle leaf_type.Quality }
     ensures { leaf_of (name_in (layout_of tree.now) handle) tree.now
@@ -83,7 +83,7 @@ fn quality_at(tree: &Tree, handle: Handle) -> Quality
     }
 }
 
-// The truth value that stands there.
+// Returns the truth value in a row.
 fn truth_at(tree: &Tree, handle: Handle) -> bool
     requires { HasLeafType (layout_of tree.now) handle leaf_type.Truth }
     ensures { leaf_of (name_in (layout_of tree.now) handle) tree.now ≡ Some (leaves.Truth result) }
@@ -94,7 +94,7 @@ fn truth_at(tree: &Tree, handle: Handle) -> bool
     }
 }
 
-/// Returns the number that a row holds.
+/// Returns the number in a row.
 pub fn count_at(tree: &Tree, handle: Handle) -> i32
     requires { HasLeafType (layout_of tree.now) handle leaf_type.Int32 }
     ensures { leaf_of (name_in (layout_of tree.now) handle) tree.now ≡ Some (leaves.Int32 result) }
@@ -105,7 +105,7 @@ pub fn count_at(tree: &Tree, handle: Handle) -> i32
     }
 }
 
-/// Returns whether a row holds this position.
+/// Returns whether a row has this position.
 pub fn is_position(tree: &Tree, handle: Handle, position: Dbpos) -> bool
     requires { HasLeafType (layout_of tree.now) handle leaf_type.Dbpos }
     ensures { result ≡ spec.is_position position
@@ -114,7 +114,7 @@ pub fn is_position(tree: &Tree, handle: Handle, position: Dbpos) -> bool
     position == position_at(tree, handle)
 }
 
-/// Returns whether a row holds this quality.
+/// Returns whether a row has this quality.
 pub fn is_quality(tree: &Tree, handle: Handle, quality: Quality) -> bool
     requires { HasLeafType (layout_of tree.now) handle leaf_type.Quality }
     ensures value { result ≡ spec.is_quality quality
@@ -124,7 +124,7 @@ pub fn is_quality(tree: &Tree, handle: Handle, quality: Quality) -> bool
     quality == quality_at(tree, handle)
 }
 
-/// Returns whether a row holds this truth value.
+/// Returns whether a row has this truth value.
 pub fn is_truth(tree: &Tree, handle: Handle, value: bool) -> bool
     requires { HasLeafType (layout_of tree.now) handle leaf_type.Truth }
     ensures value { result ≡ spec.is_truth value

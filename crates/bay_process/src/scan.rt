@@ -1,4 +1,5 @@
-// What a scan reads, and what it writes (IEC 61850-7-4, CILO: EnaOpn and EnaCls).
+// The inputs that a scan reads, and the outputs that it writes (IEC 61850-7-4, CILO: EnaOpn and
+// EnaCls).
 ghost use Rattle.std.specs.Prelude.{◌≡◌, ◌+◌, ◌<◌, ℕ, List, [], length, slice_get, Some, None};
 ghost use Rattle.bay_nodes.specs.declared.switch.Switch.{Switch};
 ghost use Rattle.bay_tree.specs.declared.leaf.LeafType.TheVariants as leaf_type;
@@ -11,7 +12,7 @@ ghost use Rattle.bay_process.specs.Values.{output_at, with_enabled, with_output}
 ghost use Rattle.bay_process.specs.Values as spec_values;
 ghost use Rattle.bay_process.specs.Layout.{layout_of, status_in, switch_in, switches_of, AreStatusRows, AreSwitchRows, AreLeafTyped, AreMetersLeafTyped};
 ghost use Rattle.bay_process.specs.Sources.{type_of_source, type_of_switch_point};
-ghost use Rattle.bay_process.specs.Told.{AreEnabling, AreInterlocked, AreKept, AreValued, IsInterlocked, IsTold};
+ghost use Rattle.bay_process.specs.ReportedRows.{AreEnabling, AreInterlocked, AreKept, AreValued, IsInterlocked, HoldsRelease};
 ghost use Rattle.bay_process.specs.Scans.{bound_value, leaf_at, outputs_put};
 ghost use Rattle.bay_process.specs.Scans as spec;
 
@@ -21,7 +22,7 @@ use crate::rows::{
     StatusRows, SwitchRows, count_at, is_quality, is_truth, position_at, put_status,
 };
 use crate::switch::{BoundSwitch, Enabled};
-use crate::values::Truths;
+use crate::values::InputValues;
 use bay_config::bay::{MeterField, Source, SwitchPoint};
 use bay_tree::leaf::{Dbpos, Leaf, Quality};
 use bay_tree::tree::Tree;
@@ -40,7 +41,7 @@ fn number_of_position(position: Dbpos) -> i16
     }
 }
 
-// Returns the value of a point of a switch at the switch's position.
+// Returns the value of a point of a switch, from the position of the switch.
 fn position_value(tree: &Tree, rows: StatusRows, point: SwitchPoint) -> Value
     requires { AreStatusRows (layout_of tree.now) leaf_type.Dbpos rows }
     ensures value { result ≡ spec_values.position_value point (leaf_at tree.now rows.value) }
@@ -56,7 +57,7 @@ fn position_value(tree: &Tree, rows: StatusRows, point: SwitchPoint) -> Value
     }
 }
 
-// Returns the value of a point of a missing switch.
+// Returns the value of a point of a switch that does not exist.
 fn no_position(point: SwitchPoint) -> Value
     ensures value { result ≡ spec.switch_value [] point None }
     ensures typed { type_of result ≡ type_of_switch_point point }
@@ -68,7 +69,7 @@ fn no_position(point: SwitchPoint) -> Value
     }
 }
 
-// Returns the value that the contacts give to a point of the switch at an index.
+// Returns the value of a point of the switch at an index.
 fn switch_value(tree: &Tree, switches: &[BoundSwitch], switch: usize, point: SwitchPoint) -> Value
     requires { AreLeafTyped (layout_of tree.now) switches.now }
     ensures value { result ≡ spec.switch_value tree.now point (slice_get switches.now switch) }
@@ -94,11 +95,11 @@ fn meter_value(tree: &Tree, meters: &[BoundMeter], meter: usize, field: MeterFie
     }
 }
 
-// Returns the value that the contacts, the inputs or the measured values give to a point.
+// Returns the value of a point, from the positions, the inputs or the measured values.
 fn point_value(
     tree: &Tree,
     switches: &[BoundSwitch],
-    inputs: &Truths,
+    inputs: &InputValues,
     meters: &[BoundMeter],
     source: Source,
 ) -> Value
@@ -115,12 +116,12 @@ fn point_value(
     }
 }
 
-/// The points that are read, and what gives them their values.
+/// The read-only points of a program, and the values that they read.
 #[derive(Drop)]
 pub struct ReadPoints<'a> {
     pub tree: &'a Tree,
     pub switches: &'a [BoundSwitch],
-    pub inputs: &'a Truths,
+    pub inputs: &'a InputValues,
     pub meters: &'a [BoundMeter],
     pub reads: &'a [Source],
     ghost leaf_typed: { AreLeafTyped (layout_of tree.now) switches.now },
@@ -155,7 +156,7 @@ impl<'a> Inputs for ReadPoints<'a> {
         ∙ sym (length-map points.reads.now type_of_source) };
 }
 
-// Writes the value of its point to an interlocking value.
+// Writes an interlocking value, with good quality.
 fn set_enabled(tree: &mut Tree, rows: StatusRows, value: bool, now: u64)
     requires { AreStatusRows (layout_of tree.old) leaf_type.Truth rows }
     ensures rows { tree.new ≡ with_enabled (status_in (layout_of tree.old) rows) value now
@@ -171,7 +172,7 @@ fn set_enabled(tree: &mut Tree, rows: StatusRows, value: bool, now: u64)
     put_status(tree, rows, Leaf::Truth(value), Quality::Good, now)
 }
 
-// Returns the value of an output; FALSE if the program does not name its point.
+// Returns the value of an output; FALSE if the program does not name the point.
 fn output(outputs: &Outputs<'_>, place: Option<usize>) -> bool
     ensures { result ≡ is_true (output_at place outputs.now) }
 {
@@ -181,20 +182,21 @@ fn output(outputs: &Outputs<'_>, place: Option<usize>) -> bool
     }
 }
 
-// Writes new interlocking values to the rows of a switch.
+// Writes the interlocking values to the rows of a switch.
 fn write_output(tree: &mut Tree, rows: &SwitchRows, enabled: Enabled, now: u64)
     requires { AreSwitchRows (layout_of tree.old) rows.now }
     ensures rows { tree.new ≡ with_output (switch_in (layout_of tree.old) rows.now) enabled.may_open
         enabled.may_close now tree.old }
     ensures layout { layout_of tree.new ≡ layout_of tree.old }
     ensures told { (k : ℕ) → AreEnabling (layout_of tree.old) k rows.now
-        → IsTold tree.new k enabled }
+        → HoldsRelease tree.new k enabled }
 {
     set_enabled(tree, rows.ena_opn, enabled.may_open, now);
     set_enabled(tree, rows.ena_cls, enabled.may_close, now);
 }
 
-// Writes new interlocking values of the switch at an index, unless the last scan wrote them.
+// Writes the interlocking values of the switch at an index, unless the last scan wrote the same
+// ones.
 #[inline(always)]
 fn tell(
     tree: &mut Tree,
@@ -223,7 +225,8 @@ fn tell(
     kept.set(place, enabled);
 }
 
-/// Writes the values of their points to the interlocking values of all switches.
+/// Writes the outputs of a scan to the interlocking values of all switches, at `now` in
+/// milliseconds since 1970.
 pub fn write_outputs(
     tree: &mut Tree,
     kept: &mut Releases,

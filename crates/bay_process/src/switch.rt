@@ -1,9 +1,9 @@
-// A switch of the bay, with what a step needs of it.
+// A switch of the bay, with its rows and outputs.
 use crate::rows::SwitchRows;
 use bay_config::bay::Switch;
 
-/// The places of a switch's interlocking values among the outputs of a scan, if the program names
-/// their points.
+/// The indices of a switch's interlocking values among the outputs of a scan; `None` if the program
+/// does not name the point.
 #[derive(Clone, Copy, Debug)]
 pub struct SwitchOutputs {
     pub ena_opn: Option<usize>,
@@ -17,8 +17,8 @@ pub struct Enabled {
     pub may_close: bool,
 }
 
-/// A switch, with the handles of its values in the tree, and the places where a scan leaves its
-/// interlocking values.
+/// A switch, with the handles of its values in the tree, and the indices of its interlocking values
+/// among the outputs of a scan.
 #[derive(Drop)]
 pub struct BoundSwitch {
     pub switch: Switch,

@@ -1,15 +1,15 @@
-// Values that are never more or fewer than there were at first.
+// A list of truth values whose length never changes.
 ghost use Rattle.std.specs.Prelude.{◌≡◌, ◌<◌, false, length, map, position, slice_get, slice_set};
 
 use std::marker::Model;
 
 /// The values of the inputs.
 #[derive(Drop)]
-pub struct Truths {
+pub struct InputValues {
     values: Vec<bool>,
 }
 
-impl Model for Truths {
+impl Model for InputValues {
     ghost use Rattle.std.specs.Prelude.{List, Bool};
 
     ghost Value = { List Bool };
@@ -17,12 +17,12 @@ impl Model for Truths {
     ghost view = { λ v. v.values.items };
 }
 
-impl Truths {
-    /// Holds these values. Does not allocate.
+impl InputValues {
+    /// Makes the list of these values. Does not allocate.
     pub fn new(values: Vec<bool>) -> Self
         ensures { result ≡ values.items }
     {
-        Truths { values }
+        InputValues { values }
     }
 
     /// Returns the number of values.
@@ -32,14 +32,14 @@ impl Truths {
         self.values.len()
     }
 
-    /// Returns the value at an index, if there is one.
+    /// Returns the value at an index; `None` if there is none.
     pub fn get(&self, place: usize) -> Option<bool>
         ensures { result ≡ slice_get self.now place }
     {
         self.values.as_slice().get(place).copied()
     }
 
-    /// Returns the index of the first value that is TRUE, if one is.
+    /// Returns the index of the first value that is TRUE; `None` if none is.
     pub fn first_true(&self) -> Option<usize>
         ensures { result ≡ position (λ value. value) self.now }
     {

@@ -11,9 +11,9 @@ use Rattle.bay_io.specs.Sent.{Ends, Finishes, Puts, Sends, SendsPart}
 use Rattle.bay_io.specs.Watched.{Writing}
 use Rattle.bay_io.specs.declared.outbox.WriteFault.{WriteFault}
 use Rattle.bay_report.specs.Lines.{command_text, commands_text, send_text, sends_text}
-use Rattle.bay_report.specs.LogLines.{IsTold, LogsSome, PrintsLogs}
+use Rattle.bay_report.specs.LogLines.{IsReported, LogsSome, PrintsLogs}
 use Rattle.bay_report.specs.Report.{IsLast, Printed, Prints}
-use Rattle.bay_services.specs.declared.answer.Command.{Command}
+use Rattle.bay_mms_services.specs.declared.answer.Command.{Command}
 
 pub sends-turn : (now : ℕ) (sends : List Sent) (k : ℕ) (sent : Sent) → sent ≡ get_or sends k sent
     → k < length sends → sends_text now (drop k sends)
@@ -177,22 +177,22 @@ module _ {W : Type 0} {contents : W → Option (List ℕ)} {asks : W → WriteCa
   -- a text goes with its line
   pub with-line : {r : Result ℕ WriteFault} (line : Option (List ℕ))
       → Prints contents asks (IsLast last status) old between r
-      → Prints contents asks (IsTold line last status line) old between r
+      → Prints contents asks (IsReported line last status line) old between r
   with-line {r} line p = Prints-weaker contents asks (IsLast last status)
-      (IsTold line last status line) old between r (λ text answered told. (refl, told)) p
+      (IsReported line last status line) old between r (λ text answered told. (refl, told)) p
 
   -- a text was printed, and its line was logged
   pub PrintsLogs-told : {new : Writing W} (line : Option (List ℕ)) (answered : ℕ)
       → Prints contents asks (IsLast last status) old between (Ok answered)
       → LogsSome contents asks between line new
-      → PrintsLogs contents asks (IsTold line last status) old new (Ok answered)
+      → PrintsLogs contents asks (IsReported line last status) old new (Ok answered)
   PrintsLogs-told line answered p logged =
       record { line = line; between = between; printed = with-line line p; logged = logged }
 
   -- it could not be printed
   pub PrintsLogs-cut : (line : Option (List ℕ)) (fault : WriteFault) (r : Result ℕ WriteFault)
       → IsErr r → Prints contents asks (IsLast last status) old between (Err fault)
-      → PrintsLogs contents asks (IsTold line last status) old between r
+      → PrintsLogs contents asks (IsReported line last status) old between r
   PrintsLogs-cut line fault (Ok answered) is p = absurd cc
   PrintsLogs-cut line fault (Err f) is p =
       record { line = line; between = between; printed = with-line line p; logged = refl }

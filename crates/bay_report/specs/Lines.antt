@@ -5,7 +5,7 @@ use Rattle.hex.specs.Hex.{encode_lower}
 use Rattle.bay_nodes.specs.declared.switch.Operation.{Operation}
 use Rattle.bay_nodes.specs.declared.switch.Operation.TheVariants as operations
 use Rattle.bay_nodes.specs.declared.switch.Switch.{Switch}
-use Rattle.bay_services.specs.declared.answer.Command.{Command}
+use Rattle.bay_mms_services.specs.declared.answer.Command.{Command}
 use Rattle.bay_device.specs.Code.{step_code_of}
 use Rattle.bay_device.specs.Device.{State}
 use Rattle.bay_device.specs.LookUps.{switches_text}
@@ -15,13 +15,14 @@ use Rattle.bay_device.specs.declared.event.Why.{Why}
 use Rattle.bay_device.specs.declared.event.Why.TheVariants.{Ended, Fault, Memory}
 use Rattle.bay_device.specs.declared.fault.StepFault.{StepFault}
 
--- the line of a scan: the moment, the number of instructions that were executed, and each switch
+-- the line of a scan: the moment, the number of instructions that were executed, and the releases
+-- of each switch
 abbrev pub scan_text : ℕ → ℕ → State → List ℕ
 scan_text now steps s =
     decimal now ++ codes " scan steps=" ++ decimal steps ++ switches_text s 0 s.switches
     ++ codes "\n"
 
--- the scan, if there was one
+-- the line of the scan, if there was one
 abbrev pub ran_text : ℕ → Option ℕ → State → List ℕ
 ran_text now None s = []
 ran_text now (Some steps) s = scan_text now steps s
@@ -34,12 +35,12 @@ send_text now sent =
     decimal now ++ codes " send " ++ decimal sent.association ++ codes " "
     ++ encode_lower sent.octets ++ codes "\n"
 
--- a line for each PDU that is sent
+-- a line for each message that is sent
 abbrev pub sends_text : ℕ → List Sent → List ℕ
 sends_text now [] = []
 sends_text now (sent ∷ more) = send_text now sent ++ sends_text now more
 
--- what tells of an end, if anything does
+-- the line of the report that an operation ended, if there is one
 abbrev pub ended_text : ℕ → Option Sent → List ℕ
 ended_text now None = []
 ended_text now (Some sent) = send_text now sent
@@ -66,18 +67,18 @@ abbrev pub commands_text : ℕ → State → List Command → List ℕ
 commands_text now s [] = []
 commands_text now s (command ∷ more) = command_text now s command ++ commands_text now s more
 
--- why an association was closed: 0 where its client has ended it
+-- why an association was closed: 0 if its client ended it
 abbrev pub why_text : Why → List ℕ
 why_text Ended = codes "0\n"
 why_text (Fault code) = decimal code ++ codes "\n"
 why_text Memory = codes "memory\n"
 
--- the line of an association that the device has closed
+-- the line of an association that was closed
 abbrev pub closing_text : ℕ → ℕ → Why → List ℕ
 closing_text now a why =
     decimal now ++ codes " closed " ++ decimal a ++ codes " " ++ why_text why
 
--- the line of an association that was closed
+-- the same, if one was closed
 abbrev pub closed_text : ℕ → Option (ℕ × Why) → List ℕ
 closed_text now None = []
 closed_text now (Some closed) = closing_text now closed.0 closed.1
@@ -88,18 +89,18 @@ closed_text now (Some closed) = closing_text now closed.0 closed.1
 abbrev pub refusal_line : ℕ → ℕ → List ℕ
 refusal_line now code = decimal now ++ codes " refused " ++ decimal code ++ codes "\n"
 
--- what is printed for an event that was done, by its answer and the device after it: what tells of
--- an end, what is sent, the commands, the scan, and the association that was closed
+-- the lines of an accepted event, by its answer and the device after it: the report that an
+-- operation ended, what is sent, the commands, the scan, and the association that was closed
 abbrev pub done_text : ℕ → Step → State → List ℕ
 done_text now step s =
     ended_text now step.ended ++ sends_text now step.sent ++ commands_text now s step.commands
     ++ ran_text now step.scan s ++ closed_text now step.closed
 
--- what is printed for an event
+-- the lines of an event
 abbrev pub step_text : ℕ → Result Step StepFault → State → List ℕ
 step_text now (Err fault) s = refusal_line now (step_code_of fault)
 step_text now (Ok step) s = done_text now step s
 
--- the line of an event that is not understood
+-- the line for a line of the trace that is not valid, by its number
 abbrev pub unreadable_text : ℕ → List ℕ
 unreadable_text k = codes "fault 120 line " ++ decimal k ++ codes "\n"

@@ -1,4 +1,4 @@
--- What is logged of a fault, and printed before it.
+-- The line that is logged for a fault, and the text that is printed before it.
 use Rattle.std.specs.Prelude.{◌≡◌, ℕ, ◌==◌, List, [], ◌++◌, codes, Option, None, Some, Result, MatchResult, if◌then◌else◌}
 use Rattle.std.specs.Fmt.{decimal}
 use Rattle.std.specs.declared.io.ErrorKind.{ErrorKind}
@@ -11,17 +11,17 @@ use Rattle.bay_io.specs.Watched.{Writing}
 use Rattle.bay_io.specs.declared.input.ReadFault.{ReadFault}
 use Rattle.bay_io.specs.declared.input.ReadFault.TheVariants as unread
 use Rattle.bay_io.specs.declared.outbox.WriteFault.{WriteFault}
-use Rattle.bay_lines.specs.Shown.{shown_text}
+use Rattle.bay_lines.specs.Escaped.{shown_text}
 use Rattle.bay_report.specs.Report.{IsLast, Prints, refusal_of}
 
--- a line is logged, or none
+-- a line is logged, if there is one
 abbrev pub LogsSome : {W : Type 0} → (W → Option (List ℕ)) → (W → WriteCall → W → Type 0)
     → Writing W → Option (List ℕ) → Writing W → Type 0
 LogsSome contents asks old None new = new ≡ old
 LogsSome contents asks old (Some line) new = Logs contents asks old line new
 
--- A text is printed, and then the line that goes with it is logged, or none. Where it could not be
--- printed nothing is logged.
+-- A text is printed, and then the line that goes with it, if any, is logged. If the text could not
+-- be printed, nothing is logged.
 pub record PrintsLogs {W : Type 0} (contents : W → Option (List ℕ))
     (asks : W → WriteCall → W → Type 0) (May : Option (List ℕ) → List ℕ → ℕ → Type 0)
     (old new : Writing W) (result : Result ℕ WriteFault) : Type 0 where
@@ -32,12 +32,13 @@ pub record PrintsLogs {W : Type 0} (contents : W → Option (List ℕ))
       (λ fault. new ≡ between)
 
 -- this line, or none, with this text and this status alone
-abbrev pub IsTold : Option (List ℕ) → List ℕ → ℕ → Option (List ℕ) → List ℕ → ℕ → Type 0
-IsTold logged last answered line text status = (line ≡ logged) × IsLast last answered text status
+abbrev pub IsReported : Option (List ℕ) → List ℕ → ℕ → Option (List ℕ) → List ℕ → ℕ → Type 0
+IsReported logged last answered line text status =
+    (line ≡ logged) × IsLast last answered text status
 
 -- ---- files
 
--- why the system can't read
+-- why the system can't read a file
 abbrev pub kind_words : ErrorKind → List ℕ
 kind_words kind.NotFound = codes "there is no such file"
 kind_words kind.PermissionDenied = codes "permission denied"
@@ -47,7 +48,7 @@ kind_words kind.FilesystemLoop = codes "too many links"
 kind_words kind.InvalidFilename = codes "its name is too long"
 kind_words _ = codes "the system can't read it"
 
--- the line of a file that can't be read, with its name; for want of memory there is none
+-- the log line of a file that can't be read, with its name; none if memory ran out
 abbrev pub unread_line : List ℕ → ReadFault → Option (List ℕ)
 unread_line name unread.TooLong =
     Some (codes "bayctl: fault 121: " ++ (name ++ codes ": it is longer than 16,777,216 bytes\n"))
@@ -55,19 +56,19 @@ unread_line name (unread.Failed kind) =
     Some (codes "bayctl: fault 121: " ++ (name ++ (codes ": " ++ (kind_words kind ++ codes "\n"))))
 unread_line name unread.OutOfMemory = None
 
--- what is printed for it
+-- the text that is printed for it
 abbrev pub unread_text : ReadFault → List ℕ
 unread_text unread.TooLong = codes "fault 121\n"
 unread_text (unread.Failed kind) = codes "fault 121\n"
 unread_text unread.OutOfMemory = codes "fault memory\n"
 
--- the line, the text and the status of a file that can't be read, by its name
+-- the log line, the text and the status of a file that can't be read, by its name
 abbrev pub UnreadReport : List ℕ → ReadFault → Option (List ℕ) → List ℕ → ℕ → Type 0
-UnreadReport name fault = IsTold (unread_line name fault) (unread_text fault) 3
+UnreadReport name fault = IsReported (unread_line name fault) (unread_text fault) 3
 
 -- ---- loads
 
--- what a fault of a load means, by its number
+-- the meaning of a fault of a load, by its number
 abbrev pub fault_words : ℕ → List ℕ
 fault_words code =
     if code == 50 then codes "the text is not a TOML document, or is too long"
@@ -109,7 +110,8 @@ fault_words code =
     else if code == 100 then codes "the image does not fit the bay"
     else codes "the text cannot be loaded"
 
--- the line of a refused load, with the program's line, if the fault has one
+-- the log line of a refused load, with the line of the program, if the fault has one; none if
+-- memory ran out
 abbrev pub refused_line : LoadFault → Option (List ℕ)
 refused_line (Refused code line) =
     Some (codes "bayctl: load refused " ++ (decimal code
@@ -117,13 +119,13 @@ refused_line (Refused code line) =
     ++ (codes ": " ++ (fault_words code ++ codes "\n")))))
 refused_line OutOfMemory = None
 
--- the line, the text and the status of a refused load
+-- the log line, the text and the status of a refused load
 abbrev pub Refuses : LoadFault → Option (List ℕ) → List ℕ → ℕ → Type 0
-Refuses fault = IsTold (refused_line fault) (refusal_of fault) 1
+Refuses fault = IsReported (refused_line fault) (refusal_of fault) 1
 
 -- ---- traces
 
--- the line of a line of a trace that can't be read, by its number
+-- the log line for a line of a trace that is not valid, by its number
 abbrev pub unreadable_line : ℕ → List ℕ → List ℕ
 unreadable_line k line =
     codes "bayctl: fault 120 line " ++ (decimal k
@@ -131,6 +133,20 @@ unreadable_line k line =
 
 -- ---- writing
 
--- the line of a file that can't be written
-abbrev pub unwritten_line : List ℕ → List ℕ
-unwritten_line name = codes "bayctl: fault 122: " ++ (name ++ codes ": it can't be written\n")
+-- why the system can't write a file, in words
+abbrev pub write_words : ErrorKind → List ℕ
+write_words kind.AlreadyExists = codes "it exists already, so name a new file"
+write_words kind.NotFound = codes "there is no such folder"
+write_words kind.PermissionDenied = codes "permission denied"
+write_words kind.IsADirectory = codes "it is a folder"
+write_words kind.NotADirectory = codes "a part of its name is no folder"
+write_words kind.FilesystemLoop = codes "too many links"
+write_words kind.InvalidFilename = codes "its name is too long"
+write_words kind.StorageFull = codes "no space is left"
+write_words kind.ReadOnlyFilesystem = codes "its file system is read-only"
+write_words _ = codes "it can't be written"
+
+-- the log line of a file that can't be written
+abbrev pub unwritten_line : List ℕ → ErrorKind → List ℕ
+unwritten_line name kind =
+    codes "bayctl: fault 122: " ++ (name ++ (codes ": " ++ (write_words kind ++ codes "\n")))

@@ -1,5 +1,6 @@
--- What is printed of a load and of a fault, with which status, and how it reached a writer.
-use Rattle.bay_io.specs.Calls.{Asked, Unlogged, WriteCall, write_failed}
+-- The text that is printed for a load and for a fault, with which status, and how it reached a
+-- writer.
+use Rattle.bay_io.specs.Calls.{CallsMade, Unlogged, WriteCall, write_failed}
 use Rattle.bay_device.specs.declared.fault.LoadFault.TheVariants.{Refused, OutOfMemory}
 use Rattle.bay_device.specs.declared.fault.LoadFault.{LoadFault}
 use Rattle.bay_device.specs.declared.report.Report.{Report}
@@ -12,19 +13,19 @@ use Rattle.std.specs.Fmt.{decimal}
 use Rattle.std.specs.Io.KnownBytes.{Appends}
 use Rattle.std.specs.Prelude.{◌≡◌, ℕ, ◌==◌, true, false, List, [], ◌++◌, codes, Option, Result, Ok, Err, if◌then◌else◌}
 
--- a refusal at a line of the program, or one that has none
+-- the line of a refusal, with the line of the program, if it has one
 abbrev pub numbered_refusal : ℕ → ℕ → List ℕ
 numbered_refusal code line =
     if line == 0 then codes "load refused " ++ (decimal code ++ codes "\n")
     else codes "load refused " ++ decimal code ++ codes " line " ++ (decimal line ++ codes "\n")
 
--- the line that says why a load is refused
+-- the line of a refused load
 abbrev pub refusal_of : LoadFault → List ℕ
 refusal_of OutOfMemory = codes "load refused memory\n"
 refusal_of (Refused code line) = numbered_refusal code line
 
--- the line of a load: how many instructions the program has, how many values lie on its stack at
--- most, and how many instructions a scan executes at most
+-- the line of a load: the number of instructions of the program, the maximum number of values on
+-- its stack, and the maximum number of instructions that a scan executes
 abbrev pub report_text : Report → List ℕ
 report_text report =
     codes "instructions=" ++ decimal report.instructions ++ codes " depth="
@@ -38,14 +39,14 @@ code_of Usage = 2
 code_of Fault = 3
 code_of Unproved = 4
 
--- the writer took what was pending and a whole text of those that may be printed
+-- the writer received what was pending and one whole text of those that may be printed
 pub record Reports (May : List ℕ → ℕ → Type 0) (pending : List ℕ) (old new : Option (List ℕ))
     (status : ℕ) : Type 0 where
   pub text : List ℕ
   pub told : May text status
   pub appended : Appends old new (pending ++ text)
 
--- the writer took a front of these
+-- the writer received a prefix of these
 pub record ReportsPart (May : List ℕ → ℕ → Type 0) (pending : List ℕ) (old new : Option (List ℕ))
     : Type 0 where
   pub text : List ℕ
@@ -57,8 +58,8 @@ pub record ReportsPart (May : List ℕ → ℕ → Type 0) (pending : List ℕ) 
 abbrev pub IsLast : List ℕ → ℕ → List ℕ → ℕ → Type 0
 IsLast last answered text status = (text ≡ last) × (status ≡ answered)
 
--- a replay answers the status of a text that may be printed, after all of it reached the writer and
--- was flushed; or a write or a flush failed, and the writer took a front of such a text
+-- The result is the status of a text that may be printed, and all of the text reached the writer
+-- and was flushed; or a write or a flush failed, and the writer received a prefix of such a text.
 abbrev pub Printed : {W : Type 0} → (W → Option (List ℕ)) → (List ℕ → ℕ → Type 0) → Writing W
     → Writing W → Result ℕ WriteFault → Type 0
 Printed contents May old new (Ok status) =
@@ -68,10 +69,11 @@ Printed contents May old new (Err fault) =
     ReportsPart May old.pending (contents old.inner) (contents new.inner)
     × (new.has_failed ≡ true)
 
--- and what the writer was asked, which logs nothing
+-- the same, with the calls on the writer, none of which logs
 pub record Prints {W : Type 0} (contents : W → Option (List ℕ)) (asks : W → WriteCall → W → Type 0)
     (May : List ℕ → ℕ → Type 0) (old new : Writing W) (result : Result ℕ WriteFault)
     : Type 0 where
   pub printed : Printed contents May old new result
-  pub asked : Asked (Unlogged asks) write_failed old.inner old.has_failed new.inner new.has_failed
+  pub asked : CallsMade (Unlogged asks) write_failed old.inner old.has_failed new.inner
+      new.has_failed
   pub same_logs : new.logs ≡ old.logs

@@ -28,7 +28,7 @@ content piece =
 abbrev pub lines_of : List ℕ → List (List ℕ)
 lines_of text = map content (pieces text)
 
--- the line is a text's first, and the rest follows its end
+-- the line is a text's first, and the rest is the text after it
 pub record CutsLine (text line rest : List ℕ) : Type 0 where
   pub piece : List ℕ
   pub whole : text ≡ piece ++ rest

@@ -12,13 +12,13 @@ use bay_device::event::{Scanned, Sent, Step, Why};
 use bay_device::fault::StepFault;
 use bay_io::calls::Sink;
 use bay_io::writer::WatchedWriter;
+use bay_mms_services::answer::Command;
 use bay_nodes::switch::Operation;
-use bay_services::answer::Command;
 
-// The number of octets that are written as digits at a time.
+// The number of octets whose digits are written at a time.
 const CHUNK: usize = 256;
 
-// Writes a moment, as its digits where these are at hand.
+// Writes a moment, in milliseconds since 1970; copies its digits, if they are given.
 fn put_moment<W: Sink>(writer: &mut WatchedWriter<W>, moment: u64, digits: Option<&[u8]>)
     requires { IfSome digits (λ d. d.now ≡ decimal moment) }
     ensures { Puts W.contents W.does writer.old (decimal moment) writer.new }
@@ -29,7 +29,7 @@ fn put_moment<W: Sink>(writer: &mut WatchedWriter<W>, moment: u64, digits: Optio
     }
 }
 
-// Writes the line of a scan. The digits of its moment may be at hand.
+// Writes the line of a scan; copies the digits of its moment, if they are given.
 #[inline(always)]
 fn put_scan<W: Sink>(
     writer: &mut WatchedWriter<W>,
@@ -57,7 +57,8 @@ fn put_ran<W: Sink>(writer: &mut WatchedWriter<W>, device: &Device, moment: u64,
     }
 }
 
-/// Writes the line of a refusal with this number.
+/// Writes the line of an event that was refused at a moment (milliseconds since 1970), with the
+/// number of the fault.
 #[cold]
 pub fn put_refusal<W: Sink>(writer: &mut WatchedWriter<W>, moment: u64, code: u8)
     ensures { Puts W.contents W.does writer.old (refusal_line moment code) writer.new }
@@ -104,7 +105,7 @@ fn put_send<W: Sink>(writer: &mut WatchedWriter<W>, moment: u64, sent: &Sent)
     writer.put(b"\n");
 }
 
-// Writes the lines of everything sent.
+// Writes a line for each message sent.
 fn put_sends<W: Sink>(writer: &mut WatchedWriter<W>, moment: u64, sends: &[Sent])
     ensures { Puts W.contents W.does writer.old (sends_text moment sends.now) writer.new }
 {
@@ -149,7 +150,7 @@ fn put_command_line<W: Sink>(
     writer.put(order(operation));
 }
 
-// Writes the line of a command.
+// Writes the line of a command; nothing if the device has no such switch.
 fn put_command<W: Sink>(
     writer: &mut WatchedWriter<W>,
     device: &Device,
@@ -165,7 +166,7 @@ fn put_command<W: Sink>(
     }
 }
 
-/// Writes the lines of all commands.
+/// Writes a line for each command at a moment (milliseconds since 1970).
 pub fn put_commands<W: Sink>(
     writer: &mut WatchedWriter<W>,
     device: &Device,
@@ -194,7 +195,7 @@ fn put_why<W: Sink>(writer: &mut WatchedWriter<W>, why: Why)
     }
 }
 
-/// Writes the line of a closed association.
+/// Writes the line of an association that was closed at a moment (milliseconds since 1970).
 #[cold]
 pub fn put_closing_line<W: Sink>(
     writer: &mut WatchedWriter<W>,
@@ -221,7 +222,7 @@ fn put_closed<W: Sink>(writer: &mut WatchedWriter<W>, moment: u64, closed: Optio
     }
 }
 
-// Writes what is printed for an accepted event.
+// Writes the lines of an accepted event.
 fn put_done<W: Sink>(writer: &mut WatchedWriter<W>, device: &Device, moment: u64, step: &Step)
     ensures { Puts W.contents W.does writer.old (done_text moment step.now device.now) writer.new }
 {
@@ -232,7 +233,8 @@ fn put_done<W: Sink>(writer: &mut WatchedWriter<W>, device: &Device, moment: u64
     put_closed(writer, moment, step.closed);
 }
 
-/// Writes what is printed for an event, given its answer and the device after it.
+/// Writes the lines of an event at a moment (milliseconds since 1970), given its answer and the
+/// device after it.
 pub fn put_step<W: Sink>(
     writer: &mut WatchedWriter<W>,
     device: &Device,
@@ -248,7 +250,7 @@ pub fn put_step<W: Sink>(
     }
 }
 
-/// Writes what is printed for a contact, given its answer.
+/// Writes the lines of a contact at a moment (milliseconds since 1970), given its answer.
 pub fn put_contact<W: Sink>(
     writer: &mut WatchedWriter<W>,
     moment: u64,
@@ -263,8 +265,8 @@ pub fn put_contact<W: Sink>(
     }
 }
 
-/// Writes what is printed for a scan, given its answer and the device after it. Where the digits of
-/// its moment are at hand they are copied.
+/// Writes the lines of a scan at a moment (milliseconds since 1970), given its answer and the
+/// device after it. Copies the digits of the moment, if they are given.
 pub fn put_scanned<W: Sink>(
     writer: &mut WatchedWriter<W>,
     device: &Device,
@@ -285,7 +287,7 @@ pub fn put_scanned<W: Sink>(
     }
 }
 
-/// Writes the line that says which line of the trace is not valid.
+/// Writes the line of the fault 120, for a line of the trace that is not valid, with its number.
 #[cold]
 pub fn put_unreadable<W: Sink>(writer: &mut WatchedWriter<W>, number: usize)
     ensures { Puts W.contents W.does writer.old (unreadable_text number) writer.new }

@@ -1,4 +1,4 @@
-// A device from the octets of a bay file and of a program or an image.
+// Loads a device from the octets of a bay file and of a program or an image.
 ghost use Rattle.std.specs.Prelude.{◌≡◌, ◌≢◌, Ok, Err, IfOk, IfErr};
 ghost use Rattle.bay_base.specs.Exact.{Gives};
 ghost use Rattle.bay_config.specs.Bay.{bay_of};
@@ -17,7 +17,7 @@ use bay_device::load::{load, load_image};
 use il_text::fault::TextFault;
 use std::alloc::Global;
 
-/// The form of the octets that are loaded with a bay file.
+/// The form of the program that is loaded with a bay file.
 #[derive(Clone, Copy)]
 pub enum Form {
     /// A program in Instruction List.
@@ -26,8 +26,8 @@ pub enum Form {
     Image,
 }
 
-// Returns the fault of a bay file, or else that of a program that is not UTF-8: a bad token at its
-// first line.
+// Returns the fault of a bay file, or, if it has none, that of a program that is not UTF-8: a bad
+// token in its first line.
 fn refuse_logic(alloc: Global, bay: &str) -> Result<Device, LoadFault>
     ensures device { Gives LoadFault.OutOfMemory (λ device. device) result
         (of_bay (bay_of bay.now) (Err (BadToken 1))) }
@@ -53,8 +53,9 @@ fn load_logic(alloc: Global, bay: &str, logic: &[u8]) -> Result<Device, LoadFaul
     }
 }
 
-/// Loads the device of the octets of a bay file and a program. A bay file that is not UTF-8 is not
-/// TOML.
+/// Loads the device of the octets of a bay file and an Instruction List program. Returns the first
+/// refusal of the two, or `OutOfMemory` if an allocation fails. A bay file that is not UTF-8 is not
+/// TOML; a program that is not UTF-8 has a bad token in its first line.
 pub fn load_octets(alloc: Global, bay: &[u8], logic: &[u8]) -> Result<Device, LoadFault>
     ensures device { Gives LoadFault.OutOfMemory (λ device. device) result
         (load_of bay.now logic.now) }
@@ -86,6 +87,7 @@ fn load_image_octets(alloc: Global, bay: &[u8], image: &[u8]) -> Result<Device, 
 }
 
 /// Loads the device of the octets of a bay file and a program or an image, before its first event.
+/// Returns the first refusal, or `OutOfMemory` if an allocation fails.
 pub fn load_program(
     alloc: Global,
     bay: &[u8],
@@ -94,7 +96,7 @@ pub fn load_program(
 ) -> Result<Device, LoadFault>
     ensures ok { IfOk result (λ device. LoadsTo bay.now form program.now (Ok device)) }
     ensures refused { IfErr result (λ e. MayLoadTo bay.now form program.now (Err e)) }
-    // It is the device of the bay as which the file reads, and of the program's image.
+    // The device is that of the bay that the file spells, and of the program's image.
     ensures loaded { IfOk result (IsLoaded (file_of bay.now) (IsImageOf form program.now)) }
     // Nothing is selected, and no association is open.
     ensures idle { IfOk result IsIdle }

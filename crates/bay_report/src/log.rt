@@ -1,8 +1,8 @@
-// What is logged of a fault: one line, in the form `bayctl: FAULT: WHAT`.
+// Logs a fault: one line, in the form `bayctl: FAULT: WHAT`.
 ghost use Rattle.std.specs.Prelude.{◌≡◌, None, Some, codes};
 ghost use Rattle.bay_io.specs.Calls.{parts_text};
 ghost use Rattle.bay_io.specs.Sent.{Logs};
-ghost use Rattle.bay_report.specs.LogLines.{IsTold, LogsSome, PrintsLogs, Refuses, UnreadReport, refused_line, unreadable_line, unwritten_line};
+ghost use Rattle.bay_report.specs.LogLines.{IsReported, LogsSome, PrintsLogs, Refuses, UnreadReport, refused_line, unreadable_line, unwritten_line};
 ghost use Rattle.bay_report.specs.Report.{code_of};
 ghost use Rattle.bay_report.specs.LogLines as spec;
 
@@ -12,10 +12,10 @@ use bay_io::calls::{LinePart, Sink};
 use bay_io::input::ReadFault;
 use bay_io::outbox::WriteFault;
 use bay_io::writer::WatchedWriter;
-use bay_lines::shown::Shown;
+use bay_lines::escaped::EscapedText;
 use std::io::ErrorKind;
 
-// Returns why the system can't read, in words.
+// Returns why the system can't read a file, in words.
 fn kind_words(kind: ErrorKind) -> &'static [u8]
     ensures { result.now ≡ spec.kind_words kind }
 {
@@ -30,7 +30,7 @@ fn kind_words(kind: ErrorKind) -> &'static [u8]
     }
 }
 
-// Returns what a fault of a load means, by its number.
+// Returns the meaning of a fault of a load, by its number.
 fn fault_words(code: u8) -> &'static [u8]
     ensures { result.now ≡ spec.fault_words code }
 {
@@ -76,7 +76,7 @@ fn fault_words(code: u8) -> &'static [u8]
     }
 }
 
-// Logs why a load is refused.
+// Logs why a load is refused; nothing if memory ran out.
 fn log_refusal<W: Sink>(writer: &mut WatchedWriter<W>, fault: LoadFault)
     ensures { LogsSome W.contents W.does writer.old (refused_line fault) writer.new }
 {
@@ -107,20 +107,42 @@ fn log_refusal<W: Sink>(writer: &mut WatchedWriter<W>, fault: LoadFault)
     }
 }
 
-/// Logs that a file can't be written.
-pub fn log_unwritten<W: Sink>(writer: &mut WatchedWriter<W>, name: &str)
-    ensures { Logs W.contents W.does writer.old (unwritten_line name.now) writer.new }
+// Returns why the system can't write a file, in words.
+fn write_words(kind: ErrorKind) -> &'static [u8]
+    ensures { result.now ≡ spec.write_words kind }
 {
-    let what = LinePart::Text(name.as_bytes());
-    let why = LinePart::Text(b": it can't be written\n");
-    writer.log(&[LinePart::Text(b"bayctl: fault 122: "), what, why]);
+    match kind {
+        ErrorKind::AlreadyExists => b"it exists already, so name a new file",
+        ErrorKind::NotFound => b"there is no such folder",
+        ErrorKind::PermissionDenied => b"permission denied",
+        ErrorKind::IsADirectory => b"it is a folder",
+        ErrorKind::NotADirectory => b"a part of its name is no folder",
+        ErrorKind::FilesystemLoop => b"too many links",
+        ErrorKind::InvalidFilename => b"its name is too long",
+        ErrorKind::StorageFull => b"no space is left",
+        ErrorKind::ReadOnlyFilesystem => b"its file system is read-only",
+        _ => b"it can't be written",
+    }
 }
 
-/// Logs a line of a trace that can't be read, by its number.
+/// Logs that the file with this name can't be written, and why.
+pub fn log_unwritten<W: Sink>(writer: &mut WatchedWriter<W>, name: &str, kind: ErrorKind)
+    ensures { Logs W.contents W.does writer.old (unwritten_line name.now kind) writer.new }
+{
+    writer.log(&[
+        LinePart::Text(b"bayctl: fault 122: "),
+        LinePart::Text(name.as_bytes()),
+        LinePart::Text(b": "),
+        LinePart::Text(write_words(kind)),
+        LinePart::Text(b"\n"),
+    ]);
+}
+
+/// Logs a line of a trace that is not valid, escaped, with its number.
 pub fn log_unreadable<W: Sink>(writer: &mut WatchedWriter<W>, number: usize, line: &[u8])
     ensures { Logs W.contents W.does writer.old (unreadable_line number line.now) writer.new }
 {
-    let line = Shown::new(line);
+    let line = EscapedText::new(line);
     writer.log(&[
         LinePart::Text(b"bayctl: fault 120 line "),
         LinePart::Number(number as u64),
@@ -130,14 +152,15 @@ pub fn log_unreadable<W: Sink>(writer: &mut WatchedWriter<W>, number: usize, lin
     ]);
 }
 
-/// Writes a text as the whole output, and then logs the line of these parts.
-pub fn tell_text<W: Sink>(
+/// Writes a text as the whole output, then logs the line of these parts. Returns the number of the
+/// status. Fails if a write or a flush fails or failed before; then it logs nothing.
+pub fn write_and_log<W: Sink>(
     writer: &mut WatchedWriter<W>,
     text: &[u8],
     status: Status,
     parts: &[LinePart<'_>],
 ) -> Result<u8, WriteFault>
-    ensures { PrintsLogs W.contents W.does (IsTold (Some (parts_text parts.now)) text.now
+    ensures { PrintsLogs W.contents W.does (IsReported (Some (parts_text parts.now)) text.now
         (code_of status))
         writer.old writer.new result }
 {
@@ -146,16 +169,19 @@ pub fn tell_text<W: Sink>(
     Ok(status)
 }
 
-/// Writes that memory has run out.
-pub fn tell_memory<W: Sink>(writer: &mut WatchedWriter<W>) -> Result<u8, WriteFault>
-    ensures { PrintsLogs W.contents W.does (IsTold None (codes "fault memory\n") 3) writer.old
+/// Writes `fault memory` as the whole output, and returns the status 3. Fails if a write or a flush
+/// fails or failed before.
+pub fn write_out_of_memory<W: Sink>(writer: &mut WatchedWriter<W>) -> Result<u8, WriteFault>
+    ensures { PrintsLogs W.contents W.does (IsReported None (codes "fault memory\n") 3) writer.old
         writer.new result }
 {
     write_text(writer, NO_MEMORY, Status::Fault)
 }
 
-/// Writes that a file can't be read, and then logs why.
-pub fn tell_unread<W: Sink>(
+/// Writes the fault of a file that can't be read as the whole output: `fault memory` if memory ran
+/// out, otherwise `fault 121`, and then logs why, with the file's name. Returns the status 3. Fails
+/// if a write or a flush fails or failed before.
+pub fn report_unread<W: Sink>(
     writer: &mut WatchedWriter<W>,
     name: &str,
     fault: ReadFault,
@@ -166,10 +192,10 @@ pub fn tell_unread<W: Sink>(
     let start = LinePart::Text(b"bayctl: fault 121: ");
     let what = LinePart::Text(name.as_bytes());
     match fault {
-        ReadFault::OutOfMemory => tell_memory(writer),
+        ReadFault::OutOfMemory => write_out_of_memory(writer),
         ReadFault::TooLong => {
             let why = LinePart::Text(b": it is longer than 16,777,216 bytes\n");
-            tell_text(writer, b"fault 121\n", Status::Fault, &[start, what, why])
+            write_and_log(writer, b"fault 121\n", Status::Fault, &[start, what, why])
         }
         ReadFault::Failed(kind) => {
             let why = LinePart::Text(kind_words(kind));
@@ -180,13 +206,14 @@ pub fn tell_unread<W: Sink>(
                 why,
                 LinePart::Text(b"\n"),
             ];
-            tell_text(writer, b"fault 121\n", Status::Fault, &parts)
+            write_and_log(writer, b"fault 121\n", Status::Fault, &parts)
         }
     }
 }
 
-/// Writes the line of a refused load, and then logs why it is refused.
-pub fn tell_refusal<W: Sink>(
+/// Writes the line of a refused load as the whole output, then logs why it is refused, unless
+/// memory ran out. Returns the status 1. Fails if a write or a flush fails or failed before.
+pub fn report_load_refusal<W: Sink>(
     writer: &mut WatchedWriter<W>,
     fault: LoadFault,
 ) -> Result<u8, WriteFault>

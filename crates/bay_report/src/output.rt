@@ -1,4 +1,4 @@
-// What is written at once, and the status that it stands for.
+// Output that is written and flushed as a whole, with the exit status it leads to.
 ghost use Rattle.std.specs.Prelude.{◌≡◌, IfOk};
 ghost use Rattle.bay_io.specs.Sent.{Finishes};
 ghost use Rattle.bay_report.specs.Report.{IsLast, Prints, code_of, refusal_of, report_text};
@@ -10,7 +10,7 @@ use bay_io::calls::Sink;
 use bay_io::outbox::WriteFault;
 use bay_io::writer::WatchedWriter;
 
-/// The line that is printed when memory runs out after a load.
+/// The line that is printed when memory runs out, except in a load.
 pub const NO_MEMORY: &[u8] = b"fault memory\n";
 
 /// An exit status of the program.
@@ -20,9 +20,9 @@ pub enum Status {
     Clean,
     /// A load or a text of rules is refused.
     Refused,
-    /// The words do not ask for a valid command.
+    /// The arguments are not a valid command.
     Usage,
-    /// A fault in a trace, in reading or in writing, or running out of memory after a load.
+    /// A fault in a trace, in reading or in writing, or out of memory outside a load.
     Fault,
     /// A rule of an audit is broken, open, or takes too many passes.
     Unproved,
@@ -43,7 +43,8 @@ impl Status {
     }
 }
 
-/// Writes out everything that was put, and returns the number of the given status.
+/// Writes and flushes everything that was put, and returns the number of the given status. Fails if
+/// a write or a flush fails or failed before.
 pub fn finish<W: Sink>(writer: &mut WatchedWriter<W>, status: Status) -> Result<u8, WriteFault>
     ensures finishes { Finishes W.contents W.does writer.old writer.new result }
     ensures status { IfOk result (λ s. s ≡ code_of status) }
@@ -52,7 +53,8 @@ pub fn finish<W: Sink>(writer: &mut WatchedWriter<W>, status: Status) -> Result<
     Ok(status.code())
 }
 
-/// Writes a text as the whole output, and returns the number of the given status.
+/// Writes and flushes a text as the whole output, and returns the number of the given status. Fails
+/// if a write or a flush fails or failed before.
 pub fn write_text<W: Sink>(
     writer: &mut WatchedWriter<W>,
     text: &[u8],
@@ -65,7 +67,8 @@ pub fn write_text<W: Sink>(
     finish(writer, status)
 }
 
-/// Writes the line of a refused load.
+/// Writes and flushes the line of a refused load, and returns the status 1. Fails if a write or a
+/// flush fails or failed before.
 pub(crate) fn write_refusal<W: Sink>(
     writer: &mut WatchedWriter<W>,
     fault: LoadFault,
@@ -76,7 +79,8 @@ pub(crate) fn write_refusal<W: Sink>(
     finish(writer, Status::Refused)
 }
 
-/// Writes the line of a load.
+/// Writes and flushes the line of a load, and returns the status 0. Fails if a write or a flush
+/// fails or failed before.
 pub fn write_report<W: Sink>(
     writer: &mut WatchedWriter<W>,
     report: Report,

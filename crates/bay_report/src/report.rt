@@ -1,4 +1,4 @@
-// What is printed for a load.
+// The line that is printed for a load.
 ghost use Rattle.std.specs.Prelude.{◌≡◌, ◌++◌, codes};
 ghost use Rattle.std.specs.Fmt.{decimal};
 ghost use Rattle.bay_io.specs.Sent.{Puts};
@@ -30,7 +30,7 @@ fn put_line_refusal<W: Sink>(writer: &mut WatchedWriter<W>, code: u8, line: usiz
     put_last_number(writer, line as u64);
 }
 
-// Writes the line of a refusal, given its number and its line, which is 0 if there is none.
+// Writes the line of a refusal, given its number and the line of the program, 0 if there is none.
 fn put_numbered_refusal<W: Sink>(writer: &mut WatchedWriter<W>, code: u8, line: usize)
     ensures { Puts W.contents W.does writer.old (spec.numbered_refusal code line) writer.new }
 {
@@ -41,7 +41,7 @@ fn put_numbered_refusal<W: Sink>(writer: &mut WatchedWriter<W>, code: u8, line: 
     put_last_number(writer, u64::from(code));
 }
 
-/// Writes the line that says why a load is refused.
+/// Writes the line of a refused load.
 pub fn put_load_refusal<W: Sink>(writer: &mut WatchedWriter<W>, fault: LoadFault)
     ensures { Puts W.contents W.does writer.old (refusal_of fault) writer.new }
 {

@@ -1,4 +1,4 @@
-// The lines of a text.
+// Splits a text into lines.
 ghost use Rattle.std.specs.Prelude.{◌≡◌, ◌∷◌, [], ◌<◌, length};
 ghost use Rattle.bay_report.specs.TextLines.{without_end, CutsLine};
 
@@ -14,14 +14,15 @@ fn without_return(line: &[u8]) -> &[u8]
     }
 }
 
-/// Returns the first line without its end, which is LF or CR LF, and what follows it.
+/// Returns the first line of a text without its end, which is LF or CR LF, and the text after it.
+/// The text must not be empty.
 #[inline(always)]
-pub fn cut_line(text: &[u8]) -> (&[u8], &[u8])
+pub fn split_line(text: &[u8]) -> (&[u8], &[u8])
     requires { 0 < length text.now }
     ensures cuts { CutsLine text.now result.0.now result.1.now }
     ensures shorter { length result.1.now < length text.now }
 {
-    // An iterator looks at the next 32 octets first, and a line is short.
+    // The iterator searches the next 32 octets first, and lines are short.
     match memchr_iter(b'\n', text).next() {
         Some(at) => (without_return(&text[..at]), &text[at + 1..]),
         None => (text, &text[text.len()..]),

@@ -4,7 +4,7 @@ use Rattle.bay_device.specs.Device.{State}
 use Rattle.bay_device.specs.Outcomes.{outcome}
 use Rattle.bay_device.specs.declared.event.Event.{Event}
 use Rattle.bay_device.specs.declared.event.Event.TheVariants.{Open, Recv, Close, Contact, Input, Measure, BadMeasure, Lost, Scan}
-use Rattle.bay_trace.specs.Placing.{LineRoom, Takes, Took, anywhere, count_of}
+use Rattle.bay_trace.specs.Resolving.{LineRoom, Takes, Took, anywhere, count_of}
 use Rattle.bay_trace.specs.Trace.{NamedData}
 
 -- where the octets of an event lie is all the same

@@ -87,7 +87,8 @@ behind-read : (line : List ℕ) (t : ℕ) (named : NamedData)
     → trace_line_of line ≡ Some (at_moment t named)
     → event_of (slice_split is_space (behind_moment line)) ≡ Some named
 behind-read [] t named read = absurd cc
-behind-read (b ∷ bs) t named read = by_test (nat_lt (position_or_len is_space line) (length line)) refl
+behind-read (b ∷ bs) t named read =
+    by_test (nat_lt (position_or_len is_space line) (length line)) refl
   where
     line : List ℕ
     line = b ∷ bs
@@ -98,7 +99,8 @@ behind-read (b ∷ bs) t named read = by_test (nat_lt (position_or_len is_space 
     by-event n (Some m) e = let same : m ≡ named = cc in ap Some same
 
     by-number : (o : Option ℕ) (ws : List (List ℕ))
-        → option_and_then (λ (cut : ℕ × List (List ℕ)). option_map (at_moment cut.0) (event_of cut.1))
+        → option_and_then (λ (cut : ℕ × List (List ℕ)). option_map (at_moment cut.0)
+        (event_of cut.1))
         (option_map (λ n. (n, ws)) o) ≡ Some (at_moment t named)
         → event_of ws ≡ Some named
     by-number None ws e = absurd cc

@@ -92,7 +92,8 @@ scan-words line n (word ∷ next ∷ ws) split e = by-number (read_number word) 
         }
 
     by-number : (o : Option ℕ) → read_number word ≡ o
-        → option_and_then (λ (cut : ℕ × List (List ℕ)). option_map (at_moment cut.0) (event_of cut.1))
+        → option_and_then (λ (cut : ℕ × List (List ℕ)). option_map (at_moment cut.0)
+        (event_of cut.1))
         (option_map (λ k. (k, next ∷ ws)) o) ≡ Some (at_moment n scan)
         → Scanned line n
     by-number None is f = absurd cc

@@ -3,11 +3,11 @@ use Rattle.std.specs.Prelude.{ℕ, List, [], ◌∷◌, Option, None, unwrap_or}
 use Rattle.std.specs.Result.{result_ok}
 use Rattle.hex.specs.Hex.{decode_of}
 
--- the octets that hexadecimal digits of either case write; one at least
+-- the octets that hexadecimal digits of either case encode; at least one
 abbrev pub octets_of : List ℕ → Option (List ℕ)
 octets_of [] = None
 octets_of (b ∷ bs) = result_ok (decode_of (b ∷ bs))
 
--- those of digits that are known to write some
+-- the same for digits that are known to encode octets
 abbrev pub octets_in : List ℕ → List ℕ
 octets_in digits = unwrap_or (octets_of digits) []

@@ -1,5 +1,4 @@
--- The line of a trace that tells of an event which a device was given, as a record of a session has
--- it.
+-- The trace line of an event of a device, as the record of a service has it.
 use Rattle.std.specs.Prelude.{◌≡◌, ℕ, ◌+◌, ◌<◌, ◌^◌, Bool, List, ◌++◌, codes, drop, length, Some}
 use Rattle.std.specs.Fmt.{decimal}
 use Rattle.std.specs.List.{position_or_len}
@@ -8,16 +7,16 @@ use Rattle.bay_device.specs.Device.{State}
 use Rattle.bay_device.specs.declared.event.Event.{Event}
 use Rattle.bay_device.specs.declared.event.Event.TheVariants.{Open, Recv, Close, Contact, Input, Measure, BadMeasure, Lost, Scan}
 use Rattle.bay_lines.specs.Puts as puts
-use Rattle.bay_trace.specs.Placing.{anywhere, placed_event}
+use Rattle.bay_trace.specs.Resolving.{anywhere, placed_event}
 use Rattle.bay_trace.specs.Trace.{NamedData, at_moment, is_space, trace_line_of}
 
--- what stands behind the first space of a line
+-- the rest of a line after its first space
 abbrev pub behind_moment : List ℕ → List ℕ
 behind_moment line = drop (position_or_len is_space line + 1) line
 
--- What a line tells at a moment, without its end: of an association by its number, with the octets
--- of its client as hexadecimal digits; of a switch, an input or a meter in the words of the line
--- that told of it.
+-- The line of an event at a moment, without its end: for an association its number, with the octets
+-- of its client as hexadecimal digits; for a switch, an input or a meter the words of the line that
+-- the event was read from.
 abbrev pub event_line : ℕ → List ℕ → Event → List ℕ
 event_line now said (Open a) = decimal now ++ codes " open " ++ decimal a
 event_line now said (Recv a octets) =
@@ -30,17 +29,17 @@ event_line now said (BadMeasure k field) = decimal now ++ codes " " ++ behind_mo
 event_line now said Lost = decimal now ++ codes " lost"
 event_line now said Scan = decimal now ++ codes " scan"
 
--- ---- what it is read as
+-- ---- how a line is read
 
--- a line tells a device of this event, at any moment
+-- a line that this device reads as this event, at some moment
 pub record Tells (s : State) (said : List ℕ) (event : Event) : Type 0 where
   pub moment : ℕ
   pub named : NamedData
   pub read : trace_line_of said ≡ Some (at_moment moment named)
   pub placed : placed_event s named ≡ event
 
--- an event that can be recorded: an association has a number, and octets have come; and of a
--- switch, an input or a meter this line tells
+-- An event that can be recorded: the number of its association is below 2 ^ 16, and its octets are
+-- at least one; an event of a switch, an input or a meter was read from this line.
 abbrev pub IsRecordable : State → List ℕ → Event → Type 0
 IsRecordable s said (Open a) = a < 2 ^ 16
 IsRecordable s said (Recv a octets) =
@@ -53,7 +52,7 @@ IsRecordable s said (BadMeasure k field) = Tells s said (BadMeasure k field)
 IsRecordable s said Lost = Unit {0}
 IsRecordable s said Scan = Unit {0}
 
--- a line is read as what tells this device of this event, at this moment
+-- a line that this device reads as this event, at this moment
 pub record IsReadAs (s : State) (line : List ℕ) (now : ℕ) (event : Event) : Type 0 where
   pub named : NamedData
   pub read : trace_line_of line ≡ Some (at_moment now named)
@@ -61,6 +60,6 @@ pub record IsReadAs (s : State) (line : List ℕ) (now : ℕ) (event : Event) : 
 
 -- ---- room
 
--- a text was put behind lines, where 73,728 octets had room for all of it
+-- whether 73,728 octets have room for the lines and this text; if they have, the text was appended
 abbrev pub PutsWhole : List ℕ → List ℕ → List ℕ → Bool → Type 0
 PutsWhole = puts.PutsWhole 73728

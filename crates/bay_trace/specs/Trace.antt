@@ -1,4 +1,4 @@
--- What a line of the trace says: words parted by one space.
+-- How a line of the trace is read: words with one space between them.
 use Rattle.std.specs.Prelude.{ℕ, ℤ, ◌==◌, ◌||◌, ◌^◌, Bool, true, false, nat_lt, List, [], ◌∷◌, codes, Option, None, Some, option_map, option_and_then, if◌then◌else◌}
 use Rattle.std.specs.List.{slice_split}
 use Rattle.std.specs.Str.{bytes_eq, is_utf8}
@@ -9,9 +9,9 @@ use Rattle.bay_tree.specs.declared.leaf.Dbpos.TheVariants.{Intermediate, Off, On
 use Rattle.bay_base.specs.Decimals.{negative_of, positive_of, read_number}
 use Rattle.bay_trace.specs.Digits.{octets_of}
 
--- what happens at a moment: an association is opened, octets of its client come, or it is closed; a
--- switch's position, an input's value or a field of a meter is told, or that a field is not to be
--- trusted; the process is lost; or the program runs
+-- An event with its names: an association is opened, its client sends octets, or it is closed; a
+-- switch reports a position, an input a value, a meter the value of a field, or that a field is
+-- invalid; the process is lost; or the program runs.
 pub data NamedData : Type 0 where
   connects : ℕ → NamedData
   receives : ℕ → List ℕ → NamedData
@@ -23,12 +23,12 @@ pub data NamedData : Type 0 where
   lost : NamedData
   scan : NamedData
 
--- a line that can be read
+-- a valid line
 pub data LineData : Type 0 where
   blank : LineData
   at_moment : ℕ → NamedData → LineData
 
--- a blank
+-- a space
 abbrev pub is_space : ℕ → Bool
 is_space b = b == 32
 
@@ -37,19 +37,19 @@ abbrev pub rest_words : Option (List ℕ) → List (List ℕ)
 rest_words None = []
 rest_words (Some rest) = slice_split is_space rest
 
--- the word that stands alone
+-- the only word
 abbrev pub only_word : List (List ℕ) → Option (List ℕ)
 only_word [] = None
 only_word (word ∷ []) = Some word
 only_word (word ∷ next ∷ others) = None
 
--- the number that the first of several words is, and the words behind it
+-- the number that the first of several words spells, and the words after it
 abbrev pub first_number : List (List ℕ) → Option (ℕ × List (List ℕ))
 first_number [] = None
 first_number (word ∷ []) = None
 first_number (word ∷ next ∷ words) = option_map (λ n. (n, next ∷ words)) (read_number word)
 
--- the number that decimal digits write, before which a `-` may stand
+-- the number that decimal digits spell, with or without a `-` before them
 abbrev pub read_integer : List ℕ → Option ℤ
 read_integer [] = None
 read_integer (b ∷ bs) =
@@ -83,13 +83,13 @@ field_of word =
     else if bytes_eq word (codes "AC") then Some PhaseC
     else None
 
--- what a word tells of a field of a meter: its value, or with `bad` that it is not to be trusted
+-- the event of a field of a meter: a word spells its value, or `bad` marks it as invalid
 abbrev pub told_of : List ℕ → MeterField → List ℕ → Option NamedData
 told_of id field word =
     if bytes_eq word (codes "bad") then Some (bad_measure id field)
     else option_map (measure id field) (read_integer word)
 
--- a field and what is told of it
+-- a field, then its value or `bad`
 abbrev pub measure_of : List ℕ → List (List ℕ) → Option NamedData
 measure_of id [] = None
 measure_of id (field ∷ told) =
@@ -100,8 +100,8 @@ abbrev pub name_of : List ℕ → Option (List ℕ)
 name_of [] = None
 name_of (b ∷ bs) = if is_utf8 (b ∷ bs) then Some (b ∷ bs) else None
 
--- what is told of what has this name: `contact` a position, `input` a truth value, `measure` a
--- field, and its value or `bad`
+-- the event of a switch, an input or a meter with this name: `contact` has a position, `input` a
+-- truth value, `measure` a field, then its value or `bad`
 abbrev pub named_of : List ℕ → List ℕ → List (List ℕ) → Option NamedData
 named_of verb name values =
     if bytes_eq verb (codes "contact")
@@ -116,14 +116,14 @@ abbrev pub association_of : List ℕ → Option ℕ
 association_of word =
     option_and_then (λ n. if nat_lt n (2 ^ 16) then Some n else None) (read_number word)
 
--- an association, and octets of its client
+-- an association, then the octets of its client
 abbrev pub received_of : List (List ℕ) → Option NamedData
 received_of [] = None
 received_of (word ∷ octets) =
     option_and_then (λ a. option_map (receives a) (option_and_then octets_of (only_word octets)))
     (association_of word)
 
--- what is told of an association: `open` and `close` stand before it alone, `recv` before it and
+-- an event of an association: `open` and `close` have its number alone, `recv` its number, then
 -- octets
 abbrev pub association_event_of : List ℕ → List (List ℕ) → Option NamedData
 association_event_of verb words =
@@ -134,18 +134,18 @@ association_event_of verb words =
     else if bytes_eq verb (codes "recv") then received_of words
     else None
 
--- what words tell of an association, if the first is one of these three
+-- the event of an association that words spell, if the first is one of these three
 abbrev pub association_event_in : List (List ℕ) → Option NamedData
 association_event_in [] = None
 association_event_in (verb ∷ words) = association_event_of verb words
 
--- the word of a line that tells of an association
+-- the first word of an event of an association
 abbrev pub is_association_verb : List ℕ → Bool
 is_association_verb verb =
     bytes_eq verb (codes "open") || (bytes_eq verb (codes "close") || bytes_eq verb (codes "recv"))
 
--- `scan` and `lost` stand alone; the other verbs stand before an association, or before a name and
--- what is told
+-- `scan` and `lost` have no other word; the other verbs are followed by an association, or by a
+-- name and its value
 abbrev pub event_of : List (List ℕ) → Option NamedData
 event_of [] = None
 event_of (verb ∷ []) =
@@ -157,18 +157,18 @@ event_of (verb ∷ word ∷ values) =
     then association_event_of verb (word ∷ values)
     else option_and_then (λ name. named_of verb name values) (name_of word)
 
--- a moment, and what happens then
+-- a moment, then an event
 abbrev pub words_line : List (List ℕ) → Option LineData
 words_line words =
     option_and_then (λ cut. option_map (at_moment cut.0) (event_of cut.1)) (first_number words)
 
--- an empty line says nothing; the words of another are read by their forms, in which all but a name
--- are ASCII
+-- An empty line has no event. The words of another are read by their forms, in which all but a name
+-- are ASCII.
 abbrev pub trace_line_of : List ℕ → Option LineData
 trace_line_of [] = Some blank
 trace_line_of (b ∷ bs) = words_line (slice_split is_space (b ∷ bs))
 
--- what happens to the process: to a switch, an input or a meter
+-- an event of the process: of a switch, an input or a meter
 abbrev pub process_event : NamedData → Option NamedData
 process_event (connects a) = None
 process_event (receives a octets) = None
@@ -180,7 +180,7 @@ process_event (bad_measure id field) = Some (bad_measure id field)
 process_event lost = None
 process_event scan = None
 
--- what a line tells of the process; nothing where it can't be read, or tells of something else
+-- the event of the process that a line has; None if the line is not valid or has another event
 abbrev pub process_of : Option LineData → Option NamedData
 process_of None = None
 process_of (Some blank) = None

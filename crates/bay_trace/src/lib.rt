@@ -1,10 +1,11 @@
-// A line of a trace becomes what happens, and that an event of a device; and an event its line.
+// A line of a trace becomes an event of a device, and an event becomes its line.
 //
-// `octets` (hexadecimal digits, and room for the octets that they write), `trace` (what a line
-// says), `placing` (the event of a device that it tells of), `recording` (the line of an event).
+// `octets` (hexadecimal digits, and a buffer for the octets that they encode), `trace` (reads a
+// line), `resolve` (names become indices in a device), `record_lines` (writes the line of an
+// event).
 #![tactic(auto)]
 
 pub mod octets;
-pub mod placing;
-pub mod recording;
+pub mod record_lines;
+pub mod resolve;
 pub mod trace;

@@ -1,4 +1,4 @@
-// Octets in hexadecimal digits: those of a line of the trace.
+// Octets in hexadecimal digits, as a line of the trace has them.
 ghost use Rattle.std.specs.Prelude.{◌≡◌, ◌<◌, ◌≤◌, [], true, is_some, length, max, option_map, take, OnErr, OnOk};
 ghost use Rattle.bay_trace.specs.Digits.{octets_in, octets_of};
 
@@ -12,7 +12,7 @@ pub struct Digits<'a> {
     ghost are_octets: { is_some (octets_of text.now) ≡ true },
 }
 
-// Whether a word consists of such digits.
+// Returns whether a word consists of such digits.
 fn are_octets(word: &[u8]) -> bool
     ensures { result ≡ is_some (octets_of word.now) }
 {
@@ -26,8 +26,8 @@ fn are_octets(word: &[u8]) -> bool
 }
 
 impl<'a> Digits<'a> {
-    /// Returns the digits of a word, or `None` if it does not consist of digits for at least one
-    /// octet.
+    /// Returns the digits of a word; `None` if the word is empty, has an odd length, or has an
+    /// octet that is no hexadecimal digit.
     pub fn of(word: &'a [u8]) -> Option<Self>
         ensures { option_map (λ d. octets_in d.text.now) result ≡ octets_of word.entry.now }
     {
@@ -48,8 +48,8 @@ fn decode(digits: Digits<'_>, count: usize, room: &mut [u8])
     let _ = hex::decode_to_slice(digits.text, &mut room[..count]);
 }
 
-/// Room for the octets of a line. It is reallocated for a line with more octets than any before, to
-/// exactly that size.
+/// The buffer for the octets of a line. It is reallocated for a line with more octets than any
+/// before, to exactly that size.
 #[derive(Drop)]
 pub struct LineOctets {
     alloc: Global,
@@ -59,7 +59,7 @@ pub struct LineOctets {
 
 impl Model for LineOctets {
     ghost use Rattle.std.specs.Prelude.{◌≤◌, take, vec_len};
-    ghost use Rattle.bay_trace.specs.Placing.{LineRoom};
+    ghost use Rattle.bay_trace.specs.Resolving.{LineRoom};
 
     ghost Value = { LineRoom };
 
@@ -69,7 +69,7 @@ impl Model for LineOctets {
 }
 
 impl LineOctets {
-    /// Creates room for no octets. Does not allocate.
+    /// Creates a buffer without octets. Does not allocate.
     pub fn new(alloc: Global) -> Self
         ensures { result ≡ record { octets = []; room = 0 } }
     {
@@ -80,7 +80,7 @@ impl LineOctets {
         }
     }
 
-    // Makes room for `count` octets, if there is less.
+    // Makes room for `count` octets, if there is less. Fails only if the allocation fails.
     fn make_room(&mut self, count: usize) -> Result<(), AllocError>
         ensures made { OnOk result
             ((length self.new.octets ≡ count) × (self.new.room ≡ max self.old.room count)) }
@@ -93,7 +93,8 @@ impl LineOctets {
         Ok(())
     }
 
-    /// Decodes digits, replacing the octets of the line before.
+    /// Decodes digits, replacing the octets of the line before. Fails only if the octets need more
+    /// room than there is and its allocation fails.
     pub fn read(&mut self, digits: Digits<'_>) -> Result<(), AllocError>
         ensures octets { OnOk result (self.new.octets ≡ octets_in digits.entry.text.now) }
         ensures room { OnOk result

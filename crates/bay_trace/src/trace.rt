@@ -1,4 +1,4 @@
-// What a line of the trace says.
+// Reads a line of the trace.
 ghost use Rattle.std.specs.Prelude.{◌≡◌, ◌∷◌, ◌≤◌, ◌^◌, ◌<◌, ℕ, length, option_map, IfSome, None, Some, codes, neg_ℤ, pos, slice_index_or, ◌==◌, if◌then◌else◌};
 ghost use Rattle.std.specs.Fmt.{decimal};
 ghost use Rattle.std.specs.List.{slice_split};
@@ -12,16 +12,17 @@ use bay_base::decimal::{decimal, negative, positive, with_digit};
 use bay_base::point::MeterField;
 use bay_tree::leaf::Dbpos;
 
-// How many digits behind the first need no test: any 19 digits are below 2^64.
+// How many digits after the first are read without a test for overflow: any 19 digits are below
+// 2^64.
 const FREE_DIGITS: usize = 18;
 
-// What stands behind the moment in the line of a scan.
+// The rest of a line of a scan after its moment.
 const SCAN: &[u8] = b" scan";
 
 /// An event, with names as in the trace.
 #[derive(Clone, Copy)]
 pub enum NamedEvent<'a> {
-    /// Opens the association with this number.
+    /// The association with this number is opened.
     Open {
         association: u16,
     },
@@ -30,34 +31,34 @@ pub enum NamedEvent<'a> {
         association: u16,
         digits: Digits<'a>,
     },
-    /// Closes the association with this number.
+    /// The association with this number is closed.
     Close {
         association: u16,
     },
-    /// The switch with this id takes this position.
+    /// The switch with this id reports this position.
     Contact {
         id: &'a str,
         position: Dbpos,
     },
-    /// The input with this name takes this value.
+    /// The input with this name has this value.
     Input {
         name: &'a str,
         value: bool,
     },
-    /// This field of the meter with this id takes this value.
+    /// This field of the meter with this id has this value.
     Measure {
         id: &'a str,
         field: MeterField,
         value: i32,
     },
-    /// This field of the meter with this id is not to be trusted.
+    /// The value of this field of the meter with this id is invalid.
     BadMeasure {
         id: &'a str,
         field: MeterField,
     },
     /// The process is lost.
     Lost,
-    /// Runs the program once.
+    /// The program runs once.
     Scan,
 }
 
@@ -70,8 +71,8 @@ pub enum TraceLine<'a> {
     At { moment: u64, event: NamedEvent<'a> },
 }
 
-// Returns the first word of a text, and what follows the space after it.
-fn cut_word(text: &[u8]) -> (&[u8], Option<&[u8]>)
+// Returns the first word of a text, and the text after the space that follows it, if there is one.
+fn split_word(text: &[u8]) -> (&[u8], Option<&[u8]>)
     ensures { slice_split is_space text.now
         ≡ result.0.now ∷ rest_words (option_map (λ rest. rest.now) result.1) }
 {
@@ -81,7 +82,7 @@ fn cut_word(text: &[u8]) -> (&[u8], Option<&[u8]>)
     }
 }
 
-// Reads a decimal value, optionally with a `-` before it.
+// Reads a decimal value of 32 bits, optionally with a `-` before it.
 fn integer(word: &[u8]) -> Option<i32>
     ensures { result ≡ read_integer word.now }
 {
@@ -152,34 +153,34 @@ fn name(word: &[u8]) -> Option<&str>
     }
 }
 
-// Reads an event of a switch: its position.
+// Reads an event of a switch: its id and its position.
 fn contact(text: &[u8]) -> Option<NamedEvent<'_>>
     ensures { option_map named_view result
         ≡ event_of (codes "contact" ∷ slice_split is_space text.now) }
 {
-    let (id, told) = cut_word(text);
+    let (id, told) = split_word(text);
     let id = name(id)?;
     let position = position(told?)?;
     Some(NamedEvent::Contact { id, position })
 }
 
-// Reads an event of an input: its value.
+// Reads an event of an input: its name and its value.
 fn input(text: &[u8]) -> Option<NamedEvent<'_>>
     ensures { option_map named_view result
         ≡ event_of (codes "input" ∷ slice_split is_space text.now) }
 {
-    let (id, told) = cut_word(text);
+    let (id, told) = split_word(text);
     let name = name(id)?;
     let value = truth(told?)?;
     Some(NamedEvent::Input { name, value })
 }
 
-// Reads an event of the meter with this id: a field, and its value or `bad`.
+// Reads an event of the meter with this id: a field, then its value or `bad`.
 fn measured<'a>(id: &'a str, told: &[u8]) -> Option<NamedEvent<'a>>
     ensures { option_map named_view result
         ≡ measure_of id.entry.now (slice_split is_space told.now) }
 {
-    let (name, rest) = cut_word(told);
+    let (name, rest) = split_word(told);
     let field = field(name)?;
     let rest = rest?;
     if rest == b"bad".as_slice() {
@@ -189,16 +190,16 @@ fn measured<'a>(id: &'a str, told: &[u8]) -> Option<NamedEvent<'a>>
     Some(NamedEvent::Measure { id, field, value })
 }
 
-// Reads an event of a meter: a field, and its value or `bad`.
+// Reads an event of a meter: its id, a field, then the value or `bad`.
 fn measure(text: &[u8]) -> Option<NamedEvent<'_>>
     ensures { option_map named_view result
         ≡ event_of (codes "measure" ∷ slice_split is_space text.now) }
 {
-    let (id, told) = cut_word(text);
+    let (id, told) = split_word(text);
     measured(name(id)?, told?)
 }
 
-// Reads the number of an association.
+// Reads the number of an association, 0 to 65535.
 fn association(word: &[u8]) -> Option<u16>
     ensures { result ≡ association_of word.now }
 {
@@ -209,7 +210,7 @@ fn association(word: &[u8]) -> Option<u16>
 fn received(text: &[u8]) -> Option<NamedEvent<'_>>
     ensures { option_map named_view result ≡ received_of (slice_split is_space text.now) }
 {
-    let (word, told) = cut_word(text);
+    let (word, told) = split_word(text);
     let association = association(word)?;
     let digits = Digits::of(told?)?;
     Some(NamedEvent::Recv {
@@ -256,19 +257,19 @@ fn event(text: &[u8]) -> Option<NamedEvent<'_>>
     association_event(text)
 }
 
-// Returns the number before the first space, however many digits it has, and what follows that
-// space.
+// Returns the number before the first space, however many digits it has, and the text after that
+// space. Returns `None` if there is no such number or no space.
 #[cold]
 fn cut_long_number(text: &[u8]) -> Option<(u64, &[u8])>
     ensures { option_map (λ cut. (cut.0, slice_split is_space cut.1.now)) result
         ≡ first_number (slice_split is_space text.now) }
 {
-    let (word, rest) = cut_word(text);
+    let (word, rest) = split_word(text);
     let number = decimal(word)?;
     Some((number, rest?))
 }
 
-// Returns the number before the first space, and what follows that space.
+// Returns the number before the first space, and the text after that space, or `None` likewise.
 fn cut_number(text: &[u8]) -> Option<(u64, &[u8])>
     ensures { option_map (λ cut. (cut.0, slice_split is_space cut.1.now)) result
         ≡ first_number (slice_split is_space text.now) }
@@ -300,7 +301,7 @@ fn moment_line(text: &[u8]) -> Option<TraceLine<'_>>
     Some(TraceLine::At { moment, event })
 }
 
-/// Reads a line of the trace, or returns `None` if it is not valid.
+/// Reads a line of the trace. Returns `None` if the line is not valid.
 pub fn read_trace_line(line: &[u8]) -> Option<TraceLine<'_>>
     ensures line { option_map line_view result ≡ trace_line_of line.now }
     // A line that can be read is UTF-8.
@@ -312,8 +313,8 @@ pub fn read_trace_line(line: &[u8]) -> Option<TraceLine<'_>>
     moment_line(line)
 }
 
-/// Returns the digits of the moment in the line of a scan, or `None` if they begin with a 0. Of any
-/// other line the result says nothing.
+/// Returns the digits of the moment in the line of a scan, or `None` if they begin with a 0. For
+/// any other line the contract leaves the result open.
 pub fn scan_digits(line: &[u8]) -> Option<&[u8]>
     ensures { (moment : ℕ) → trace_line_of line.now ≡ Some (at_moment moment scan)
         → option_map (λ digits. digits.now) result
@@ -328,8 +329,8 @@ pub fn scan_digits(line: &[u8]) -> Option<&[u8]>
     Some(&line[..line.len().saturating_sub(SCAN.len())])
 }
 
-/// Reads a line with an event that a process sends: a contact, an input or a measurement. Returns
-/// `None` if the line is not valid or has another event.
+/// Reads a line with an event that a process sends: a contact, an input or a measurement. Ignores
+/// its moment. Returns `None` if the line is empty, not valid, or has another event.
 pub fn read_process_line(line: &[u8]) -> Option<NamedEvent<'_>>
     ensures { option_map named_view result ≡ process_of (trace_line_of line.now) }
 {

@@ -7,11 +7,11 @@ use Rattle.bay_transport.specs.declared.assembly.Assembly.{Assembly}
 use Rattle.bay_transport.specs.declared.fed.Got.{Got}
 use Rattle.bay_transport.specs.declared.fed.Got.TheVariants.{More}
 use Rattle.bay_transport.specs.declared.frame.Tpdu.{Tpdu}
-use Rattle.bay_transport.specs.declared.frame.Front.{Front}
-use Rattle.bay_transport.specs.declared.frame.Front.TheVariants.{Begun, NoFrame, Whole}
+use Rattle.bay_transport.specs.declared.frame.FramePrefix.{FramePrefix}
+use Rattle.bay_transport.specs.declared.frame.FramePrefix.TheVariants.{Begun, NoFrame, Whole}
 use Rattle.bay_transport.specs.declared.fault.TransportFault.{TransportFault}
 use Rattle.bay_transport.specs.declared.fault.TransportFault.TheVariants.{BadTpkt, BadCotp, ClassRefused, TsduTooLong, Failed, OutOfMemory}
-use Rattle.bay_transport.specs.Frame.{pair_of, tpdu_of, front_of, octets_wanted}
+use Rattle.bay_transport.specs.Frame.{pair_of, tpdu_of, frame_prefix, octets_wanted}
 use Rattle.bay_transport.specs.Doings.{Fails, TransportConnection, Left, Broken, Run, TpduEffect, Refuses, effect_of, data_effect, kind_effect, alone, run_of}
 use Rattle.bay_transport.specs.Assembly.{connection_of, rest_of, left_of, body_of, HoldsFrame, run_for, FailsWhere, Takes, Reaches}
 use Rattle.bay_transport.proofs.FrameLemmas.{is_whole, whole-within, whole-length, whole-part}
@@ -51,7 +51,7 @@ three-parts octets at within =
     (drop_more octets (at + 5) 0 b ∙ ap (λ (n : ℕ). get_or octets (at + 5) 0 ∷ drop n octets) q)
 
 pub frame-behind : (octets : List ℕ) (at : ℕ) → at ≤ length octets
-    → front_of (drop at octets) ≡ Whole (length (drop at octets)) → at + 7 ≤ length octets
+    → frame_prefix (drop at octets) ≡ Whole (length (drop at octets)) → at + 7 ≤ length octets
 frame-behind octets at bounds whole =
     let some : 7 ≤ length (drop at octets) =
     (is_whole (drop at octets) (length (drop at octets)) whole).some in
@@ -97,8 +97,8 @@ too_long size octets at there within long =
 -- ---- steps
 
 -- the beginning of a frame is shorter than the frame
-begun-more : (rest octets : List ℕ) (k : ℕ) → front_of rest ≡ Begun
-    → front_of (rest ++ octets) ≡ Whole k → length rest < k
+begun-more : (rest octets : List ℕ) (k : ℕ) → frame_prefix rest ≡ Begun
+    → frame_prefix (rest ++ octets) ≡ Whole k → length rest < k
 begun-more rest octets k begun e =
     elim (cases_lt (length rest) k) [
       | inl few ↦ few
@@ -107,8 +107,8 @@ begun-more rest octets k begun e =
     ]
 
 -- the octets that can follow the beginning of a frame do not pass its end
-pub wanted-fits : (rest octets : List ℕ) (k : ℕ) → front_of rest ≡ Begun
-    → length octets ≤ octets_wanted rest → front_of (rest ++ octets) ≡ Whole k
+pub wanted-fits : (rest octets : List ℕ) (k : ℕ) → frame_prefix rest ≡ Begun
+    → length octets ≤ octets_wanted rest → frame_prefix (rest ++ octets) ≡ Whole k
     → k ≡ length (rest ++ octets)
 wanted-fits [] octets k begun few e = let w = is_whole octets k e in let some = w.some in let n =
     whole-within octets k w in absurd (omega arith)
@@ -135,9 +135,9 @@ shorter octets used =
 pub takes-more : (old new : Assembly) (piece : List ℕ) (used : ℕ) → used ≤ length piece
     → (0 < length piece → 0 < used)
     → rest_of new ≡ rest_of old ++ take used piece → connection_of new ≡ connection_of old
-    → front_of (rest_of new) ≡ Begun → Takes old piece used More new
+    → frame_prefix (rest_of new) ≡ Begun → Takes old piece used More new
 takes-more old new piece used within moves rest connection begun =
-    let b : front_of (rest_of old ++ take used piece) ≡ Begun = rw (← rest) begun in
+    let b : frame_prefix (rest_of old ++ take used piece) ≡ Begun = rw (← rest) begun in
     let does : run_of old.number (left_of old) (take used piece) ≡ run_for More new =
     rw (connection, rest) (run-begun old.number (connection_of old) (rest_of old)
     (take used piece) b) in
@@ -151,20 +151,20 @@ takes-more old new piece used within moves rest connection begun =
           (rw (← shorter piece used) (ap (λ (r : Run). r.doings) does));
     }
 
-used-some : (rest piece : List ℕ) (used : ℕ) → front_of rest ≡ Begun
-    → front_of (rest ++ take used piece) ≡ Whole (length (rest ++ take used piece)) → 0 < used
+used-some : (rest piece : List ℕ) (used : ℕ) → frame_prefix rest ≡ Begun
+    → frame_prefix (rest ++ take used piece) ≡ Whole (length (rest ++ take used piece)) → 0 < used
 used-some rest piece zero begun whole =
     absurd (let f : Begun ≡ Whole (length rest) = sym begun ∙ rw (append-nil rest) at whole in cc)
 used-some rest piece (suc used) begun whole = omega arith
 
 pub takes-frame : (old new : Assembly) (frame piece : List ℕ) (used : ℕ) (kind : Got)
     → used ≤ length piece → (0 < length piece → 0 < used)
-    → frame ≡ rest_of old ++ take used piece → front_of frame ≡ Whole (length frame)
-    → front_of (rest_of old) ≡ Begun
+    → frame ≡ rest_of old ++ take used piece → frame_prefix frame ≡ Whole (length frame)
+    → frame_prefix (rest_of old) ≡ Begun
     → alone (effect_of old.number (connection_of old) frame) (connection_of old)
     ≡ run_for kind new → Takes old piece used kind new
 takes-frame old new frame piece used kind within moves rest whole begun does =
-    let n : front_of (rest_of old ++ take used piece)
+    let n : frame_prefix (rest_of old ++ take used piece)
     ≡ Whole (length (rest_of old ++ take used piece)) = rw (← rest) whole in
     let parts = shorter piece used in
     let some : 0 < used = used-some (rest_of old) piece used begun n in
@@ -181,17 +181,19 @@ takes-frame old new frame piece used kind within moves rest whole begun does =
           (drop (used - 1) (take used piece)) (rw (← parts) n) more;
     }
 
-pub front-seen : (a : Assembly) (items : List ℕ) (f : Front) → items ≡ a.buffer.items
-    → f ≡ front_of (take (length items - a.group) (drop a.group items)) → front_of (rest_of a) ≡ f
+pub front-seen : (a : Assembly) (items : List ℕ) (f : FramePrefix) → items ≡ a.buffer.items
+    → f ≡ frame_prefix (take (length items - a.group) (drop a.group items))
+    → frame_prefix (rest_of a) ≡ f
 front-seen a items f is seen =
-    sym (seen ∙ ap front_of (take_rest items a.group)
-    ∙ ap (λ (ys : List ℕ). front_of (drop a.group ys)) is)
+    sym (seen ∙ ap frame_prefix (take_rest items a.group)
+    ∙ ap (λ (ys : List ℕ). frame_prefix (drop a.group ys)) is)
 
 -- a whole frame that is seen behind the group is all that stands there
-pub whole-seen : (old new : Assembly) (piece : List ℕ) (used k : ℕ) → front_of (rest_of old) ≡ Begun
+pub whole-seen : (old new : Assembly) (piece : List ℕ) (used k : ℕ)
+    → frame_prefix (rest_of old) ≡ Begun
     → used ≤ octets_wanted (rest_of old) → used ≤ length piece
-    → rest_of new ≡ rest_of old ++ take used piece → front_of (rest_of new) ≡ Whole k
-    → front_of (rest_of new) ≡ Whole (length (rest_of new))
+    → rest_of new ≡ rest_of old ++ take used piece → frame_prefix (rest_of new) ≡ Whole k
+    → frame_prefix (rest_of new) ≡ Whole (length (rest_of new))
 whole-seen old new piece used k begun few within rest whole =
     let n : length (take used piece) ≡ used = length-take-le used piece within in
     let fits : k ≡ length (rest_of old ++ take used piece) =
@@ -201,11 +203,11 @@ whole-seen old new piece used k begun few within rest whole =
 
 -- a frame that is refused
 pub refuses-frame : (old : Assembly) (frame piece : List ℕ) (used : ℕ) (fault : TransportFault)
-    → frame ≡ rest_of old ++ take used piece → front_of frame ≡ Whole (length frame)
+    → frame ≡ rest_of old ++ take used piece → frame_prefix frame ≡ Whole (length frame)
     → effect_of old.number (connection_of old) frame ≡ Refuses fault
     → (run_of old.number (left_of old) piece).doings ≡ Fails fault ∷ []
 refuses-frame old frame piece used fault rest whole effect =
-    let n : front_of (rest_of old ++ take used piece)
+    let n : frame_prefix (rest_of old ++ take used piece)
     ≡ Whole (length (rest_of old ++ take used piece)) = rw (← rest) whole in
     let r : run_of old.number (left_of old) (take used piece)
     ≡ record { doings = Fails fault ∷ []; left = Broken } =
@@ -219,7 +221,7 @@ refuses-frame old frame piece used fault rest whole effect =
     (run-append old.number (left_of old) (take used piece) (drop used piece)) ∙ rw r refl
 
 pub refuses-front : (old : Assembly) (begun piece : List ℕ) (used : ℕ)
-    → begun ≡ rest_of old ++ take used piece → front_of begun ≡ NoFrame
+    → begun ≡ rest_of old ++ take used piece → frame_prefix begun ≡ NoFrame
     → (run_of old.number (left_of old) piece).doings ≡ Fails BadTpkt ∷ []
 refuses-front old begun piece used rest none =
     ap (λ (ys : List ℕ). (run_of old.number (left_of old) ys).doings)
@@ -248,10 +250,10 @@ same-alone old new frame number connection =
 
 -- octets are taken, and then the frame that they end is done
 pub takes-whole : (old middle new : Assembly) (piece : List ℕ) (used k : ℕ) (kind : Got)
-    → front_of (rest_of old) ≡ Begun → used ≤ length piece → (0 < length piece → 0 < used)
+    → frame_prefix (rest_of old) ≡ Begun → used ≤ length piece → (0 < length piece → 0 < used)
     → used ≤ octets_wanted (rest_of old)
     → rest_of middle ≡ rest_of old ++ take used piece → connection_of middle ≡ connection_of old
-    → middle.number ≡ old.number → front_of (rest_of middle) ≡ Whole k
+    → middle.number ≡ old.number → frame_prefix (rest_of middle) ≡ Whole k
     → alone (effect_of middle.number (connection_of middle) (rest_of middle)) (connection_of middle)
     ≡ run_for kind new → Takes old piece used kind new
 takes-whole old middle new piece used k kind begun within moves few rest connection number whole
@@ -261,9 +263,9 @@ takes-whole old middle new piece used k kind begun within moves few rest connect
     (same-alone old middle (rest_of middle) number connection ∙ does)
 
 pub refuses-whole : (old middle : Assembly) (piece : List ℕ) (used k : ℕ) (fault : TransportFault)
-    → front_of (rest_of old) ≡ Begun → used ≤ length piece → used ≤ octets_wanted (rest_of old)
+    → frame_prefix (rest_of old) ≡ Begun → used ≤ length piece → used ≤ octets_wanted (rest_of old)
     → rest_of middle ≡ rest_of old ++ take used piece → connection_of middle ≡ connection_of old
-    → middle.number ≡ old.number → front_of (rest_of middle) ≡ Whole k
+    → middle.number ≡ old.number → frame_prefix (rest_of middle) ≡ Whole k
     → FailsWhere fault (effect_of middle.number (connection_of middle) (rest_of middle)
     ≡ Refuses fault) → FailsWhere fault
     ((run_of old.number (left_of old) piece).doings ≡ Fails fault ∷ [])
@@ -285,7 +287,7 @@ pub run-quiet : (number : ℕ) (old middle : Left) (front octets : List ℕ)
     → run_of number old (front ++ octets) ≡ run_of number middle octets
 run-quiet number old middle front octets quiet = run-append number old front octets ∙ rw quiet refl
 
-pub nothing-yet : (a : Assembly) → front_of (rest_of a) ≡ Begun
+pub nothing-yet : (a : Assembly) → frame_prefix (rest_of a) ≡ Begun
     → run_of a.number (left_of a) [] ≡ record { doings = []; left = left_of a }
 nothing-yet a begun =
     run-begun a.number (connection_of a) (rest_of a) [] (rw (append-nil (rest_of a)) begun)

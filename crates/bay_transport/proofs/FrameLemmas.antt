@@ -2,9 +2,9 @@
 use Rattle.std.proofs.Common.{◌≡◌, ℕ, zero, suc, ◌+◌, ◌-◌, ◌<◌, ◌≤◌, List, [], ◌∷◌, ◌++◌, length, take, drop, refl, sym, ap, ◌∙◌, inl, inr, arith}
 use Rattle.std.proofs.lemmas.Bool.{cases_lt, cases_eq, lt-ltb, le-ltb, ne_eqb}
 use Rattle.std.proofs.lemmas.List.{length-append, append_assoc, take-append-drop, length-take-le, take_at, drop_at, take-append-le}
-use Rattle.bay_transport.specs.declared.frame.Front.{Front}
-use Rattle.bay_transport.specs.declared.frame.Front.TheVariants.{Begun, NoFrame, Whole}
-use Rattle.bay_transport.specs.Frame.{pair_of, IsFrame, AreFrames, concatenation, Cut, IsCut, of_length, front_of, cut_behind, cut_of}
+use Rattle.bay_transport.specs.declared.frame.FramePrefix.{FramePrefix}
+use Rattle.bay_transport.specs.declared.frame.FramePrefix.TheVariants.{Begun, NoFrame, Whole}
+use Rattle.bay_transport.specs.Frame.{pair_of, IsFrame, AreFrames, concatenation, Cut, IsCut, of_length, frame_prefix, cut_behind, cut_of}
 
 -- a whole frame of so many octets stands at the front
 pub record IsWhole (octets : List ℕ) (frame : ℕ) : Type 0 where
@@ -32,7 +32,7 @@ of-length-whole n have k e =
 pub whole-of-length : (n have : ℕ) → 7 ≤ n → n ≤ have → of_length n have ≡ Whole n
 whole-of-length n have some all = rw (le-ltb n 7 some, le-ltb have n all) refl
 
-pub is_whole : (octets : List ℕ) (k : ℕ) → front_of octets ≡ Whole k → IsWhole octets k
+pub is_whole : (octets : List ℕ) (k : ℕ) → frame_prefix octets ≡ Whole k → IsWhole octets k
 is_whole [] k e = absurd (cc)
 is_whole (v ∷ []) k e = absurd (grind arith)
 is_whole (v ∷ r ∷ []) k e = absurd (grind arith)
@@ -55,7 +55,7 @@ is_whole (v ∷ r ∷ h ∷ l ∷ tpdu) k e =
       | inr ne ↦ absurd (let f : NoFrame ≡ Whole k = rw (ne_eqb v 3 ne) at e in cc)
     ]
 
-pub whole-front : (octets : List ℕ) (k : ℕ) → IsWhole octets k → front_of octets ≡ Whole k
+pub whole-front : (octets : List ℕ) (k : ℕ) → IsWhole octets k → frame_prefix octets ≡ Whole k
 whole-front octets k w =
     let counted = w.counted in
     rw w.spelled (whole-of-length (pair_of w.high w.low) (length w.tpdu + 4) (omega arith)
@@ -76,12 +76,12 @@ whole-append octets more k w = record {
   there = let h = w.there in omega (arith, length-append w.tpdu more);
 }
 
-pub front-append : (octets more : List ℕ) (k : ℕ) → front_of octets ≡ Whole k
-    → front_of (octets ++ more) ≡ Whole k
+pub front-append : (octets more : List ℕ) (k : ℕ) → frame_prefix octets ≡ Whole k
+    → frame_prefix (octets ++ more) ≡ Whole k
 front-append octets more k e =
     whole-front (octets ++ more) k (whole-append octets more k (is_whole octets k e))
 
-bad-first : (v : ℕ) (octets : List ℕ) → (v ≡ 3 → ⊥) → front_of (v ∷ octets) ≡ NoFrame
+bad-first : (v : ℕ) (octets : List ℕ) → (v ≡ 3 → ⊥) → frame_prefix (v ∷ octets) ≡ NoFrame
 bad-first v [] ne = rw (ne_eqb v 3 ne) refl
 bad-first v (r ∷ []) ne = rw (ne_eqb v 3 ne) refl
 bad-first v (r ∷ h ∷ []) ne = rw (ne_eqb v 3 ne) refl
@@ -100,8 +100,8 @@ of-length-none n have more e =
     ]
 
 -- octets that no frame begins with stay so
-pub none-append : (octets more : List ℕ) → front_of octets ≡ NoFrame
-    → front_of (octets ++ more) ≡ NoFrame
+pub none-append : (octets more : List ℕ) → frame_prefix octets ≡ NoFrame
+    → frame_prefix (octets ++ more) ≡ NoFrame
 none-append [] more e = absurd (cc)
 none-append (v ∷ []) more e =
     elim (cases_eq v 3) [
@@ -128,7 +128,7 @@ none-append (v ∷ r ∷ h ∷ l ∷ tpdu) more e =
 
 -- less than a whole frame is the beginning of one
 pub front-part : (octets more : List ℕ) (k : ℕ) → IsWhole (octets ++ more) k → length octets < k
-    → front_of octets ≡ Begun
+    → frame_prefix octets ≡ Begun
 front-part [] more k w few = refl
 front-part (v ∷ []) more k w few = let s : v ∷ more ≡ 3 ∷ w.reserved ∷ w.high ∷ w.low ∷ w.tpdu =
     w.spelled in let e : v ≡ 3 = cc in rw e refl
@@ -161,7 +161,7 @@ whole-length v r h l k tpdu w =
 
 -- a frame that is whole within a front of the octets stands there
 pub whole-part : (octets more : List ℕ) (k : ℕ) → IsWhole (octets ++ more) k → k ≤ length octets
-    → front_of octets ≡ Whole k
+    → frame_prefix octets ≡ Whole k
 whole-part [] more k w all = let some = w.some in absurd (omega arith)
 whole-part (v ∷ []) more k w all = let some = w.some in absurd (omega arith)
 whole-part (v ∷ r ∷ []) more k w all = let some = w.some in absurd (omega arith)
@@ -199,7 +199,7 @@ drop-less zero x octets some = absurd (omega arith)
 drop-less (suc k) x octets some = let e : k ≡ suc k - 1 =
     omega arith in ap (λ (n : ℕ). drop n octets) e
 
-cut-whole-at : (x : ℕ) (octets : List ℕ) (k : ℕ) → 7 ≤ k → front_of (x ∷ octets) ≡ Whole k
+cut-whole-at : (x : ℕ) (octets : List ℕ) (k : ℕ) → 7 ≤ k → frame_prefix (x ∷ octets) ≡ Whole k
     → cut_of (x ∷ octets) ≡ first_cut (take k (x ∷ octets)) (cut_of (drop k (x ∷ octets)))
 cut-whole-at x octets k some e =
     let some : 0 < k = omega arith in
@@ -211,7 +211,8 @@ cut-whole [] k w = absurd (let s : [] ≡ 3 ∷ w.reserved ∷ w.high ∷ w.low 
 cut-whole (x ∷ octets) k w = cut-whole-at x octets k w.some (whole-front (x ∷ octets) k w)
 
 -- octets that begin with no whole frame are all rest
-pub cut-rest : (f : Front) (octets : List ℕ) → front_of octets ≡ f → ((k : ℕ) → f ≡ Whole k → ⊥)
+pub cut-rest : (f : FramePrefix) (octets : List ℕ) → frame_prefix octets ≡ f
+    → ((k : ℕ) → f ≡ Whole k → ⊥)
     → cut_of octets ≡ record { frames = []; rest = octets }
 cut-rest f [] e none = refl
 cut-rest Begun (x ∷ octets) e none = rw e refl
@@ -226,7 +227,7 @@ cut_then first more =
       rest = (cut_of (first.rest ++ more)).rest;
     }
 
-cut-append-at : (f : Front) (x : ℕ) (octets more : List ℕ) → front_of (x ∷ octets) ≡ f
+cut-append-at : (f : FramePrefix) (x : ℕ) (octets more : List ℕ) → frame_prefix (x ∷ octets) ≡ f
     → ((k : ℕ) → k ≤ length octets
     → cut_behind k (octets ++ more) ≡ cut_then (cut_behind k octets) more)
     → cut_of (x ∷ (octets ++ more)) ≡ cut_then (cut_of (x ∷ octets)) more
@@ -236,7 +237,7 @@ cut-append-at (Whole k) x octets more e ih =
     let w = is_whole (x ∷ octets) k e in
     let some = w.some in
     let within = whole-within (x ∷ octets) k w in
-    let f : front_of (x ∷ (octets ++ more)) ≡ Whole k = front-append (x ∷ octets) more k e in
+    let f : frame_prefix (x ∷ (octets ++ more)) ≡ Whole k = front-append (x ∷ octets) more k e in
     let t : take k (x ∷ (octets ++ more)) ≡ take k (x ∷ octets) =
     take-append-le k (x ∷ octets) more within in
     rw (e, f, ih (k - 1) (omega arith), t) refl
@@ -246,7 +247,8 @@ cut-append-behind : (k : ℕ) (octets more : List ℕ) → k ≤ length octets
 cut-append-behind zero [] more within = refl
 cut-append-behind (suc k) [] more within = absurd (omega arith)
 cut-append-behind zero (x ∷ octets) more within =
-    cut-append-at (front_of (x ∷ octets)) x octets more refl (λ k. cut-append-behind k octets more)
+    cut-append-at (frame_prefix (x ∷ octets)) x octets more refl
+    (λ k. cut-append-behind k octets more)
 cut-append-behind (suc k) (x ∷ octets) more within = cut-append-behind k octets more (omega arith)
 
 pub cut-append : (octets more : List ℕ) → cut_of (octets ++ more) ≡ cut_then (cut_of octets) more
@@ -288,14 +290,15 @@ is-frame octets k w =
       some = omega arith;
     }
 
-no-whole : (f : Front) (octets : List ℕ) → front_of octets ≡ f → ((k : ℕ) → f ≡ Whole k → ⊥)
+no-whole : (f : FramePrefix) (octets : List ℕ) → frame_prefix octets ≡ f
+    → ((k : ℕ) → f ≡ Whole k → ⊥)
     → (frame more : List ℕ) → IsFrame frame → octets ≡ frame ++ more → ⊥
 no-whole f octets e none frame more is parts =
-    let w : front_of octets ≡ Whole (length frame) =
+    let w : frame_prefix octets ≡ Whole (length frame) =
     rw parts (whole-front (frame ++ more) (length frame) (frame-whole frame more is)) in
     none (length frame) (sym e ∙ w)
 
-is-cut-at : (f : Front) (x : ℕ) (octets : List ℕ) → front_of (x ∷ octets) ≡ f
+is-cut-at : (f : FramePrefix) (x : ℕ) (octets : List ℕ) → frame_prefix (x ∷ octets) ≡ f
     → ((k : ℕ) → k ≤ length octets → IsCut (drop k octets) (cut_behind k octets))
     → IsCut (x ∷ octets) (cut_of (x ∷ octets))
 is-cut-at Begun x octets e ih =
@@ -326,7 +329,7 @@ is-cut-behind zero [] within =
     record { whole = tt; parts = refl; ended = no-whole Begun [] refl (λ k h. cc) }
 is-cut-behind (suc k) [] within = absurd (omega arith)
 is-cut-behind zero (x ∷ octets) within =
-    is-cut-at (front_of (x ∷ octets)) x octets refl (λ k. is-cut-behind k octets)
+    is-cut-at (frame_prefix (x ∷ octets)) x octets refl (λ k. is-cut-behind k octets)
 is-cut-behind (suc k) (x ∷ octets) within = is-cut-behind k octets (omega arith)
 
 pub is-cut : (octets : List ℕ) → IsCut octets (cut_of octets)
@@ -344,7 +347,7 @@ cut-frame frame more is =
     cut-whole (frame ++ more) (length frame) (frame-whole frame more is)
     ∙ rw (frame-taken frame more, frame-dropped frame more) refl
 
-cut-of-rest : (f : Front) (rest : List ℕ) → front_of rest ≡ f
+cut-of-rest : (f : FramePrefix) (rest : List ℕ) → frame_prefix rest ≡ f
     → ((frame more : List ℕ) → IsFrame frame → rest ≡ frame ++ more → ⊥)
     → cut_of rest ≡ record { frames = []; rest = rest }
 cut-of-rest Begun rest e ended = cut-rest Begun rest e (λ k h. cc)
@@ -356,7 +359,7 @@ cut-of-rest (Whole k) rest e ended =
 only-frames : (frames : List (List ℕ)) (rest : List ℕ) → AreFrames frames
     → ((frame more : List ℕ) → IsFrame frame → rest ≡ frame ++ more → ⊥)
     → cut_of (concatenation frames ++ rest) ≡ record { frames = frames; rest = rest }
-only-frames [] rest whole ended = cut-of-rest (front_of rest) rest refl ended
+only-frames [] rest whole ended = cut-of-rest (frame_prefix rest) rest refl ended
 only-frames (frame ∷ frames) rest whole ended =
     rw (
       append_assoc frame (concatenation frames) rest,

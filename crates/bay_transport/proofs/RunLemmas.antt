@@ -1,21 +1,21 @@
 -- What octets come to does not hang on how they are cut into pieces.
 use Rattle.std.proofs.Common.{◌≡◌, ℕ, ◌<◌, List, [], ◌∷◌, ◌++◌, length, take, drop, refl, sym, ap, ◌∙◌, arith}
 use Rattle.std.proofs.lemmas.List.{append_assoc, length-append, take_all, drop_all, take-append-drop}
-use Rattle.bay_transport.specs.declared.frame.Front.{Front}
-use Rattle.bay_transport.specs.declared.frame.Front.TheVariants.{Begun, NoFrame, Whole}
+use Rattle.bay_transport.specs.declared.frame.FramePrefix.{FramePrefix}
+use Rattle.bay_transport.specs.declared.frame.FramePrefix.TheVariants.{Begun, NoFrame, Whole}
 use Rattle.bay_transport.specs.declared.fault.TransportFault.TheVariants.{BadTpkt}
-use Rattle.bay_transport.specs.Frame.{front_of, cut_of}
+use Rattle.bay_transport.specs.Frame.{frame_prefix, cut_of}
 use Rattle.bay_transport.specs.Doings.{Fails, TransportConnection, Left, Going, Over, Broken, Run, TpduEffect, Joins, Finishes, Agrees, Closes, Refuses, effect_of, connection_after, on_effect, at_rest, frames_run, alone, run_of, and_then, Stream, doings, after}
 use Rattle.bay_transport.proofs.FrameLemmas.{is_whole, none-append, front-part, cut-rest, cut-whole, cut-append}
 
-rest-run : (f : Front) (number : ℕ) (connection : TransportConnection) (rest more : List ℕ)
-    → front_of rest ≡ f
+rest-run : (f : FramePrefix) (number : ℕ) (connection : TransportConnection) (rest more : List ℕ)
+    → frame_prefix rest ≡ f
     → frames_run number connection (cut_of (rest ++ more)).frames (cut_of (rest ++ more)).rest
-    ≡ and_then number (at_rest (front_of rest) connection rest) more
+    ≡ and_then number (at_rest (frame_prefix rest) connection rest) more
 rest-run Begun number connection rest more e = rw e refl
 rest-run (Whole k) number connection rest more e = rw e refl
 rest-run NoFrame number connection rest more e =
-    let n : front_of (rest ++ more) ≡ NoFrame = none-append rest more e in
+    let n : frame_prefix (rest ++ more) ≡ NoFrame = none-append rest more e in
     rw (e, cut-rest NoFrame (rest ++ more) n (λ k h. cc), n) refl
 
 effect-run : (effect : TpduEffect) (number : ℕ) (later longer : Run) (more : List ℕ)
@@ -33,7 +33,7 @@ frames_run-append : (number : ℕ) (connection : TransportConnection) (frames : 
     (cut_of (rest ++ more)).rest
     ≡ and_then number (frames_run number connection frames rest) more
 frames_run-append number connection [] rest more =
-    rest-run (front_of rest) number connection rest more refl
+    rest-run (frame_prefix rest) number connection rest more refl
 frames_run-append number connection (frame ∷ frames) rest more =
     effect-run (effect_of number connection frame) number _ _ more
     (frames_run-append number (connection_after (effect_of number connection frame) connection)
@@ -51,18 +51,19 @@ run-append number Broken octets more = refl
 -- ---- one frame
 
 pub run-begun : (number : ℕ) (connection : TransportConnection) (rest octets : List ℕ)
-    → front_of (rest ++ octets) ≡ Begun
+    → frame_prefix (rest ++ octets) ≡ Begun
     → run_of number (Going connection rest) octets
     ≡ record { doings = []; left = Going connection (rest ++ octets) }
 run-begun number connection rest octets e =
     rw (cut-rest Begun (rest ++ octets) e (λ k h. cc), e) refl
 
 pub run-none : (number : ℕ) (connection : TransportConnection) (rest octets more : List ℕ)
-    → front_of (rest ++ octets) ≡ NoFrame
+    → frame_prefix (rest ++ octets) ≡ NoFrame
     → run_of number (Going connection rest) (octets ++ more)
     ≡ record { doings = Fails BadTpkt ∷ []; left = Broken }
 run-none number connection rest octets more e =
-    let n : front_of ((rest ++ octets) ++ more) ≡ NoFrame = none-append (rest ++ octets) more e in
+    let n : frame_prefix ((rest ++ octets) ++ more) ≡ NoFrame =
+    none-append (rest ++ octets) more e in
     rw (
       ← append_assoc rest octets more,
       cut-rest NoFrame ((rest ++ octets) ++ more) n (λ k h. cc),
@@ -70,7 +71,7 @@ run-none number connection rest octets more e =
     ) refl
 
 pub run-whole : (number : ℕ) (connection : TransportConnection) (rest octets : List ℕ)
-    → front_of (rest ++ octets) ≡ Whole (length (rest ++ octets))
+    → frame_prefix (rest ++ octets) ≡ Whole (length (rest ++ octets))
     → run_of number (Going connection rest) octets
     ≡ alone (effect_of number connection (rest ++ octets)) connection
 run-whole number connection rest octets e =
@@ -84,13 +85,13 @@ run-whole number connection rest octets e =
 
 -- less than the frame comes to nothing
 pub run-part : (number : ℕ) (connection : TransportConnection) (rest octets more : List ℕ)
-    → front_of (rest ++ (octets ++ more)) ≡ Whole (length (rest ++ (octets ++ more)))
+    → frame_prefix (rest ++ (octets ++ more)) ≡ Whole (length (rest ++ (octets ++ more)))
     → 0 < length more → (run_of number (Going connection rest) octets).doings ≡ []
 run-part number connection rest octets more e some =
     let w = is_whole (rest ++ (octets ++ more)) (length (rest ++ (octets ++ more))) e in
     let few : length (rest ++ octets) < length (rest ++ (octets ++ more)) =
     omega (arith, length-append {A = ℕ}) in
-    let begun : front_of (rest ++ octets) ≡ Begun =
+    let begun : frame_prefix (rest ++ octets) ≡ Begun =
     front-part (rest ++ octets) more (length (rest ++ (octets ++ more)))
     (rw (append_assoc rest octets more) w) few in
     rw (run-begun number connection rest octets begun) refl

@@ -2,11 +2,11 @@
 use Rattle.std.proofs.Common.{◌≡◌, ℕ, true, false, cond, List, [], ◌∷◌, ◌++◌, drop, Option, Some, None, Result, Ok, Err, refl, subst, ◌==◌, IsSome}
 use Rattle.bay_transport.specs.declared.fault.TransportFault.{TransportFault}
 use Rattle.bay_transport.specs.declared.fault.TransportFault.TheVariants.{BadCotp}
-use Rattle.bay_transport.specs.declared.frame.Front.{Front}
-use Rattle.bay_transport.specs.declared.frame.Front.TheVariants.{Begun, NoFrame, Whole}
+use Rattle.bay_transport.specs.declared.frame.FramePrefix.{FramePrefix}
+use Rattle.bay_transport.specs.declared.frame.FramePrefix.TheVariants.{Begun, NoFrame, Whole}
 use Rattle.bay_transport.specs.declared.frame.Tpdu.{Tpdu}
 use Rattle.bay_transport.specs.declared.frame.Tpdu.TheVariants.{Request, Data}
-use Rattle.bay_transport.specs.Frame.{front_of, tpdu_of, cut_of}
+use Rattle.bay_transport.specs.Frame.{frame_prefix, tpdu_of, cut_of}
 use Rattle.bay_transport.specs.Connect.{Confirmation}
 use Rattle.bay_transport.specs.Doings.{Doing, Answers, Delivers, Ends, Fails, TransportConnection, Left, Going, Over, Broken, Run, TpduEffect, Joins, Finishes, Agrees, Closes, Refuses, connect_effect, data_effect, kind_effect, tpdu_effect, effect_of, connection_after, on_effect, at_rest, frames_run, run_of, Stream, doings, after}
 use Rattle.bay_transport.specs.Feeding.{IsGoing, agreed_from, size_agreed, size_after}
@@ -51,7 +51,7 @@ tpdu-sized number connection tpdu h = absurd h
 
 -- ---- the size that is left
 
-rest-size : (front : Front) (connection : TransportConnection) (rest : List ℕ)
+rest-size : (front : FramePrefix) (connection : TransportConnection) (rest : List ℕ)
     → agreed_from (at_rest front connection rest).left
     ≡ size_after connection.size (at_rest front connection rest).doings
 rest-size Begun connection rest = refl
@@ -71,7 +71,7 @@ effect-size (Refuses fault) connection later same = refl
 frames-size : (number : ℕ) (connection : TransportConnection) (frames : List (List ℕ))
     (rest : List ℕ) → agreed_from (frames_run number connection frames rest).left
     ≡ size_after connection.size (frames_run number connection frames rest).doings
-frames-size number connection [] rest = rest-size (front_of rest) connection rest
+frames-size number connection [] rest = rest-size (frame_prefix rest) connection rest
 frames-size number connection (frame ∷ frames) rest =
     effect-size (effect_of number connection frame) connection
     (frames_run number (connection_after (effect_of number connection frame) connection) frames
@@ -100,7 +100,7 @@ AreSized size (Delivers tsdu ∷ later) = IsSome size × AreSized size later
 AreSized size (Ends ∷ later) = Unit {0}
 AreSized size (Fails fault ∷ later) = Unit {0}
 
-rest-sized : (front : Front) (connection : TransportConnection) (rest : List ℕ)
+rest-sized : (front : FramePrefix) (connection : TransportConnection) (rest : List ℕ)
     → AreSized connection.size (at_rest front connection rest).doings
 rest-sized Begun connection rest = tt
 rest-sized NoFrame connection rest = tt
@@ -118,7 +118,7 @@ effect-sized (Refuses fault) connection later some rest = tt
 
 frames-sized : (number : ℕ) (connection : TransportConnection) (frames : List (List ℕ))
     (rest : List ℕ) → AreSized connection.size (frames_run number connection frames rest).doings
-frames-sized number connection [] rest = rest-sized (front_of rest) connection rest
+frames-sized number connection [] rest = rest-sized (frame_prefix rest) connection rest
 frames-sized number connection (frame ∷ frames) rest =
     let next : TransportConnection =
     connection_after (effect_of number connection frame) connection in
@@ -144,7 +144,7 @@ delivers-size s octets tsdu later e =
 
 -- ---- what comes to nothing
 
-rest-going : (front : Front) (connection : TransportConnection) (rest : List ℕ)
+rest-going : (front : FramePrefix) (connection : TransportConnection) (rest : List ℕ)
     → (at_rest front connection rest).doings ≡ [] → IsGoing (at_rest front connection rest).left
 rest-going Begun connection rest e = tt
 rest-going NoFrame connection rest e = cc
@@ -158,7 +158,7 @@ effect-going effect later e going = cc
 frames-going : (number : ℕ) (connection : TransportConnection) (frames : List (List ℕ))
     (rest : List ℕ) → (frames_run number connection frames rest).doings ≡ []
     → IsGoing (frames_run number connection frames rest).left
-frames-going number connection [] rest e = rest-going (front_of rest) connection rest e
+frames-going number connection [] rest e = rest-going (frame_prefix rest) connection rest e
 frames-going number connection (frame ∷ frames) rest e =
     let next = connection_after (effect_of number connection frame) connection in
     effect-going (effect_of number connection frame) (frames_run number next frames rest) e

@@ -1,10 +1,11 @@
--- The number of each fault. Want of memory has none.
+-- The number of each fault. `OutOfMemory` has none.
 use Rattle.std.specs.Prelude.{ℕ, Option, Some, None}
 use Rattle.bay_transport.specs.declared.fault.TransportFault.{TransportFault}
 use Rattle.bay_transport.specs.declared.fault.TransportFault.TheVariants.{BadTpkt, BadCotp, ClassRefused, TsduTooLong, Failed, OutOfMemory}
 
 -- ---- own: numbers of faults
 
+-- the number of a fault, 10 to 14
 abbrev pub code_of : TransportFault → Option ℕ
 code_of BadTpkt = Some 10
 code_of BadCotp = Some 11

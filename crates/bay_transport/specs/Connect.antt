@@ -10,25 +10,26 @@ pub record Parameter : Type 0 where
   pub code : ℕ
   pub value : List ℕ
 
--- how parameters are spelled: the code, the number of octets of the value, and the value (X.224
--- 13.2.3)
+-- the encoding of parameters: of each its code, the number of octets of its value, and its value
+-- (X.224 13.2.3)
 abbrev pub parameter_octets : List Parameter → List ℕ
 parameter_octets [] = []
 parameter_octets (p ∷ ps) = p.code ∷ length p.value ∷ (p.value ++ parameter_octets ps)
 
--- the number of a value's octets stands at the front, behind the code
+-- the length of a parameter's value: the first of the octets after its code
 abbrev pub length_octet : List ℕ → ℕ
 length_octet [] = 0
 length_octet (octets ∷ behind) = octets
 
--- a parameter with this code and the octets behind it, and then the later ones
+-- a parameter with this code, its length and value first in the octets, followed by the later
+-- parameters
 abbrev pub with_parameter : ℕ → List ℕ → Option (List Parameter) → Option (List Parameter)
 with_parameter code behind None = None
 with_parameter code [] (Some later) = None
 with_parameter code (octets ∷ behind) (Some later) =
     Some (record { code = code; value = take octets behind } ∷ later)
 
--- the parameters that the octets behind so many others spell, if they spell any
+-- the parameters that octets encode after the first n, or None
 abbrev pub parameters_behind : ℕ → List ℕ → Option (List Parameter)
 parameters_behind zero [] = Some []
 parameters_behind (suc skipped) [] = None
@@ -36,16 +37,16 @@ parameters_behind zero (code ∷ octets) =
     with_parameter code octets (parameters_behind (suc (length_octet octets)) octets)
 parameters_behind (suc skipped) (x ∷ octets) = parameters_behind skipped octets
 
--- the parameters that octets spell
+-- the parameters that octets encode, or None
 abbrev pub parameters_of : List ℕ → Option (List Parameter)
 parameters_of octets = parameters_behind 0 octets
 
--- the first, or where there is none the other (own)
+-- the first value, or the other if there is none (own)
 abbrev pub or_else : Option (List ℕ) → Option (List ℕ) → Option (List ℕ)
 or_else (Some x) other = Some x
 or_else None other = other
 
--- the value of the last parameter with the code
+-- the value of the last parameter with this code, or None
 abbrev pub last_value : ℕ → List Parameter → Option (List ℕ)
 last_value code [] = None
 last_value code (p ∷ ps) =
@@ -53,9 +54,9 @@ last_value code (p ∷ ps) =
 
 -- ---- X.224 13.3.4: the size of a TPDU
 
--- The size of a TPDU in octets is 2 to the power of the parameter C0, which is 7 or more, and at
--- most 2 ^ 13 (X.224 13.3.4); without the parameter it is 65,531, what a frame holds. A pair is the
--- power, if there is one, and the size.
+-- The size of a TPDU in octets is 2 to the power of the parameter C0, which is 7 or more; the size
+-- is at most 2 ^ 13 (X.224 13.3.4). Without the parameter it is 65,531, the most that a frame
+-- holds. The result is the power, if there is one, and the size; None if the value is malformed.
 abbrev pub size_of : Option (List ℕ) → Option (Option ℕ × ℕ)
 size_of None = Some (None, 65531)
 size_of (Some []) = None
@@ -65,7 +66,7 @@ size_of (Some (power ∷ more ∷ octets)) = None
 
 -- ---- RFC 1006 6: frames
 
--- what stands before a TPDU of so many octets in its frame: the version, a reserved octet and the
+-- the header of the frame of a TPDU with `count` octets: the version, a reserved octet and the
 -- frame's length (RFC 1006 6)
 abbrev pub frame_header : ℕ → List ℕ
 frame_header count = 3 ∷ 0 ∷ ((count + 4) / 256) ∷ ((count + 4) % 256) ∷ []
@@ -76,7 +77,7 @@ frame_of tpdu = frame_header (length tpdu) ++ tpdu
 
 -- ---- X.224 13.4: the answer to a request
 
--- the spelling of one parameter, where it is there
+-- the encoding of one parameter; no octets if it is absent
 abbrev pub where_there : ℕ → Option (List ℕ) → List ℕ
 where_there code None = []
 where_there code (Some value) = code ∷ length value ∷ value
@@ -86,13 +87,14 @@ abbrev pub size_value : Option ℕ → Option (List ℕ)
 size_value None = None
 size_value (Some power) = Some (power ∷ [])
 
--- the parameters of the answer: the size, the called and the calling selector, each where it came
+-- the parameters of the answer: the size, the called and the calling selector, each only if the
+-- request has it
 abbrev pub answer_parameters : Option ℕ → Option (List ℕ) → Option (List ℕ) → List ℕ
 answer_parameters power called calling =
     where_there 0xC0 (size_value power) ++ where_there 0xC2 called ++ where_there 0xC1 calling
 
--- a confirmation up to its parameters, which take so many octets: its length indicator, D0, the
--- reference of the one who asked, the reference of the association, and class 0 (X.224 13.4)
+-- a confirmation up to its parameters, which take `count` octets: its length indicator, D0, the
+-- reference of the calling side, the reference of the association, and class 0 (X.224 13.4)
 abbrev pub confirm_front : ℕ → ℕ → ℕ → ℕ → List ℕ
 confirm_front number high low count =
     (count + 6) ∷ 0xD0 ∷ high ∷ low ∷ (number / 256) ∷ (number % 256) ∷ 0 ∷ []
@@ -102,13 +104,12 @@ abbrev pub confirm : ℕ → ℕ → ℕ → List ℕ → List ℕ
 confirm number high low parameters =
     frame_of (confirm_front number high low (length parameters) ++ parameters)
 
--- the confirmation of a connection: the size of its TPDUs in octets, and the frame that is the
--- answer
+-- the confirmation of a connection: the agreed size of its TPDUs in octets, and the frame to send
 pub record Confirmation : Type 0 where
   pub size : ℕ
   pub reply : List ℕ
 
--- the confirmation of a request with these parameters, which agrees the size
+-- the confirmation of a request with these parameters and this size
 abbrev pub with_size : ℕ → ℕ → ℕ → List Parameter → Option (Option ℕ × ℕ)
     → Result Confirmation TransportFault
 with_size number high low ps None = Err BadCotp
@@ -119,8 +120,7 @@ with_size number high low ps (Some size) =
           (answer_parameters size.0 (last_value 0xC2 ps) (last_value 0xC1 ps));
     })
 
--- the confirmation of a request with these parameters; BadCotp where there are none or the size is
--- not one
+-- the confirmation of a request with these parameters; BadCotp if they or the size are malformed
 abbrev pub with_parameters : ℕ → ℕ → ℕ → Option (List Parameter)
     → Result Confirmation TransportFault
 with_parameters number high low None = Err BadCotp
@@ -129,15 +129,15 @@ with_parameters number high low (Some ps) =
 
 -- ---- X.224 13.3: the request
 
--- A length indicator counts the octets of its TPDU behind it: six and the parameters. 255 is
--- reserved (X.224 13.2.1).
+-- Whether a length indicator is right: it counts the octets of its TPDU after it, six and the
+-- parameters. 255 is reserved (X.224 13.2.1).
 abbrev pub is_counted : ℕ → List ℕ → Bool
 is_counted indicator octets = if indicator == 255 then false else indicator == length octets + 6
 
--- What a request comes to on the association of this number: `indicator` is its length indicator,
--- and the octets stand behind its code: two references of two octets, the class with the options,
--- and the parameters. The length indicator counts them all and the code, a second request is
--- refused, and then a class other than 0.
+-- The confirmation of a request on the association with this number, or its fault. `indicator` is
+-- the length indicator; the octets are those after the code: two references of two octets, the
+-- class with the options, and the parameters. First, a wrong length indicator is refused, then a
+-- second request, and then a class other than 0.
 abbrev pub connect : ℕ → Bool → ℕ → List ℕ → Result Confirmation TransportFault
 connect number again indicator (to_high ∷ to_low ∷ from_high ∷ from_low ∷ class ∷ octets) =
     if is_counted indicator octets

@@ -1,44 +1,44 @@
--- What the octets of a stream come to (RFC 1006 6, X.224 13), said over whole lists.
+-- The doings of the octets of a stream (RFC 1006 6, X.224 13), defined over whole lists.
 use Rattle.std.specs.Prelude.{ℕ, ◌/◌, ◌%◌, ◌==◌, List, [], ◌∷◌, ◌++◌, length, drop, Option, Some, None, Result, Ok, Err, is_some, nat_lt, if◌then◌else◌}
 use Rattle.bay_transport.specs.declared.fault.TransportFault.{TransportFault}
 use Rattle.bay_transport.specs.declared.fault.TransportFault.TheVariants.{BadTpkt, BadCotp, TsduTooLong}
-use Rattle.bay_transport.specs.declared.frame.Front.{Front}
-use Rattle.bay_transport.specs.declared.frame.Front.TheVariants.{Begun, NoFrame, Whole}
+use Rattle.bay_transport.specs.declared.frame.FramePrefix.{FramePrefix}
+use Rattle.bay_transport.specs.declared.frame.FramePrefix.TheVariants.{Begun, NoFrame, Whole}
 use Rattle.bay_transport.specs.declared.frame.Tpdu.{Tpdu}
 use Rattle.bay_transport.specs.declared.frame.Tpdu.TheVariants.{Request, Data, Release, Unknown}
-use Rattle.bay_transport.specs.Frame.{tpdu_of, front_of, cut_of}
+use Rattle.bay_transport.specs.Frame.{tpdu_of, frame_prefix, cut_of}
 use Rattle.bay_transport.specs.Connect.{Confirmation, connect}
 
--- ---- own: what octets come to
+-- ---- own: the doings of octets
 
--- one thing that octets come to: a size of TPDUs is agreed, with the answer to the request for it;
--- a TSDU; the end; a fault
+-- a doing: one thing that octets complete. A size of TPDUs is agreed, with the answer to the
+-- request for it; a TSDU is complete; the connection ends; or a fault.
 pub data Doing : Type 0 where
   Answers : ℕ → List ℕ → Doing
   Delivers : List ℕ → Doing
   Ends : Doing
   Fails : TransportFault → Doing
 
--- what whole TPDUs leave: the size agreed, if a request came, and the joined data of an unfinished
--- group
+-- the state of a connection after complete TPDUs: the agreed size, if there was a request, and the
+-- joined data of an unfinished group
 pub record TransportConnection : Type 0 where
   pub size : Option ℕ
   pub group : List ℕ
 
--- what octets leave: what their whole TPDUs leave, and the rest behind these; or that they ended or
--- failed
+-- the state of a stream after octets: the state after their complete TPDUs, and the rest after
+-- these; or that the connection ended or failed
 pub data Left : Type 0 where
   Going : TransportConnection → List ℕ → Left
   Over : Left
   Broken : Left
 
--- what octets come to in turn, and what they leave
+-- the doings of octets, in order, and the state after them
 pub record Run : Type 0 where
   pub doings : List Doing
   pub left : Left
 
--- what one TPDU comes to: its data join the group, or complete it; a size is agreed, and the
--- request answered; the stream ends, or is refused
+-- the effect of one TPDU: its data join the group, or complete it; a size is agreed, and the
+-- request answered; the connection ends; or the TPDU is refused
 pub data TpduEffect : Type 0 where
   Joins : List ℕ → TpduEffect
   Finishes : List ℕ → TpduEffect
@@ -46,22 +46,23 @@ pub data TpduEffect : Type 0 where
   Closes : TpduEffect
   Refuses : TransportFault → TpduEffect
 
--- what a request for a connection comes to, by its confirmation
+-- the effect of a request for a connection, from its confirmation
 abbrev pub connect_effect : Result Confirmation TransportFault → TpduEffect
 connect_effect (Ok c) = Agrees c.size c.reply
 connect_effect (Err fault) = Refuses fault
 
 -- ---- X.224 13.7: data TPDUs
 
--- A data TPDU whose data make the group this, and whose third octet is `mark`: at most 70,000
--- octets are joined, and bit 8 of the mark stands on the last of a group (X.224 13.7).
+-- The effect of a data TPDU whose data extend the group to this one, and whose third octet is
+-- `mark`: at most 70,000 octets are joined, and bit 8 of the mark is set on the last TPDU of a
+-- group (X.224 13.7).
 abbrev pub group_effect : ℕ → List ℕ → TpduEffect
 group_effect mark group =
     if nat_lt 70000 (length group) then Refuses TsduTooLong
     else (if (mark / 128) % 2 == 1 then Finishes group else Joins group)
 
--- a data TPDU behind its code: it comes after the request, its length indicator is 2, and its data
--- fill the frame
+-- the effect of a data TPDU, from its length indicator and the octets after its code: it must
+-- follow a request, its length indicator is 2, and its data fill the frame
 abbrev pub data_effect : TransportConnection → ℕ → List ℕ → TpduEffect
 data_effect connection indicator [] = Refuses BadCotp
 data_effect connection indicator (mark ∷ octets) =
@@ -72,7 +73,7 @@ data_effect connection indicator (mark ∷ octets) =
 
 -- ---- X.224 13.2: TPDUs
 
--- a TPDU of a kind, behind its code
+-- the effect of a TPDU of a kind, from its length indicator and the octets after its code
 abbrev pub kind_effect : ℕ → TransportConnection → Tpdu → ℕ → List ℕ → TpduEffect
 kind_effect number connection Request indicator octets =
     connect_effect (connect number (is_some connection.size) indicator octets)
@@ -80,20 +81,20 @@ kind_effect number connection Data indicator octets = data_effect connection ind
 kind_effect number connection Release indicator octets = Closes
 kind_effect number connection Unknown indicator octets = Refuses BadCotp
 
--- a TPDU: its length indicator, its code, and what stands behind them (X.224 13.2)
+-- the effect of a TPDU: its length indicator, its code, and the rest (X.224 13.2)
 abbrev pub tpdu_effect : ℕ → TransportConnection → List ℕ → TpduEffect
 tpdu_effect number connection [] = Refuses BadCotp
 tpdu_effect number connection (indicator ∷ []) = Refuses BadCotp
 tpdu_effect number connection (indicator ∷ code ∷ octets) =
     kind_effect number connection (tpdu_of code) indicator octets
 
--- a frame holds its TPDU behind four octets (RFC 1006 6)
+-- the effect of a frame, which holds its TPDU after four octets (RFC 1006 6)
 abbrev pub effect_of : ℕ → TransportConnection → List ℕ → TpduEffect
 effect_of number connection frame = tpdu_effect number connection (drop 4 frame)
 
--- ---- own: what frames and octets come to in turn
+-- ---- own: runs of frames and octets
 
--- what a TPDU with this effect leaves
+-- the state of a connection after a TPDU with this effect
 abbrev pub connection_after : TpduEffect → TransportConnection → TransportConnection
 connection_after (Joins group) connection = record { size = connection.size; group = group }
 connection_after (Finishes group) connection = record { size = connection.size; group = [] }
@@ -102,8 +103,7 @@ connection_after (Agrees size reply) connection =
 connection_after Closes connection = connection
 connection_after (Refuses fault) connection = connection
 
--- the doing of a TPDU with this effect, before what comes later; nothing comes after an end or a
--- refusal
+-- the run of a TPDU with this effect, followed by a later run; nothing follows an end or a refusal
 abbrev pub on_effect : TpduEffect → Run → Run
 on_effect (Joins group) later = later
 on_effect (Finishes group) later =
@@ -113,33 +113,34 @@ on_effect (Agrees size reply) later =
 on_effect Closes later = record { doings = Ends ∷ []; left = Over }
 on_effect (Refuses fault) later = record { doings = Fails fault ∷ []; left = Broken }
 
--- what the rest behind the last whole frame comes to, by what stands at its front
-abbrev pub at_rest : Front → TransportConnection → List ℕ → Run
+-- the run of the rest after the last complete frame, by what it begins with
+abbrev pub at_rest : FramePrefix → TransportConnection → List ℕ → Run
 at_rest Begun connection rest = record { doings = []; left = Going connection rest }
 at_rest NoFrame connection rest = record { doings = Fails BadTpkt ∷ []; left = Broken }
 at_rest (Whole frame) connection rest = record { doings = []; left = Going connection rest }
 
--- what whole frames and a rest come to: the rest is refused as soon as it begins no frame
+-- the run of complete frames and a rest: the rest is refused as soon as it can't begin a frame
 abbrev pub frames_run : ℕ → TransportConnection → List (List ℕ) → List ℕ → Run
-frames_run number connection [] rest = at_rest (front_of rest) connection rest
+frames_run number connection [] rest = at_rest (frame_prefix rest) connection rest
 frames_run number connection (frame ∷ frames) rest =
     on_effect (effect_of number connection frame)
     (frames_run number (connection_after (effect_of number connection frame) connection) frames
     rest)
 
--- What octets come to, from what was left: the octets behind the rest are cut into frames anew.
+-- The run of octets, from a state of the stream: the rest and the octets after it are cut into
+-- frames.
 abbrev pub run_of : ℕ → Left → List ℕ → Run
 run_of number (Going connection rest) octets =
     frames_run number connection (cut_of (rest ++ octets)).frames (cut_of (rest ++ octets)).rest
 run_of number Over octets = record { doings = []; left = Over }
 run_of number Broken octets = record { doings = []; left = Broken }
 
--- what a frame comes to that stands alone
+-- the run of one frame with this effect, and no more octets
 abbrev pub alone : TpduEffect → TransportConnection → Run
 alone effect connection =
     on_effect effect (record { doings = []; left = Going (connection_after effect connection) [] })
 
--- a run, and then what more octets come to
+-- a run, followed by the run of more octets from its state
 abbrev pub and_then : ℕ → Run → List ℕ → Run
 and_then number first octets =
     record {
@@ -152,14 +153,14 @@ pub record Stream : Type 0 where
   pub number : ℕ
   pub left : Left
 
--- before any octet
+-- the state before any octet
 abbrev pub start : Left
 start = Going (record { size = None; group = [] }) []
 
--- what the octets come to, from what the stream left
+-- the doings of octets, from the state of a stream
 abbrev pub doings : Stream → List ℕ → List Doing
 doings s octets = (run_of s.number s.left octets).doings
 
--- the stream that the octets leave
+-- the stream after octets
 abbrev pub after : Stream → List ℕ → Stream
 after s octets = record { number = s.number; left = (run_of s.number s.left octets).left }

@@ -1,17 +1,17 @@
--- What the code finds of a request, against the definition.
+-- The values that the code finds in a request, against the definition.
 use Rattle.std.specs.Prelude.{ℕ, ◌≡◌, ◌==◌, List, Option, Some, if◌then◌else◌}
 use Rattle.std.specs.Option.{option_copied, option_map}
 use Rattle.bay_transport.specs.declared.request.ParameterValues.{ParameterValues}
 use Rattle.bay_transport.specs.declared.request.ConnectRequest.{ConnectRequest}
 use Rattle.bay_transport.specs.Connect.{parameters_of, last_value, answer_parameters}
 
--- ---- own: what the code finds of a request
+-- ---- own: the values that the code finds in a request
 
--- what is found of a code once a parameter has been read
+-- the value found so far for the code `wanted`, after one more parameter
 abbrev pub found_then : ℕ → ℕ → List ℕ → Option (List ℕ) → Option (List ℕ)
 found_then wanted code value found = if code == wanted then Some value else found
 
--- The octets are parameters, of which the last with each code has this value.
+-- The octets are parameters, and these are the values of the last one with each code.
 pub record HaveValues (octets : List ℕ) (values : ParameterValues) : Type 0 where
   pub size : option_map (last_value 0xC0) (parameters_of octets) ≡ Some (option_copied values.size)
   pub called : option_map (last_value 0xC2) (parameters_of octets)

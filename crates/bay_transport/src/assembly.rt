@@ -1,4 +1,4 @@
-// Octets of a stream, assembled to frames, and the data of frames to TSDUs.
+// Assembles the octets of a stream into frames, and the data of frames into TSDUs.
 ghost use Rattle.std.specs.Prelude.{◌≡◌, ◌+◌, ◌-◌, ◌<◌, ◌≤◌, Ok, Err, [], ◌∷◌, length, take, drop, ◌++◌, IfOk, IfErr, OnErr, OnOk, IfSome, is_some};
 ghost use Rattle.bay_transport.specs.Frame.{octets_wanted};
 ghost use Rattle.bay_transport.specs.Connect as spec;
@@ -7,7 +7,7 @@ ghost use Rattle.bay_transport.specs.Assembly.{connection_of, rest_of, left_of, 
 
 use crate::fault::TransportFault;
 use crate::fed::Got;
-use crate::frame::{Front, Tpdu, front_of, tpdu_of, wanted};
+use crate::frame::{FramePrefix, Tpdu, frame_prefix, missing_octets, tpdu_of};
 use crate::request::answer;
 use std::alloc::{AllocError, Global};
 use std::mem;
@@ -17,23 +17,23 @@ const DATA_AT: usize = 7;
 // The longest TSDU, in octets.
 const TSDU_MAX: usize = 70_000;
 
-/// The octets of an unfinished group of data TPDUs and of an unfinished frame, and what the last
-/// TPDU completed.
+/// The data of an unfinished group of data TPDUs, the octets of an unfinished frame, and what the
+/// last TPDU completed.
 #[derive(Drop)]
 pub struct Assembly {
     pub(crate) alloc: Global,
     pub(crate) number: u16,
-    // The size of a TPDU in octets, once it is agreed.
+    // The agreed size of a TPDU in octets; `None` before a request for a connection.
     pub(crate) size: Option<usize>,
-    // The joined data of the group, and then the frame.
+    // The joined data of the group, followed by the octets of the frame.
     buffer: Vec<u8>,
-    // How many octets of the buffer are of the group.
+    // The number of octets of the group.
     group: usize,
-    // The answer or the TSDU that was completed last.
+    // The answer to a request, or the TSDU, that was completed last.
     pub(crate) shown: Vec<u8>,
 }
 
-// Takes octets out of the middle.
+// Removes `count` octets from index `at` on.
 fn cut_out(octets: &mut Vec<u8>, at: usize, count: usize)
     requires { at + count ≤ length octets.old.items }
     ensures { octets.new.items ≡ take at octets.old.items ++ drop (at + count) octets.old.items }
@@ -62,7 +62,7 @@ impl Assembly {
         }
     }
 
-    /// Forgets what was received and frees its buffers.
+    /// Forgets what was received and frees the buffers.
     pub(crate) fn release(&mut self)
         ensures sound { IsSound self.new }
         ensures number { self.new.number ≡ self.old.number }
@@ -74,7 +74,8 @@ impl Assembly {
         self.shown = Vec::new(self.alloc);
     }
 
-    // A request for a connection, behind its length indicator and code.
+    // Handles a request for a connection, given its length indicator; its octets after the code are
+    // in the buffer.
     fn connect(&mut self, indicator: u8) -> Result<Got, TransportFault>
         requires { HoldsFrame self.old }
         ensures sound { OnOk result (IsSound self.new) }
@@ -103,7 +104,7 @@ impl Assembly {
         Ok(Got::Answer)
     }
 
-    // A data TPDU, behind its length indicator and code.
+    // Handles a data TPDU, given its length indicator; its octets after the code are in the buffer.
     fn join(&mut self, indicator: u8) -> Result<Got, TransportFault>
         requires { HoldsFrame self.old }
         ensures sound { OnOk result (IsSound self.new) }
@@ -135,7 +136,7 @@ impl Assembly {
         Ok(Got::Tsdu)
     }
 
-    // The frame that stands in the buffer.
+    // Handles the complete frame in the buffer.
     fn on_frame(&mut self) -> Result<Got, TransportFault>
         requires { HoldsFrame self.old }
         ensures sound { OnOk result (IsSound self.new) }
@@ -162,7 +163,7 @@ impl Assembly {
         }
     }
 
-    // Takes octets of the piece, at most to the end of the frame, and says how many.
+    // Consumes octets of the piece, at most up to the end of the frame, and returns how many.
     fn extend(&mut self, piece: &[u8]) -> Result<usize, AllocError>
         requires { IsSound self.old }
         ensures within { IfOk result (λ taken. taken ≤ length piece.now) }
@@ -176,12 +177,13 @@ impl Assembly {
         ensures bounds { self.new.group ≤ length self.new.buffer.items }
         ensures shown { self.new.shown.items ≡ self.old.shown.items }
     {
-        let taken = wanted(&self.buffer[self.group..]).min(piece.len());
+        let taken = missing_octets(&self.buffer[self.group..]).min(piece.len());
         self.buffer.extend_from_slice(&piece[..taken])?;
         Ok(taken)
     }
 
-    // Takes octets of the piece, at most to the end of the frame, and does the frame that they end.
+    // Consumes octets of the piece, at most up to the end of the frame, and handles the frame if
+    // they complete it. Returns how many were consumed, and what they completed.
     fn step(&mut self, piece: &[u8]) -> Result<(usize, Got), TransportFault>
         requires { IsSound self.old }
         ensures sound { OnOk result (IsSound self.new) }
@@ -194,18 +196,18 @@ impl Assembly {
             ((run_of self.old.number (left_of self.old) piece.now).doings ≡ Fails fault ∷ [])) }
     {
         let taken = self.extend(piece)?;
-        match front_of(&self.buffer[self.group..]) {
-            Front::Begun => Ok((taken, Got::More)),
-            Front::NoFrame => Err(TransportFault::BadTpkt),
-            Front::Whole(_) => {
+        match frame_prefix(&self.buffer[self.group..]) {
+            FramePrefix::Begun => Ok((taken, Got::More)),
+            FramePrefix::NoFrame => Err(TransportFault::BadTpkt),
+            FramePrefix::Whole(_) => {
                 let kind = self.on_frame()?;
                 Ok((taken, kind))
             }
         }
     }
 
-    /// Takes octets of the piece up to the end of the TPDU that completes something, or all of
-    /// them.
+    /// Consumes octets of the piece up to the end of the first TPDU that completes something, or
+    /// all of them. Returns how many were consumed, and what they completed.
     pub(crate) fn advance(&mut self, piece: &[u8]) -> Result<(usize, Got), TransportFault>
         requires { IsSound self.old }
         ensures sound { OnOk result (IsSound self.new) }

@@ -1,4 +1,4 @@
-// Why a stream is refused.
+// Why octets of a stream are refused.
 ghost use Rattle.std.specs.Prelude.{◌≡◌};
 ghost use Rattle.bay_transport.specs.declared.fault.TransportFault.TheVariants.{OutOfMemory};
 ghost use Rattle.bay_transport.specs.Code.{code_of};
@@ -25,13 +25,13 @@ pub enum TransportFault {
     /// An earlier piece was refused.
     #[error("the transport has failed")]
     Failed,
-    /// Out of memory for the octets that have to be kept.
+    /// Out of memory for the octets that must be buffered.
     #[error("out of memory")]
     OutOfMemory,
 }
 
 impl TransportFault {
-    /// Returns the number of the fault: 10 to 14 in the order of the variants. Out of memory has
+    /// Returns the number of the fault: 10 to 14 in the order of the variants. `OutOfMemory` has
     /// none.
     pub fn code(self) -> Option<u8>
         ensures { result ≡ code_of self }

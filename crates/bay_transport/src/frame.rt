@@ -5,7 +5,7 @@ ghost use Rattle.bay_transport.specs.Connect as spec_connect;
 
 /// What a list of octets begins with.
 #[derive(Clone, Copy)]
-pub enum Front {
+pub enum FramePrefix {
     /// No octet, or an incomplete frame.
     Begun,
     /// Octets that can't begin a frame.
@@ -39,7 +39,7 @@ pub(crate) fn tpdu_of(code: u8) -> Tpdu
     }
 }
 
-// The number of two octets, the high one first.
+// Returns the number of two octets, the high one first.
 fn pair_of(high: u8, low: u8) -> usize
     ensures { result ≡ spec.pair_of high low }
 {
@@ -55,32 +55,32 @@ pub(crate) fn frame_header(count: usize) -> [u8; 4]
     [3, 0, high, low]
 }
 
-/// Returns what the octets begin with.
-pub(crate) fn front_of(octets: &[u8]) -> Front
-    ensures front { result ≡ spec.front_of octets.now }
-    ensures short { result ≡ Front.Begun → length octets.now < 65_535 }
+/// Returns whether the octets begin with a complete frame, an incomplete one, or none.
+pub(crate) fn frame_prefix(octets: &[u8]) -> FramePrefix
+    ensures front { result ≡ spec.frame_prefix octets.now }
+    ensures short { result ≡ FramePrefix.Begun → length octets.now < 65_535 }
 {
     match octets {
-        [] => Front::Begun,
-        [version, ..] if *version != 3 => Front::NoFrame,
+        [] => FramePrefix::Begun,
+        [version, ..] if *version != 3 => FramePrefix::NoFrame,
         [_, _, high, low, ..] => {
             let frame = pair_of(*high, *low);
             if frame < 7 {
-                Front::NoFrame
+                FramePrefix::NoFrame
             } else if octets.len() < frame {
-                Front::Begun
+                FramePrefix::Begun
             } else {
-                Front::Whole(frame)
+                FramePrefix::Whole(frame)
             }
         }
-        [_, ..] => Front::Begun,
+        [_, ..] => FramePrefix::Begun,
     }
 }
 
-/// Returns how many more octets an incomplete frame can take before more has to be known: the
-/// octets up to the end of the length field, or else those up to the end of the frame.
-pub(crate) fn wanted(begun: &[u8]) -> usize
-    requires { spec.front_of begun.now ≡ Front.Begun }
+/// Returns how many octets an incomplete frame still needs: those up to the end of its length
+/// field, or, after that, those up to the end of the frame.
+pub(crate) fn missing_octets(begun: &[u8]) -> usize
+    requires { spec.frame_prefix begun.now ≡ FramePrefix.Begun }
     ensures wanted { result ≡ spec.octets_wanted begun.now }
     ensures some { 0 < result }
 {

@@ -13,9 +13,9 @@ pub fn one_cutting()
         → first ≡ second }
 {}
 
-/// What octets complete does not depend on how they are cut into pieces. The doings of a list
-/// followed by a piece are the doings of the list, and then those of the piece from what the list
-/// leaves.
+/// The doings of octets do not depend on how the octets are cut into pieces. The doings of a list
+/// followed by a piece are the doings of the list, followed by those of the piece from the state
+/// after the list.
 pub fn any_cutting()
     ensures run { (number : ℕ) (left : Left) (octets piece : List ℕ)
         → run_of number left (octets ++ piece) ≡ and_then number (run_of number left octets) piece }
@@ -25,8 +25,8 @@ pub fn any_cutting()
         → after s (octets ++ piece) ≡ after (after s octets) piece }
 {}
 
-/// The octets of a piece that one feeding did not take do the remaining doings of the piece,
-/// starting from what that feeding left.
+/// The octets of a piece that one `feed` did not consume have the remaining doings of the piece,
+/// from the state after that `feed`.
 pub fn feeding_goes_on()
     ensures doings { (old new : Stream) (piece : List ℕ) (used : ℕ) (doing : Doing)
         → new ≡ after old (take used piece)
@@ -35,8 +35,8 @@ pub fn feeding_goes_on()
         → new ≡ after old (take used piece) → after old piece ≡ after new (drop used piece) }
 {}
 
-/// An answer agrees the size of a TPDU. The size stays until the connection ends or fails. A TSDU
-/// arrives only while a size is agreed.
+/// An answer to a request agrees the size of a TPDU. The size stays until the connection ends or
+/// fails. A TSDU arrives only after a size was agreed.
 pub fn one_size()
     ensures after { (s : Stream) (octets : List ℕ)
         → size_agreed (after s octets) ≡ size_after (size_agreed s) (doings s octets) }
@@ -44,13 +44,13 @@ pub fn one_size()
         → doings s octets ≡ Delivers tsdu ∷ later → IsSome (size_agreed s) }
 {}
 
-/// Octets that complete nothing leave a stream that goes on.
-pub fn quiet_goes_on()
+/// A stream that still accepts octets accepts more after octets that complete nothing.
+pub fn incomplete_goes_on()
     ensures { (s : Stream) (octets : List ℕ) → IsGoing s.left → doings s octets ≡ []
         → IsGoing (after s octets).left }
 {}
 
-/// Octets spell parameters in at most one way, and only octets that spell them are read as
+/// Octets encode parameters in at most one way, and only octets that encode them are read as
 /// parameters (X.224 13.2.3).
 pub fn one_reading()
     ensures { (octets : List ℕ) (ps : List Parameter) → (parameters_of octets ≡ Some ps)

@@ -11,14 +11,15 @@ use crate::fault::TransportFault;
 use crate::frame::frame_header;
 use std::alloc::AllocError;
 
-// The codes of the parameters that are looked at.
+// The codes of the parameters that are read.
 const SIZE: u8 = 0xC0;
 
 const CALLING: u8 = 0xC1;
 
 const CALLED: u8 = 0xC2;
 
-// The values of the parameters that are looked at, of each code the last one's, where it came.
+// The values of the parameters that are read: of each code the value of the last parameter, if
+// there is one.
 #[derive(Clone, Copy)]
 struct ParameterValues<'a> {
     size: Option<&'a [u8]>,
@@ -26,7 +27,7 @@ struct ParameterValues<'a> {
     calling: Option<&'a [u8]>,
 }
 
-// What is found of a code once a parameter has been read.
+// Returns the value found so far for the code `wanted`, after a parameter with `code` and `value`.
 fn found_then<'a>(
     wanted: u8,
     code: u8,
@@ -39,7 +40,8 @@ fn found_then<'a>(
     if code == wanted { Some(value) } else { found }
 }
 
-// The values that the parameters in these octets have; BadCotp where the octets are no parameters.
+// Returns the values of the parameters in these octets. Fails with `BadCotp` if the octets are no
+// parameters.
 fn values_of(octets: &[u8]) -> Result<ParameterValues<'_>, TransportFault>
     ensures ok { IfOk result (λ values. HaveValues octets.now values) }
     ensures err { IfErr result
@@ -71,7 +73,8 @@ fn values_of(octets: &[u8]) -> Result<ParameterValues<'_>, TransportFault>
     Ok(values)
 }
 
-// The power of the size parameter, at most 13, and the size in octets.
+// Returns the power of the size parameter, at most 13, and the size in octets. Fails with `BadCotp`
+// if the value is no size.
 fn size_of(value: Option<&[u8]>) -> Result<(Option<u8>, usize), TransportFault>
     ensures ok { IfOk result (λ size. spec.size_of (option_copied value.entry) ≡ Some size) }
     ensures size { IfOk result (λ size. IsSize size.1) }
@@ -89,7 +92,7 @@ fn size_of(value: Option<&[u8]>) -> Result<(Option<u8>, usize), TransportFault>
     }
 }
 
-// How many octets the parameter takes, where it is there.
+// Returns how many octets the parameter takes; 0 if it is absent.
 fn length_of(value: Option<&[u8]>) -> usize
     ensures { result ≡ length (where_there 0 (option_copied value.entry)) }
 {
@@ -99,7 +102,7 @@ fn length_of(value: Option<&[u8]>) -> usize
     }
 }
 
-// Appends a parameter, where it is there.
+// Appends a parameter, if it is present.
 fn append(out: &mut Vec<u8>, code: u8, value: Option<&[u8]>) -> Result<(), AllocError>
     requires { IfSome value (λ octets. length octets.now < 256) }
     ensures { OnOk result (out.new.items
@@ -113,7 +116,7 @@ fn append(out: &mut Vec<u8>, code: u8, value: Option<&[u8]>) -> Result<(), Alloc
     Ok(())
 }
 
-// Appends the size parameter, where it is there.
+// Appends the size parameter, if there is one.
 fn append_size(out: &mut Vec<u8>, power: Option<u8>) -> Result<(), AllocError>
     ensures { OnOk result (out.new.items ≡ out.old.items ++ where_there 0xC0 (size_value power)) }
 {
@@ -123,7 +126,7 @@ fn append_size(out: &mut Vec<u8>, power: Option<u8>) -> Result<(), AllocError>
     Ok(())
 }
 
-// The frame of a confirmation up to its parameters, which take so many octets.
+// Writes the frame of a confirmation up to its parameters, which take `parameters` octets.
 fn begin(
     reply: &mut Vec<u8>,
     number: u16,
@@ -150,13 +153,13 @@ fn begin(
     Ok(())
 }
 
-// What a request asks for.
+// The contents of a request that the answer repeats.
 #[derive(Clone, Copy)]
 struct ConnectRequest<'a> {
-    // The reference of the one who asks, high octet and low octet.
+    // The reference of the calling side, high octet and low octet.
     high: u8,
     low: u8,
-    // The power that gives the size, where it came.
+    // The power of the agreed size, if the request had a size.
     power: Option<u8>,
     called: Option<&'a [u8]>,
     calling: Option<&'a [u8]>,
@@ -179,7 +182,7 @@ fn confirm(reply: &mut Vec<u8>, number: u16, request: ConnectRequest<'_>) -> Res
     Ok(())
 }
 
-// Writes the answer to a request with these parameters, and gives the size agreed in octets.
+// Writes the answer to a request with these parameters, and returns the agreed size in octets.
 fn respond(
     reply: &mut Vec<u8>,
     number: u16,
@@ -211,8 +214,11 @@ fn respond(
 }
 
 /// Writes the answer to a request on the association with this number, and returns the agreed size
-/// in octets. `body` is what follows the length indicator and the code of the request. `again` says
-/// that an earlier request came.
+/// in octets. `body` has the octets after the code of the request; `again` means that the
+/// connection already had a request.
+///
+/// Fails with `BadCotp` if the length indicator is wrong, the parameters or the size are malformed,
+/// or it is a second request; with `ClassRefused` if the class is not 0.
 pub(crate) fn answer(
     reply: &mut Vec<u8>,
     number: u16,

@@ -1,4 +1,4 @@
-// A connection as its user sees it.
+// A transport connection, for its user.
 ghost use Rattle.std.specs.Prelude.{◌≡◌, ◌+◌, ◌<◌, ◌≤◌, ◌++◌, [], ℕ, List, None, IfOk, IfErr, OnErr, IsSome, IfSome, length, take};
 ghost use Rattle.bay_transport.specs.Assembly.{IsSize, KeepsShown};
 ghost use Rattle.bay_transport.specs.Doings.{start, after};
@@ -12,10 +12,10 @@ use crate::wrap::{header, wrap};
 use std::alloc::{AllocError, Global};
 use std::marker::Model;
 
-/// Whether a transport takes more octets.
+/// Whether a transport accepts more octets.
 #[derive(Clone, Copy)]
 pub enum TransportState {
-    /// It takes more octets.
+    /// It accepts more octets.
     Open,
     /// The connection has ended.
     Closed,
@@ -23,8 +23,8 @@ pub enum TransportState {
     Refused,
 }
 
-/// One connection, on the association with this number. Contracts see it as what its octets leave,
-/// and the octets of what they completed last.
+/// One connection, of the association with a number. Contracts view it as the state of its stream,
+/// and the octets of the answer or TSDU that was completed last.
 #[derive(Drop)]
 pub struct Transport {
     state: TransportState,
@@ -42,8 +42,8 @@ impl Model for Transport {
 }
 
 impl Transport {
-    /// Creates a connection before its first octet. The number is sent as the reference of this
-    /// side (X.224 13.4).
+    /// Creates a connection before its first octet. The number is the number of the association,
+    /// sent as the reference of this side (X.224 13.4).
     pub fn new(alloc: Global, number: u16) -> Transport
         ensures { result ≡ record {
           stream = record { number = number; left = start };
@@ -56,28 +56,27 @@ impl Transport {
         }
     }
 
-    /// Takes the octets of the piece up to the end of the first TPDU that completes something, and
-    /// returns what that is: a request for a connection, a TSDU, or the end of the connection.
-    /// `shown` lends the answer to the request, or the TSDU. The caller feeds the remaining octets
-    /// again. Takes all octets if they complete nothing. After the end of the connection it takes
-    /// no octet and returns `Ended` again.
+    /// Consumes octets of the piece up to the end of the first TPDU that completes something, and
+    /// returns what it completes: an answer to a request for a connection, a TSDU, or the end of
+    /// the connection. `shown` returns the octets of the answer or the TSDU. The caller feeds the
+    /// remaining octets again. If the octets complete nothing, consumes all of them. After the end
+    /// of the connection it consumes no octet and returns `Ended` again.
     ///
-    /// A refusal is final: later pieces return `Failed`, also after an allocation failed. A piece
-    /// without octets does not allocate. Keeps at most 70,000 octets of an unfinished TSDU, an
-    /// unfinished frame (less than 65,535 octets), and 70,000 octets of what is shown. Keeps
-    /// nothing after an end or a refusal: the buffers are freed.
+    /// A fault is final: later calls fail with `Failed`, also after an allocation failed. A piece
+    /// without octets does not allocate. Buffers at most 70,000 octets of an unfinished TSDU, an
+    /// unfinished frame (less than 65,535 octets), and 70,000 octets of what `shown` returns. Frees
+    /// the buffers after an end or a fault.
     pub fn feed(&mut self, piece: &[u8]) -> Result<Fed, TransportFault>
         ensures within { IfOk result (λ fed. fed.used ≤ length piece.now) }
-        // What is answered is the first doing of the piece, and a refusal is the fault that the
-        // octets show.
+        // The result is the first doing of the piece; a fault is its only doing.
         ensures fed { IfOk result
             (λ fed. Feeds self.old.stream piece.now fed.used (doing_for fed.got self.new)) }
         ensures refused { IfErr result (λ fault. RefusesPiece self.old.stream piece.now fault) }
-        // What is left is what the octets that were taken leave, or a stream that failed.
+        // The new state is the one after the consumed octets; after a fault the stream is broken.
         ensures after { IfOk result
             (λ fed. self.new.stream ≡ after self.old.stream (take fed.used piece.now)) }
         ensures broken { OnErr result (self.new.stream ≡ broken self.old.stream) }
-        // Where nothing is completed, what was completed last is still shown.
+        // If nothing is completed, `shown` does not change.
         ensures shown { IfOk result (λ fed. KeepsShown fed.got self.old.shown self.new.shown) }
         ensures limits { IsWithinLimits self.new }
     {
@@ -106,15 +105,15 @@ impl Transport {
         }
     }
 
-    /// Returns the octets of what was completed last: the answer to a request for a connection,
-    /// which has to be sent, or a TSDU. Empty before the first, and after an end or a refusal.
+    /// Returns the octets that were completed last: the answer to a request for a connection, which
+    /// must be sent, or a TSDU. Empty before the first, and after an end or a fault.
     pub fn shown(&self) -> &[u8]
         ensures { result.now ≡ self.now.shown }
     {
         self.assembly.shown.as_slice()
     }
 
-    /// Ends the connection from this side: takes no more octets, and frees the buffers.
+    /// Ends the connection from this side: accepts no more octets, and frees the buffers.
     pub fn end(&mut self)
         ensures { self.new ≡ record { stream = end_of_stream self.old.stream; shown = [] } }
     {
@@ -122,8 +121,8 @@ impl Transport {
         self.assembly.release();
     }
 
-    /// Returns the agreed size of a TPDU in octets, if a request came and the connection has
-    /// neither ended nor failed.
+    /// Returns the agreed size of a TPDU in octets; `None` before a request for a connection, and
+    /// after the connection has ended or failed.
     pub fn agreed_size(&self) -> Option<usize>
         ensures agreed { result ≡ size_agreed self.now.stream }
         ensures sized { IfSome result IsSize }
@@ -134,8 +133,8 @@ impl Transport {
         }
     }
 
-    /// Returns the header of a TSDU of `count` octets if one data TPDU of the agreed size holds it;
-    /// `None` if it takes several. The header followed by the TSDU is what `wrap` returns.
+    /// Returns the header of a TSDU of `count` octets if one data TPDU of the agreed size holds the
+    /// TSDU; `None` if several are needed. The header followed by the TSDU is what `wrap` returns.
     pub fn header(&self, count: usize) -> Option<[u8; 7]>
         requires { IsSome (size_agreed self.now.stream) }
         ensures exact { IfSome result (λ header. (tsdu : List ℕ) → length tsdu ≡ count
@@ -149,10 +148,10 @@ impl Transport {
         }
     }
 
-    /// Returns the data TPDUs that send a TSDU, each in its frame and of at most the agreed size.
-    /// An empty TSDU takes one of them (X.224 13.7). The TSDU is `front` followed by `rest`. So
-    /// what another layer writes before the octets of its user need not be joined with them: each
-    /// octet is copied once.
+    /// Returns the data TPDUs of a TSDU, each in its frame and of at most the agreed size. An empty
+    /// TSDU takes one of them (X.224 13.7). The TSDU is `front` followed by `rest`, so that a layer
+    /// above need not join its header with the octets of its user: each octet is copied once. Fails
+    /// only if the allocation fails.
     ///
     /// `front` has at most 125 octets, which fit in the smallest data TPDU.
     pub fn wrap(&self, front: &[u8], rest: &[u8]) -> Result<Vec<u8>, AllocError>
@@ -161,7 +160,7 @@ impl Transport {
         ensures exact { IfOk result
             (λ octets. IfSome (size_agreed self.now.stream)
             (λ size. octets.items ≡ tpdus_of size (front.now ++ rest.now))) }
-        // So it is received as this TSDU, which is not too long.
+        // The other side receives this TSDU, if it is not too long.
         ensures carries { length front.now + length rest.now ≤ 70_000 → IfOk result
             (λ octets. IfSome (size_agreed self.now.stream)
             (λ size. Carries size (front.now ++ rest.now) octets.items)) }

@@ -1,4 +1,4 @@
-// TSDUs to be sent: data TPDUs in their frames (X.224 13.7).
+// Wraps TSDUs to send into data TPDUs in frames (X.224 13.7).
 ghost use Rattle.std.specs.Prelude.{◌≡◌, ◌+◌, ◌<◌, ◌≤◌, ◌++◌, ℕ, List, None, length, IfOk, IfSome, OnOk};
 ghost use Rattle.bay_transport.specs.Wrap.{data_frame, tpdus_of, Carries};
 ghost use Rattle.bay_transport.specs.Assembly.{IsSize};
@@ -6,10 +6,10 @@ ghost use Rattle.bay_transport.specs.Assembly.{IsSize};
 use crate::frame::frame_header;
 use std::alloc::{AllocError, Global};
 
-// How many octets stand before the data of a TPDU in its frame.
+// The number of octets before the data of a TPDU in its frame.
 const BEFORE_DATA: usize = 7;
 
-// Appends one data TPDU in its frame, whose data are the front and then the rest.
+// Appends one data TPDU in its frame; its data are `front` followed by `rest`.
 fn append(out: &mut Vec<u8>, is_last: bool, front: &[u8], rest: &[u8]) -> Result<(), AllocError>
     requires { length front.now + length rest.now ≤ 65_528 }
     ensures { OnOk result (out.new.items
@@ -23,7 +23,7 @@ fn append(out: &mut Vec<u8>, is_last: bool, front: &[u8], rest: &[u8]) -> Result
     Ok(())
 }
 
-// Appends the data TPDUs of octets, each of at most this size.
+// Appends the data TPDUs of some octets, each of at most this size.
 fn append_all(out: &mut Vec<u8>, size: usize, octets: &[u8]) -> Result<(), AllocError>
     requires { IsSize size }
     ensures { OnOk result (out.new.items ≡ out.old.items ++ tpdus_of size octets.now) }
@@ -38,7 +38,8 @@ fn append_all(out: &mut Vec<u8>, size: usize, octets: &[u8]) -> Result<(), Alloc
     Ok(())
 }
 
-// How many octets the frames of so many octets of data take, where a TPDU has room for so many.
+// Returns the length of the frames of `count` octets of data, if a TPDU has room for `room` of
+// them.
 fn frames_length(room: usize, count: usize) -> usize
     requires { 0 < room }
 {
@@ -46,8 +47,8 @@ fn frames_length(room: usize, count: usize) -> usize
     count.saturating_add((full + 1).saturating_mul(BEFORE_DATA))
 }
 
-/// Returns the header of a TSDU of `count` octets in a single frame; `None` if it takes several
-/// data TPDUs of at most this size.
+/// Returns the header of a TSDU of `count` octets in a single frame; `None` if the TSDU needs
+/// several data TPDUs of at most this size.
 pub(crate) fn header(size: usize, count: usize) -> Option<[u8; BEFORE_DATA]>
     requires { IsSize size }
     ensures exact { IfSome result (λ header. (tsdu : List ℕ) → length tsdu ≡ count
@@ -62,7 +63,7 @@ pub(crate) fn header(size: usize, count: usize) -> Option<[u8; BEFORE_DATA]>
 }
 
 /// Returns the data TPDUs of a TSDU, each of at most `size` octets. The TSDU is `front` followed by
-/// `rest`.
+/// `rest`. Fails only if the allocation fails.
 pub(crate) fn wrap(
     alloc: Global,
     size: usize,

@@ -9,7 +9,7 @@ use Rattle.std.specs.Str.{bytes_eq}
 use Rattle.bay_tree.specs.declared.row.Row.{Row}
 use Rattle.bay_tree.specs.declared.leaf.Leaf.{Leaf}
 use Rattle.bay_tree.specs.declared.index.Index.{Index}
-use Rattle.bay_tree.specs.declared.link.Link.{Link}
+use Rattle.bay_tree.specs.declared.link.RowLink.{RowLink}
 use Rattle.bay_tree.specs.Arena.{IsArena, bucket_of, is_in_bucket, link_at}
 use Rattle.bay_tree.specs.Names.{IsWordAt, parent_of, is_below}
 use Rattle.bay_tree.specs.declared.page.Names.{Names}
@@ -75,7 +75,7 @@ place_of-same a b name same =
     ∙ sym (position_from-zero (λ (row : Row). bytes_eq row.name name) b)
 
 -- what was written through a slice of a whole vector
-pub written : (old new : List Link) (n : ℕ) → length new ≡ length old → n ≡ length old
+pub written : (old new : List RowLink) (n : ℕ) → length new ≡ length old → n ≡ length old
     → take n (new ++ drop (length new) old) ≡ new
 written old new n same all =
     ap (λ rest. take n (new ++ rest)) (drop_all (length new) old (omega arith))
@@ -87,10 +87,11 @@ pub with_leaf-set : (rows : List Row) (place : ℕ) (row : Row) (leaf : Leaf)
     → set rows place row ≡ with_leaf rows place leaf
 with_leaf-set rows place row leaf name value =
     ap (λ (n : List ℕ). set rows place (record { name = n; leaf = row.leaf })) name
-    ∙ ap (λ (l : Option Leaf). set rows place (record { name = name_at rows place; leaf = l })) value
+    ∙ ap (λ (l : Option Leaf). set rows place (record { name = name_at rows place; leaf = l }))
+    value
 
 -- a new value leaves the index and the links good
-pub IsArena-set : (rows : List Row) (index : Index) (links : List Link) (place : ℕ) (row : Row)
+pub IsArena-set : (rows : List Row) (index : Index) (links : List RowLink) (place : ℕ) (row : Row)
     → place < length rows → leaf_at rows place ≢ None → row.name ≡ name_at rows place
     → IsArena rows index links → IsArena (set rows place row) index links
 IsArena-set rows index links place row within leaf name arena =

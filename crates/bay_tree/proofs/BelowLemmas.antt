@@ -25,7 +25,8 @@ is_parent-not : (parent : List ℕ) (own : Option (List ℕ)) → (own ≡ Some 
     → is_parent parent own ≡ false
 is_parent-not parent None h = refl
 is_parent-not parent (Some own) h =
-    false_from_ne_true (bytes_eq own parent) (λ same. h (ap Some ((bytes_eq-Decides own parent).0 same)))
+    false_from_ne_true (bytes_eq own parent)
+    (λ same. h (ap Some ((bytes_eq-Decides own parent).0 same)))
 
 -- a row's parent stands before it
 parent-before : (rows : List Row) (place k : ℕ) → IsTree rows → place < length rows → k ≤ place

@@ -39,28 +39,29 @@ since test rows (Some place) = position_from test place (drop place rows)
 
 -- A row that passes one test passes another: so the search by the one may begin where the search by
 -- the other ends.
-module _ (t u : Row → Bool) (more : (row : Row) → t row ≡ true → u row ≡ true) (rows : List Row) where
-  since-row : (row : Row) (here : List Row) (start : ℕ) (b : Bool) → u row ≡ b
-      → drop start rows ≡ row ∷ here
-      → position_from t (start + 1) here ≡ since t rows (position_from u (start + 1) here)
-      → position_from t start (row ∷ here)
-      ≡ since t rows (cond b (Some start) (position_from u (start + 1) here))
-  since-row row here start true is at later = ap (position_from t start) (sym at)
-  since-row row here start false is at later =
-      ap (λ b. cond b (Some start) (position_from t (start + 1) here))
-      (false_from_ne_true (t row) (λ yes. let passes = more row yes in cc)) ∙ later
+module _ (t u : Row → Bool) (more : (row : Row) → t row ≡ true → u row ≡ true) (rows : List Row)
+  where
+    since-row : (row : Row) (here : List Row) (start : ℕ) (b : Bool) → u row ≡ b
+        → drop start rows ≡ row ∷ here
+        → position_from t (start + 1) here ≡ since t rows (position_from u (start + 1) here)
+        → position_from t start (row ∷ here)
+        ≡ since t rows (cond b (Some start) (position_from u (start + 1) here))
+    since-row row here start true is at later = ap (position_from t start) (sym at)
+    since-row row here start false is at later =
+        ap (λ b. cond b (Some start) (position_from t (start + 1) here))
+        (false_from_ne_true (t row) (λ yes. let passes = more row yes in cc)) ∙ later
 
-  since-here : (here : List Row) (start : ℕ) → drop start rows ≡ here
-      → position_from t start here ≡ since t rows (position_from u start here)
-  since-here [] start at = refl
-  since-here (row ∷ here) start at =
-      since-row row here start (u row) refl at
-      (since-here here (start + 1) (rest-of rows here row start at))
+    since-here : (here : List Row) (start : ℕ) → drop start rows ≡ here
+        → position_from t start here ≡ since t rows (position_from u start here)
+    since-here [] start at = refl
+    since-here (row ∷ here) start at =
+        since-row row here start (u row) refl at
+        (since-here here (start + 1) (rest-of rows here row start at))
 
-  pub since-of : (start : ℕ)
-      → position_from t start (drop start rows)
-      ≡ since t rows (position_from u start (drop start rows))
-  since-of start = since-here (drop start rows) start refl
+    pub since-of : (start : ℕ)
+        → position_from t start (drop start rows)
+        ≡ since t rows (position_from u start (drop start rows))
+    since-of start = since-here (drop start rows) start refl
 
 passes-row : (test : Row → Bool) (rows here : List Row) (row : Row) (start q : ℕ) (b : Bool)
     → test row ≡ b → drop start rows ≡ row ∷ here

@@ -6,7 +6,7 @@ use Rattle.std.proofs.lemmas.Bool.{cases_eq, cases_lt}
 use Rattle.std.proofs.lemmas.Bool.Decides.{Decides-eqb, eqb_tells}
 use Rattle.std.specs.Str.{bytes_eq}
 use Rattle.bay_tree.specs.declared.row.Row.{Row}
-use Rattle.bay_tree.specs.declared.link.Link.{Link}
+use Rattle.bay_tree.specs.declared.link.RowLink.{RowLink}
 use Rattle.bay_tree.specs.Arena.{IsLinked, link_at}
 use Rattle.bay_tree.specs.Names.{IsWordAt, parent_of, is_parent, is_below}
 use Rattle.bay_tree.specs.Rows.{IsTree, IsStructureNamed, row_at, name_at, place_of, first_below_from, next_below, next_beside}
@@ -15,7 +15,7 @@ use Rattle.bay_tree.proofs.NamedLemmas.{same-text, other-text}
 use Rattle.bay_tree.proofs.SearchLemmas.{place_of-found, place_of-none}
 
 -- the links, as far as the rows from a place on tell
-pub record IsLinkedFrom (start : ℕ) (rows : List Row) (links : List Link) : Type 0 where
+pub record IsLinkedFrom (start : ℕ) (rows : List Row) (links : List RowLink) : Type 0 where
   pub long : length links ≡ length rows
   pub word : (k : ℕ) → start ≤ k → k < length rows
       → IsWordAt (name_at rows k) (link_at links k).word
@@ -26,7 +26,7 @@ pub record IsLinkedFrom (start : ℕ) (rows : List Row) (links : List Link) : Ty
   pub bare : (k : ℕ) → k < start → k < length rows → (link_at links k).beside ≡ None
 
 -- where nothing is linked yet
-abbrev pub unlinked : Link
+abbrev pub unlinked : RowLink
 unlinked = record { word = 0; below = None; beside = None }
 
 -- behind the last row nothing is below anything
@@ -38,15 +38,15 @@ linked-none rows =
     record {
       long = length-replicate (length rows) unlinked;
       word = λ k le lt. absurd (omega arith);
-      below = λ k lt. ap (λ (l : Link). l.below) (own k lt)
+      below = λ k lt. ap (λ (l : RowLink). l.below) (own k lt)
           ∙ sym (ap (λ rest. first_below_from (length rows) rest (name_at rows k))
           (drop_all (length rows) rows (omega arith)));
       beside = λ k le lt. absurd (omega arith);
-      bare = λ k before lt. ap (λ (l : Link). l.beside) (own k lt);
+      bare = λ k before lt. ap (λ (l : RowLink). l.beside) (own k lt);
     }
 
 -- the links as far as all rows tell
-pub linked-all : (rows : List Row) (links : List Link) → IsLinkedFrom 0 rows links
+pub linked-all : (rows : List Row) (links : List RowLink) → IsLinkedFrom 0 rows links
     → IsLinked rows links
 linked-all rows links linked = record {
   long = linked.long;
@@ -97,7 +97,7 @@ below-some rows i name parent lt some =
     ∙ ap (λ own. cond (is_parent name own) (Some i)
     (first_below_from (i + 1) (drop (i + 1) rows) name)) some
 
-beside-here : (rows : List Row) (i : ℕ) (links : List Link) (k : ℕ) → i ≤ k → k < length rows
+beside-here : (rows : List Row) (i : ℕ) (links : List RowLink) (k : ℕ) → i ≤ k → k < length rows
     → (i < length rows → (link_at links i).beside ≡ next_beside rows i)
     → ((j : ℕ) → i + 1 ≤ j → j < length rows → (link_at links j).beside ≡ next_beside rows j)
     → (link_at links k).beside ≡ next_beside rows k
@@ -138,11 +138,11 @@ not-earlier i k lt =
     (λ (is : (i == k ≡ false) × (i ≢ k)). is.0) (eqb_tells i k)
 
 -- the links before the one at a place is written, whose word alone is known
-pub record IsWorded (i : ℕ) (rows : List Row) (links : List Link) : Type 0 where
+pub record IsWorded (i : ℕ) (rows : List Row) (links : List RowLink) : Type 0 where
   pub word : IsWordAt (name_at rows i) (link_at links i).word
   pub linked : IsLinkedFrom (i + 1) rows links
 
-either-word : (i : ℕ) (rows : List Row) (links : List Link) → IsWorded i rows links → (k : ℕ)
+either-word : (i : ℕ) (rows : List Row) (links : List RowLink) → IsWorded i rows links → (k : ℕ)
     → i ≤ k → k < length rows → IsWordAt (name_at rows k) (link_at links k).word
 either-word i rows links worded k le lt =
     ⊎_elim (λ (is : (i == k ≡ true) × (i ≡ k)). subst
@@ -151,7 +151,8 @@ either-word i rows links worded k le lt =
     (eqb_tells i k)
 
 -- a word is written where a row stands
-pub linked-word : (rows : List Row) (links : List Link) (i : ℕ) (link : Link) → i < length rows
+pub linked-word : (rows : List Row) (links : List RowLink) (i : ℕ) (link : RowLink)
+    → i < length rows
     → link.below ≡ (link_at links i).below → link.beside ≡ (link_at links i).beside
     → IsWordAt (name_at rows i) link.word → IsLinkedFrom (i + 1) rows links
     → IsWorded i rows (set links i link)
@@ -162,16 +163,16 @@ linked-word rows links i link lt below beside word linked =
     let other : (k : ℕ) → k ≢ i → link_at (set links i link) k ≡ link_at links k =
     λ k apart. get_or-set_other links i k link unlinked apart in
     let below_same : (k : ℕ) → (link_at (set links i link) k).below ≡ (link_at links k).below =
-    λ k. ⊎_elim (λ (here : k ≡ i). rw here (ap (λ (l : Link). l.below) own ∙ below))
-    (λ (apart : k ≢ i). ap (λ (l : Link). l.below) (other k apart)) (cases_eq k i) in
+    λ k. ⊎_elim (λ (here : k ≡ i). rw here (ap (λ (l : RowLink). l.below) own ∙ below))
+    (λ (apart : k ≢ i). ap (λ (l : RowLink). l.below) (other k apart)) (cases_eq k i) in
     let beside_same : (k : ℕ) → (link_at (set links i link) k).beside ≡ (link_at links k).beside =
-    λ k. ⊎_elim (λ (here : k ≡ i). rw here (ap (λ (l : Link). l.beside) own ∙ beside))
-    (λ (apart : k ≢ i). ap (λ (l : Link). l.beside) (other k apart)) (cases_eq k i) in
+    λ k. ⊎_elim (λ (here : k ≡ i). rw here (ap (λ (l : RowLink). l.beside) own ∙ beside))
+    (λ (apart : k ≢ i). ap (λ (l : RowLink). l.beside) (other k apart)) (cases_eq k i) in
     record {
-      word = subst (λ (l : Link). IsWordAt (name_at rows i) l.word) (sym own) word;
+      word = subst (λ (l : RowLink). IsWordAt (name_at rows i) l.word) (sym own) word;
       linked = record {
         long = length-set links i link ∙ linked.long;
-        word = λ k le in_k. subst (λ (l : Link). IsWordAt (name_at rows k) l.word)
+        word = λ k le in_k. subst (λ (l : RowLink). IsWordAt (name_at rows k) l.word)
             (sym (other k (λ here. absurd (omega (arith, here))))) (linked.word k le in_k);
         below = λ k in_k. below_same k ∙ linked.below k in_k;
         beside = λ k le in_k. beside_same k ∙ linked.beside k le in_k;
@@ -180,7 +181,7 @@ linked-word rows links i link lt below beside word linked =
     }
 
 -- a row of one word leaves the links as they are
-pub linked-skip : (rows : List Row) (links : List Link) (i : ℕ) → IsTree rows → i < length rows
+pub linked-skip : (rows : List Row) (links : List RowLink) (i : ℕ) → IsTree rows → i < length rows
     → option_and_then (place_of rows) (parent_of (name_at rows i)) ≡ None
     → IsWorded i rows links → IsLinkedFrom i rows links
 linked-skip rows links i tree lt h worded =
@@ -199,7 +200,8 @@ linked-skip rows links i tree lt h worded =
     }
 
 -- a row is put before those below its parent
-pub linked-put : (rows : List Row) (links new : List Link) (i a : ℕ) → IsTree rows → i < length rows
+pub linked-put : (rows : List Row) (links new : List RowLink) (i a : ℕ) → IsTree rows
+    → i < length rows
     → length new ≡ length rows
     → option_and_then (place_of rows) (parent_of (name_at rows i)) ≡ Some a
     → ((k : ℕ) → k < length links → (link_at new k).word ≡ (link_at links k).word)

@@ -5,12 +5,12 @@ use Rattle.bay_tree.specs.declared.fault.TreeFault.TheVariants.{NoSuchName, Wron
 use Rattle.bay_tree.specs.declared.fault.NamesFault.{NamesFault}
 use Rattle.bay_tree.specs.declared.fault.NamesFault.TheVariants as names
 
--- the number of a refusal, by which the program and its documents tell it
+-- the number of a fault of a look-up or a write, as documents and tools cite it
 abbrev pub code_of : TreeFault → ℕ
 code_of NoSuchName = 40
 code_of WrongType = 41
 
--- the number of a refusal of names; want of memory has none
+-- the number of a fault of names; out of memory has none
 abbrev pub names_code_of : NamesFault → Option ℕ
 names_code_of names.NoSuchName = Some 40
 names_code_of names.OutOfMemory = None

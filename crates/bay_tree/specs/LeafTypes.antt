@@ -4,7 +4,7 @@ use Rattle.bay_tree.specs.declared.leaf.Leaf.TheVariants as leaf
 use Rattle.bay_tree.specs.declared.leaf.LeafType.{LeafType}
 use Rattle.bay_tree.specs.declared.leaf.LeafType.TheVariants as leaf_type
 
--- each value has the type of its own name
+-- the type of a value, which has the same name
 abbrev pub leaf_type_of : Leaf → LeafType
 leaf_type_of (leaf.Truth b) = leaf_type.Truth
 leaf_type_of (leaf.Dbpos p) = leaf_type.Dbpos

@@ -1,4 +1,4 @@
--- The names that follow a name, as a client reads them page by page (ISO 9506-1, GetNameList).
+-- The names after a name, as a client reads them page by page (ISO 9506-1, GetNameList).
 use Rattle.std.specs.Prelude.{◌≢◌, ℕ, ◌+◌, Option, Some, None, option_map, List, length, take, nat_lt, All}
 use Rattle.std.specs.List.{after_first}
 use Rattle.std.specs.Str.{bytes_eq}
@@ -6,12 +6,12 @@ use Rattle.bay_tree.specs.declared.row.Row.{Row}
 use Rattle.bay_tree.specs.declared.page.Names.{Names}
 use Rattle.bay_tree.specs.Rows.{names_of, place_of}
 
--- the rows that follow the row of a name; without a name all rows
+-- the rows after the row with a name; without a name, all rows
 abbrev pub rows_after : List Row → Option (List ℕ) → List Row
 rows_after rows None = rows
 rows_after rows (Some name) = after_first (λ row. bytes_eq row.name name) rows
 
--- the first names that follow, and whether there are more
+-- the first `count` names after a name, and whether there are more
 abbrev pub page_after : List Row → Option (List ℕ) → ℕ → Names
 page_after rows name count =
     record {
@@ -19,7 +19,7 @@ page_after rows name count =
       more = nat_lt count (length (rows_after rows name));
     }
 
--- a name is given, and no row has it
+-- a name that no row has
 abbrev pub IsUnknown : List Row → Option (List ℕ) → Type 0
 IsUnknown rows None = ⊥
 IsUnknown rows (Some name) = All (λ row. row.name ≢ name) rows

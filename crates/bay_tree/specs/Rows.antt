@@ -1,5 +1,5 @@
--- The rows of a tree: named values in one list, each structure before what stands in it (IEC
--- 61850-8-1, the mapping of names to MMS named variables, whose words are parted by `$`).
+-- The rows of a tree: named values in one list, each structure before its parts (IEC 61850-8-1, the
+-- mapping of names to MMS named variables, whose words are separated by `$`).
 use Rattle.std.specs.Prelude.{◌≡◌, ◌≢◌, ℕ, ◌+◌, ◌<◌, Option, Some, None, option_map, option_and_then, IfSome, IsSomeAnd, List, [], ◌∷◌, length, map, filter, find, drop, slice_index_or, slice_set, position, if◌then◌else◌}
 use Rattle.std.specs.List.{position_from}
 use Rattle.std.specs.Str.{bytes_eq}
@@ -9,19 +9,19 @@ use Rattle.bay_tree.specs.declared.leaf.LeafType.{LeafType}
 use Rattle.bay_tree.specs.LeafTypes.{leaf_type_of}
 use Rattle.bay_tree.specs.Names.{parent_of, is_below}
 
--- the row at a place; past the last place a structure without a name
+-- the row at an index; past the last row, a structure without a name
 abbrev pub row_at : List Row → ℕ → Row
 row_at rows place = slice_index_or rows place (record { name = []; leaf = None })
 
--- the name of the row at a place; empty where there is no row
+-- the name of the row at an index; empty if there is no row
 abbrev pub name_at : List Row → ℕ → List ℕ
 name_at rows place = (row_at rows place).name
 
--- the value of the row at a place; a structure has none
+-- the value of the row at an index; a structure has none
 abbrev pub leaf_at : List Row → ℕ → Option Leaf
 leaf_at rows place = (row_at rows place).leaf
 
--- the row at a place is a structure of that name
+-- a row is a structure with this name
 pub record IsStructureNamed (name : List ℕ) (row : Row) : Type 0 where
   pub named : row.name ≡ name
   pub structure : row.leaf ≡ None
@@ -33,11 +33,11 @@ pub record IsTree (rows : List Row) : Type 0 where
       → IfSome (parent_of (name_at rows k))
       (λ parent. (j : ℕ) × (j < k) × IsStructureNamed parent (row_at rows j))
 
--- a handle is a row's place
+-- a handle is the index of a row
 abbrev pub IsHandle : List Row → ℕ → Type 0
 IsHandle rows handle = handle < length rows
 
--- where the row of a name stands
+-- the index of the first row with a name
 abbrev pub place_of : List Row → List ℕ → Option ℕ
 place_of rows name = position (λ row. bytes_eq row.name name) rows
 
@@ -56,16 +56,16 @@ IsBelowStructure rows place =
 abbrev pub leaf_type_at : List Row → ℕ → Option LeafType
 leaf_type_at rows place = option_map leaf_type_of (leaf_at rows place)
 
--- the rows with another value at a place
+-- the rows with the value of one row replaced
 abbrev pub with_leaf : List Row → ℕ → Leaf → List Row
 with_leaf rows place leaf =
     slice_set rows place (record { name = name_at rows place; leaf = Some leaf })
 
--- the value of the row of a name
+-- the value of the first row with a name
 abbrev pub leaf_of : List ℕ → List Row → Option Leaf
 leaf_of name rows = option_and_then (λ row. row.leaf) (find (λ row. bytes_eq row.name name) rows)
 
--- the rows with another value at a name
+-- the rows with the value of the rows with this name replaced
 abbrev pub with_leaf_of : List ℕ → Leaf → List Row → List Row
 with_leaf_of name value rows =
     map (λ row. if bytes_eq row.name name then record { name = row.name; leaf = Some value }
@@ -75,7 +75,7 @@ with_leaf_of name value rows =
 abbrev pub names_of : List Row → List (List ℕ)
 names_of rows = map (λ row. row.name) rows
 
--- the types of their values, in order
+-- the types of the values of the rows, in order
 abbrev pub leaf_types_of : List Row → List (Option LeafType)
 leaf_types_of rows = map (λ row. option_map leaf_type_of row.leaf) rows
 
@@ -83,39 +83,39 @@ leaf_types_of rows = map (λ row. option_map leaf_type_of row.leaf) rows
 abbrev pub rows_below : List Row → List ℕ → List Row
 rows_below rows parent = filter (λ row. is_below parent row.name) rows
 
--- the place of the first row below a structure, where the list begins at that place
+-- the index of the first row below a structure, if the indices of the list begin at `start`
 abbrev pub first_below_from : ℕ → List Row → List ℕ → Option ℕ
 first_below_from start rows parent = position_from (λ row. is_below parent row.name) start rows
 
--- the first row below the row at a place
+-- the index of the first row below the row at an index
 abbrev pub first_below : List Row → ℕ → Option ℕ
 first_below rows place = first_below_from 0 rows (name_at rows place)
 
--- the next row, after a place, below a parent
+-- the index of the next row below a parent, after an index
 abbrev pub next_below : List Row → ℕ → Option (List ℕ) → Option ℕ
 next_below rows place None = None
 next_below rows place (Some parent) = first_below_from (place + 1) (drop (place + 1) rows) parent
 
--- the next row below the parent of the row at a place
+-- the index of the next row below the parent of the row at an index
 abbrev pub next_beside : List Row → ℕ → Option ℕ
 next_beside rows place = next_below rows place (parent_of (name_at rows place))
 
--- the places of the rows below a structure, where the list begins at that place
+-- the indices of the rows below a structure, if the indices of the list begin at `start`
 abbrev pub places_below_from : ℕ → List Row → List ℕ → List ℕ
 places_below_from start [] parent = []
 places_below_from start (row ∷ rows) parent =
     if is_below parent row.name then start ∷ places_below_from (start + 1) rows parent
     else places_below_from (start + 1) rows parent
 
--- the places of the rows below a structure, in order
+-- the indices of the rows below a structure, in order
 abbrev pub places_below : List Row → List ℕ → List ℕ
 places_below rows parent = places_below_from 0 rows parent
 
--- those behind a place
+-- the indices of the rows below a structure that come after an index
 abbrev pub places_behind : List Row → List ℕ → ℕ → List ℕ
 places_behind rows parent place = places_below_from (place + 1) (drop (place + 1) rows) parent
 
--- a place and those behind it
+-- an index, and those of the later rows below a structure
 abbrev pub places_since : List Row → List ℕ → Option ℕ → List ℕ
 places_since rows parent None = []
 places_since rows parent (Some place) = place ∷ places_behind rows parent place

@@ -32,7 +32,7 @@ impl TreeFault {
 /// Why a page of names is refused.
 #[derive(Clone, Copy, Debug, PartialEq, Eq, Error)]
 pub enum NamesFault {
-    /// No row has the name that the page is to follow.
+    /// No row has the name after which the page begins.
     #[error("no row has this name")]
     NoSuchName,
     /// Out of memory for the copies of the names.

@@ -7,17 +7,17 @@ ghost use Rattle.bay_tree.specs.Rows.{place_of};
 use crate::row::Row;
 use std::alloc::{AllocError, Global};
 
-/// The places of the rows by their names. It has no names of its own: those of the rows are
-/// compared.
+/// The index of the rows by their names. It stores no names of its own: a look-up compares those of
+/// the rows.
 #[derive(Debug, Drop)]
 pub struct Index {
-    /// The first row of each bucket.
+    /// The index of the first row of each bucket.
     first: Vec<Option<usize>>,
-    /// For each row the next one of its bucket.
+    /// For each row, the index of the next row in the same bucket.
     next: Vec<Option<usize>>,
 }
 
-// Returns the bucket of a name, out of so many.
+// Returns the bucket of a name, one of `count` buckets.
 fn bucket_of(count: usize, name: &[u8]) -> usize
     requires { 0 < count }
     ensures value { result ≡ spec.bucket_of count name.now }
@@ -32,7 +32,7 @@ fn bucket_of(count: usize, name: &[u8]) -> usize
     hash as usize % count
 }
 
-/// Builds the index of these rows.
+/// Builds the index of these rows. Fails only if an allocation fails.
 pub fn index_of(alloc: Global, rows: &[Row]) -> Result<Index, AllocError>
     ensures { IfOk result (IsIndex rows.now) }
 {
@@ -47,7 +47,7 @@ pub fn index_of(alloc: Global, rows: &[Row]) -> Result<Index, AllocError>
 }
 
 impl Index {
-    /// Returns the place of the first of the rows with this name, given as octets.
+    /// Returns the index of the first row with this name, given as octets; `None` if no row has it.
     pub fn find(&self, rows: &[Row], name: &[u8]) -> Option<usize>
         requires { IsIndex rows.now self.now }
         ensures { result ≡ place_of rows.now name.now }

@@ -1,11 +1,11 @@
-// Laws of the rows. Each function does nothing, and its contract is the law.
+// Laws of the rows. Each function does nothing; its contract is the law.
 ghost use Rattle.std.specs.Prelude.{◌≡◌, ◌≢◌, ◌↔◌, ℕ, Some, List, All};
 ghost use Rattle.bay_tree.specs.declared.leaf.Leaf.{Leaf};
 ghost use Rattle.bay_tree.specs.declared.row.Row.{Row};
 ghost use Rattle.bay_tree.specs.Rows.{IsTree, IsHandle, leaf_at, leaves_at, name_at, names_of, place_of, with_leaf};
 
-/// Writing a value to a row gives that row the value and leaves all other rows as they were. So the
-/// rows of any handles without the written one keep their values. No name changes.
+/// Writing a value to a row gives that row the value and leaves all other rows as they were. So all
+/// other rows keep their values. No name changes.
 pub fn a_write_is_to_one_row()
     ensures own { (rows : List Row) (row : ℕ) (leaf : Leaf) → IsHandle rows row
         → leaf_at (with_leaf rows row leaf) row ≡ Some leaf }

@@ -1,26 +1,26 @@
-// The links of the rows.
+// The links between rows: from a row to its first child and to its next sibling.
 ghost use Rattle.std.specs.Prelude.{◌≡◌, ◌<◌, IfOk, length, option_and_then, if◌then◌else◌, ◌==◌, Some, ℕ};
 ghost use Rattle.std.specs.Option.{option_copied};
 ghost use Rattle.bay_tree.specs.Arena.{IsIndex, IsLinked, link_at};
 ghost use Rattle.bay_tree.specs.Rows.{IsTree, place_of};
 
 use crate::index::Index;
-use crate::name::part_name;
+use crate::name::split_name;
 use crate::row::Row;
 use std::alloc::{AllocError, Global};
 
-/// Where the last word of a row's name begins, and the rows that a client can go to from the row.
+/// The links of a row. `word` is the offset, in octets, of the last word of its name.
 #[derive(Clone, Copy, Debug)]
-pub struct Link {
+pub struct RowLink {
     pub word: usize,
-    /// The first row below it.
+    /// The index of the first row below this one.
     pub below: Option<usize>,
-    /// The next row with the same parent.
+    /// The index of the next row with the same parent.
     pub beside: Option<usize>,
 }
 
-// Returns the place of the row with a name, if one is given. It is often `last`, since rows with
-// the same parent stand together.
+// Returns the index of the first row with a name, if one is given. Tries `last` first, since rows
+// with the same parent are close together.
 fn place_near(rows: &[Row], index: &Index, name: Option<&str>, last: usize) -> Option<usize>
     requires tree { IsTree rows.now }
     requires indexed { IsIndex rows.now index.now }
@@ -34,8 +34,8 @@ fn place_near(rows: &[Row], index: &Index, name: Option<&str>, last: usize) -> O
     index.find(rows, name.as_bytes())
 }
 
-// Links a row as the first below its parent.
-fn put_below(links: &mut [Link], place: usize, above: usize)
+// Makes the row at `place` the first one below the row at `above`.
+fn put_below(links: &mut [RowLink], place: usize, above: usize)
     requires place { place < length links.old }
     requires above { above < length links.old }
     ensures long { length links.new ≡ length links.old }
@@ -52,13 +52,14 @@ fn put_below(links: &mut [Link], place: usize, above: usize)
     links[above].below = Some(place);
 }
 
-/// Returns the links of the rows of a tree, made from the last to the first.
-pub fn links_of(alloc: Global, rows: &[Row], index: &Index) -> Result<Vec<Link>, AllocError>
+/// Returns the links of the rows of a tree. Goes from the last row to the first. Fails only if an
+/// allocation fails.
+pub fn links_of(alloc: Global, rows: &[Row], index: &Index) -> Result<Vec<RowLink>, AllocError>
     requires tree { IsTree rows.now }
     requires indexed { IsIndex rows.now index.now }
     ensures { IfOk result (λ links. IsLinked rows.now links.items) }
 {
-    let unlinked = Link {
+    let unlinked = RowLink {
         word: 0,
         below: None,
         beside: None,
@@ -66,7 +67,7 @@ pub fn links_of(alloc: Global, rows: &[Row], index: &Index) -> Result<Vec<Link>,
     let mut links = vec![in alloc; unlinked; rows.len()]?;
     let mut last = 0;
     for place in (0..rows.len()).rev() {
-        let parts = part_name(rows[place].name.as_str());
+        let parts = split_name(rows[place].name.as_str());
         links[place].word = parts.word;
         if let Some(above) = place_near(rows, index, parts.parent, last) {
             put_below(&mut links, place, above);

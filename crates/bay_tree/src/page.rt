@@ -7,7 +7,7 @@ use bay_base::listing::Listing;
 use bay_base::text::Text;
 use std::alloc::{AllocError, Global};
 
-/// The first names after a given one, and whether there are more.
+/// The first names after a name, and whether there are more.
 #[derive(Debug, Drop)]
 pub struct Names {
     /// Copies of the names, in order.
@@ -26,7 +26,8 @@ fn first_rows(rows: &[Row], count: usize) -> &[Row]
     }
 }
 
-/// Copies the names of the first `count` rows, or of all if there are fewer.
+/// Copies the names of the first `count` rows, or of all if there are fewer. Fails only if an
+/// allocation fails.
 pub(crate) fn first_names(
     alloc: Global,
     rows: &[Row],

@@ -1,10 +1,10 @@
-// Whether rows make a tree.
+// The check that rows make a tree.
 ghost use Rattle.std.specs.Prelude.{◌≡◌, ◌<◌, ◌↔◌, Some, length, IfOk, IsTrue};
 ghost use Rattle.bay_tree.specs.Arena.{IsIndex};
 ghost use Rattle.bay_tree.specs.Rows.{IsTree, IsBelowStructure, name_at, place_of};
 
 use crate::index::{Index, index_of};
-use crate::name::part_name;
+use crate::name::split_name;
 use crate::row::Row;
 use std::alloc::{AllocError, Global};
 
@@ -26,7 +26,7 @@ fn is_below_structure(rows: &[Row], index: &Index, place: usize) -> bool
     requires indexed { IsIndex rows.now index.now }
     ensures { IsTrue result ↔ IsBelowStructure rows.now place }
 {
-    let above = match part_name(rows[place].name.as_str()).parent {
+    let above = match split_name(rows[place].name.as_str()).parent {
         Some(parent) => index.find(rows, parent.as_bytes()),
         None => return true,
     };
@@ -37,7 +37,7 @@ fn is_below_structure(rows: &[Row], index: &Index, place: usize) -> bool
 }
 
 /// Returns whether rows make a tree: their names are distinct, and the parent of each name is a
-/// structure before it. Allocates an index of the names.
+/// structure before it. Allocates an index of the names, and fails only if an allocation fails.
 pub fn is_tree(alloc: Global, rows: &[Row]) -> Result<bool, AllocError>
     ensures { IfOk result (λ is. IsTrue is ↔ IsTree rows.now) }
 {

@@ -10,14 +10,14 @@ ghost use Rattle.bay_tree.specs.Page.{page_after, rows_after, IsUnknown};
 use crate::fault::{NamesFault, TreeFault};
 use crate::index::{Index, index_of};
 use crate::leaf::{Leaf, LeafType};
-use crate::link::{Link, links_of};
+use crate::link::{RowLink, links_of};
 use crate::page::{Names, first_names};
 use crate::row::Row;
 use bay_base::listing::Listing;
 use std::alloc::{AllocError, Global};
 use std::marker::Model;
 
-/// The place of a row in the tree that returned it.
+/// Identifies a row of the tree that returned it, by the index of the row.
 #[derive(Clone, Copy, Debug, PartialEq, Eq)]
 pub struct Handle {
     index: usize,
@@ -38,7 +38,7 @@ impl Model for Handle {
 pub struct Tree {
     rows: Vec<Row>,
     index: Index,
-    links: Vec<Link>,
+    links: Vec<RowLink>,
 }
 
 impl Model for Tree {
@@ -53,8 +53,8 @@ impl Model for Tree {
     ghost invariant = { λ t. IsArena t.rows.items t.index t.links.items };
 }
 
-// Writes a value to a place. A plain value overwrites a value of its own type in place, which
-// saves moving a whole leaf.
+// Stores a value in a row. A plain value overwrites a value of its own type in place, which saves
+// moving a whole leaf.
 #[inline(always)]
 fn put_leaf(place: &mut Option<Leaf>, leaf: Leaf)
     ensures { place.new ≡ Some leaf }
@@ -95,7 +95,7 @@ fn octets_of(name: Option<&str>) -> Option<&[u8]>
 }
 
 impl Tree {
-    /// Builds the tree of these rows, in their order.
+    /// Builds the tree of these rows, in their order. Fails only if an allocation fails.
     pub fn build(alloc: Global, rows: Vec<Row>) -> Result<Self, AllocError>
         requires { IsTree rows.items }
         ensures { IfOk result (λ tree. tree ≡ rows.items) }
@@ -105,15 +105,15 @@ impl Tree {
         Ok(Tree { rows, index, links })
     }
 
-    /// States that the rows are a tree: their names differ, and each name's parent is a structure
-    /// before it. Does nothing; its callers learn this from its contract.
+    /// States that the rows are a tree: their names are distinct, and each name's parent is a
+    /// structure before it. Has no effect; callers use its contract.
     pub fn are_a_tree(&self)
         ensures { IsTree self.now }
     {
         let _ = &self.rows;
     }
 
-    /// Returns the handle of the row with this name.
+    /// Returns the handle of the row with this name; `NoSuchName` if no row has it.
     pub fn find(&self, name: &str) -> Result<Handle, TreeFault>
         ensures place { result ≡ ok_or (place_of self.now name.now) TreeFault.NoSuchName }
         ensures found { IfOk result
@@ -126,8 +126,8 @@ impl Tree {
         self.find_octets(name.as_bytes())
     }
 
-    /// Returns the handle of the row with this name, given as octets. Octets that are not valid
-    /// text name no row.
+    /// Returns the handle of the row with this name, given as octets; `NoSuchName` if no row has
+    /// it. Octets that are not valid UTF-8 name no row.
     pub fn find_octets(&self, name: &[u8]) -> Result<Handle, TreeFault>
         ensures place { result ≡ ok_or (place_of self.now name.now) TreeFault.NoSuchName }
         ensures found { IfOk result
@@ -165,7 +165,8 @@ impl Tree {
         }
     }
 
-    /// Writes a new value of the same type to a row. A refusal changes nothing.
+    /// Writes a new value of the same type to a row. Returns `WrongType` if the row is a structure
+    /// or its value has another type; the tree is then unchanged.
     #[inline(always)]
     pub fn set(&mut self, handle: Handle, leaf: Leaf) -> Result<(), TreeFault>
         requires { IsHandle self.old handle }
@@ -176,7 +177,7 @@ impl Tree {
         ensures err { IfErr result
             (λ fault. (fault ≡ TreeFault.WrongType) × (self.new ≡ self.old)) }
 
-        // Handles stay good: each row keeps its place, its name and its value's type.
+        // Handles stay valid: each row keeps its index, its name and the type of its value.
         ensures good { (row : ℕ) → IsHandle self.old row → IsHandle self.new row }
         ensures handles { length self.new ≡ length self.old }
         ensures names { names_of self.new ≡ names_of self.old }
@@ -189,8 +190,8 @@ impl Tree {
         Ok(())
     }
 
-    /// Returns the first row below a structure; `None` for a leaf, and for a structure without
-    /// rows.
+    /// Returns the first row below a structure; `None` for a leaf, and for a structure with no rows
+    /// below it.
     pub fn below(&self, handle: Handle) -> Option<Handle>
         requires { IsHandle self.now handle }
         ensures first { result ≡ first_below self.now handle }
@@ -260,8 +261,9 @@ impl Tree {
         &self.name(handle)[self.links[handle.index].word..]
     }
 
-    /// Returns the first `count` names that follow the row with a name, or the first of all if no
-    /// name is given, and whether there are more. A failed allocation changes nothing.
+    /// Returns the first `count` names after the row with a name, or the first of all if no name is
+    /// given, and whether there are more. `NoSuchName` if no row has the name, `OutOfMemory` if an
+    /// allocation fails.
     pub fn names_after(
         &self,
         alloc: Global,
@@ -282,8 +284,8 @@ impl Tree {
         })
     }
 
-    /// Returns the place of the first row after the row with a name, given as octets; without a
-    /// name the place of the first row. `NoSuchName` if no row has the name.
+    /// Returns the index of the first row after the row with a name, given as octets; without a
+    /// name, 0. `NoSuchName` if no row has the name.
     pub fn place_after(&self, after: Option<&[u8]>) -> Result<usize, NamesFault>
         ensures rows { IfOk result
             (λ start. drop start self.now ≡ rows_after self.now (option_copied after.entry)) }
@@ -295,7 +297,7 @@ impl Tree {
             None => return Ok(0),
             Some(name) => name,
         };
-        // How many rows there may be is known of the tree's parts alone.
+        // The number of rows is bounded by the tree's fields.
         let _ = &self.rows;
         match self.find_octets(name) {
             Ok(row) => Ok(row.index + 1),

@@ -1,2 +1,2 @@
--- The binary has no definitions of its own. It hands the words of its command line to bay_main;
--- `Commands` of bay_main says what becomes of them.
+-- The program has no definitions of its own. It passes the arguments of its command line to
+-- bay_main; `Commands` of bay_main defines what they do.

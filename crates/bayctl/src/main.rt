@@ -1,4 +1,5 @@
-// The controller of one bay: checks and compiles its program, and replays scenarios.
+// The controller of one bay: checks, compiles and audits its program, replays scenarios, and serves
+// clients.
 #![tactic(auto)]
 
 use bay_main::program;

@@ -1,4 +1,4 @@
-// Commands over what they read and over files of the program's own folder.
+// Runs commands, with their input and with files in the program's own folder.
 use crate::texts::{Texts, expanded};
 use anyhow::{Context, Result, bail};
 use bay_io::reader::WatchedReader;
@@ -6,15 +6,15 @@ use bay_io::writer::WatchedWriter;
 use bay_main::commands::obey;
 use bay_main::files::SystemFiles;
 use bay_main::host::SystemHost;
-use bay_main::words::{WordsFault, job_of};
+use bay_main::parse::{WordsFault, job_of};
+use cases::case_report::{check, check_lines, check_text};
 use cases::octets::{check_octets, octets_of};
-use cases::told::{check, check_lines, check_text};
 use cases::words::{first_word, words_of};
 use std::alloc::Global;
 use std::fs;
 
-// Checks that a command of a line's words ends with this status and prints this text, whose last
-// line it ends. Returns its complaint.
+// Checks that the command of a line ends with this status and prints this text; the line end after
+// its last line is not in the text. Returns its error message.
 fn check_run(
     rt: &HostRuntime,
     line: &str,
@@ -42,24 +42,24 @@ fn check_run(
     check_lines(found, wanted)?;
     let is_so = found.strip_suffix("\n").unwrap_or("") == wanted;
     check(is_so && found.is_empty() == wanted.is_empty())?;
-    Ok(String::from_str(rt.alloc(), ended.complaint())?)
+    Ok(String::from_str(rt.alloc(), ended.error_message())?)
 }
 
-/// What the next commands read, and the last command's complaint.
+/// The input of the next commands, and the error message of the last command.
 #[derive(Drop)]
 pub struct Commands<'a> {
     rt: &'a HostRuntime,
     input: Vec<u8>,
-    complaint: String,
+    error_message: String,
 }
 
 impl<'a> Commands<'a> {
-    /// Creates commands with no input and no complaint.
+    /// Creates commands with no input and no error message.
     pub fn new(rt: &'a HostRuntime) -> Commands<'a> {
         Commands {
             rt,
             input: Vec::new(rt.alloc()),
-            complaint: String::new(rt.alloc()),
+            error_message: String::new(rt.alloc()),
         }
     }
 
@@ -75,7 +75,7 @@ impl<'a> Commands<'a> {
     // Runs a command.
     fn run(&mut self, rest: &str, wanted: &str) -> Result<()> {
         let (status, line) = first_word(rest);
-        self.complaint = check_run(self.rt, line, self.input.as_slice(), status, wanted)?;
+        self.error_message = check_run(self.rt, line, self.input.as_slice(), status, wanted)?;
         Ok(())
     }
 
@@ -88,8 +88,8 @@ impl<'a> Commands<'a> {
         Ok(())
     }
 
-    /// Checks what becomes of the bay file of the texts with one part replaced and a program without
-    /// instructions: `OLD|NEW -> REPORT`.
+    /// Checks the report for the bay file of the texts with one part replaced, and a program
+    /// without instructions: `OLD|NEW -> REPORT`.
     pub fn check_bay(&self, bay: &str, line: &str) -> Result<()> {
         let (change, wanted) = line.split_once(" -> ").context("no answer")?;
         let (old, new) = change.split_once("|").context("no change")?;
@@ -110,7 +110,7 @@ impl<'a> Commands<'a> {
             "run" => self.run(rest, body),
             "input" => self.make(rest, format!(in alloc; "{body}\n")?.into_bytes()),
             "octets" => self.make(rest, octets_of(alloc, body)?),
-            "complaint" => check_text(self.complaint.as_str().trim_end(), body),
+            "complaint" => check_text(self.error_message.as_str().trim_end(), body),
             "holds" => check_octets(alloc, fs::read(self.rt, rest)?.as_slice(), body),
             "gone" => check(fs::open(self.rt, rest).is_err()),
             _ => bail!("there is no such section"),
@@ -118,7 +118,7 @@ impl<'a> Commands<'a> {
     }
 }
 
-/// Checks the job that words ask for, as Rust's `{:?}` prints it, or `refused`: `WORDS -> JOB`.
+/// Checks the job that arguments spell, as `{:?}` of Rust prints it, or `refused`: `WORDS -> JOB`.
 pub fn check_job(alloc: Global, line: &str) -> Result<()> {
     let (words, wanted) = line.split_once(" -> ").context("no answer")?;
     match job_of(alloc, words_of(alloc, words)?.as_slice()) {

@@ -1,17 +1,18 @@
-// The same by each of eight associations, which take turns, as by one alone.
+// An exchange with eight associations that take turns; each must be answered as one association
+// alone.
 //
-// A talk is blocks of lines behind an empty line each, and a block is done by one association after
-// the other. `AFTER recv OCTETS` is what a client sends so many milliseconds after the block's
-// begin, and `AFTER contact ..` and `AFTER scan` are events of the process. Behind them stand the
-// lines that are printed, which begin with `> `: `> AFTER send OCTETS` and `> AFTER closed WHY`
-// without the association, whose number `#` stands for, and others as they are.
+// The exchange consists of blocks, with an empty line between them. One association after the other
+// does a block. `AFTER recv OCTETS` is what a client sends AFTER milliseconds after the beginning
+// of the block; `AFTER contact ..` and `AFTER scan` are events of the process. After these are the
+// lines that must be printed, which begin with `> `: `> AFTER send OCTETS` and `> AFTER closed WHY`
+// without the association, whose number `#` denotes in the octets, and others as they are.
 use crate::talk::Talk;
 use crate::texts::Texts;
 use anyhow::{Context, Result};
 use cases::words::first_word;
 use std::alloc::{AllocError, Global};
 
-// Appends what is printed at a time.
+// Appends a line to the expected report, at a time.
 fn tell(talk: &mut Talk, moment: u64, association: u16, told: &str) -> Result<(), AllocError> {
     match first_word(told) {
         ("send", octets) => match octets.split_once("#") {
@@ -26,7 +27,7 @@ fn tell(talk: &mut Talk, moment: u64, association: u16, told: &str) -> Result<()
     }
 }
 
-// Appends a block of lines by an association, from a time on. Returns the last time.
+// Appends a block for an association, from a time on. Returns the last time.
 fn put_block(
     talk: &mut Talk,
     begin: u64,
@@ -51,8 +52,8 @@ fn put_block(
     Ok(moment)
 }
 
-// Checks that a talk by `count` associations at once, whole or octet by octet, is answered as its
-// lines say.
+// Checks that an exchange with `count` associations at once, whole or octet by octet, is answered
+// as its lines require.
 fn check_by(alloc: Global, texts: &Texts, body: &str, count: u16, whole: bool) -> Result<()> {
     let (mut talk, mut now) = (Talk::new(alloc), 0);
     for association in 1..=count {
@@ -66,8 +67,8 @@ fn check_by(alloc: Global, texts: &Texts, body: &str, count: u16, whole: bool) -
     talk.check(alloc, texts)
 }
 
-/// Checks that a talk is answered as its lines say: by one association alone with whole messages,
-/// and by eight at once, both whole and octet by octet.
+/// Checks that an exchange is answered as its lines require: with one association alone and whole
+/// messages, and with eight at once, both whole and octet by octet.
 pub fn check_eight(alloc: Global, texts: &Texts, body: &str) -> Result<()> {
     check_by(alloc, texts, body, 1, true)?;
     check_by(alloc, texts, body, 8, true)?;

@@ -1,14 +1,14 @@
-// Each front of a client's octets comes to just what the messages come to that are complete in it,
-// and all of them come to the same octet by octet.
+// Every prefix of a client's octets has exactly the effect of the messages that are complete in it,
+// and all octets have the same effect one by one.
 //
-// A line is a message in hexadecimal digits, and behind ` -> ` what it comes to, if anything:
+// A line is a message in hexadecimal digits, and after ` -> ` its effect, if it has one:
 // `send:OCTETS`, or `closed:WHY`, with which the association ends.
 use crate::talk::Talk;
 use crate::texts::Texts;
 use anyhow::Result;
 use std::alloc::{AllocError, Global};
 
-// Appends what a message leads to at a time. Returns whether the association ends.
+// Appends the effect of a message at a time. Returns whether the association ends.
 fn tell(talk: &mut Talk, moment: u64, words: &str) -> Result<bool, AllocError> {
     let mut ends = false;
     for word in words.split(" ") {
@@ -20,8 +20,8 @@ fn tell(talk: &mut Talk, moment: u64, words: &str) -> Result<bool, AllocError> {
     Ok(ends)
 }
 
-// Appends what the messages lead to that are complete in so many octets, and how often it is then
-// refused that the association is heard, octet by octet, or closed.
+// Appends the effects of the messages that are complete in `count` octets. If the association ends,
+// appends a refusal for each piece of octets after that, and one for the close.
 fn put_report(
     talk: &mut Talk,
     moment: u64,
@@ -47,7 +47,7 @@ fn put_report(
     Ok(())
 }
 
-// Appends a connection at a time on which so many octets come.
+// Appends a connection at a time, on which these octets arrive.
 fn put_front(
     talk: &mut Talk,
     moment: u64,
@@ -63,8 +63,8 @@ fn put_front(
     put_report(talk, moment, body, digits.len() / 2, whole)
 }
 
-/// Checks that every prefix of the messages leads to what their lines say, and so do all octets one
-/// by one.
+/// Checks that every prefix of the messages has the effect that their lines have, and so have all
+/// octets one by one.
 pub fn check_fronts(alloc: Global, texts: &Texts, body: &str) -> Result<()> {
     let (mut talk, mut digits) = (Talk::new(alloc), String::new(alloc));
     for line in body.lines() {

@@ -1,20 +1,23 @@
 // Octets of a client, each replaced by each other value.
 //
-// `front OCTETS` opens an association, and `asked OCTETS -> OCTETS` is what association 2, which
-// the front opens, asks again and again, and is answered. Of `behind OCTETS` each octet is replaced
-// by each other value, behind the front of association 1, and that is answered, waited with, or
-// ends it; behind ` -> ` stands how often it comes to what first, if that is said: answers, ends,
-// nothing yet, and faults by their numbers. The octets are hexadecimal digits.
+// `front OCTETS` are the octets that open an association, or none. `asked OCTETS -> OCTETS` is a
+// request of association 2, which the `front` before it opens, and its answer. `behind OCTETS` is a
+// message of association 1, which the last `front` opens: each octet is replaced by each other
+// value, and each such message must be answered, leave the association waiting for more, or end it,
+// while association 2 gets its answer. After ` -> ` are the counts of the first effects, if they
+// are checked: answers, ends, waits, and faults by their numbers. The octets are hexadecimal
+// digits.
 use crate::texts::{Texts, replayed};
 use anyhow::{Context, Result, bail};
-use cases::told::{check, check_text};
+use cases::case_report::{check, check_text};
 use cases::words::first_word;
 use std::alloc::{AllocError, Global};
 
-// The number of milliseconds after which everything a client has selected or operated has expired.
+// The number of milliseconds after which everything that a client has selected or operated has
+// expired.
 const PASSED: u64 = 10_000;
 
-// The counts of what frames led to first: an answer, nothing yet, an end, and each fault.
+// The counts of the first effects of messages: an answer, a wait for more, an end, and each fault.
 const ANSWERS: usize = 0;
 
 const WAITS: usize = 1;
@@ -23,7 +26,7 @@ const CLOSED: usize = 2;
 
 type Counts = [u32; 29];
 
-// Returns the counts, those of faults with their numbers.
+// Returns the counts as text, those of faults with their numbers.
 fn counts_text(alloc: Global, counts: &Counts) -> Result<String, AllocError> {
     let (answers, ends, waits) = (counts[ANSWERS], counts[CLOSED], counts[WAITS]);
     let mut text = format!(in alloc; "answers={answers} ends={ends} waits={waits}")?;
@@ -35,7 +38,7 @@ fn counts_text(alloc: Global, counts: &Counts) -> Result<String, AllocError> {
     Ok(text)
 }
 
-// Returns where that counts which a frame leads to, as it is printed.
+// Returns the index of the count for an effect, as it is printed.
 fn place_of(told: &str) -> Result<usize> {
     match told.split_once(" 1 ") {
         Some(("closed", number)) => Ok(CLOSED.saturating_add(number.parse::<usize>()?)),
@@ -44,10 +47,10 @@ fn place_of(told: &str) -> Result<usize> {
     }
 }
 
-// Checks the lines behind the scan before a frame: the frame is answered, waited for, or ends the
-// association, which then can't be closed, and the other association is answered. Behind a time
-// stands what is told, and its last digit says what was done: 1 is the frame, 2 is what is asked, 3
-// is the close. Returns where it counts.
+// Checks the lines after the scan before a message: the message is answered, waited for, or ends
+// the association, which then can't be closed, and the other association is answered. The last
+// digit of a line's time shows which event it belongs to: 1 the message, 2 the request of the other
+// association, 3 the close. Returns the index of its count.
 fn check_frame(lines: &str, answer: &str) -> Result<usize> {
     let (mut first, mut closed, mut refused, mut served) = (None, false, false, 0u32);
     for line in lines.lines().skip(1) {
@@ -66,7 +69,7 @@ fn check_frame(lines: &str, answer: &str) -> Result<usize> {
                 check_text(told, "refused 111")?;
                 refused = true;
             }
-            // what opens it, and the time of the next scan
+            // the lines of its opening, and the time of the next scan
             _ => {}
         }
     }
@@ -74,8 +77,8 @@ fn check_frame(lines: &str, answer: &str) -> Result<usize> {
     Ok(first.unwrap_or(WAITS))
 }
 
-/// The octets that open association 1 and association 2, and what association 2 asks and is
-/// answered.
+/// The octets that open association 1 and association 2, and the request of association 2 with its
+/// answer.
 #[derive(Drop)]
 pub struct Hostile<'a> {
     first: &'a str,
@@ -95,8 +98,8 @@ impl<'a> Hostile<'a> {
         }
     }
 
-    // Returns the trace of frames with the octet between two parts replaced by each other value. At
-    // first switch 1 is open, and so is association 2.
+    // Returns the trace of the messages with the octet between two parts replaced by each other
+    // value. At its beginning switch 1 and association 2 are opened.
     fn trace_of(
         &self,
         alloc: Global,
@@ -106,7 +109,7 @@ impl<'a> Hostile<'a> {
     ) -> Result<String, AllocError> {
         let (first, asked) = (self.first, self.asked);
         let mut trace = format!(in alloc; "0 contact QA1 1\n0 open 2\n0 recv 2 {first}\n")?;
-        // what is told again changes nothing
+        // a position that is reported again changes nothing
         let (verb, opening) = match self.front {
             "" => ("contact QA1 1", ""),
             octets => ("recv 1 ", octets),
@@ -125,8 +128,8 @@ impl<'a> Hostile<'a> {
         Ok(trace)
     }
 
-    // Checks and counts the frames with one octet replaced: behind the lines of opening the other
-    // association stands a scan before each.
+    // Checks and counts the messages with one octet replaced: after the lines for opening the other
+    // association, there is a scan before each.
     fn count_octet(
         &self,
         alloc: Global,
@@ -149,7 +152,7 @@ impl<'a> Hostile<'a> {
         check(frames == 255)
     }
 
-    // Checks the frames with each octet replaced, and their counts, if these are said.
+    // Checks the messages with each octet replaced, and their counts, if these are given.
     fn check_all(&self, alloc: Global, texts: &Texts, digits: &str, told: &str) -> Result<()> {
         let mut counts = [0; 29];
         for at in 0..digits.len() / 2 {
@@ -166,7 +169,7 @@ impl<'a> Hostile<'a> {
         check_text(counts_text(alloc, &counts)?.as_str(), told)
     }
 
-    /// Processes a line.
+    /// Processes a line: keeps its octets, or checks the messages.
     pub fn check(&mut self, alloc: Global, texts: &Texts, line: &'a str) -> Result<()> {
         let (kind, words) = first_word(line);
         let (octets, told) = words.split_once(" -> ").unwrap_or((words, ""));

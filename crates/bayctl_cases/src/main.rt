@@ -1,29 +1,29 @@
-// Runs the cases of the program that come on standard input, and prints each that comes out
-// otherwise than it says, and how many do. They are scenarios with their reports, and command lines
-// with what they print and leave.
+// Runs the cases of the program on standard input, and prints each with another result than it
+// requires, and the number of these. The cases are scenarios with their reports, and command lines
+// with what they print and write.
 //
-// The cases are sections, each with a head `== NAME`; `note` is none. Octets are in hexadecimal
+// The cases are sections, each with a head `== NAME`; `note` is no case. Octets are in hexadecimal
 // digits.
 //
-// - `bay`, `frame`, `logic` and `trace` are texts, which stand until another takes their place; the
-//   logic follows the frame, and in the trace `{OCTETS*TIMES}` stands for octets so many times.
-//   `report STATUS [NAME]` is a case: the scenario of these texts ends with this status and this
-//   report.
-// - In `bays` each line is a case, `OLD|NEW -> REPORT`: what becomes of the bay file with one part
+// - `bay`, `frame`, `logic` and `trace` are texts, which are valid until the next one of their
+//   name; the logic follows the frame, and in the trace `{OCTETS*TIMES}` denotes octets repeated
+//   this number of times. `report STATUS [NAME]` is a case: the scenario of these texts ends with
+//   this status and this report.
+// - In `bays` each line is a case, `OLD|NEW -> REPORT`: the report for the bay file with one part
 //   replaced.
-// - `eight` is a talk that eight associations have at once, as one alone has it, whole and octet by
-//   octet; `fronts` are messages, of which each front comes to what is complete in it; `hostile`
-//   are octets of a client, each replaced by each other value (`eight`, `fronts` and `hostile` say
-//   how).
-// - `input` and `octets` are what the next commands read, and `input NAME` and `octets NAME` make a
-//   file, of a text or of octets. `run STATUS WORDS` is a case: the command of these words prints
-//   this text, and ends with this status. Behind it `complaint` is what the last command writes to
-//   standard error, `holds NAME` what a file then holds, in octets, and `gone NAME` a file that is
-//   not there.
-// - In `jobs` each line is a case, `WORDS -> JOB`: what a command line asks for.
+// - `eight` is an exchange with eight associations at once, each answered as one alone, whole and
+//   octet by octet; `fronts` are messages, of which each prefix has the effect of what is complete
+//   in it; `hostile` are octets of a client, each replaced by each other value (the files `eight`,
+//   `fronts` and `hostile` have the details).
+// - `input` and `octets` are the input of the next commands, and `input NAME` and `octets NAME`
+//   create a file, of a text or of octets. `run STATUS WORDS` is a case: the command of these
+//   arguments prints this text, and ends with this status. After it, `complaint` is the text that
+//   the last command writes to standard error, `holds NAME` the content of a file, in octets, and
+//   `gone NAME` a file that does not exist.
+// - In `jobs` each line is a case, `WORDS -> JOB`: the job of a command line.
 //
-// The sections behind `== note examples` are those of examples/, as `tools/examples_stdin` makes
-// them of the examples' files.
+// The sections after `== note examples` are those of examples/, as `tools/examples_stdin` makes
+// them from the files of the examples.
 #![tactic(auto)]
 
 mod commands;
@@ -34,8 +34,8 @@ mod talk;
 mod texts;
 
 use anyhow::Result;
+use cases::case_report::CaseReport;
 use cases::sections::{BETWEEN, head_and_body, sections_of};
-use cases::told::Told;
 use cases::words::first_word;
 use commands::{Commands, check_job};
 use eight::check_eight;
@@ -45,10 +45,10 @@ use std::alloc::Global;
 use std::io::Read;
 use texts::Texts;
 
-// Checks the cases of a section each of whose lines is one.
+// Checks the cases of a section in which each line is a case.
 fn tell_lines(
     alloc: Global,
-    told: &mut Told,
+    told: &mut CaseReport,
     texts: &Texts,
     commands: &Commands,
     kind: &str,
@@ -66,7 +66,7 @@ fn tell_lines(
     Ok(())
 }
 
-// Runs the cases of all sections, and returns what is reported of them.
+// Runs the cases of all sections, and returns the report on them.
 fn run(rt: &HostRuntime, text: &str) -> Result<String> {
     let alloc = rt.alloc();
     let mut texts = Texts {
@@ -76,7 +76,7 @@ fn run(rt: &HostRuntime, text: &str) -> Result<String> {
         trace: "",
     };
     let mut commands = Commands::new(rt);
-    let mut told = Told::new(alloc);
+    let mut told = CaseReport::new(alloc);
     for section in sections_of(text)?.split(BETWEEN) {
         let (head, body) = head_and_body(section);
         let (kind, rest) = first_word(head);

@@ -1,4 +1,4 @@
-// A trace and its expected report, and what is heard in it.
+// A trace and its expected report.
 use crate::texts::{Texts, check_trace};
 use anyhow::Result;
 use std::alloc::{AllocError, Global};
@@ -11,7 +11,7 @@ pub struct Talk {
 }
 
 impl Talk {
-    /// Starts with neither.
+    /// Creates an empty trace with an empty report.
     pub fn new(alloc: Global) -> Talk {
         Talk {
             trace: String::new(alloc),

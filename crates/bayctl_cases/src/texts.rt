@@ -1,10 +1,10 @@
-// The texts that scenarios are made of, and their reports.
+// The texts of scenarios, and their reports.
 use anyhow::{Context, Result, bail};
 use bay_main::replay::replay_run;
-use cases::told::check_lines;
+use cases::case_report::check_lines;
 use std::alloc::{AllocError, Global};
 
-/// The texts that the next cases are made of.
+/// The texts of the next cases.
 #[derive(Drop)]
 pub struct Texts<'a> {
     pub bay: &'a str,
@@ -14,15 +14,15 @@ pub struct Texts<'a> {
 }
 
 impl Texts<'_> {
-    /// Returns the scenario of these texts with another trace, each line of which is terminated.
+    /// Returns the scenario of these texts with another trace, each line of which has its line end.
     pub fn scenario(&self, alloc: Global, trace: &str) -> Result<String, AllocError> {
         let (bay, frame, logic) = (self.bay, self.frame, self.logic);
         format!(in alloc; "{bay}\n%%\n{frame}\n{logic}\n%%\n{trace}")
     }
 }
 
-/// Expands a trace in which `{OCTETS*TIMES}` stands for octets repeated that many times, and ends
-/// its last line.
+/// Expands a trace, in which `{OCTETS*TIMES}` denotes octets repeated this number of times, and
+/// appends the line end of its last line.
 pub fn expanded(alloc: Global, trace: &str) -> Result<String> {
     let mut text = String::new(alloc);
     for piece in trace.split("{") {
@@ -37,7 +37,8 @@ pub fn expanded(alloc: Global, trace: &str) -> Result<String> {
     Ok(text)
 }
 
-/// Returns the lines after the load line, of the report of a trace on the device of the texts.
+/// Returns the report of a trace on the device of the texts, without the line of the load. Fails if
+/// its status is not 0.
 pub fn replayed<'r>(
     alloc: Global,
     texts: &Texts,

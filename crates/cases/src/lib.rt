@@ -1,13 +1,13 @@
-// What the programs of cases share: the words of a line, octets as cases spell them, and what is
-// told of those that differ.
+// What the programs of cases share.
 //
 // - `sections`: the sections of a text.
 // - `words`: the words of a line.
 // - `octets`: octets in hexadecimal digits.
-// - `told`: how many cases there were, and which came out otherwise than they say.
+// - `case_report`: how many cases there were, and each one whose outcome differs from the expected
+//   one.
 #![tactic(auto)]
 
+pub mod case_report;
 pub mod octets;
 pub mod sections;
-pub mod told;
 pub mod words;

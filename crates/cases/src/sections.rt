@@ -1,12 +1,12 @@
-// The sections of a text of cases: each has a head behind `== `, and what follows it up to the
-// next head is its body.
+// The sections of a text of cases. A section begins with a line `== HEAD`; its body follows, up to
+// the next such line.
 use anyhow::{Context, Result};
 
-/// What separates sections.
+/// The text that separates sections.
 pub const BETWEEN: &str = "\n== ";
 
-/// Returns the sections of a text, with `BETWEEN` between them. Fails if the text does not begin
-/// with a head.
+/// Returns the sections of a text, without the first `== ` and with `BETWEEN` between them. Fails
+/// if the text does not begin with `== `.
 pub fn sections_of(text: &str) -> Result<&str> {
     let sections = text.strip_prefix("== ").context("no section")?;
     Ok(sections.strip_suffix("\n").unwrap_or(sections))

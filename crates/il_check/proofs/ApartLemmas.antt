@@ -17,7 +17,7 @@ use Rattle.il_image.specs.declared.value.Value.{Value}
 use Rattle.il_check.specs.Declaring.{meanings_of, looked_up, declarations_faults, declaration_faults, externals_of, variables_of, external_in, external_at, variable_in, variable_at, initial_in, meaning_at, counts_of, point_of}
 use Rattle.il_check.specs.Faults.{fault_if}
 use Rattle.il_check.specs.Sound.{AreApart, name_at}
-use Rattle.il_check.specs.declared.given.Meaning.{Meaning}
+use Rattle.il_check.specs.declared.source_operand.Meaning.{Meaning}
 use Rattle.il_check.specs.declared.fault.CheckFault.{CheckFault}
 use Rattle.il_check.specs.declared.typed.External.{External}
 use Rattle.il_check.specs.declared.typed.Variable.{Variable}
@@ -56,7 +56,8 @@ absent-append x (y ∷ ys) zs e f =
 same-other : (a b : List ℕ) → same_name a b ≡ false → same_name b a ≡ false
 unfolding same_name
 same-other a b none =
-    false_from_ne_true (bytes_eq (upper b) (upper a)) (λ (yes : bytes_eq (upper b) (upper a) ≡ true).
+    false_from_ne_true (bytes_eq (upper b) (upper a))
+    (λ (yes : bytes_eq (upper b) (upper a) ≡ true).
     let e : upper b ≡ upper a = (bytes_eq-Decides (upper b) (upper a)).0 yes in
     let t : bytes_eq (upper a) (upper b) ≡ true =
     ap (bytes_eq (upper a)) e ∙ (ap (λ u. bytes_eq u (upper a)) (sym e) ∙ yes) in

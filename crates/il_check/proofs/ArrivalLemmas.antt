@@ -8,13 +8,13 @@ use Rattle.bay_base.specs.declared.types.ElementaryType.{ElementaryType}
 use Rattle.il_text.specs.Listing as text
 use Rattle.il_image.proofs.KindLemmas.{same-is, same-self}
 use Rattle.il_image.proofs.SetLemmas.{set-here, set-elsewhere}
-use Rattle.il_check.specs.Given.{ProgramNames, resolution_of}
+use Rattle.il_check.specs.SourceOperands.{ProgramNames, resolution_of}
 use Rattle.il_check.specs.Labelling.{Labelling, Becomes, Jumps, is_named, with_target}
 use Rattle.il_check.specs.Rules.{jumps_back, target_of}
 use Rattle.il_check.specs.WellTyped.{same_result, join_types, join, no_reach, arrival, arrival_at}
 use Rattle.il_check.specs.declared.reach.Reach.{Reach}
-use Rattle.il_check.specs.declared.given.Resolved.{Resolved}
-use Rattle.il_check.specs.declared.given.Resolved.TheVariants.{Load, Store, Combine, Not, Convert, Jump, Return, Call}
+use Rattle.il_check.specs.declared.source_operand.Resolved.{Resolved}
+use Rattle.il_check.specs.declared.source_operand.Resolved.TheVariants.{Load, Store, Combine, Not, Convert, Jump, Return, Call}
 use Rattle.il_check.proofs.FaultlessLemmas.{two, becomes-along, or-true}
 use Rattle.il_check.specs.Limits.{most_labels}
 

@@ -13,15 +13,15 @@ use Rattle.il_text.specs.declared.program.Program as program
 use Rattle.il_check.specs.Checking.{faults_of, checked_program, checked_of}
 use Rattle.il_check.specs.Declaring.{names_in, labels_from, looked_up, meanings_of, variables_of, timers_of, declarations_faults}
 use Rattle.il_check.specs.Faults.{first_fault_of, least_fault}
-use Rattle.il_check.specs.Given.{ProgramNames}
+use Rattle.il_check.specs.SourceOperands.{ProgramNames}
 use Rattle.il_check.specs.LabelsView.{StandsAs}
 use Rattle.il_check.specs.NamesView.{names_of}
 use Rattle.il_check.specs.Program.{Checked, ProgramItem}
 use Rattle.il_check.specs.DeclarationsView.{StandsFor}
-use Rattle.il_check.specs.WellTyped.{Progress, first, no_reach, items_faults, items_left}
+use Rattle.il_check.specs.WellTyped.{Progress, first, no_reach, items_faults, progress_after_items}
 use Rattle.il_check.specs.declared.declare.Declarations.{Declarations}
 use Rattle.il_check.specs.declared.labels.Labels.{Labels}
-use Rattle.il_check.specs.declared.given.Meaning.{Meaning}
+use Rattle.il_check.specs.declared.source_operand.Meaning.{Meaning}
 use Rattle.il_check.specs.declared.names.ProgramNames as code
 use Rattle.il_check.specs.declared.fault.CheckFault.{CheckFault}
 use Rattle.il_check.specs.declared.typed.External.{External}
@@ -41,7 +41,7 @@ pub record IsRead (points : List Point) (program : text.PlainProgram) (d : Decla
   pub meanings : names.meanings ≡ d.meanings
   pub numbers : names.labels ≡ l.numbers
   pub items_read : answer ≡ None
-      → items ≡ items_left (names_of names) program.items (first l.arrivals.items)
+      → items ≡ progress_after_items (names_of names) program.items (first l.arrivals.items)
   pub found : answer ≡ first_fault_of d.found
       (items_faults (names_of names) program.items (first l.arrivals.items))
 
@@ -97,12 +97,14 @@ module _ (points : List Point) (program : text.PlainProgram) (d : Declarations) 
       (sym found-is ∙ is)
 
   items-same : answer ≡ None
-      → items ≡ items_left (names_in points program) program.items
+      → items ≡ progress_after_items (names_in points program) program.items
       (first (map (λ x. no_reach) (labels_from 0 program.items)))
   items-same none =
       read.items_read none
-      ∙ ap (λ (n : ProgramNames). items_left n program.items (first l.arrivals.items)) names-same
-      ∙ ap (λ (s : Progress). items_left (names_in points program) program.items s) started
+      ∙ ap (λ (n : ProgramNames). progress_after_items n program.items (first l.arrivals.items))
+      names-same
+      ∙ ap (λ (s : Progress). progress_after_items (names_in points program) program.items s)
+      started
 
   -- no declaration has a fault where none is found
   pub declared-right : answer ≡ None → declarations_faults points [] program.declarations ≡ []
@@ -119,7 +121,7 @@ module _ (points : List Point) (program : text.PlainProgram) (d : Declarations) 
       })
   passed none =
       let left : List ProgramItem =
-      items_left (names_in points program) program.items
+      progress_after_items (names_in points program) program.items
       (first (map (λ x. no_reach) (labels_from 0 program.items))) in
       let with_all : List External → List Variable → List Timer → List ProgramItem → Checked =
       λ es vs ts is. record { externals = es; variables = vs; timers = ts; items = is } in
@@ -132,7 +134,8 @@ module _ (points : List Point) (program : text.PlainProgram) (d : Declarations) 
       left) (sym read.stands.variables)
       ∙ ap (λ (ts : List Timer). with_all d.externals.items d.variables.items ts left)
       (sym read.stands.timers)
-      ∙ ap (λ (is : List ProgramItem). with_all d.externals.items d.variables.items d.timers.items is)
+      ∙ ap (λ (is : List ProgramItem). with_all d.externals.items d.variables.items d.timers.items
+      is)
       (sym (items-same none)))
 
   -- without a fault, the names of the slots differ
@@ -153,7 +156,7 @@ pub is_read : (points : List Point) (p : program.Program) (declarations : List D
     → StandsFor points (map declared_of declarations) d
     → d.found ≡ least_fault (declarations_faults points [] (map declared_of declarations))
     → StandsAs (labels_from 0 (map entry_of first_items)) l
-    → (answer ≡ None → left ≡ items_left
+    → (answer ≡ None → left ≡ progress_after_items
     (names_of (record { meanings = d.meanings; labels = l.numbers })) (map entry_of items)
     (first l.arrivals.items))
     → answer ≡ first_fault_of d.found
@@ -175,7 +178,7 @@ is_read points p declarations first_items items d l left answer these those them
       numbers = refl;
       items_read =
           λ (none : answer ≡ None). read none
-          ∙ ap (λ (is : List source.Item). items_left
+          ∙ ap (λ (is : List source.Item). progress_after_items
           (names_of (record { meanings = d.meanings; labels = l.numbers })) (map entry_of is)
           (first l.arrivals.items)) them;
       found = found ∙ ap (λ (is : List source.Item). first_fault_of d.found

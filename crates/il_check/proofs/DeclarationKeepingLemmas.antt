@@ -21,7 +21,7 @@ use Rattle.il_image.specs.declared.value.Value.TheVariants as value
 use Rattle.il_image.proofs.KindLemmas.{same-is}
 use Rattle.il_image.proofs.ValueLemmas.{value_is}
 use Rattle.il_check.specs.Declaring.{labels_from, point_of, of_type, literal_value, initial_in, is_typed, is_external, external_at, external_in, variable_at, variable_in, timer_in, externals_of, variables_of, timers_of, declarations_faults}
-use Rattle.il_check.specs.Given.{typed_value}
+use Rattle.il_check.specs.SourceOperands.{typed_value}
 use Rattle.il_check.specs.Keeping.{label_names, IsValueOf, BeginsWith, AreDeclared, IsDeclaredAs}
 use Rattle.il_check.specs.declared.typed.External.{External}
 use Rattle.il_check.specs.declared.typed.Variable.{Variable}
@@ -107,7 +107,8 @@ module _ (points : List Point) (d : text.Declared)
     more,
   )
 
-  one-declared : (stands : VariableScope) (kind : DeclaredType) (es : List External) (vs : List Variable)
+  one-declared : (stands : VariableScope) (kind : DeclaredType) (es : List External)
+      (vs : List Variable)
       (ts : List Timer) → is_external stands && is_none (point_of points d.name) ≡ false
       → is_typed stands kind (point_of points d.name) d.initial ≡ true → later es vs ts
       → IsDeclaredAs points d stands kind (cons_option (external_in points d stands kind) es)

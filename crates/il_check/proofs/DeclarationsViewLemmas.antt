@@ -15,7 +15,7 @@ use Rattle.il_check.specs.NamesView.{with_value}
 use Rattle.il_check.specs.Declaring.{Counts, externals_of, variables_of, external_in, variable_in, timer_in, counts_of, meaning_at, point_of, meanings_from, meanings_of, looked_up, name_faults, is_full, declaration_faults, declarations_faults}
 use Rattle.il_check.specs.DeclarationsView.{counts_in, Takes, StandsFor}
 use Rattle.il_check.specs.declared.declare.Declarations.{Declarations}
-use Rattle.il_check.specs.declared.given.Meaning.{Meaning}
+use Rattle.il_check.specs.declared.source_operand.Meaning.{Meaning}
 use Rattle.il_check.specs.declared.fault.CheckFault.{CheckFault}
 use Rattle.il_check.proofs.NotedLemmas.{noted-append, noted-nil}
 use Rattle.il_check.proofs.NameLemmas.{with_value-more, with_value-same}

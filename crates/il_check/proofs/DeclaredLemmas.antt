@@ -29,11 +29,11 @@ use Rattle.il_image.proofs.KindLemmas.{same-is}
 use Rattle.il_image.proofs.ValueLemmas.{default-typed, value_is}
 use Rattle.il_image.specs.Machine.{most_slots, most_timers}
 use Rattle.il_check.specs.Declaring.{may_stand, is_name, point_of, of_type, literal_value, initial_in, is_typed, is_external, is_writable, external_at, external_in, variable_at, variable_in, timer_in, externals_of, variables_of, timers_of, counts_of, meaning_at, meanings_of, looked_up, is_full, declaration_faults, declarations_faults}
-use Rattle.il_check.specs.Given.{typed_value}
+use Rattle.il_check.specs.SourceOperands.{typed_value}
 use Rattle.il_check.specs.Rules.{number_in}
 use Rattle.il_check.specs.TypedProgram.{HasName, BeginsRight}
-use Rattle.il_check.specs.declared.given.Meaning.{Meaning}
-use Rattle.il_check.specs.declared.given.Meaning.TheVariants as meaning
+use Rattle.il_check.specs.declared.source_operand.Meaning.{Meaning}
+use Rattle.il_check.specs.declared.source_operand.Meaning.TheVariants as meaning
 use Rattle.il_check.specs.declared.typed.External.{External}
 use Rattle.il_check.specs.declared.typed.Variable.{Variable}
 use Rattle.il_check.specs.declared.typed.Timer.{Timer}

@@ -9,12 +9,12 @@ use Rattle.il_text.specs.Listing as text
 use Rattle.il_text.specs.declared.program.Operator.{Operator}
 use Rattle.il_text.specs.declared.program.Condition.TheVariants.{Always, IfTrue, IfFalse}
 use Rattle.il_check.specs.Faults.{fault_if}
-use Rattle.il_check.specs.Given.{ProgramNames, resolution_of}
+use Rattle.il_check.specs.SourceOperands.{ProgramNames, resolution_of}
 use Rattle.il_check.specs.Labelling.{Becomes, IsRight, IsCombined, IsRightEntry, AreRightEntries}
 use Rattle.il_check.specs.Rules.{is_wrong, is_unset, type_after, allows, uses_result, any_type, combines_unset, gives}
-use Rattle.il_check.specs.WellTyped.{type_behind, type_behind_all, instruction_faults, entry_faults, entries_faults}
-use Rattle.il_check.specs.declared.given.Resolved.{Resolved}
-use Rattle.il_check.specs.declared.given.Resolved.TheVariants.{Load, Store, Combine, Not, Convert, Jump, Return, Call}
+use Rattle.il_check.specs.WellTyped.{type_after_entry, type_after_entries, instruction_faults, entry_faults, entries_faults}
+use Rattle.il_check.specs.declared.source_operand.Resolved.{Resolved}
+use Rattle.il_check.specs.declared.source_operand.Resolved.TheVariants.{Load, Store, Combine, Not, Convert, Jump, Return, Call}
 use Rattle.il_check.specs.declared.fault.CheckFault.{CheckFault}
 use Rattle.il_check.specs.declared.fault.CheckFault.TheVariants.{TooMany}
 
@@ -98,7 +98,8 @@ from-within (suc room) line fs some e =
     ap (λ (b : Bool). cond b (TooMany line ∷ []) fs) (no-zero room) ∙ e
 
 mutual
-  pub entry-from : (names : ProgramNames) (room : ℕ) (is_reached : Bool) (passed : ℕ) (e : text.Entry)
+  pub entry-from : (names : ProgramNames) (room : ℕ) (is_reached : Bool) (passed : ℕ)
+      (e : text.Entry)
       (t : Option ElementaryType) → entry_faults names room is_reached passed e t ≡ []
       → IsRightEntry names room passed e t
   entry-from names room is_reached passed (text.label line name) t e = tt
@@ -121,14 +122,15 @@ mutual
         },
       )
 
-  pub entries-from : (names : ProgramNames) (room : ℕ) (is_reached : Bool) (passed : ℕ) (es : text.Entries)
+  pub entries-from : (names : ProgramNames) (room : ℕ) (is_reached : Bool) (passed : ℕ)
+      (es : text.Entries)
       (t : Option ElementaryType) → entries_faults names room is_reached passed es t ≡ []
       → AreRightEntries names room passed es t
   entries-from names room is_reached passed text.no_entries t e = tt
   entries-from names room is_reached passed (text.entry x es) t e =
       let h = both-none _ _ e in (
         entry-from names room is_reached passed x t h.0,
-        entries-from names room is_reached passed es (type_behind names x t) h.1,
+        entries-from names room is_reached passed es (type_after_entry names x t) h.1,
       )
 
 mutual
@@ -147,13 +149,14 @@ mutual
       (none-both _ _ (none-if _ _ (and_right is_reached _ ok.2.set))
       (none-if _ _ (ap not r))))))
 
-  pub entries-to : (names : ProgramNames) (room : ℕ) (is_reached : Bool) (passed : ℕ) (es : text.Entries)
+  pub entries-to : (names : ProgramNames) (room : ℕ) (is_reached : Bool) (passed : ℕ)
+      (es : text.Entries)
       (t : Option ElementaryType) → is_reached ≡ true → AreRightEntries names room passed es t
       → entries_faults names room is_reached passed es t ≡ []
   entries-to names room is_reached passed text.no_entries t r ok = refl
   entries-to names room is_reached passed (text.entry x es) t r ok =
       none-both _ _ (entry-to names room is_reached passed x t r ok.0)
-      (entries-to names room is_reached passed es (type_behind names x t) r ok.1)
+      (entries-to names room is_reached passed es (type_after_entry names x t) r ok.1)
 
 -- the opening parenthesis is reached, or an instruction is
 pub entry-reached : (names : ProgramNames) (room : ℕ) (is_reached : Bool) (passed line : ℕ)
@@ -256,10 +259,11 @@ combined-under operator negated inner t u (inr e) ok =
     subst (λ (v : Option ElementaryType). combines_unset inner v ≡ false) e ok.set in
     absurd (let k : true ≡ false = sym (or-true (is_none inner)) ∙ set in cc)
 
-pub entry-under : (names : ProgramNames) (room passed : ℕ) (e : text.Entry) (t u : Option ElementaryType)
+pub entry-under : (names : ProgramNames) (room passed : ℕ) (e : text.Entry)
+    (t u : Option ElementaryType)
     → Becomes t u → IsRightEntry names room passed e u → IsRightEntry names room passed e t
 entry-under names room passed (text.label line name) t u b ok = tt
 entry-under names room passed (text.action line a) t u b ok =
     right-under passed (resolution_of names a) t u b ok
 entry-under names room passed (text.block line operator negated items end) t u b ok =
-    (ok.0, ok.1, combined-under operator negated (type_behind_all names items None) t u b ok.2)
+    (ok.0, ok.1, combined-under operator negated (type_after_entries names items None) t u b ok.2)

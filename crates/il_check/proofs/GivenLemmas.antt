@@ -11,7 +11,7 @@ use Rattle.il_text.specs.Listing as text
 use Rattle.il_text.specs.declared.program.Input.{Input}
 use Rattle.il_text.specs.declared.program.Literal.{Literal}
 use Rattle.il_text.specs.declared.program.Literal.TheVariants as literal
-use Rattle.il_text.specs.declared.program.Output.{Output}
+use Rattle.il_text.specs.declared.program.TimerOutput.{TimerOutput}
 use Rattle.il_text.specs.declared.program.Operator.{Operator}
 use Rattle.il_text.specs.declared.program.StoreKind.{StoreKind}
 use Rattle.il_image.specs.Images.{IsValue}
@@ -20,24 +20,24 @@ use Rattle.il_image.specs.declared.value.Value.{Value}
 use Rattle.il_image.specs.declared.value.Value.TheVariants as value
 use Rattle.il_image.proofs.KindLemmas.{same-is, same-self}
 use Rattle.il_image.proofs.ValueLemmas.{value_is}
-use Rattle.il_check.specs.Given.{ProgramNames, given_of, literal_given, variable_given, output_given, place_given, source_given, is_zero, is_nonzero_literal, is_nonzero, called_of, arguments_given, resolution_of}
+use Rattle.il_check.specs.SourceOperands.{ProgramNames, source_operand, literal_operand, variable_given, output_given, place_given, source_given, is_zero, is_nonzero_literal, is_nonzero, called_of, arguments_given, resolution_of}
 use Rattle.il_check.specs.Labelling.{Becomes, IsRight}
 use Rattle.il_check.specs.Program.{Checked}
 use Rattle.il_check.specs.Rules as rules
-use Rattle.il_check.specs.Rules.{operand_in, number_in, own_type, load_type, fits, works, may_negate, is_plain, divides, gives, converted_from, allows, uses_result, is_wrong, type_after, goes_on}
+use Rattle.il_check.specs.Rules.{operand_in, number_in, own_type, load_type, fits, works, may_negate, is_plain, divides, gives, converted_from, allows, uses_result, is_wrong, type_after, falls_through}
 use Rattle.il_check.specs.TypedProgram.{slot_type, may_write, is_writable, IsOperand, is_divisor, IsOperation}
 use Rattle.il_check.specs.Typing.{load_operation, load_in, slot_in, target_slot, store_operation, combine_operation, operation_in}
-use Rattle.il_check.specs.declared.given.Meaning.{Meaning}
-use Rattle.il_check.specs.declared.given.Meaning.TheVariants as meaning
-use Rattle.il_check.specs.declared.given.Given.{Given}
-use Rattle.il_check.specs.declared.given.Given.TheVariants.{Missing, Misused, Known, Number}
-use Rattle.il_check.specs.declared.given.KnownOperand.{KnownOperand}
-use Rattle.il_check.specs.declared.given.Called.{Called}
-use Rattle.il_check.specs.declared.given.Called.TheVariants as called
-use Rattle.il_check.specs.declared.given.GivenArguments.{GivenArguments}
-use Rattle.il_check.specs.declared.given.GivenArguments.TheVariants as arguments
-use Rattle.il_check.specs.declared.given.Resolved.{Resolved}
-use Rattle.il_check.specs.declared.given.Resolved.TheVariants.{Load, Store, Combine, Not, Convert, Jump, Return, Call}
+use Rattle.il_check.specs.declared.source_operand.Meaning.{Meaning}
+use Rattle.il_check.specs.declared.source_operand.Meaning.TheVariants as meaning
+use Rattle.il_check.specs.declared.source_operand.SourceOperand.{SourceOperand}
+use Rattle.il_check.specs.declared.source_operand.SourceOperand.TheVariants.{Missing, Misused, Known, Number}
+use Rattle.il_check.specs.declared.source_operand.KnownOperand.{KnownOperand}
+use Rattle.il_check.specs.declared.source_operand.CalledTimer.{CalledTimer}
+use Rattle.il_check.specs.declared.source_operand.CalledTimer.TheVariants as called
+use Rattle.il_check.specs.declared.source_operand.SourceArguments.{SourceArguments}
+use Rattle.il_check.specs.declared.source_operand.SourceArguments.TheVariants as arguments
+use Rattle.il_check.specs.declared.source_operand.Resolved.{Resolved}
+use Rattle.il_check.specs.declared.source_operand.Resolved.TheVariants.{Load, Store, Combine, Not, Convert, Jump, Return, Call}
 use Rattle.il_check.specs.declared.typed.External.{External}
 use Rattle.il_check.specs.declared.typed.Variable.{Variable}
 use Rattle.il_check.specs.declared.typed.Slot.TheVariants as slot
@@ -69,10 +69,10 @@ named-from c (meaning.Timer n) h = h
 abbrev pub CanWrite : Checked → TypedOperand → Type 0
 CanWrite c (operand.Literal v) = ⊥
 CanWrite c (operand.Slot s) = may_write c s ≡ true
-CanWrite c (operand.Output timer what) = ⊥
+CanWrite c (operand.TimerOutput timer what) = ⊥
 
 -- an operand of its type, which may be written where it says so; a number of LINT
-abbrev pub IsGiven : Checked → Given → Type 0
+abbrev pub IsGiven : Checked → SourceOperand → Type 0
 IsGiven c Missing = Unit {0}
 IsGiven c Misused = Unit {0}
 IsGiven c (Known source) =
@@ -80,7 +80,7 @@ IsGiven c (Known source) =
 IsGiven c (Number z) = is_some (value_of elementary.Lint z) ≡ true
 
 known-is : (c : Checked) (o : Option Value) → ((v : Value) → o ≡ Some v → IsValue v)
-    → IsGiven c (given_of o)
+    → IsGiven c (source_operand o)
 known-is c None right = tt
 known-is c (Some v) right = ((right v refl, refl), λ yes. absurd (cc))
 
@@ -89,7 +89,7 @@ number-is-given : (c : Checked) (z : ℤ) (b : Bool) → is_some (value_of eleme
 number-is-given c z true e = e
 number-is-given c z false e = tt
 
-literal-is : (c : Checked) (l : Literal) → IsGiven c (literal_given l)
+literal-is : (c : Checked) (l : Literal) → IsGiven c (literal_operand l)
 literal-is c (literal.Truth b) = known-is c _ (typed-is (literal.Truth b))
 literal-is c (literal.Number z) = number-is-given c z (is_some (value_of elementary.Lint z)) refl
 literal-is c (literal.Int z) = known-is c _ (typed-is (literal.Int z))
@@ -104,7 +104,7 @@ variable-is c (Some (meaning.Variable s kind writable)) meant =
     meant (meaning.Variable s kind writable) refl
 variable-is c (Some (meaning.Timer n)) meant = tt
 
-output-is : (c : Checked) (o : Option Meaning) (what : Output)
+output-is : (c : Checked) (o : Option Meaning) (what : TimerOutput)
     → ((m : Meaning) → o ≡ Some m → IsNamed c m) → IsGiven c (output_given o what)
 output-is c None what meant = tt
 output-is c (Some (meaning.Variable s kind writable)) what meant = tt
@@ -118,7 +118,7 @@ operand-case c kind z (Some v) x is e =
     subst (λ (y : TypedOperand). IsOperand c y kind) (same_Some (operand.Literal v) x e)
     (is_value kind z v (number-is kind z v is))
 
-pub operand-typed : (c : Checked) (kind : ElementaryType) (g : Given) (x : TypedOperand)
+pub operand-typed : (c : Checked) (kind : ElementaryType) (g : SourceOperand) (x : TypedOperand)
     → IsGiven c g
     → operand_in kind g ≡ Some x → IsOperand c x kind
 operand-typed c kind (Known source) x given e =
@@ -131,7 +131,7 @@ operand-typed c kind g x given e = absurd (cc)
 -- ---- divisors
 
 -- as an operand of any type it is a literal other than 0
-abbrev pub IsNonzero : Given → Type 0
+abbrev pub IsNonzero : SourceOperand → Type 0
 IsNonzero g =
     (kind : ElementaryType) (x : TypedOperand) → operand_in kind g ≡ Some x → is_divisor x ≡ true
 
@@ -148,7 +148,7 @@ divisor-of : (v : Value) (z : ℤ) → number_of v ≡ z → not (is_zero z) ≡
 divisor-of v z e some = ap (λ (y : ℤ). not (int_eq y (pos 0))) e ∙ not-zero z some
 
 known-nonzero : (o : Option Value) (z : ℤ) → ((v : Value) → o ≡ Some v → number_of v ≡ z)
-    → not (is_zero z) ≡ true → IsNonzero (given_of o)
+    → not (is_zero z) ≡ true → IsNonzero (source_operand o)
 known-nonzero None z has some kind x e = absurd (cc)
 known-nonzero (Some v) z has some kind x e =
     subst (λ (y : TypedOperand). is_divisor y ≡ true)
@@ -167,7 +167,7 @@ number-nonzero : (z : ℤ) (b : Bool) → not (is_zero z) ≡ true → IsNonzero
 number-nonzero z true some kind x e = number-nonzero-case z kind (number_in kind z) x some refl e
 number-nonzero z false some kind x e = absurd (cc)
 
-literal-nonzero : (l : Literal) → is_nonzero_literal l ≡ true → IsNonzero (literal_given l)
+literal-nonzero : (l : Literal) → is_nonzero_literal l ≡ true → IsNonzero (literal_operand l)
 literal-nonzero (literal.Truth true) e =
     known-nonzero (Some (value.Truth true)) (pos 1)
     (λ v is. ap number_of (sym (same_Some (value.Truth true) v is))) refl
@@ -193,12 +193,12 @@ source-nonzero names (text.variable place) e = absurd (cc)
 -- ---- instructions with what their names mean
 
 -- the arguments of a call are declared
-abbrev pub AreGiven : Checked → GivenArguments → Type 0
+abbrev pub AreGiven : Checked → SourceArguments → Type 0
 AreGiven c arguments.None = Unit {0}
 AreGiven c (arguments.One a) = IsGiven c a.given
 AreGiven c (arguments.Two a b) = IsGiven c a.given × IsGiven c b.given
 
-abbrev pub IsCalled : Checked → Called → Type 0
+abbrev pub IsCalled : Checked → CalledTimer → Type 0
 IsCalled c called.Missing = Unit {0}
 IsCalled c called.Misused = Unit {0}
 IsCalled c (called.Timer n) = n < length c.timers
@@ -292,7 +292,7 @@ loaded-some negated None e = absurd (cc)
 loaded-some negated (Some x) e = refl
 
 -- a load that is right leaves an operation
-pub load-some : (c : Checked) (negated : Bool) (g : Given) → IsGiven c g
+pub load-some : (c : Checked) (negated : Bool) (g : SourceOperand) → IsGiven c g
     → allows (Load negated g) elementary.Bool ≡ true
     → is_some (operation_in (Load negated g) None) ≡ true
 load-some c negated (Known source) given ok =
@@ -314,7 +314,7 @@ none-some o e f = absurd (cc)
 
 -- ---- operations
 
-load-kind : (c : Checked) (negated : Bool) (g : Given) (t : Option ElementaryType)
+load-kind : (c : Checked) (negated : Bool) (g : SourceOperand) (t : Option ElementaryType)
     (kind : ElementaryType) (x : Option TypedOperand) (o : SimpleOperation) → IsGiven c g
     → may_negate negated kind ≡ true → operand_in kind g ≡ x
     → load_operation negated x ≡ Some o → IsOperation c o t (Some kind)
@@ -324,7 +324,7 @@ load-kind c negated g t kind (Some x) o given may is e =
     (same_Some (op.Load negated x) o e)
     (kind, operand-typed c kind g x given is, may, refl)
 
-load-case : (c : Checked) (negated : Bool) (g : Given) (t k : Option ElementaryType)
+load-case : (c : Checked) (negated : Bool) (g : SourceOperand) (t k : Option ElementaryType)
     (o : SimpleOperation) → IsGiven c g → rules.may_load negated k ≡ true → load_type g ≡ k
     → load_in negated g k ≡ Some o → IsOperation c o t k
 load-case c negated g t None o given may is e = absurd (cc)
@@ -337,7 +337,8 @@ divisor-right true true is e h = ap not (h refl)
 divisor-right true false is e h = absurd (cc)
 divisor-right false nonzero is e h = refl
 
-combine-kind : (c : Checked) (operator : Operator) (negated : Bool) (g : Given) (nonzero : Bool)
+combine-kind : (c : Checked) (operator : Operator) (negated : Bool) (g : SourceOperand)
+    (nonzero : Bool)
     (kind : ElementaryType) (x : Option TypedOperand) (o : SimpleOperation) → IsGiven c g
     → (nonzero ≡ true → IsNonzero g)
     → works operator negated kind ≡ true → divides operator && not nonzero ≡ false
@@ -365,14 +366,14 @@ store-slot c how kind (operand.Literal v) of o is same may how_may e = absurd (c
 store-slot c how kind (operand.Slot s) of o is same may how_may e =
     subst (λ (y : SimpleOperation). IsOperation c y (Some kind) (Some kind))
     (same_Some (op.Store how s) o e) (kind, is ∙ ap Some same, may, how_may, refl, refl)
-store-slot c how kind (operand.Output timer what) of o is same may how_may e = absurd (cc)
+store-slot c how kind (operand.TimerOutput timer what) of o is same may how_may e = absurd (cc)
 
 fits-same : (source : KnownOperand) (kind : ElementaryType) (b : Bool)
     → same_type source.kind kind ≡ b → is_some (cond b (Some source.operand) None) ≡ true → b ≡ true
 fits-same source kind true e f = refl
 fits-same source kind false e f = absurd (cc)
 
-store-kind : (c : Checked) (how : StoreKind) (g : Given) (kind : ElementaryType)
+store-kind : (c : Checked) (how : StoreKind) (g : SourceOperand) (kind : ElementaryType)
     (o : SimpleOperation) → IsGiven c g → fits kind g && may_negate (not (is_plain how)) kind ≡ true
     → rules.is_fixed g ≡ false
     → store_operation how (target_slot g) ≡ Some o → IsOperation c o (Some kind) (Some kind)
@@ -426,7 +427,7 @@ left-same c passed (Call what args) t is ok e = inr refl
 
 -- an operation goes on to what is below, and jumps nowhere
 pub operation-goes-on : (r : Resolved) (t : Option ElementaryType) (o : SimpleOperation)
-    → operation_in r t ≡ Some o → (rules.target_of r ≡ None) × (goes_on r ≡ true)
+    → operation_in r t ≡ Some o → (rules.target_of r ≡ None) × (falls_through r ≡ true)
 operation-goes-on (Load negated g) t o e = (refl, refl)
 operation-goes-on (Store how g) t o e = (refl, refl)
 operation-goes-on (Combine operator negated g nonzero) t o e = (refl, refl)

@@ -18,28 +18,28 @@ use Rattle.il_text.specs.declared.program.Input.{Input}
 use Rattle.il_text.specs.declared.program.Literal.{Literal}
 use Rattle.il_text.specs.declared.program.Literal.TheVariants as literal
 use Rattle.il_text.specs.declared.program.Operator.{Operator}
-use Rattle.il_text.specs.declared.program.Output.{Output}
+use Rattle.il_text.specs.declared.program.TimerOutput.{TimerOutput}
 use Rattle.il_text.specs.declared.program.StoreKind.{StoreKind}
 use Rattle.il_image.specs.Values.{type_of, value_of}
 use Rattle.il_image.specs.declared.value.Value.{Value}
 use Rattle.il_image.proofs.ValueLemmas.{value_is}
-use Rattle.il_check.specs.Checking.{initial_standing, faults_of, checked_program, checked_of}
+use Rattle.il_check.specs.Checking.{initial_progress, faults_of, checked_program, checked_of}
 use Rattle.il_check.specs.Declaring.{names_in, declarations_faults}
 use Rattle.il_check.specs.Faults.{least_fault}
-use Rattle.il_check.specs.Given.{ProgramNames, given_of, literal_given, variable_given, output_given, place_given, source_given, called_of, arguments_given, argument_given, resolution_of}
+use Rattle.il_check.specs.SourceOperands.{ProgramNames, source_operand, literal_operand, variable_given, output_given, place_given, source_given, called_of, arguments_given, argument_given, resolution_of}
 use Rattle.il_check.specs.Keeping.{slot_name, timer_name, label_names, IsValueOf, IsOperandOf, IsTargetOf, IsOperationOf, IsArgumentOf, AreArgumentsOf, IsEntryOf, AreEntriesOf, IsItemOf, AreItemsOf, Keeps}
 use Rattle.il_check.specs.Labelling.{IsRight, IsRightEntry, AreRightEntries}
 use Rattle.il_check.specs.OwnPlaces.{MeanOwnPlaces}
 use Rattle.il_check.specs.Program.{Entry, operation, block, Entries, no_entries, ProgramItem, transfer, plain, Checked, entry_before}
 use Rattle.il_check.specs.Rules.{operand_in, number_in, load_type, input_type, type_after, works, fits, combines_unset}
 use Rattle.il_check.specs.Typing.{load_operation, load_in, target_slot, store_operation, combine_operation, operation_in, typed_argument, one_argument, two_arguments, arguments_in, call_with, call_in, jump_in, entry_in, or_entry, item_in, block_in}
-use Rattle.il_check.specs.WellTyped.{Progress, type_behind, type_behind_all, items_faults, entry_left, entries_left, items_left, behind}
+use Rattle.il_check.specs.WellTyped.{Progress, type_after_entry, type_after_entries, items_faults, entry_left, entries_left, progress_after_items, progress_after_entry}
 use Rattle.il_check.specs.declared.fault.CheckFault.{CheckFault}
-use Rattle.il_check.specs.declared.given.Meaning.{Meaning}
-use Rattle.il_check.specs.declared.given.Meaning.TheVariants as meaning
-use Rattle.il_check.specs.declared.given.Given.TheVariants.{Misused, Number}
-use Rattle.il_check.specs.declared.given.Called.TheVariants as called
-use Rattle.il_check.specs.declared.given.Resolved.TheVariants.{Load, Store, Call}
+use Rattle.il_check.specs.declared.source_operand.Meaning.{Meaning}
+use Rattle.il_check.specs.declared.source_operand.Meaning.TheVariants as meaning
+use Rattle.il_check.specs.declared.source_operand.SourceOperand.TheVariants.{Misused, Number}
+use Rattle.il_check.specs.declared.source_operand.CalledTimer.TheVariants as called
+use Rattle.il_check.specs.declared.source_operand.Resolved.TheVariants.{Load, Store, Call}
 use Rattle.il_check.specs.declared.typed.External.{External}
 use Rattle.il_check.specs.declared.typed.Variable.{Variable}
 use Rattle.il_check.specs.declared.typed.Timer.{Timer}
@@ -98,7 +98,7 @@ module _ (c : Checked) (names : ProgramNames) (items : List text.Entry)
   -- ---- operands
 
   known-kept : (l : Literal) (o : Option Value) (kind : ElementaryType) (x : TypedOperand)
-      → ((v : Value) → o ≡ Some v → IsValueOf l v) → operand_in kind (given_of o) ≡ Some x
+      → ((v : Value) → o ≡ Some v → IsValueOf l v) → operand_in kind (source_operand o) ≡ Some x
       → IsOperandOf c (text.constant l) x
   known-kept l None kind x is e = absurd (cc)
   known-kept l (Some v) kind x is e =
@@ -120,7 +120,7 @@ module _ (c : Checked) (names : ProgramNames) (items : List text.Entry)
   number-given-kept z false kind x e = absurd (cc)
 
   literal-kept : (l : Literal) (kind : ElementaryType) (x : TypedOperand)
-      → operand_in kind (literal_given l) ≡ Some x → IsOperandOf c (text.constant l) x
+      → operand_in kind (literal_operand l) ≡ Some x → IsOperandOf c (text.constant l) x
   literal-kept (literal.Truth b) kind x e =
       known-kept (literal.Truth b) _ kind x (of_literal (literal.Truth b)) e
   literal-kept (literal.Number z) kind x e =
@@ -142,12 +142,12 @@ module _ (c : Checked) (names : ProgramNames) (items : List text.Entry)
       (cond_some (same_type k kind) (operand.Slot s) x e).1 (named-slot name s k w is)
   variable-kept name m kind x is e = absurd (cc)
 
-  output-kept : (timer : List ℕ) (what : Output) (m : Option Meaning) (kind : ElementaryType)
+  output-kept : (timer : List ℕ) (what : TimerOutput) (m : Option Meaning) (kind : ElementaryType)
       (x : TypedOperand) → names.meaning timer ≡ m → operand_in kind (output_given m what) ≡ Some x
       → IsOperandOf c (text.variable (text.output timer what)) x
   output-kept timer what (Some (meaning.Timer n)) kind x is e =
       subst (IsOperandOf c (text.variable (text.output timer what)))
-      (cond_some _ (operand.Output n what) x e).1 (named-timer timer n is, refl)
+      (cond_some _ (operand.TimerOutput n what) x e).1 (named-timer timer n is, refl)
   output-kept timer what m kind x is e = absurd (cc)
 
   source-kept : (source : text.OperandData) (kind : ElementaryType) (x : TypedOperand)
@@ -165,7 +165,7 @@ module _ (c : Checked) (names : ProgramNames) (items : List text.Entry)
       (named-slot name r k w is)
   named-target name m s is e = absurd (cc)
 
-  no-target : (what : Output) (m : Option Meaning) (s : Slot)
+  no-target : (what : TimerOutput) (m : Option Meaning) (s : Slot)
       → target_slot (output_given m what) ≡ Some s → ⊥
   no-target what None s e = absurd (cc)
   no-target what (Some (meaning.Variable r k w)) s e = absurd (cc)
@@ -236,7 +236,7 @@ module _ (c : Checked) (names : ProgramNames) (items : List text.Entry)
   named-some how (Some (meaning.Variable s k w)) passed kind ok = refl
   named-some how (Some (meaning.Timer n)) passed kind ok = absurd (let k = ok.allowed in cc)
 
-  output-some : (how : StoreKind) (what : Output) (m : Option Meaning) (passed : ℕ)
+  output-some : (how : StoreKind) (what : TimerOutput) (m : Option Meaning) (passed : ℕ)
       (kind : ElementaryType) → IsRight passed (Store how (output_given m what)) (Some kind)
       → is_some (store_operation how (target_slot (output_given m what))) ≡ true
   output-some how what None passed kind ok = absurd (let k = ok.named in cc)
@@ -306,15 +306,15 @@ module _ (c : Checked) (names : ProgramNames) (items : List text.Entry)
   entries-kept room passed (text.entry (text.block line operator negated inner end) es) t ok may =
       let both = and_parts (is_parenthesis inner) (all_inner es) may in
       let e = text.block line operator negated inner end in
-      let b = block-case line operator negated inner end (type_behind_all names inner None) t
+      let b = block-case line operator negated inner end (type_after_entries names inner None) t
       (entries_left names (room - 1) inner None) ok.0.2.set
       (entries-kept (room - 1) passed inner None ok.0.1 (inner-of inner both.0)) in
       let is : entry_left names room e t ≡ Some b.what =
       ap (λ (x : Entries). block_in operator negated x t)
       (with-room room no_entries (entries_left names (room - 1) inner None) ok.0.0) ∙ b.is in
-      let rest = entries_left names room es (type_behind names e t) in
+      let rest = entries_left names room es (type_after_entry names e t) in
       subst (λ (x : Option Entry). AreEntriesOf c (text.entry e es) (entry_before x rest)) (sym is)
-      (b.keeps, entries-kept room passed es (type_behind names e t) ok.1 both.1)
+      (b.keeps, entries-kept room passed es (type_after_entry names e t) ok.1 both.1)
 
   block-kept : (room passed line : ℕ) (operator : Operator) (negated : Bool) (inner : text.Entries)
       (end : ℕ) (t : Option ElementaryType)
@@ -323,7 +323,7 @@ module _ (c : Checked) (names : ProgramNames) (items : List text.Entry)
       → Kept (text.block line operator negated inner end)
       (entry_left names room (text.block line operator negated inner end) t)
   block-kept room passed line operator negated inner end t ok may =
-      let b = block-case line operator negated inner end (type_behind_all names inner None) t
+      let b = block-case line operator negated inner end (type_after_entries names inner None) t
       (entries_left names (room - 1) inner None) ok.2.set
       (entries-kept (room - 1) passed inner None ok.1 (inner-of inner may)) in
       record {
@@ -444,11 +444,13 @@ module _ (c : Checked) (names : ProgramNames) (items : List text.Entry)
 
   -- ---- items
 
-  one-more : (e : text.Entry) (es : List text.Entry) (o : Option ProgramItem) (xs : List ProgramItem)
+  one-more : (e : text.Entry) (es : List text.Entry) (o : Option ProgramItem)
+      (xs : List ProgramItem)
       → KeptItem e o → AreItemsOf c (label_names items) es xs
       → AreItemsOf c (label_names items) (e ∷ es) (cons_option o xs)
   one-more e es o xs k more =
-      subst (λ (x : Option ProgramItem). AreItemsOf c (label_names items) (e ∷ es) (cons_option x xs))
+      subst (λ (x : Option ProgramItem). AreItemsOf c (label_names items) (e ∷ es)
+      (cons_option x xs))
       (sym k.is) (k.keeps, more)
 
   block-item : (line : ℕ) (operator : Operator) (negated : Bool) (inner : text.Entries) (end : ℕ)
@@ -460,7 +462,7 @@ module _ (c : Checked) (names : ProgramNames) (items : List text.Entry)
   items-kept : (es : List text.Entry) (s : Progress) (before : List (List ℕ))
       → items_faults names es s ≡ [] → list_all is_outer es ≡ true
       → label_names items ≡ before ++ label_names es → length before ≡ s.passed
-      → AreItemsOf c (label_names items) es (items_left names es s)
+      → AreItemsOf c (label_names items) es (progress_after_items names es s)
   items-kept [] s before none may at size = tt
   items-kept (text.label line name ∷ es) s before none may at size =
       let here : slice_get (label_names items) s.passed ≡ Some (upper name) =
@@ -468,7 +470,8 @@ module _ (c : Checked) (names : ProgramNames) (items : List text.Entry)
       (subst (λ (l : List (List ℕ)). slice_get l (length before) ≡ Some (upper name)) (sym at)
       (at-middle before (upper name) (label_names es))) in (
         here,
-        items-kept es (behind names (text.label line name) s) (before ++ upper name ∷ [])
+        items-kept es (progress_after_entry names (text.label line name) s)
+            (before ++ upper name ∷ [])
             (both-none _ _ none).1 may
             (at ∙ sym (append_assoc before (upper name ∷ []) (label_names es)))
             (length-append before (upper name ∷ []) ∙ ap (λ (n : ℕ). n + 1) size),
@@ -479,7 +482,7 @@ module _ (c : Checked) (names : ProgramNames) (items : List text.Entry)
       right-from s.now.is_reached s.passed line (resolution_of names a) s.now.kind h.0 in
       one-more (text.action line a) es (item_in (resolution_of names a) s.now.kind) _
       (action-kept line s.passed a s.now.kind right.1)
-      (items-kept es (behind names (text.action line a) s) before h.1 may at size)
+      (items-kept es (progress_after_entry names (text.action line a) s) before h.1 may at size)
   items-kept (text.block line operator negated inner end ∷ es) s before none may at size =
       let b = text.block line operator negated inner end in
       let h = both-none _ _ none in
@@ -488,7 +491,7 @@ module _ (c : Checked) (names : ProgramNames) (items : List text.Entry)
       one-more b es (option_map plain (entry_left names most_nested b s.now.kind)) _
       (block-item line operator negated inner end (entry_left names most_nested b s.now.kind)
       (block-kept most_nested s.passed line operator negated inner end s.now.kind right outer.0))
-      (items-kept es (behind names b s) before h.1 outer.1 at size)
+      (items-kept es (progress_after_entry names b s) before h.1 outer.1 at size)
 
 -- ---- a program
 
@@ -508,7 +511,7 @@ keeps points program c e may =
     let none = least_fault-none (faults_of points program) h.0 in
     let parts =
     both-none (declarations_faults points [] program.declarations)
-    (items_faults names program.items (initial_standing program)) none in
+    (items_faults names program.items (initial_progress program)) none in
     let d = checked_program points program in
     let are = declares points program.declarations parts.0 in
     let own : MeanOwnPlaces names d program.items =
@@ -519,5 +522,5 @@ keeps points program c e may =
       declared = declared-kept points [] program.declarations parts.0;
       items = items-kept d names program.items own
           (λ name m is. named-from d m (are.meant (upper name) m is))
-          program.items (initial_standing program) [] parts.1 may refl refl;
+          program.items (initial_progress program) [] parts.1 may refl refl;
     })

@@ -9,14 +9,14 @@ use Rattle.bay_base.specs.declared.types.ElementaryType.{ElementaryType}
 use Rattle.bay_base.specs.declared.point.Point.{Point}
 use Rattle.il_text.specs.Listing as text
 use Rattle.il_text.specs.declared.program.Operator.{Operator}
-use Rattle.il_check.specs.Checking.{initial_standing}
+use Rattle.il_check.specs.Checking.{initial_progress}
 use Rattle.il_check.specs.Declaring.{labels_from, names_in, looked_up}
-use Rattle.il_check.specs.Given.{ProgramNames, resolution_of}
-use Rattle.il_check.specs.Labelling.{Labelling, Becomes, IsRight, Coming, Falls, Jumps, is_named, with_target, carry_of, beginning, coming_behind_label, coming_behind_action, with_result, Flows, IsWellTyped, behind_all, coming_behind}
-use Rattle.il_check.specs.Rules.{type_after, gives, goes_on, target_of}
-use Rattle.il_check.specs.WellTyped.{Progress, is_first, items_faults, join, arrival, arrival_at, standing_after, behind}
+use Rattle.il_check.specs.SourceOperands.{ProgramNames, resolution_of}
+use Rattle.il_check.specs.Labelling.{Labelling, Becomes, IsRight, Coming, Falls, Jumps, is_named, with_target, carry_of, beginning, type_after_label, coming_behind_action, with_result, Flows, IsWellTyped, behind_all, type_after_items}
+use Rattle.il_check.specs.Rules.{type_after, gives, falls_through, target_of}
+use Rattle.il_check.specs.WellTyped.{Progress, is_first, items_faults, join, arrival, arrival_at, standing_after, progress_after_entry}
 use Rattle.il_check.specs.declared.reach.Reach.{Reach}
-use Rattle.il_check.specs.declared.given.Resolved.{Resolved}
+use Rattle.il_check.specs.declared.source_operand.Resolved.{Resolved}
 use Rattle.il_check.proofs.FaultlessLemmas.{both-none, none-both, if-none, none-if, right-from, right-to, entry-reached, becomes-along, becomes-under, right-under, after-under, or-true, entry-under, entry-to, entry-from}
 use Rattle.il_check.proofs.ArrivalLemmas.{join-reached, join-left, join-right, join-under, there-within, none-arrived, mapped-length, same-number, other-number, few, few-back, no-less, less-one, not_before, some-if, InRange, target-in, target-ahead, Brought, brings, brings-under}
 use Rattle.il_check.specs.Limits.{most_nested}
@@ -43,8 +43,8 @@ falls-in labels number kind (Some t) falls is typed =
 stands-behind-label : (labels : Labelling) (count line : ℕ) (names : ProgramNames) (name : List ℕ)
     (named : List ℕ) (s : Progress) (now : Coming) → Falls labels s.passed now
     → Stands labels count named s now
-    → Stands labels count named (behind names (text.label line name) s)
-    (coming_behind_label labels (carry_of s.passed named now))
+    → Stands labels count named (progress_after_entry names (text.label line name) s)
+    (type_after_label labels (carry_of s.passed named now))
 stands-behind-label labels count line names name named s now falls st =
     let come = arrival (slice_get s.arrivals s.passed) in
     let either : (join s.now come).is_reached ≡ is_some now || is_named named s.passed =
@@ -74,12 +74,12 @@ stands-behind-action : (labels : Labelling) (count : ℕ) (r : Resolved) (t : Op
     (coming_behind_action r t)
 stands-behind-action labels count r t named s now is jumps range st =
     let reached : s.now.is_reached ≡ true = st.reached ∙ ap is_some is in
-    let goes : s.now.is_reached && goes_on r ≡ goes_on r =
-    ap (λ (x : Bool). x && goes_on r) reached in
+    let goes : s.now.is_reached && falls_through r ≡ falls_through r =
+    ap (λ (x : Bool). x && falls_through r) reached in
     record {
-      reached = goes ∙ sym (some-if (goes_on r) (type_after r t));
+      reached = goes ∙ sym (some-if (falls_through r) (type_after r t));
       typed = λ u e. subst (λ (v : Option ElementaryType). Becomes (type_after r s.now.kind) v)
-          (cond_some (goes_on r) (type_after r t) u e).1
+          (cond_some (falls_through r) (type_after r t) u e).1
           (after-under r s.now.kind t (st.typed t is));
       brought = brings (target_of r) s.now named s.arrivals count reached range st.brought;
       under = brings-under labels (target_of r) s.now t named s.arrivals count reached
@@ -90,7 +90,8 @@ stands-behind-block : (labels : Labelling) (count : ℕ) (names : ProgramNames) 
     (operator : Operator) (negated : Bool) (items : text.Entries) (end : ℕ)
     (t : Option ElementaryType) (named : List ℕ) (s : Progress) (now : Coming) → now ≡ Some t
     → Stands labels count named s now
-    → Stands labels count named (behind names (text.block line operator negated items end) s)
+    → Stands labels count named
+    (progress_after_entry names (text.block line operator negated items end) s)
     (Some (option_map (gives operator) t))
 stands-behind-block labels count names line operator negated items end t named s now is st =
     record {
@@ -111,8 +112,9 @@ flows-to names labels count range [] s named now f st = refl
 flows-to names labels count range (text.label line name ∷ es) s named now f st =
     none-both _ _
     (none-both _ _ (none-if _ _ (ap not f.0.0)) (none-if _ _ (few s.passed f.0.1)))
-    (flows-to names labels count range es (behind names (text.label line name) s) named
-    (coming_behind_label labels (carry_of s.passed named now)) f.1
+    (flows-to names labels count range es (progress_after_entry names (text.label line name) s)
+    named
+    (type_after_label labels (carry_of s.passed named now)) f.1
     (stands-behind-label labels count line names name named s now f.0.2 st))
 flows-to names labels count range (text.action line a ∷ es) s named now f st =
     let r = resolution_of names a in
@@ -131,7 +133,7 @@ flows-to names labels count range (text.block line operator negated items end �
     none-both _ _
     (entry-to names most_nested s.now.is_reached s.passed b s.now.kind reached
     (entry-under names most_nested s.passed b s.now.kind f.0 (st.typed f.0 f.1.0) f.1.1))
-    (flows-to names labels count range es (behind names b s) named
+    (flows-to names labels count range es (progress_after_entry names b s) named
     (Some (option_map (gives operator) f.0)) f.2
     (stands-behind-block labels count names line operator negated items end f.0 named s now
     f.1.0 st))
@@ -140,12 +142,13 @@ stands-behind-all : (names : ProgramNames) (labels : Labelling) (count : ℕ) �
     → (es : List text.Entry) (s : Progress) (named : List ℕ) (now : Coming)
     (t : Option ElementaryType) → Flows names labels es (carry_of s.passed named now)
     → Stands labels count named s now
-    → coming_behind names labels es (carry_of s.passed named now) ≡ Some t
+    → type_after_items names labels es (carry_of s.passed named now) ≡ Some t
     → Becomes (behind_all names es s).now.kind t
 stands-behind-all names labels count range [] s named now t f st is = st.typed t is
 stands-behind-all names labels count range (text.label line name ∷ es) s named now t f st is =
-    stands-behind-all names labels count range es (behind names (text.label line name) s) named
-    (coming_behind_label labels (carry_of s.passed named now)) t f.1
+    stands-behind-all names labels count range es
+    (progress_after_entry names (text.label line name) s) named
+    (type_after_label labels (carry_of s.passed named now)) t f.1
     (stands-behind-label labels count line names name named s now f.0.2 st) is
 stands-behind-all names labels count range (text.action line a ∷ es) s named now t f st is =
     let r = resolution_of names a in
@@ -154,17 +157,17 @@ stands-behind-all names labels count range (text.action line a ∷ es) s named n
     (coming_behind_action r f.0) t f.2
     (stands-behind-action labels count r f.0 named s now f.1.0 f.1.2
     (λ n e. target-in names count a n range e) st)
-    (subst (λ (c : Coming). coming_behind names labels es
+    (subst (λ (c : Coming). type_after_items names labels es
     (carry_of s.passed (with_target (target_of r) named)
     (with_result (coming_behind_action r) c)) ≡ Some t) f.1.0 is)
 stands-behind-all names labels count range (text.block line operator negated items end ∷ es) s named
     now t f st is =
     stands-behind-all names labels count range es
-    (behind names (text.block line operator negated items end) s) named
+    (progress_after_entry names (text.block line operator negated items end) s) named
     (Some (option_map (gives operator) f.0)) t f.2
     (stands-behind-block labels count names line operator negated items end f.0 named s now f.1.0
     st)
-    (subst (λ (c : Coming). coming_behind names labels es
+    (subst (λ (c : Coming). type_after_items names labels es
     (carry_of s.passed named (with_result (λ u. Some (option_map (gives operator) u)) c))
     ≡ Some t) f.1.0 is)
 
@@ -175,11 +178,11 @@ abbrev pub least : ProgramNames → List text.Entry → Progress → ℕ → Opt
 least names [] s n = None
 least names (text.label line name ∷ es) s n =
     cond (n == s.passed) (join s.now (arrival (slice_get s.arrivals s.passed))).kind
-    (least names es (behind names (text.label line name) s) n)
+    (least names es (progress_after_entry names (text.label line name) s) n)
 least names (text.action line a ∷ es) s n =
     least names es (standing_after (resolution_of names a) s) n
 least names (text.block line operator negated items end ∷ es) s n =
-    least names es (behind names (text.block line operator negated items end) s) n
+    least names es (progress_after_entry names (text.block line operator negated items end) s) n
 
 -- what one more jump brings to a label
 brought-by : (names : ProgramNames) (es : List text.Entry) (r : Resolved) (s : Progress) (n : ℕ)
@@ -228,21 +231,23 @@ brought-becomes names (text.label line name ∷ es) s n v is reached = elim (cas
       (join-right s.now v reached) in
       subst (λ (b : Bool). Becomes v.kind
       (cond b (join s.now (arrival (slice_get s.arrivals s.passed))).kind
-      (least names es (behind names (text.label line name) s) n)))
+      (least names es (progress_after_entry names (text.label line name) s) n)))
       (sym (same-number n s.passed e)) here)
   | inr ne ↦
       subst (λ (b : Bool). Becomes v.kind
       (cond b (join s.now (arrival (slice_get s.arrivals s.passed))).kind
-      (least names es (behind names (text.label line name) s) n)))
+      (least names es (progress_after_entry names (text.label line name) s) n)))
       (sym (other-number n s.passed ne))
-      (brought-becomes names es (behind names (text.label line name) s) n v is reached)
+      (brought-becomes names es (progress_after_entry names (text.label line name) s) n v is
+      reached)
 ]
 brought-becomes names (text.action line a ∷ es) s n v is reached =
     brought-by names es (resolution_of names a) s n v (target_of (resolution_of names a)) refl is
     reached
     (λ w. brought-becomes names es (standing_after (resolution_of names a) s) n w)
 brought-becomes names (text.block line operator negated items end ∷ es) s n v is reached =
-    brought-becomes names es (behind names (text.block line operator negated items end) s) n v is
+    brought-becomes names es
+    (progress_after_entry names (text.block line operator negated items end) s) n v is
     reached
 
 -- What is known before items with the least types is just what flows there.
@@ -292,31 +297,33 @@ jumps-out labels names es count r s named (Some m) t reached ok range b same =
 abbrev pub AreLeast : Labelling → ProgramNames → List text.Entry → Progress → Type 0
 AreLeast labels names es s = (n : ℕ) → s.passed ≤ n → labels n ≡ least names es s n
 
-label-least : (names : ProgramNames) (labels : Labelling) (line : ℕ) (name : List ℕ) (es : List text.Entry)
+label-least : (names : ProgramNames) (labels : Labelling) (line : ℕ) (name : List ℕ)
+    (es : List text.Entry)
     (s : Progress) → AreLeast labels names (text.label line name ∷ es) s
     → labels s.passed ≡ (join s.now (arrival (slice_get s.arrivals s.passed))).kind
 label-least names labels line name es s same =
     let come = arrival (slice_get s.arrivals s.passed) in
-    let after = behind names (text.label line name) s in
+    let after = progress_after_entry names (text.label line name) s in
     same s.passed (no-less s.passed)
     ∙ ap (λ (b : Bool). cond b (join s.now come).kind (least names es after s.passed))
     (same-number s.passed s.passed refl)
 
 pub least-behind-label : (names : ProgramNames) (labels : Labelling) (line : ℕ) (name : List ℕ)
     (es : List text.Entry) (s : Progress) → AreLeast labels names (text.label line name ∷ es) s
-    → AreLeast labels names es (behind names (text.label line name) s)
+    → AreLeast labels names es (progress_after_entry names (text.label line name) s)
 least-behind-label names labels line name es s same n le =
     let come = arrival (slice_get s.arrivals s.passed) in
-    let after = behind names (text.label line name) s in
+    let after = progress_after_entry names (text.label line name) s in
     same n (less-one s.passed n le)
     ∙ ap (λ (b : Bool). cond b (join s.now come).kind (least names es after n))
     (other-number n s.passed (not_before s.passed n le))
 
-pub exact-behind-label : (names : ProgramNames) (labels : Labelling) (count : ℕ) (line : ℕ) (name : List ℕ)
+pub exact-behind-label : (names : ProgramNames) (labels : Labelling) (count : ℕ) (line : ℕ)
+    (name : List ℕ)
     (es : List text.Entry) (s : Progress) (named : List ℕ) (now : Coming)
     → AreLeast labels names (text.label line name ∷ es) s → Exact count named s now
-    → Exact count named (behind names (text.label line name) s)
-    (coming_behind_label labels (carry_of s.passed named now))
+    → Exact count named (progress_after_entry names (text.label line name) s)
+    (type_after_label labels (carry_of s.passed named now))
 exact-behind-label names labels count line name es s named now same x =
     let come = arrival (slice_get s.arrivals s.passed) in
     let here = label-least names labels line name es s same in
@@ -340,17 +347,18 @@ pub exact-behind-action : (names : ProgramNames) (count : ℕ) (range : InRange 
 exact-behind-action names count range a s named now reached x =
     let r = resolution_of names a in
     record {
-      is = ap (λ (b : Bool). cond (b && goes_on r) (Some (type_after r s.now.kind)) None)
+      is = ap (λ (b : Bool). cond (b && falls_through r) (Some (type_after r s.now.kind)) None)
           (sym reached);
       brought =
           brings (target_of r) s.now named s.arrivals count reached
           (λ n e. target-in names count a n range e) x.brought;
     }
 
-pub exact-behind-block : (names : ProgramNames) (count line : ℕ) (operator : Operator) (negated : Bool)
+pub exact-behind-block : (names : ProgramNames) (count line : ℕ) (operator : Operator)
+    (negated : Bool)
     (items : text.Entries) (end : ℕ) (s : Progress) (named : List ℕ) (now : Coming)
     → s.now.is_reached ≡ true → Exact count named s now
-    → Exact count named (behind names (text.block line operator negated items end) s)
+    → Exact count named (progress_after_entry names (text.block line operator negated items end) s)
     (Some (option_map (gives operator) s.now.kind))
 exact-behind-block names count line operator negated items end s named now reached x = record {
   is = ap (λ (b : Bool). cond b (Some (option_map (gives operator) s.now.kind)) None) (sym reached);
@@ -377,8 +385,9 @@ flows-from names labels count range (text.label line name ∷ es) s named now sa
         few-back s.passed (if-none _ _ own.1),
         falls,
       ),
-      flows-from names labels count range es (behind names (text.label line name) s) named
-          (coming_behind_label labels (carry_of s.passed named now))
+      flows-from names labels count range es (progress_after_entry names (text.label line name) s)
+          named
+          (type_after_label labels (carry_of s.passed named now))
           (least-behind-label names labels line name es s same) h.1
           (exact-behind-label names labels count line name es s named now same x),
     )
@@ -411,7 +420,7 @@ flows-from names labels count range (text.block line operator negated items end 
         exact-now count named s now x reached,
         entry-from names most_nested s.now.is_reached s.passed b s.now.kind h.0,
       ),
-      flows-from names labels count range es (behind names b s) named
+      flows-from names labels count range es (progress_after_entry names b s) named
           (Some (option_map (gives operator) s.now.kind)) same h.1
           (exact-behind-block names count line operator negated items end s named now reached x),
     )
@@ -443,7 +452,7 @@ first-labels es name n e = let h = labels-within 0 es name n e in omega arith
 
 -- the initial standing of a program is what the checks and any labelling begin with
 begins : (points : List Point) (program : text.PlainProgram) (labels : Labelling)
-    → Stands labels (length (labels_from 0 program.items)) [] (initial_standing program) (Some None)
+    → Stands labels (length (labels_from 0 program.items)) [] (initial_progress program) (Some None)
 begins points program labels = record {
   reached = refl;
   typed = λ t e. inl (sym (same_Some None t e));
@@ -458,15 +467,15 @@ begins points program labels = record {
 pub least_types : (points : List Point) (program : text.PlainProgram) (front more : List text.Entry)
     (labels : Labelling) (t : Option ElementaryType)
     → program.items ≡ front ++ more → Flows (names_in points program) labels front beginning
-    → coming_behind (names_in points program) labels front beginning ≡ Some t
-    → Becomes (behind_all (names_in points program) front (initial_standing program)).now.kind t
+    → type_after_items (names_in points program) labels front beginning ≡ Some t
+    → Becomes (behind_all (names_in points program) front (initial_progress program)).now.kind t
 least_types points program front more labels t parts f is =
     stands-behind-all (names_in points program) labels (length (labels_from 0 program.items))
-    (λ name n e. first-labels program.items (upper name) n e) front (initial_standing program)
+    (λ name n e. first-labels program.items (upper name) n e) front (initial_progress program)
     [] (Some None) t f (begins points program labels) is
 
 pub some_labelling : (points : List Point) (program : text.PlainProgram)
-    → (items_faults (names_in points program) program.items (initial_standing program) ≡ [])
+    → (items_faults (names_in points program) program.items (initial_progress program) ≡ [])
     ↔ IsWellTyped (names_in points program) program.items
 some_labelling points program =
     let names = names_in points program in
@@ -475,14 +484,14 @@ some_labelling points program =
     let range =
     λ (name : List ℕ) (n : ℕ) (e : names.label name ≡ Some n). first-labels program.items
     (upper name) n e in
-    let brought : Brought [] (initial_standing program).arrivals count =
+    let brought : Brought [] (initial_progress program).arrivals count =
     record { arrived = none-arrived labels; size = mapped-length labels } in (
       (λ none.
-          let found = least names program.items (initial_standing program) in (
+          let found = least names program.items (initial_progress program) in (
             found,
-            flows-from names found count range program.items (initial_standing program) []
+            flows-from names found count range program.items (initial_progress program) []
                 (Some None) (λ n le. refl) none (record { is = refl; brought = brought }),
           )),
-      (λ h. flows-to names h.0 count range program.items (initial_standing program) [] (Some None)
+      (λ h. flows-to names h.0 count range program.items (initial_progress program) [] (Some None)
           h.1 (begins points program h.0)),
     )

@@ -24,8 +24,8 @@ use Rattle.il_check.specs.Faults.{least_fault}
 use Rattle.il_check.specs.OwnPlaces.{IsOwn, MeanOwnPlaces}
 use Rattle.il_check.specs.Program.{Checked, ProgramItem}
 use Rattle.il_check.specs.declared.fault.CheckFault.{CheckFault}
-use Rattle.il_check.specs.declared.given.Meaning.{Meaning}
-use Rattle.il_check.specs.declared.given.Meaning.TheVariants as meaning
+use Rattle.il_check.specs.declared.source_operand.Meaning.{Meaning}
+use Rattle.il_check.specs.declared.source_operand.Meaning.TheVariants as meaning
 use Rattle.il_check.specs.declared.typed.External.{External}
 use Rattle.il_check.specs.declared.typed.Slot.TheVariants as slot
 use Rattle.il_check.specs.declared.typed.Timer.{Timer}
@@ -177,7 +177,8 @@ added_by points d s k =
       timers = option_to_list (timer_in d k);
     }
 
-adds-one : (points : List Point) (d : text.Declared) (s : VariableScope) (k : DeclaredType) (a : Lists)
+adds-one : (points : List Point) (d : text.Declared) (s : VariableScope) (k : DeclaredType)
+    (a : Lists)
     → is_external s && is_none (point_of points d.name) ≡ false
     → is_typed s k (point_of points d.name) d.initial ≡ true
     → Adds a (added_by points d s k) (upper d.name)

@@ -8,7 +8,7 @@ use Rattle.bay_base.specs.Exact.{unless_refused}
 use Rattle.bay_base.specs.Names.{same_name, upper}
 use Rattle.bay_base.specs.declared.point.Point.{Point}
 use Rattle.il_text.specs.Listing as text
-use Rattle.il_check.specs.Checking.{checked_of, checked_program, faults_of, initial_standing}
+use Rattle.il_check.specs.Checking.{checked_of, checked_program, faults_of, initial_progress}
 use Rattle.il_check.specs.Declaring.{counts_of, declaration_faults, declarations_faults, is_external, looked_up, meaning_at, meanings_from, names_in, point_of}
 use Rattle.il_check.specs.Faults.{IsLeast, fault_if, least_fault}
 use Rattle.il_check.specs.Program.{Checked}
@@ -136,7 +136,7 @@ pub right-program : (points : List Point) (program : text.PlainProgram)
 right-program points program none =
     let two =
     both-none (declarations_faults points [] program.declarations)
-    (items_faults (names_in points program) program.items (initial_standing program)) none in
+    (items_faults (names_in points program) program.items (initial_progress program)) none in
     record {
       declarations = right-all points [] program.declarations two.0;
       instructions = (some_labelling points program).0 two.1;
@@ -146,7 +146,7 @@ pub program-right : (points : List Point) (program : text.PlainProgram)
     → IsRightProgram points program → faults_of points program ≡ []
 program-right points program h =
     none-of (declarations_faults points [] program.declarations)
-    (items_faults (names_in points program) program.items (initial_standing program))
+    (items_faults (names_in points program) program.items (initial_progress program))
     (all-right points [] program.declarations h.declarations)
     ((some_labelling points program).1 h.instructions)
 

@@ -16,7 +16,7 @@ use Rattle.il_check.specs.NamesView.{with_value}
 use Rattle.il_check.specs.Declaring.{external_at, external_in, variable_at, variable_in, timer_in, initial_in, meaning_at, point_of, name_faults, is_full}
 use Rattle.il_check.specs.DeclarationsView.{counts_in, external_named, variable_named, external_added, variable_added, timer_added, Adds, Takes}
 use Rattle.il_check.specs.declared.declare.Declarations.{Declarations}
-use Rattle.il_check.specs.declared.given.Meaning.{Meaning}
+use Rattle.il_check.specs.declared.source_operand.Meaning.{Meaning}
 use Rattle.il_check.specs.declared.typed.External.{External}
 use Rattle.il_check.specs.declared.typed.Variable.{Variable}
 use Rattle.il_check.specs.declared.typed.Timer.{Timer}

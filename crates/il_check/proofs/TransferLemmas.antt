@@ -13,12 +13,12 @@ use Rattle.il_check.specs.Rules as rules
 use Rattle.il_check.specs.Rules.{operand_in, fits, works, is_conditional, input_type, argument_fits, arguments_fit, is_wrong, is_unset}
 use Rattle.il_check.specs.TypedProgram.{IsArgument, AreArguments, Decides, has_label, IsTransfer, target_of, coming_behind_condition, coming_behind_transfer}
 use Rattle.il_check.specs.Typing.{operation_in, typed_argument, one_argument, two_arguments, arguments_in, call_with, transfer_in}
-use Rattle.il_check.specs.declared.given.Called.TheVariants as called
-use Rattle.il_check.specs.declared.given.GivenArgument.{GivenArgument}
-use Rattle.il_check.specs.declared.given.GivenArguments.{GivenArguments}
-use Rattle.il_check.specs.declared.given.GivenArguments.TheVariants as arguments
-use Rattle.il_check.specs.declared.given.Resolved.{Resolved}
-use Rattle.il_check.specs.declared.given.Resolved.TheVariants.{Load, Store, Combine, Not, Convert, Jump, Return, Call}
+use Rattle.il_check.specs.declared.source_operand.CalledTimer.TheVariants as called
+use Rattle.il_check.specs.declared.source_operand.SourceArgument.{SourceArgument}
+use Rattle.il_check.specs.declared.source_operand.SourceArguments.{SourceArguments}
+use Rattle.il_check.specs.declared.source_operand.SourceArguments.TheVariants as arguments
+use Rattle.il_check.specs.declared.source_operand.Resolved.{Resolved}
+use Rattle.il_check.specs.declared.source_operand.Resolved.TheVariants.{Load, Store, Combine, Not, Convert, Jump, Return, Call}
 use Rattle.il_check.specs.declared.typed.TypedOperand.{TypedOperand}
 use Rattle.il_check.specs.declared.typed.TypedArgument.{TypedArgument}
 use Rattle.il_check.specs.declared.typed.TypedArguments.{TypedArguments}
@@ -29,7 +29,7 @@ use Rattle.il_check.proofs.GivenLemmas.{IsGiven, operand-typed, AreGiven, IsFoun
 
 -- ---- jumps, returns and calls
 
-argument-case : (c : Checked) (a : GivenArgument) (w : Option TypedOperand) (x : TypedArgument)
+argument-case : (c : Checked) (a : SourceArgument) (w : Option TypedOperand) (x : TypedArgument)
     → IsGiven c a.given → operand_in (input_type a.input) a.given ≡ w
     → option_map (λ o. record { input = a.input; operand = o }) w ≡ Some x → IsArgument c x
 argument-case c a None x given is e = absurd (cc)
@@ -37,18 +37,18 @@ argument-case c a (Some o) x given is e =
     subst (IsArgument c) (same_Some (record { input = a.input; operand = o }) x e)
     (operand-typed c (input_type a.input) a.given o given is)
 
-argument-typed : (c : Checked) (a : GivenArgument) (x : TypedArgument) → IsGiven c a.given
+argument-typed : (c : Checked) (a : SourceArgument) (x : TypedArgument) → IsGiven c a.given
     → typed_argument a ≡ Some x → IsArgument c x
 argument-typed c a x given e =
     argument-case c a (operand_in (input_type a.input) a.given) x given refl e
 
-one-typed : (c : Checked) (a : GivenArgument) (w : Option TypedArgument) (xs : TypedArguments)
+one-typed : (c : Checked) (a : SourceArgument) (w : Option TypedArgument) (xs : TypedArguments)
     → IsGiven c a.given → typed_argument a ≡ w → one_argument w ≡ Some xs → AreArguments c xs
 one-typed c a None xs given is e = absurd (cc)
 one-typed c a (Some x) xs given is e =
     subst (AreArguments c) (same_Some (typed.One x) xs e) (argument-typed c a x given is)
 
-two-typed : (c : Checked) (a b : GivenArgument) (v w : Option TypedArgument) (xs : TypedArguments)
+two-typed : (c : Checked) (a b : SourceArgument) (v w : Option TypedArgument) (xs : TypedArguments)
     → IsGiven c a.given → IsGiven c b.given → typed_argument a ≡ v → typed_argument b ≡ w
     → two_arguments v w ≡ Some xs → AreArguments c xs
 two-typed c a b (Some x) (Some y) xs given more is also e =
@@ -56,7 +56,7 @@ two-typed c a b (Some x) (Some y) xs given more is also e =
     (argument-typed c a x given is, argument-typed c b y more also)
 two-typed c a b v w xs given more is also e = absurd (cc)
 
-arguments-typed : (c : Checked) (args : GivenArguments) (xs : TypedArguments) → AreGiven c args
+arguments-typed : (c : Checked) (args : SourceArguments) (xs : TypedArguments) → AreGiven c args
     → arguments_in args ≡ Some xs → AreArguments c xs
 arguments-typed c arguments.None xs given e = subst (AreArguments c) (same_Some typed.None xs e) tt
 arguments-typed c (arguments.One a) xs given e = one-typed c a (typed_argument a) xs given refl e
@@ -92,13 +92,14 @@ behind-same IfTrue t = refl
 behind-same IfFalse t = refl
 
 -- a jump, a return or a call that is left, above these items
-pub record IsMoved (c : Checked) (below : List ProgramItem) (r : Resolved) (t : Option ElementaryType)
+pub record IsMoved (c : Checked) (below : List ProgramItem) (r : Resolved)
+    (t : Option ElementaryType)
     (x : Transfer) : Type 0 where
   pub right : IsTransfer c below x t
   pub target : target_of x ≡ rules.target_of r
   pub goes : coming_behind_transfer x t ≡ coming_behind_action r t
 
-call-case : (c : Checked) (below : List ProgramItem) (n : ℕ) (args : GivenArguments)
+call-case : (c : Checked) (below : List ProgramItem) (n : ℕ) (args : SourceArguments)
     (w : Option TypedArguments) (t : Option ElementaryType) (x : Transfer) → n < length c.timers
     → AreGiven c args → arguments_in args ≡ w → call_with n w ≡ Some x
     → IsMoved c below (Call (called.Timer n) args) t x
@@ -138,12 +139,12 @@ two-some : (o p : Option TypedArgument) → is_some o ≡ true → is_some p ≡
 two-some (Some x) (Some y) e f = refl
 two-some o p e f = absurd (cc)
 
-argument-some : (a : GivenArgument) → argument_fits a ≡ true → is_some (typed_argument a) ≡ true
+argument-some : (a : SourceArgument) → argument_fits a ≡ true → is_some (typed_argument a) ≡ true
 argument-some a e =
     mapped-some (λ o. record { input = a.input; operand = o })
     (operand_in (input_type a.input) a.given) e
 
-pub arguments-some : (args : GivenArguments) → arguments_fit args ≡ true
+pub arguments-some : (args : SourceArguments) → arguments_fit args ≡ true
     → is_some (arguments_in args) ≡ true
 arguments-some arguments.None e = refl
 arguments-some (arguments.One a) e = one-some (typed_argument a) (argument-some a e)

@@ -11,19 +11,19 @@ use Rattle.bay_base.specs.declared.point.Point.{Point}
 use Rattle.il_text.specs.Listing as text
 use Rattle.il_text.specs.declared.program.Operator.{Operator}
 use Rattle.il_image.proofs.KindLemmas.{same-is}
-use Rattle.il_check.specs.Checking.{initial_standing, faults_of, checked_program, checked_of}
+use Rattle.il_check.specs.Checking.{initial_progress, faults_of, checked_program, checked_of}
 use Rattle.il_check.specs.Declaring.{labels_from, names_in, declarations_faults}
 use Rattle.il_check.specs.Faults.{least_fault}
-use Rattle.il_check.specs.Given.{ProgramNames, resolution_of}
-use Rattle.il_check.specs.Labelling.{Labelling, IsRight, IsCombined, IsRightEntry, AreRightEntries, Coming, Jumps, with_target, carry_of, coming_behind_label, coming_behind_action}
+use Rattle.il_check.specs.SourceOperands.{ProgramNames, resolution_of}
+use Rattle.il_check.specs.Labelling.{Labelling, IsRight, IsCombined, IsRightEntry, AreRightEntries, Coming, Jumps, with_target, carry_of, type_after_label, coming_behind_action}
 use Rattle.il_check.specs.Program.{Entry, operation, block, Entries, no_entries, entry, ProgramItem, label, transfer, plain, Checked, entry_before}
 use Rattle.il_check.specs.Rules as rules
 use Rattle.il_check.specs.Rules.{gives, works, type_after}
 use Rattle.il_check.specs.TypedProgram.{IsEntry, AreEntries, entry_depth, entries_depth, has_label, coming_behind_transfer, AreItems, IsTyped}
 use Rattle.il_check.specs.Typing.{operation_in, transfer_in, or_entry, block_in}
-use Rattle.il_check.specs.WellTyped.{Progress, type_behind, type_behind_all, items_faults, entry_left, entries_left, item_left, items_left, behind, standing_after}
+use Rattle.il_check.specs.WellTyped.{Progress, type_after_entry, type_after_entries, items_faults, entry_left, entries_left, progress_after_item, progress_after_items, progress_after_entry, standing_after}
 use Rattle.il_check.specs.declared.fault.CheckFault.{CheckFault}
-use Rattle.il_check.specs.declared.given.Resolved.{Resolved}
+use Rattle.il_check.specs.declared.source_operand.Resolved.{Resolved}
 use Rattle.il_check.specs.declared.typed.SimpleOperation.{SimpleOperation}
 use Rattle.il_check.specs.declared.typed.SimpleOperation.TheVariants as op
 use Rattle.il_check.specs.declared.typed.Transfer.{Transfer}
@@ -102,7 +102,7 @@ with-room (suc room) x y some = sym (ap (λ (b : Bool). cond b x y) (no-zero roo
 module _ (c : Checked) (names : ProgramNames) (meant : AreNamed c names) where
   entries-typed : (room passed : ℕ) (es : text.Entries) (t : Option ElementaryType)
       (k : ElementaryType) → AreRightEntries names room passed es t
-      → type_behind_all names es t ≡ Some k
+      → type_after_entries names es t ≡ Some k
       → AreEntries c (entries_left names room es t) t (Some k)
   entries-typed room passed text.no_entries t k ok e = sym e
   entries-typed room passed (text.entry (text.label line name) es) t k ok e =
@@ -115,9 +115,9 @@ module _ (c : Checked) (names : ProgramNames) (meant : AreNamed c names) where
   entries-typed room passed (text.entry (text.block line operator negated items end) es) t k ok e =
       let u = option_map (gives operator) t in
       let inner =
-      λ (x : ElementaryType) (is : type_behind_all names items None ≡ Some x). entries-typed
+      λ (x : ElementaryType) (is : type_after_entries names items None ≡ Some x). entries-typed
       (room - 1) passed items None x ok.0.1 is in
-      let b = block-typed c operator negated (type_behind_all names items None) t
+      let b = block-typed c operator negated (type_after_entries names items None) t
       (entries_left names (room - 1) items None) ok.0.2 inner in
       let left : IsBlock c (entry_left names room (text.block line operator negated items end) t) t
       u =
@@ -133,9 +133,9 @@ module _ (c : Checked) (names : ProgramNames) (meant : AreNamed c names) where
       (option_map (gives operator) t)
   block-left room passed line operator negated items end t ok =
       let inner =
-      λ (x : ElementaryType) (is : type_behind_all names items None ≡ Some x). entries-typed
+      λ (x : ElementaryType) (is : type_after_entries names items None ≡ Some x). entries-typed
       (room - 1) passed items None x ok.1 is in
-      let b = block-typed c operator negated (type_behind_all names items None) t
+      let b = block-typed c operator negated (type_after_entries names items None) t
       (entries_left names (room - 1) items None) ok.2 inner in
       subst (λ (x : Entries). IsBlock c (block_in operator negated x t) t
       (option_map (gives operator) t))
@@ -167,7 +167,8 @@ block-depth operator negated es None room some h = omega arith
 block-depth operator negated es (Some kind) room some h = omega arith
 
 mutual
-  entry-within : (names : ProgramNames) (room passed : ℕ) (e : text.Entry) (t : Option ElementaryType)
+  entry-within : (names : ProgramNames) (room passed : ℕ) (e : text.Entry)
+      (t : Option ElementaryType)
       → IsRightEntry names room passed e t → option_depth (entry_left names room e t) ≤ room
   entry-within names room passed (text.label line name) t ok = omega arith
   entry-within names room passed (text.action line a) t ok =
@@ -178,13 +179,15 @@ mutual
       (with-room room no_entries (entries_left names (room - 1) items None) ok.0)
       (entries-within names (room - 1) passed items None ok.1))
 
-  entries-within : (names : ProgramNames) (room passed : ℕ) (es : text.Entries) (t : Option ElementaryType)
+  entries-within : (names : ProgramNames) (room passed : ℕ) (es : text.Entries)
+      (t : Option ElementaryType)
       → AreRightEntries names room passed es t → entries_depth (entries_left names room es t) ≤ room
   entries-within names room passed text.no_entries t ok = omega arith
   entries-within names room passed (text.entry e es) t ok =
-      before-depth (entry_left names room e t) (entries_left names room es (type_behind names e t))
+      before-depth (entry_left names room e t)
+      (entries_left names room es (type_after_entry names e t))
       room (entry-within names room passed e t ok.0)
-      (entries-within names room passed es (type_behind names e t) ok.1)
+      (entries-within names room passed es (type_after_entry names e t) ok.1)
 
 -- ---- labels that stand below
 
@@ -199,25 +202,30 @@ after : (n m : ℕ) → n ≤ m → (m ≡ n → ⊥) → n + 1 ≤ m
 after n m le ne = omega (arith, ne)
 
 labels-below : (names : ProgramNames) (es : List text.Entry) (s : Progress) (n : ℕ) → s.passed ≤ n
-    → n < s.passed + length (labels_from s.passed es) → has_label (items_left names es s) n ≡ true
+    → n < s.passed + length (labels_from s.passed es)
+    → has_label (progress_after_items names es s) n ≡ true
 labels-below names [] s n le lt = absurd (omega arith)
 labels-below names (text.label line name ∷ es) s n le lt = elim (cases_eq n s.passed) [
   | inl e ↦ ap (λ (b : Bool). b
-      || has_label (items_left names es (behind names (text.label line name) s)) n)
+      || has_label (progress_after_items names es
+      (progress_after_entry names (text.label line name) s)) n)
       (same-number s.passed n (sym e))
   | inr ne ↦ labels-more (Some (label s.passed))
-      (items_left names es (behind names (text.label line name) s)) n
-      (labels-below names es (behind names (text.label line name) s) n (after s.passed n le ne)
+      (progress_after_items names es (progress_after_entry names (text.label line name) s)) n
+      (labels-below names es (progress_after_entry names (text.label line name) s) n
+      (after s.passed n le ne)
       (omega arith))
 ]
 labels-below names (text.action line a ∷ es) s n le lt =
-    labels-more (item_left names (text.action line a) s)
-    (items_left names es (standing_after (resolution_of names a) s)) n
+    labels-more (progress_after_item names (text.action line a) s)
+    (progress_after_items names es (standing_after (resolution_of names a) s)) n
     (labels-below names es (standing_after (resolution_of names a) s) n le lt)
 labels-below names (text.block line operator negated items end ∷ es) s n le lt =
-    labels-more (item_left names (text.block line operator negated items end) s)
-    (items_left names es (behind names (text.block line operator negated items end) s)) n
-    (labels-below names es (behind names (text.block line operator negated items end) s) n le
+    labels-more (progress_after_item names (text.block line operator negated items end) s)
+    (progress_after_items names es
+    (progress_after_entry names (text.block line operator negated items end) s)) n
+    (labels-below names es (progress_after_entry names (text.block line operator negated items end)
+    s) n le
     lt)
 
 -- ---- the items
@@ -270,20 +278,21 @@ block-case c labels passed named now t u is o at depth b more =
     subst (λ (x : Option Entry). AreItems c labels (cons_option (option_map plain x) is)
     (carry_of passed named now)) (sym b.is) (t, u, (at, b.right, deep), more)
 
-module _ (c : Checked) (names : ProgramNames) (meant : AreNamed c names) (labels : Labelling) (count : ℕ)
+module _ (c : Checked) (names : ProgramNames) (meant : AreNamed c names) (labels : Labelling)
+    (count : ℕ)
     (range : InRange names count) where
   items-typed : (es : List text.Entry) (s : Progress) (named : List ℕ) (now : Coming)
       → AreLeast labels names es s → items_faults names es s ≡ [] → Exact count named s now
       → s.passed + length (labels_from s.passed es) ≡ count
-      → AreItems c labels (items_left names es s) (carry_of s.passed named now)
+      → AreItems c labels (progress_after_items names es s) (carry_of s.passed named now)
   items-typed [] s named now same none x size = tt
   items-typed (text.label line name ∷ es) s named now same none x size =
       let f = flows-from names labels count range (text.label line name ∷ es) s named now same none
       x in
       let later = (both-none _ _ none).1 in (
         (refl, f.0.1, f.0.2),
-        items-typed es (behind names (text.label line name) s) named
-            (coming_behind_label labels (carry_of s.passed named now))
+        items-typed es (progress_after_entry names (text.label line name) s) named
+            (type_after_label labels (carry_of s.passed named now))
             (least-behind-label names labels line name es s same) later
             (exact-behind-label names labels count line name es s named now same x) (omega arith),
       )
@@ -298,7 +307,8 @@ module _ (c : Checked) (names : ProgramNames) (meant : AreNamed c names) (labels
       let jumps =
       jumps-out labels names es count r s named (rules.target_of r) refl right.0 right.1 within
       x.brought same in
-      item-case c labels s.passed named now r s.now.kind (items_left names es (standing_after r s))
+      item-case c labels s.passed named now r s.now.kind
+      (progress_after_items names es (standing_after r s))
       (transfer_in r) (operation_in r s.now.kind) (found c names meant a) right.1
       (exact-now count named s now x right.0) jumps below refl refl
       (items-typed es (standing_after r s) (with_target (rules.target_of r) named)
@@ -312,12 +322,14 @@ module _ (c : Checked) (names : ProgramNames) (meant : AreNamed c names) (labels
       s.now.kind h.0 in
       let right = entry-from names most_nested s.now.is_reached s.passed b s.now.kind h.0 in
       block-case c labels s.passed named now s.now.kind (option_map (gives operator) s.now.kind)
-      (items_left names es (behind names b s)) (entry_left names most_nested b s.now.kind)
+      (progress_after_items names es (progress_after_entry names b s))
+      (entry_left names most_nested b s.now.kind)
       (exact-now count named s now x reached)
       (entry-within names most_nested s.passed b s.now.kind right)
       (block-left c names meant most_nested s.passed line operator negated items end s.now.kind
       right)
-      (items-typed es (behind names b s) named (Some (option_map (gives operator) s.now.kind)) same
+      (items-typed es (progress_after_entry names b s) named
+      (Some (option_map (gives operator) s.now.kind)) same
       h.1 (exact-behind-block names count line operator negated items end s named now reached x)
       size)
 
@@ -330,11 +342,11 @@ program-typed points program none =
     let names = names_in points program in
     let parts =
     both-none (declarations_faults points [] program.declarations)
-    (items_faults names program.items (initial_standing program)) none in
+    (items_faults names program.items (initial_progress program)) none in
     let are = declares points program.declarations parts.0 in
     let count = length (labels_from 0 program.items) in
-    let labels = least names program.items (initial_standing program) in
-    let brought : Brought [] (initial_standing program).arrivals count =
+    let labels = least names program.items (initial_progress program) in
+    let brought : Brought [] (initial_progress program).arrivals count =
     record {
       arrived = none-arrived (labels_from 0 program.items);
       size = mapped-length (labels_from 0 program.items);
@@ -348,7 +360,7 @@ program-typed points program none =
       items =
           items-typed c names (λ name m e. named-from c m (are.meant (upper name) m e)) labels count
           (λ name n e. first-labels program.items (upper name) n e)
-          program.items (initial_standing program) [] (Some None) (λ n le. refl) parts.1
+          program.items (initial_progress program) [] (Some None) (λ n le. refl) parts.1
           (record { is = refl; brought = brought }) (omega arith);
     }
 

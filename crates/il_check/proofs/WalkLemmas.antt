@@ -10,11 +10,11 @@ use Rattle.il_text.specs.Views.{entry_of}
 use Rattle.il_text.specs.declared.program.Item.{Item}
 use Rattle.il_text.proofs.ListingLemmas.{front-item}
 use Rattle.il_check.specs.Faults.{first_fault_of}
-use Rattle.il_check.specs.Given.{ProgramNames}
+use Rattle.il_check.specs.SourceOperands.{ProgramNames}
 use Rattle.il_check.specs.Program as plain
 use Rattle.il_check.specs.ProgramViews.{entry_view, item_view}
-use Rattle.il_check.specs.WalkView.{standing_of}
-use Rattle.il_check.specs.WellTyped.{Progress, type_behind, type_behind_all, entry_faults, entries_faults, entry_left, entries_left, behind, item_faults, items_faults, item_left, items_left}
+use Rattle.il_check.specs.WalkView.{progress_of}
+use Rattle.il_check.specs.WellTyped.{Progress, type_after_entry, type_after_entries, entry_faults, entries_faults, entry_left, entries_left, progress_after_entry, item_faults, items_faults, progress_after_item, progress_after_items}
 use Rattle.il_check.specs.declared.walk.Walk.{Walk}
 use Rattle.il_check.specs.declared.walk.Passed.{Passed}
 use Rattle.il_check.specs.declared.typed.TypedEntry.{TypedEntry}
@@ -78,8 +78,8 @@ module _ (names : ProgramNames) (room : ℕ) (is_reached : Bool) (passed : ℕ) 
 
   -- what is known after so many entries
   pub record EntriesSoFar (i : ℕ) (now : Option CheckFault) (p : Passed) : Type 0 where
-    pub kind : type_behind_all names (text.entries_of (map entry_of (drop i all))) p.kind
-        ≡ type_behind_all names (text.entries_of (map entry_of all)) None
+    pub kind : type_after_entries names (text.entries_of (map entry_of (drop i all))) p.kind
+        ≡ type_after_entries names (text.entries_of (map entry_of all)) None
     pub left : ahead (map entry_view p.entries.items)
         (entries_left names room (text.entries_of (map entry_of (drop i all))) p.kind)
         ≡ entries_left names room (text.entries_of (map entry_of all)) None
@@ -90,14 +90,14 @@ module _ (names : ProgramNames) (room : ℕ) (is_reached : Bool) (passed : ℕ) 
 
   -- what an entry changes
   pub record EntryTaken (e : text.Entry) (old new : Option CheckFault) (p q : Passed) : Type 0 where
-    pub kind : q.kind ≡ type_behind names e p.kind
+    pub kind : q.kind ≡ type_after_entry names e p.kind
     pub left : map entry_view q.entries.items
         ≡ map entry_view p.entries.items ++ option_to_list (entry_left names room e p.kind)
     pub found : new ≡ first_fault_of old (entry_faults names room is_reached passed e p.kind)
 
   pub entries-none : (p : Passed) → p.entries.items ≡ [] → p.kind ≡ None → EntriesSoFar 0 begun p
   entries-none p nothing unset = record {
-    kind = ap (type_behind_all names (text.entries_of (map entry_of all))) unset;
+    kind = ap (type_after_entries names (text.entries_of (map entry_of all))) unset;
     left =
         ap (λ (es : List TypedEntry). ahead (map entry_view es)
         (entries_left names room (text.entries_of (map entry_of all)) p.kind)) nothing
@@ -116,17 +116,17 @@ module _ (names : ProgramNames) (room : ℕ) (is_reached : Bool) (passed : ℕ) 
       in
       record {
         kind =
-            ap (type_behind_all names after) taken.kind
-            ∙ ap (λ (es : text.Entries). type_behind_all names es p.kind) (sym left)
+            ap (type_after_entries names after) taken.kind
+            ∙ ap (λ (es : text.Entries). type_after_entries names es p.kind) (sym left)
             ∙ known.kind;
         left =
             ap (λ (k : Option ElementaryType). ahead (map entry_view q.entries.items)
             (entries_left names room after k)) taken.kind
             ∙ ap (λ (es : List plain.Entry). ahead es
-            (entries_left names room after (type_behind names (entry_of x) p.kind))) taken.left
+            (entries_left names room after (type_after_entry names (entry_of x) p.kind))) taken.left
             ∙ ahead-option (map entry_view p.entries.items)
             (entry_left names room (entry_of x) p.kind)
-            (entries_left names room after (type_behind names (entry_of x) p.kind))
+            (entries_left names room after (type_after_entry names (entry_of x) p.kind))
             ∙ ap (λ (es : text.Entries). ahead (map entry_view p.entries.items)
             (entries_left names room es p.kind)) (sym left)
             ∙ known.left;
@@ -135,10 +135,10 @@ module _ (names : ProgramNames) (room : ℕ) (is_reached : Bool) (passed : ℕ) 
             (entries_faults names room is_reached passed after k)) taken.kind
             ∙ ap (λ (o : Option CheckFault). first_fault_of o
             (entries_faults names room is_reached passed after
-            (type_behind names (entry_of x) p.kind))) taken.found
+            (type_after_entry names (entry_of x) p.kind))) taken.found
             ∙ sym (noted-append old (entry_faults names room is_reached passed (entry_of x) p.kind)
             (entries_faults names room is_reached passed after
-            (type_behind names (entry_of x) p.kind)))
+            (type_after_entry names (entry_of x) p.kind)))
             ∙ ap (λ (es : text.Entries). first_fault_of old
             (entries_faults names room is_reached passed es p.kind)) (sym left)
             ∙ known.found;
@@ -147,9 +147,9 @@ module _ (names : ProgramNames) (room : ℕ) (is_reached : Bool) (passed : ℕ) 
   -- after all entries
   pub entries-kind : (i : ℕ) (found : Option CheckFault) (p : Passed) → length all ≤ i
       → EntriesSoFar i found p
-      → p.kind ≡ type_behind_all names (text.entries_of (map entry_of all)) None
+      → p.kind ≡ type_after_entries names (text.entries_of (map entry_of all)) None
   entries-kind i found p within known =
-      ap (λ (xs : List Item). type_behind_all names (text.entries_of (map entry_of xs)) p.kind)
+      ap (λ (xs : List Item). type_after_entries names (text.entries_of (map entry_of xs)) p.kind)
       (sym (nothing-left all i within)) ∙ known.kind
 
   pub entries-left : (i : ℕ) (found : Option CheckFault) (p : Passed) → length all ≤ i
@@ -174,78 +174,86 @@ module _ (names : ProgramNames) (room : ℕ) (is_reached : Bool) (passed : ℕ) 
       (sym (nothing-left all i within))
       ∙ known.found
 
-module _ (names : ProgramNames) (all : List Item) (begun : Option CheckFault) (start : Progress) where
-  -- what is known after so many items; what is left of them is, as long as no fault is found
-  pub record ItemsSoFar (i : ℕ) (now : Option CheckFault) (w : Walk) : Type 0 where
-    pub left : now ≡ None → map item_view w.items.items
-        ++ items_left names (map entry_of (drop i all)) (standing_of w)
-        ≡ items_left names (map entry_of all) start
-    pub found : first_fault_of now (items_faults names (map entry_of (drop i all)) (standing_of w))
+module _ (names : ProgramNames) (all : List Item) (begun : Option CheckFault) (start : Progress)
+  where
+    -- what is known after so many items; what is left of them is, as long as no fault is found
+    pub record ItemsSoFar (i : ℕ) (now : Option CheckFault) (w : Walk) : Type 0 where
+      pub left : now ≡ None → map item_view w.items.items
+          ++ progress_after_items names (map entry_of (drop i all)) (progress_of w)
+          ≡ progress_after_items names (map entry_of all) start
+      pub found : first_fault_of now
+          (items_faults names (map entry_of (drop i all)) (progress_of w))
+          ≡ first_fault_of begun (items_faults names (map entry_of all) start)
+      pub few : w.passed ≤ i
+
+    pub record ItemTaken (e : text.Entry) (old new : Option CheckFault) (v w : Walk) : Type 0 where
+      pub standing : progress_of w ≡ progress_after_entry names e (progress_of v)
+      pub left : new ≡ None → map item_view w.items.items
+          ≡ map item_view v.items.items
+          ++ option_to_list (progress_after_item names e (progress_of v))
+      pub found : new ≡ first_fault_of old (item_faults names e (progress_of v))
+
+    few-more : (e : text.Entry) (s : Progress)
+        → (progress_after_entry names e s).passed ≤ s.passed + 1
+    few-more (text.label line name) s = omega arith
+    few-more (text.action line a) s = omega arith
+    few-more (text.block line operator negated items end) s = omega arith
+
+    pub items-more : (i : ℕ) (x : Item) (old new : Option CheckFault) (v w : Walk) → i < length all
+        → x ≡ get_or all i x
+        → ItemsSoFar i old v → ItemTaken (entry_of x) old new v w → ItemsSoFar (i + 1) new w
+    items-more i x old new v w within is known taken =
+        let after : List text.Entry = map entry_of (drop (i + 1) all) in
+        let left : map entry_of (drop i all) ≡ entry_of x ∷ after =
+        ap (map entry_of) (front-item all i x within is) in
+        let s : Progress = progress_after_entry names (entry_of x) (progress_of v) in
+        record {
+          left = λ (none : new ≡ None).
+              ap (λ (t : Progress). map item_view w.items.items
+              ++ progress_after_items names after t)
+              taken.standing
+              ∙ ap (λ (xs : List plain.ProgramItem). xs ++ progress_after_items names after s)
+              (taken.left none)
+              ∙ cons-after (map item_view v.items.items)
+              (progress_after_item names (entry_of x) (progress_of v))
+              (progress_after_items names after s)
+              ∙ ap (λ (es : List text.Entry). map item_view v.items.items
+              ++ progress_after_items names es (progress_of v)) (sym left)
+              ∙ known.left (noted-none old (item_faults names (entry_of x) (progress_of v))
+              (sym taken.found ∙ none));
+          found =
+              ap (λ (t : Progress). first_fault_of new (items_faults names after t)) taken.standing
+              ∙ ap (λ (o : Option CheckFault). first_fault_of o (items_faults names after s))
+              taken.found
+              ∙ sym (noted-append old (item_faults names (entry_of x) (progress_of v))
+              (items_faults names after s))
+              ∙ ap (λ (es : List text.Entry). first_fault_of old
+              (items_faults names es (progress_of v)))
+              (sym left)
+              ∙ known.found;
+          few =
+              let e : w.passed ≡ s.passed = ap (λ (t : Progress). t.passed) taken.standing in
+              let f : s.passed ≤ v.passed + 1 = few-more (entry_of x) (progress_of v) in
+              let g : v.passed ≤ i = known.few in
+              omega arith;
+        }
+
+    pub items-left : (i : ℕ) (found : Option CheckFault) (w : Walk) → length all ≤ i
+        → ItemsSoFar i found w → found ≡ None
+        → map item_view w.items.items ≡ progress_after_items names (map entry_of all) start
+    items-left i found w within known none =
+        sym (append-nil (map item_view w.items.items))
+        ∙ ap (λ (xs : List Item). map item_view w.items.items
+        ++ progress_after_items names (map entry_of xs) (progress_of w))
+        (sym (nothing-left all i within))
+        ∙ known.left none
+
+    pub items-found : (i : ℕ) (found : Option CheckFault) (w : Walk) → length all ≤ i
+        → ItemsSoFar i found w → found
         ≡ first_fault_of begun (items_faults names (map entry_of all) start)
-    pub few : w.passed ≤ i
-
-  pub record ItemTaken (e : text.Entry) (old new : Option CheckFault) (v w : Walk) : Type 0 where
-    pub standing : standing_of w ≡ behind names e (standing_of v)
-    pub left : new ≡ None → map item_view w.items.items
-        ≡ map item_view v.items.items ++ option_to_list (item_left names e (standing_of v))
-    pub found : new ≡ first_fault_of old (item_faults names e (standing_of v))
-
-  few-more : (e : text.Entry) (s : Progress) → (behind names e s).passed ≤ s.passed + 1
-  few-more (text.label line name) s = omega arith
-  few-more (text.action line a) s = omega arith
-  few-more (text.block line operator negated items end) s = omega arith
-
-  pub items-more : (i : ℕ) (x : Item) (old new : Option CheckFault) (v w : Walk) → i < length all
-      → x ≡ get_or all i x
-      → ItemsSoFar i old v → ItemTaken (entry_of x) old new v w → ItemsSoFar (i + 1) new w
-  items-more i x old new v w within is known taken =
-      let after : List text.Entry = map entry_of (drop (i + 1) all) in
-      let left : map entry_of (drop i all) ≡ entry_of x ∷ after =
-      ap (map entry_of) (front-item all i x within is) in
-      let s : Progress = behind names (entry_of x) (standing_of v) in
-      record {
-        left = λ (none : new ≡ None).
-            ap (λ (t : Progress). map item_view w.items.items ++ items_left names after t)
-            taken.standing
-            ∙ ap (λ (xs : List plain.ProgramItem). xs ++ items_left names after s) (taken.left none)
-            ∙ cons-after (map item_view v.items.items)
-            (item_left names (entry_of x) (standing_of v)) (items_left names after s)
-            ∙ ap (λ (es : List text.Entry). map item_view v.items.items
-            ++ items_left names es (standing_of v)) (sym left)
-            ∙ known.left (noted-none old (item_faults names (entry_of x) (standing_of v))
-            (sym taken.found ∙ none));
-        found =
-            ap (λ (t : Progress). first_fault_of new (items_faults names after t)) taken.standing
-            ∙ ap (λ (o : Option CheckFault). first_fault_of o (items_faults names after s))
-            taken.found
-            ∙ sym (noted-append old (item_faults names (entry_of x) (standing_of v))
-            (items_faults names after s))
-            ∙ ap (λ (es : List text.Entry). first_fault_of old
-            (items_faults names es (standing_of v)))
-            (sym left)
-            ∙ known.found;
-        few =
-            let e : w.passed ≡ s.passed = ap (λ (t : Progress). t.passed) taken.standing in
-            let f : s.passed ≤ v.passed + 1 = few-more (entry_of x) (standing_of v) in
-            let g : v.passed ≤ i = known.few in
-            omega arith;
-      }
-
-  pub items-left : (i : ℕ) (found : Option CheckFault) (w : Walk) → length all ≤ i
-      → ItemsSoFar i found w → found ≡ None
-      → map item_view w.items.items ≡ items_left names (map entry_of all) start
-  items-left i found w within known none =
-      sym (append-nil (map item_view w.items.items))
-      ∙ ap (λ (xs : List Item). map item_view w.items.items
-      ++ items_left names (map entry_of xs) (standing_of w)) (sym (nothing-left all i within))
-      ∙ known.left none
-
-  pub items-found : (i : ℕ) (found : Option CheckFault) (w : Walk) → length all ≤ i
-      → ItemsSoFar i found w → found
-      ≡ first_fault_of begun (items_faults names (map entry_of all) start)
-  items-found i found w within known =
-      sym (noted-nil found)
-      ∙ ap (λ (xs : List Item). first_fault_of found
-      (items_faults names (map entry_of xs) (standing_of w)))
-      (sym (nothing-left all i within))
-      ∙ known.found
+    items-found i found w within known =
+        sym (noted-nil found)
+        ∙ ap (λ (xs : List Item). first_fault_of found
+        (items_faults names (map entry_of xs) (progress_of w)))
+        (sym (nothing-left all i within))
+        ∙ known.found

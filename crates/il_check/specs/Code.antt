@@ -5,7 +5,7 @@ use Rattle.il_check.specs.declared.fault.CheckFault.TheVariants.{UnknownName, Du
 
 -- ---- own: numbers and lines of faults
 
--- 70 to 79; want of memory has no number
+-- the fault's number, 70 to 79; out of memory has none
 abbrev pub code_of : CheckFault → Option ℕ
 code_of (UnknownName line) = Some 70
 code_of (DuplicateName line) = Some 71
@@ -19,7 +19,7 @@ code_of (ZeroDivisor line) = Some 78
 code_of (TooMany line) = Some 79
 code_of OutOfMemory = None
 
--- counted from 1; want of memory has line 0
+-- the line of the fault, counted from 1, or 0 for out of memory
 abbrev pub line_of : CheckFault → ℕ
 line_of (UnknownName line) = line
 line_of (DuplicateName line) = line

@@ -1,4 +1,4 @@
--- What a checked program of the code holds.
+-- The content of a checked program of the code.
 use Rattle.std.specs.Prelude.{List}
 use Rattle.il_check.specs.declared.typed.External.{External}
 use Rattle.il_check.specs.declared.typed.Variable.{Variable}
@@ -7,7 +7,7 @@ use Rattle.il_check.specs.declared.typed.TypedItem.{TypedItem}
 
 -- ---- own: views of the code
 
--- each in the order of the text
+-- the externals, variables, timers and items, each in the order of the text
 pub record Contents : Type 0 where
   pub externals : List External
   pub variables : List Variable

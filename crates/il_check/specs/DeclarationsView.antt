@@ -1,4 +1,4 @@
--- Inner: what is known of the names declared so far, in the code.
+-- Inner: the declarations so far, in the code.
 use Rattle.std.specs.Prelude.{◌≡◌, ℕ, List, ◌++◌, Option, None, Some, is_some, vec_len}
 use Rattle.std.specs.Option.{option_to_list}
 use Rattle.std.specs.BTreeMap.{get_by_text}
@@ -21,7 +21,7 @@ use Rattle.il_check.specs.declared.typed.Timer.{Timer}
 
 -- ---- own: views of the code
 
--- how many are declared so far
+-- the numbers of externals, variables and timers so far
 abbrev pub counts_in : Declarations → Counts
 counts_in d =
     record {
@@ -30,53 +30,56 @@ counts_in d =
       timers = vec_len d.timers;
     }
 
--- an external, and a variable, of a name in upper case
+-- the external with a name in upper case, if it has a point
 abbrev pub external_named : List ℕ → ElementaryType → Option Point → Option External
 external_named name kind None = None
 external_named name kind (Some p) =
     Some (record { name = name; kind = kind; writable = p.writable; source = p.source })
 
--- the variable of a name with the value that it begins with
+-- the variable of a name with its initial value, if it has one
 abbrev pub variable_named : List ℕ → Option Value → Option Variable
 variable_named name None = None
 variable_named name (Some v) = Some (record { name = name; initial = v })
 
--- what a declaration, whose name in upper case is given, adds to externals, variables and timers
+-- the external that a declaration adds, if any, given its name in upper case
 abbrev pub external_added : List ℕ → VariableScope → DeclaredType → Option Point → Option External
 external_added name scope.External (type.Elementary kind) point = external_named name kind point
 external_added name declared_as kind point = None
 
--- a variable, where a local name has an elementary type and a value that fits it
+-- the variable that a declaration adds, if any: a local name with an elementary type and a value
+-- that fits
 abbrev pub variable_added : List ℕ → text.Declared → VariableScope → DeclaredType → Option Variable
 variable_added name d scope.Local (type.Elementary kind) =
     variable_named name (initial_in kind d.initial)
 variable_added name d declared_as kind = None
 
--- a timer, where the name has the type of one
+-- the timer that a declaration adds, if any: a name with the type of a timer
 abbrev pub timer_added : List ℕ → DeclaredType → Option Timer
 timer_added name (type.Timer kind) = Some (record { name = name; kind = kind })
 timer_added name (type.Elementary kind) = None
 
--- All but one stays as it was: the externals, the variables, the timers.
+-- Only the externals have changed.
 pub record SameButExternals (old new : Declarations) : Type 0 where
   pub variables : new.variables ≡ old.variables
   pub timers : new.timers ≡ old.timers
   pub meanings : new.meanings ≡ old.meanings
   pub found : new.found ≡ old.found
 
+-- Only the variables have changed.
 pub record SameButVariables (old new : Declarations) : Type 0 where
   pub externals : new.externals ≡ old.externals
   pub timers : new.timers ≡ old.timers
   pub meanings : new.meanings ≡ old.meanings
   pub found : new.found ≡ old.found
 
+-- Only the timers have changed.
 pub record SameButTimers (old new : Declarations) : Type 0 where
   pub externals : new.externals ≡ old.externals
   pub variables : new.variables ≡ old.variables
   pub meanings : new.meanings ≡ old.meanings
   pub found : new.found ≡ old.found
 
--- what a declaration adds
+-- The externals, variables and timers that a declaration adds are appended.
 pub record Adds (name : List ℕ) (d : text.Declared) (point : Option Point) (old new : Declarations)
     : Type 0 where
   pub externals : new.externals.items
@@ -87,7 +90,7 @@ pub record Adds (name : List ℕ) (d : text.Declared) (point : Option Point) (ol
   pub meanings : new.meanings ≡ old.meanings
   pub found : new.found ≡ old.found
 
--- what taking a declaration changes
+-- The new declarations are the old ones and one more.
 pub record Takes (points : List Point) (d : text.Declared) (old new : Declarations) : Type 0 where
   pub externals : new.externals.items
       ≡ old.externals.items ++ option_to_list (external_in points d d.scope d.kind)
@@ -101,7 +104,7 @@ pub record Takes (points : List Point) (d : text.Declared) (old new : Declaratio
       ≡ first_fault_of old.found (name_faults (point_of points d.name)
       (is_some (get_by_text old.meanings (upper d.name))) (is_full (counts_in old) d.kind) d)
 
--- these declarations were taken
+-- These are the declarations `declared`, in order.
 pub record StandsFor (points : List Point) (declared : List text.Declared) (d : Declarations)
     : Type 0 where
   pub externals : d.externals.items ≡ externals_of points declared

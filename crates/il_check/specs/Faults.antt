@@ -1,23 +1,23 @@
--- The fault that is answered, of all that a program has: the least by its line, and of one line by
--- its number.
+-- The fault to report, of all that a program has: the least by its line, and on one line by its
+-- number.
 use Rattle.std.specs.Prelude.{◌≡◌, Bool, false, ◌&&◌, ◌||◌, nat_lt, ◌==◌, List, [], ◌∷◌, Contains, Option, None, Some, unwrap_or, if◌then◌else◌}
 use Rattle.il_check.specs.Code.{code_of, line_of}
 use Rattle.il_check.specs.declared.fault.CheckFault.{CheckFault}
 
--- ---- own: which fault is answered
+-- ---- own: the fault to report
 
--- the fault, where the test holds
+-- the fault, if the test holds
 abbrev pub fault_if : Bool → CheckFault → List CheckFault
 fault_if test fault = if test then fault ∷ [] else []
 
--- a fault comes before another: its line is less, or it has a lower number on the same line; want
--- of memory, which has no number, comes before all
+-- whether a fault comes before another: its line is less, or it has a lower number on the same
+-- line; out of memory, which has no number, would come before all
 abbrev pub is_before : CheckFault → CheckFault → Bool
 is_before f g =
     nat_lt (line_of f) (line_of g)
     || (line_of f == line_of g && nat_lt (unwrap_or (code_of f) 0) (unwrap_or (code_of g) 0))
 
--- the one of two that comes first
+-- the one of two faults that comes first
 abbrev pub first_of : CheckFault → CheckFault → CheckFault
 first_of f g = if is_before g f then g else f
 
@@ -26,12 +26,12 @@ abbrev pub least_of : CheckFault → List CheckFault → CheckFault
 least_of f [] = f
 least_of f (g ∷ gs) = least_of (first_of f g) gs
 
--- the fault that is answered
+-- the fault to report, if there is one
 abbrev pub least_fault : List CheckFault → Option CheckFault
 least_fault [] = None
 least_fault (f ∷ fs) = Some (least_of f fs)
 
--- the fault that is answered of those so far, if there are any, and of further ones
+-- the fault to report, of the first so far, if there is one, and of further ones
 abbrev pub first_fault_of : Option CheckFault → List CheckFault → Option CheckFault
 first_fault_of None fs = least_fault fs
 first_fault_of (Some f) fs = Some (least_of f fs)

@@ -1,5 +1,5 @@
--- What a checked program says, beside the text's program that it was made of: the same, declaration
--- for declaration and item for item.
+-- A checked program has the content of the program that it was made of, declaration by declaration
+-- and item by item.
 use Rattle.std.specs.Prelude.{◌≡◌, ℕ, pos, List, [], ◌∷◌, slice_get, Option, Some, None, option_map}
 use Rattle.bay_base.specs.Names.{upper}
 use Rattle.bay_base.specs.declared.types.ElementaryType.{ElementaryType}
@@ -33,9 +33,9 @@ use Rattle.il_check.specs.declared.typed.SimpleOperation.TheVariants as op
 use Rattle.il_check.specs.declared.typed.Transfer.{Transfer}
 use Rattle.il_check.specs.declared.typed.Transfer.TheVariants as go
 
--- ---- own: names of places
+-- ---- own: names of slots, timers and labels
 
--- the name of what stands in a slot
+-- the name of the external or variable in a slot
 abbrev pub slot_name : Checked → Slot → Option (List ℕ)
 slot_name c (slot.External n) = option_map (λ e. e.name) (slice_get c.externals n)
 slot_name c (slot.Variable n) = option_map (λ v. v.name) (slice_get c.variables n)
@@ -51,9 +51,9 @@ label_names (text.label line name ∷ es) = upper name ∷ label_names es
 label_names (text.action line a ∷ es) = label_names es
 label_names (text.block line operator negated items end ∷ es) = label_names es
 
--- ---- own: what is kept of values
+-- ---- own: preserved values
 
--- The value is that of the literal; of one that names a type, it has this type.
+-- The value is that of the literal, and has the literal's type if it names one.
 abbrev pub IsValueOf : Literal → Value → Type 0
 IsValueOf (literal.Truth b) v = v ≡ value.Truth b
 IsValueOf (literal.Number z) v = number_of v ≡ z
@@ -62,14 +62,14 @@ IsValueOf (literal.Dint z) v = (type_of v ≡ elementary.Dint) × (number_of v �
 IsValueOf (literal.Lint z) v = (type_of v ≡ elementary.Lint) × (number_of v ≡ z)
 IsValueOf (literal.Time n) v = (type_of v ≡ elementary.Time) × (number_of v ≡ pos n)
 
--- A variable begins with the value that is given, or with 0.
+-- A variable begins with the literal, or with 0 if there is none.
 abbrev pub BeginsWith : Option Literal → Value → Type 0
 BeginsWith None v = number_of v ≡ pos 0
 BeginsWith (Some l) v = IsValueOf l v
 
--- ---- own: what is kept of declarations
+-- ---- own: preserved declarations
 
--- An external is the point of its name, with its type, its source, and whether it may be written.
+-- The external is the point of its name, with its type, its source, and whether it may be written.
 pub record IsExternalOf (points : List Point) (d : text.Declared) (kind : ElementaryType)
     (e : External) : Type 0 where
   pub point : Point
@@ -80,14 +80,14 @@ pub record IsExternalOf (points : List Point) (d : text.Declared) (kind : Elemen
   pub source : e.source ≡ point.source
   pub writable : e.writable ≡ point.writable
 
--- A variable has the type and the value that are declared.
+-- The variable has the declared name, type and initial value.
 pub record IsVariableOf (d : text.Declared) (kind : ElementaryType) (v : Variable) : Type 0 where
   pub name : v.name ≡ upper d.name
   pub kind_is : type_of v.initial ≡ kind
   pub initial : BeginsWith d.initial v.initial
 
--- A declaration of this scope and type is the first external, variable or timer, before what the
--- later ones are.
+-- The first external, variable or timer, by the scope and type of the declaration, is the declared
+-- one, and the later ones are those of later declarations.
 abbrev pub IsDeclaredAs : List Point → text.Declared → VariableScope → DeclaredType → List External
     → List Variable → List Timer → (List External → List Variable → List Timer → Type 0) → Type 0
 IsDeclaredAs points d scope.External (type.Elementary kind) (e ∷ es) vs ts later =
@@ -100,29 +100,30 @@ IsDeclaredAs points d stands (type.Timer kind) es vs (t ∷ ts) later =
     (t ≡ record { name = upper d.name; kind = kind }) × later es vs ts
 IsDeclaredAs points d stands (type.Timer kind) es vs [] later = ⊥
 
--- What is declared is there in the order of the declarations, and nothing else.
+-- The externals, variables and timers are the declared ones, in the order of the declarations, and
+-- no others.
 abbrev pub AreDeclared : List Point → List text.Declared → List External → List Variable
     → List Timer → Type 0
 AreDeclared points [] es vs ts = (es ≡ []) × (vs ≡ []) × (ts ≡ [])
 AreDeclared points (d ∷ ds) es vs ts =
     IsDeclaredAs points d d.scope d.kind es vs ts (AreDeclared points ds)
 
--- ---- own: what is kept of instructions
+-- ---- own: preserved instructions
 
--- The operand is the literal's value, or what the text names.
+-- The operand is the literal's value, or the variable or timer output that the text names.
 abbrev pub IsOperandOf : Checked → text.OperandData → TypedOperand → Type 0
 IsOperandOf c (text.constant l) (operand.Literal v) = IsValueOf l v
 IsOperandOf c (text.variable (text.named name)) (operand.Slot s) = slot_name c s ≡ Some (upper name)
-IsOperandOf c (text.variable (text.output timer gives)) (operand.Output n what) =
+IsOperandOf c (text.variable (text.output timer gives)) (operand.TimerOutput n what) =
     (timer_name c n ≡ Some (upper timer)) × (what ≡ gives)
 IsOperandOf c source x = ⊥
 
--- The slot is what the text names.
+-- The slot is that of the variable that the text names.
 abbrev pub IsTargetOf : Checked → text.Place → Slot → Type 0
 IsTargetOf c (text.named name) s = slot_name c s ≡ Some (upper name)
 IsTargetOf c (text.output timer gives) s = ⊥
 
--- The operation is that of the text, with the same modifier, on the same operand.
+-- The operation is that of the text, with the same modifier and the same operand.
 abbrev pub IsOperationOf : Checked → text.Action → SimpleOperation → Type 0
 IsOperationOf c (text.load negated source) (op.Load n x) = (n ≡ negated) × IsOperandOf c source x
 IsOperationOf c (text.store how place) (op.Store h s) = (h ≡ how) × IsTargetOf c place s
@@ -132,18 +133,19 @@ IsOperationOf c text.invert op.Not = Unit {0}
 IsOperationOf c (text.convert conversion) (op.Convert k) = k ≡ conversion
 IsOperationOf c a o = ⊥
 
--- The argument gives the same operand to the same input.
+-- The argument has the same input and the same operand.
 abbrev pub IsArgumentOf : Checked → Input × text.OperandData → TypedArgument → Type 0
 IsArgumentOf c a x = (x.input ≡ a.0) × IsOperandOf c a.1 x.operand
 
--- So does each argument of a call, which has two at most.
+-- The arguments of a call, at most two, are those of the text.
 abbrev pub AreArgumentsOf : Checked → List (Input × text.OperandData) → TypedArguments → Type 0
 AreArgumentsOf c [] arguments.None = Unit {0}
 AreArgumentsOf c (a ∷ []) (arguments.One x) = IsArgumentOf c a x
 AreArgumentsOf c (a ∷ b ∷ more) (arguments.Two x y) = IsArgumentOf c a x × IsArgumentOf c b y
 AreArgumentsOf c args xs = ⊥
 
--- The jump, return or call is that of the text, on the same condition, to the same label or timer.
+-- The jump, return or call is that of the text, with the same condition, and the same label or
+-- timer.
 abbrev pub IsTransferOf : Checked → List (List ℕ) → text.Action → Transfer → Type 0
 IsTransferOf c labels (text.jump condition name) (go.Jump k n) =
     (k ≡ condition) × (slice_get labels n ≡ Some (upper name))
@@ -152,7 +154,7 @@ IsTransferOf c labels (text.call timer args) (go.Call n xs) =
     (timer_name c n ≡ Some (upper timer)) × AreArgumentsOf c args xs
 IsTransferOf c labels a x = ⊥
 
--- ---- own: what is kept of items
+-- ---- own: preserved items
 
 abbrev mutual
   -- The entry is that of the text; a parenthesis has the same operator and entries.
@@ -167,20 +169,20 @@ abbrev mutual
   AreEntriesOf c (text.entry e es) (entry x xs) = IsEntryOf c e x × AreEntriesOf c es xs
   AreEntriesOf c es xs = ⊥
 
--- The item is that of the text, a label by the place of its name among the labels.
+-- The item is that of the text; the number of a label is the index of its name among the labels.
 abbrev pub IsItemOf : Checked → List (List ℕ) → text.Entry → ProgramItem → Type 0
 IsItemOf c labels (text.label line name) (label n) = slice_get labels n ≡ Some (upper name)
 IsItemOf c labels (text.action line a) (transfer x) = IsTransferOf c labels a x
 IsItemOf c labels e (plain x) = IsEntryOf c e x
 IsItemOf c labels e x = ⊥
 
--- Each item is, in their order; none is left out, and none is added.
+-- The items are those of the text, in order; none is left out, and none is added.
 abbrev pub AreItemsOf : Checked → List (List ℕ) → List text.Entry → List ProgramItem → Type 0
 AreItemsOf c labels [] [] = Unit {0}
 AreItemsOf c labels (e ∷ es) (x ∷ xs) = IsItemOf c labels e x × AreItemsOf c labels es xs
 AreItemsOf c labels es xs = ⊥
 
--- A checked program says what the text's program says.
+-- The checked program has the declarations and items of the text's program.
 pub record Keeps (points : List Point) (program : text.PlainProgram) (c : Checked) : Type 0 where
   pub declared : AreDeclared points program.declarations c.externals c.variables c.timers
   pub items : AreItemsOf c (label_names program.items) program.items c.items

@@ -1,28 +1,28 @@
--- Well typed, in words of labels: each label has a type of the current result, or none, with which
--- every instruction is right.
+-- Well-typed programs, by labellings: with some labelling (a type of the current result, or unset,
+-- for each label) every instruction is reached and valid.
 use Rattle.std.specs.Prelude.{◌≡◌, ℕ, ◌+◌, ◌-◌, ◌<◌, ◌==◌, ◌||◌, ◌⊎◌, Bool, true, false, is_some, List, [], ◌∷◌, Option, None, Some, option_map, if◌then◌else◌}
 use Rattle.bay_base.specs.declared.types.ElementaryType.{ElementaryType}
 use Rattle.il_text.specs.Listing as text
 use Rattle.il_text.specs.declared.program.Operator.{Operator}
-use Rattle.il_check.specs.Given.{ProgramNames, resolution_of}
-use Rattle.il_check.specs.Rules.{is_wrong, is_unset, type_after, combines_wrong, combines_unset, misses_name, jumps_back, misses_label, writes_fixed, may_divide_by_zero, divides, gives, goes_on, target_of}
-use Rattle.il_check.specs.WellTyped.{Progress, behind, is_first, type_behind, type_behind_all}
-use Rattle.il_check.specs.declared.given.Resolved.{Resolved}
+use Rattle.il_check.specs.SourceOperands.{ProgramNames, resolution_of}
+use Rattle.il_check.specs.Rules.{is_wrong, is_unset, type_after, combines_wrong, combines_unset, misses_name, jumps_back, misses_label, writes_fixed, may_divide_by_zero, divides, gives, falls_through, target_of}
+use Rattle.il_check.specs.WellTyped.{Progress, progress_after_entry, is_first, type_after_entry, type_after_entries}
+use Rattle.il_check.specs.declared.source_operand.Resolved.{Resolved}
 use Rattle.il_check.specs.Limits.{most_labels, most_nested}
 
 -- ---- own: types of the current result
 
--- the type of the current result at each label by its number, or none where it is unset
+-- the type of the current result at each label, by the label's number; none if the result is unset
 abbrev pub Labelling : Type 0
 Labelling = ℕ → Option ElementaryType
 
--- A result of this type is one of that type, or that is unset.
+-- A result of type t may become one of type u: the same type, or unset.
 abbrev pub Becomes : Option ElementaryType → Option ElementaryType → Type 0
 Becomes t u = (u ≡ t) ⊎ (u ≡ None)
 
 -- ---- own: types of the current result, at one instruction
 
--- The instruction is right on a result of this type, where so many labels stand above it.
+-- The instruction is valid on a result of this type, with `passed` labels above it.
 pub record IsRight (passed : ℕ) (r : Resolved) (result : Option ElementaryType) : Type 0 where
   pub named : misses_name r ≡ false
   pub allowed : is_wrong r result ≡ false
@@ -32,8 +32,8 @@ pub record IsRight (passed : ℕ) (r : Resolved) (result : Option ElementaryType
   pub writable : writes_fixed r ≡ false
   pub nonzero : may_divide_by_zero r ≡ false
 
--- The operator of a parenthesis is right, which gives a result of this type, on a result of that
--- type.
+-- The operator of a parenthesis is valid on a result of the type `result`, if the parenthesis has a
+-- result of the type `inner`.
 pub record IsCombined (operator : Operator) (negated : Bool) (inner result : Option ElementaryType)
     : Type 0 where
   pub nonzero : divides operator ≡ false
@@ -41,100 +41,101 @@ pub record IsCombined (operator : Operator) (negated : Bool) (inner result : Opt
   pub set : combines_unset inner result ≡ false
 
 abbrev mutual
-  -- An entry is right, in which so many parentheses may stand within one another. A parenthesis
-  -- begins with a result that is not set.
+  -- An entry is valid, in which parentheses may nest at most `room` deep. A parenthesis begins with
+  -- an unset result.
   pub IsRightEntry : ProgramNames → ℕ → ℕ → text.Entry → Option ElementaryType → Type 0
   IsRightEntry names room passed (text.label line name) result = Unit {0}
   IsRightEntry names room passed (text.action line a) result =
       IsRight passed (resolution_of names a) result
   IsRightEntry names room passed (text.block line operator negated items end) result =
       (0 < room) × AreRightEntries names (room - 1) passed items None
-      × IsCombined operator negated (type_behind_all names items None) result
+      × IsCombined operator negated (type_after_entries names items None) result
 
   pub AreRightEntries : ProgramNames → ℕ → ℕ → text.Entries → Option ElementaryType → Type 0
   AreRightEntries names room passed text.no_entries result = Unit {0}
   AreRightEntries names room passed (text.entry e es) result =
       IsRightEntry names room passed e result
-      × AreRightEntries names room passed es (type_behind names e result)
+      × AreRightEntries names room passed es (type_after_entry names e result)
 
 -- ---- own: types of the current result, over the items
 
--- what comes to a place: the type of the result, or nothing where no way leads there
+-- the type of the result that the paths to a place bring; none if no path leads there
 abbrev pub Coming : Type 0
 Coming = Option (Option ElementaryType)
 
--- what is known before an item: how many labels stand above, which labels were jumped to, and what
--- comes from above
+-- the state before an item: the number of labels above, the labels that were jumped to, and what
+-- the path from above brings
 pub record Carried : Type 0 where
   pub passed : ℕ
   pub named : List ℕ
   pub now : Coming
 
--- a record of these
+-- such a state
 abbrev pub carry_of : ℕ → List ℕ → Coming → Carried
 carry_of passed named now = record { passed = passed; named = named; now = now }
 
--- A program begins with a result that is not set.
+-- the state before the first item: the result is unset
 abbrev pub beginning : Carried
 beginning = carry_of 0 [] (Some None)
 
--- A way that leads to a label brings its type, or the label is unset.
+-- The path from above brings the label's type, or the label is unset.
 abbrev pub Falls : Labelling → ℕ → Coming → Type 0
 Falls labels number None = Unit {0}
 Falls labels number (Some t) = Becomes t (labels number)
 
--- A jump to this label brings its type, or the label is unset.
+-- A jump to this label brings the label's type, or the label is unset.
 abbrev pub Jumps : Labelling → Option ℕ → Option ElementaryType → Type 0
 Jumps labels None t = Unit {0}
 Jumps labels (Some number) t = Becomes t (labels number)
 
--- one of the numbers is this one
+-- whether one of the numbers is this one
 abbrev pub is_named : List ℕ → ℕ → Bool
 is_named [] number = false
 is_named (n ∷ ns) number = (n == number) || is_named ns number
 
--- the labels that were jumped to, and this one
+-- the labels that were jumped to, and this one, if there is one
 abbrev pub with_target : Option ℕ → List ℕ → List ℕ
 with_target None named = named
 with_target (Some number) named = number ∷ named
 
--- what comes behind a label, to which a way leads from above, or by a jump
-abbrev pub coming_behind_label : Labelling → Carried → Coming
-coming_behind_label labels c =
+-- what a label brings to the next item, if a path leads to the label from above or by a jump
+abbrev pub type_after_label : Labelling → Carried → Coming
+type_after_label labels c =
     if is_some c.now || is_named c.named c.passed then Some (labels c.passed) else None
 
--- behind a label
+-- the state after a label
 abbrev pub behind_label : Labelling → Carried → Carried
-behind_label labels c = carry_of (c.passed + 1) c.named (coming_behind_label labels c)
+behind_label labels c = carry_of (c.passed + 1) c.named (type_after_label labels c)
 
--- what comes behind an instruction on a result of this type
+-- what an instruction on a result of this type brings to the next item
 abbrev pub coming_behind_action : Resolved → Option ElementaryType → Coming
-coming_behind_action r t = if goes_on r then Some (type_after r t) else None
+coming_behind_action r t = if falls_through r then Some (type_after r t) else None
 
--- behind an instruction on a result of this type
+-- the state after an instruction on a result of this type
 abbrev pub behind_action : Resolved → Option ElementaryType → Carried → Carried
 behind_action r t c =
     carry_of c.passed (with_target (target_of r) c.named) (coming_behind_action r t)
 
--- behind a parenthesis whose operator works on a result of this type
+-- the state after a parenthesis whose operator works on a result of this type
 abbrev pub behind_block : Operator → Option ElementaryType → Carried → Carried
 behind_block operator t c = carry_of c.passed c.named (Some (option_map (gives operator) t))
 
--- A label is the first of its name and not too many, and what falls into it brings its type.
+-- The label is the first of its name and not too many, and the path from above brings its type.
 abbrev pub LabelFlows : ProgramNames → Labelling → List ℕ → Carried → Type 0
 LabelFlows names labels name c =
     (is_first c.passed (names.label name) ≡ true) × (c.passed < most_labels)
     × Falls labels c.passed c.now
 
--- An instruction is reached by a result of this type, is right on it, and brings it where it jumps.
+-- The instruction is reached with a result of this type, is valid on it, and brings it to the label
+-- that it jumps to.
 abbrev pub ActionFlows : Labelling → Resolved → Option ElementaryType → Carried → Type 0
 ActionFlows labels r t c = (c.now ≡ Some t) × IsRight c.passed r t × Jumps labels (target_of r) t
 
--- A parenthesis is reached by a result of this type, and is right on it.
+-- The parenthesis is reached with a result of this type, and is valid on it.
 abbrev pub BlockFlows : ProgramNames → text.Entry → Option ElementaryType → Carried → Type 0
 BlockFlows names b t c = (c.now ≡ Some t) × IsRightEntry names most_nested c.passed b t
 
--- Each instruction is reached, and right on the result that comes to it; and each way to a label
+-- Each instruction is reached, and valid on the result that reaches it; and each path to a label
 -- brings the label's type, or the label is unset.
 abbrev pub Flows : ProgramNames → Labelling → List text.Entry → Carried → Type 0
 Flows names labels [] c = Unit {0}
@@ -147,31 +148,31 @@ Flows names labels (text.block line operator negated items end ∷ es) c =
     (t : Option ElementaryType) × BlockFlows names (text.block line operator negated items end) t c
     × Flows names labels es (behind_block operator t c)
 
--- With some labelling every instruction is right.
+-- With some labelling every instruction is reached and valid.
 abbrev pub IsWellTyped : ProgramNames → List text.Entry → Type 0
 IsWellTyped names items = (labels : Labelling) × Flows names labels items beginning
 
--- ---- own: types of the current result, behind items
+-- ---- own: types of the current result, after items
 
--- what comes of a result, if one comes
+-- applies a function to the result of a path, if there is a path
 abbrev pub with_result : (Option ElementaryType → Coming) → Coming → Coming
 with_result f None = None
 with_result f (Some t) = f t
 
--- what comes behind these items, with this labelling
-abbrev pub coming_behind : ProgramNames → Labelling → List text.Entry → Carried → Coming
-coming_behind names labels [] c = c.now
-coming_behind names labels (text.label line name ∷ es) c =
-    coming_behind names labels es (behind_label labels c)
-coming_behind names labels (text.action line a ∷ es) c =
-    coming_behind names labels es
+-- the result type after these items, under this labelling; none if no path leads there
+abbrev pub type_after_items : ProgramNames → Labelling → List text.Entry → Carried → Coming
+type_after_items names labels [] c = c.now
+type_after_items names labels (text.label line name ∷ es) c =
+    type_after_items names labels es (behind_label labels c)
+type_after_items names labels (text.action line a ∷ es) c =
+    type_after_items names labels es
     (carry_of c.passed (with_target (target_of (resolution_of names a)) c.named)
     (with_result (coming_behind_action (resolution_of names a)) c.now))
-coming_behind names labels (text.block line operator negated items end ∷ es) c =
-    coming_behind names labels es
+type_after_items names labels (text.block line operator negated items end ∷ es) c =
+    type_after_items names labels es
     (carry_of c.passed c.named (with_result (λ t. Some (option_map (gives operator) t)) c.now))
 
--- what the checks know behind items
+-- the state of the checks after items
 abbrev pub behind_all : ProgramNames → List text.Entry → Progress → Progress
 behind_all names [] s = s
-behind_all names (e ∷ es) s = behind_all names es (behind names e s)
+behind_all names (e ∷ es) s = behind_all names es (progress_after_entry names e s)

@@ -16,18 +16,18 @@ label_in number (text.label line name) = (upper name, number) ∷ []
 label_in number (text.action line a) = []
 label_in number (text.block line operator negated items end) = []
 
--- the numbers of labels, and of one more, if there is one
+-- the numbers of labels, with one label added, if there is one
 abbrev pub with_labels : (List ℕ → Option ℕ) → List (List ℕ × ℕ) → List ℕ → Option ℕ
 with_labels numbers [] other = numbers other
 with_labels numbers (l ∷ ls) other = with_value numbers l.0 l.1 other
 
--- these labels, of which there is one at most, are added
+-- These labels, at most one, are added.
 pub record AddsLabels (labels : List (List ℕ × ℕ)) (old new : Labels) : Type 0 where
   pub arrivals : new.arrivals.items ≡ old.arrivals.items ++ map (λ l. no_reach) labels
   pub numbers : (other : List ℕ)
       → get_by_text new.numbers other ≡ with_labels (λ q. get_by_text old.numbers q) labels other
 
--- these are all labels
+-- These are all labels.
 pub record StandsAs (labels : List (List ℕ × ℕ)) (l : Labels) : Type 0 where
   pub numbers : (name : List ℕ) → get_by_text l.numbers name ≡ looked_up labels name
   pub arrivals : l.arrivals.items ≡ map (λ l. no_reach) labels

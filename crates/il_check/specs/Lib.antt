@@ -1,25 +1,25 @@
--- Which programs are right with the points of a bay, and the least fault of the others (IEC
+-- Which programs are valid with the points of a bay, and the least fault of the others (IEC
 -- 61131-3:2003, 2.4.3 and 3.2).
 --
--- `RightProgram` is the main file, the one to read first: a program is right if each declaration is
--- right after those before it, and some labelling makes every instruction right. `check` accepts
--- just these. `Labelling` says what that is: each label has a type of the current result, or none,
--- with which each instruction is reached and right, and each way to a label brings its type or the
+-- `RightProgram` is the main file, the one to read first: a program is valid if each declaration is
+-- valid after those before it, and some labelling makes every instruction valid. `check` accepts
+-- exactly these. `Labelling` defines labellings: each label has a type of the current result, or is
+-- unset; each instruction is reached and valid; and each path to a label brings its type or the
 -- label is unset.
 --
--- The code computes instead. `Declaring`: what declarations mean, and their faults. `Given`: an
--- instruction with what its names mean. `Operators` (table 52): on which types an operator works,
--- and what type it gives, as tables. `Rules` (3.2.2): what an instruction wants of the current
--- result, and what it leaves; it is wrong (72) if no type that the result may have makes it right,
--- and its result is unset (73) if it uses one that has no type. `WellTyped`: the faults of each
--- item, with the least types; where ways meet, the result keeps its type only if it is the same on
--- both. `Checking`: all faults of a program, what is left of one without a fault, and the answer.
--- `Faults`: the least fault by line, and then by number. The laws `some_labelling` and
--- `least_types` tie the two.
+-- The code computes instead. `Declaring`: the meaning of declarations, and their faults.
+-- `SourceOperands`: an instruction with its names resolved. `Operators` (table 52): on which types
+-- an operator works, and the type of its result, as tables. `Rules` (3.2.2): what an instruction
+-- requires of the current result, and the result after it; it is wrong (72) if no type that the
+-- result may have makes it valid, and its result is unset (73) if it uses one that has no type.
+-- `WellTyped`: the faults of each item, with the least types; where paths meet, the result has a
+-- type only if it has the same one on both. `Checking`: all faults of a program, the checked
+-- program of one without a fault, and the result of a check. `Faults`: the least fault by line, and
+-- then by number. The laws `some_labelling` and `least_types` connect the two.
 --
--- `Program` is a checked program as plain data, `Typing` what is left of a right instruction.
--- `TypedProgram` says which are well typed, without a word of names; `Sound` what holds of each;
--- `Keeping` that a check keeps all that the text says; `OwnPlaces` that a name means its own
+-- `Program` is a checked program as plain data, `Typing` the typed form of a valid instruction.
+-- `TypedProgram` defines which of them are well typed, without names; `Sound` what holds of each;
+-- `Keeping` that a check preserves the content of the text; `OwnPlaces` that a name means its own
 -- declaration. `Limits`: how many labels and parentheses there may be. `Contents` and
 -- `ProgramViews` map the code's values to plain data; `Code` numbers the faults.
 
@@ -33,7 +33,7 @@ pub mod Code
 pub mod Contents
 pub mod Declaring
 pub mod Faults
-pub mod Given
+pub mod SourceOperands
 pub mod Keeping
 pub mod Labelling
 pub mod Limits
@@ -47,7 +47,7 @@ pub mod Sound
 pub mod TypedProgram
 pub mod Typing
 pub mod WellTyped
--- Inner ones, which private functions, invariants and proofs cite, and no public clause.
+-- Inner ones: private functions, invariants and proofs cite them, public clauses don't.
 pub mod DeclarationsView
 pub mod LabelsView
 pub mod NamesView

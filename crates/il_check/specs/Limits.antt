@@ -1,12 +1,12 @@
--- What a program may have at most, beside what a machine may have.
+-- Limits of a program, beside those of the machine.
 use Rattle.std.specs.Prelude.{ℕ}
 
 -- ---- own: limits
 
--- labels
+-- the most labels
 abbrev pub most_labels : ℕ
 most_labels = 256
 
--- parentheses within one another
+-- the greatest nesting depth of parentheses
 abbrev pub most_nested : ℕ
 most_nested = 16

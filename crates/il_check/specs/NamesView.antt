@@ -3,12 +3,12 @@ use Rattle.std.specs.Prelude.{ℕ, ◌&&◌, is_none, List, Option, Some, if◌t
 use Rattle.std.specs.BTreeMap.{get_by_text}
 use Rattle.std.specs.Str.{bytes_eq}
 use Rattle.bay_base.specs.Names.{upper}
-use Rattle.il_check.specs.Given as spec
+use Rattle.il_check.specs.SourceOperands as spec
 use Rattle.il_check.specs.declared.names.ProgramNames.{ProgramNames}
 
 -- ---- own: views of the code
 
--- names are looked up in upper case
+-- the names of a program, looked up in upper case
 abbrev pub names_of : ProgramNames → spec.ProgramNames
 names_of n =
     record {
@@ -16,7 +16,7 @@ names_of n =
       label = λ name. get_by_text n.labels (upper name);
     }
 
--- what names have after a name is given a value, which keeps the one that it has
+-- the values of names after a name gets a value; a name that has one already keeps it
 abbrev pub with_value : {A : Type 0} → (List ℕ → Option A) → List ℕ → A → List ℕ → Option A
 with_value values name value other =
     if bytes_eq name other && is_none (values name) then Some value else values other

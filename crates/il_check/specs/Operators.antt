@@ -1,13 +1,13 @@
--- On which types an operator works, and what type it gives, as tables (IEC 61131-3:2003, 2.5.1 and
--- table 52).
+-- On which types an operator works, and the type of its result, as tables (IEC 61131-3:2003, 2.5.1
+-- and table 52).
 use Rattle.std.specs.Prelude.{Option, Some, None}
 use Rattle.bay_base.specs.declared.types.ElementaryType.{ElementaryType}
 use Rattle.bay_base.specs.declared.types.ElementaryType.TheVariants.{Bool, Int, Dint, Lint, Time}
 use Rattle.il_text.specs.declared.program.Operator.{Operator}
 use Rattle.il_text.specs.declared.program.Operator.TheVariants.{And, Or, Xor, Add, Sub, Mul, Div, Mod, Gt, Ge, Eq, Ne, Le, Lt}
 
--- On a result of the first type, with an operand of the second: the type of the new result. None is
--- an operator that does not work on these.
+-- On a result of the first type, with an operand of the second: the type of the new result; none if
+-- the operator does not work on these.
 
 -- AND, OR, XOR (IEC 61131-3, table 26)
 abbrev pub logic : ElementaryType → ElementaryType → Option ElementaryType
@@ -38,7 +38,7 @@ equality Lint Lint = Some Bool
 equality Time Time = Some Bool
 equality first second = None
 
--- each operator by its table (IEC 61131-3, table 52)
+-- the table of each operator (IEC 61131-3, table 52)
 abbrev pub result_type : Operator → ElementaryType → ElementaryType → Option ElementaryType
 result_type And first second = logic first second
 result_type Or first second = logic first second

@@ -1,22 +1,21 @@
--- A name means what is declared by that name, at its own place.
+-- A name means the declaration of that name, at its own index.
 use Rattle.std.specs.Prelude.{◌≡◌, ℕ, true, List, slice_get, Some}
 use Rattle.bay_base.specs.Names.{upper}
 use Rattle.il_text.specs.Listing as text
 use Rattle.il_image.specs.Values.{type_of}
 use Rattle.il_check.specs.Declaring.{labels_from}
-use Rattle.il_check.specs.Given.{ProgramNames}
+use Rattle.il_check.specs.SourceOperands.{ProgramNames}
 use Rattle.il_check.specs.Program.{Checked}
-use Rattle.il_check.specs.declared.given.Meaning.{Meaning}
-use Rattle.il_check.specs.declared.given.Meaning.TheVariants as meaning
+use Rattle.il_check.specs.declared.source_operand.Meaning.{Meaning}
+use Rattle.il_check.specs.declared.source_operand.Meaning.TheVariants as meaning
 use Rattle.il_check.specs.declared.typed.External.{External}
 use Rattle.il_check.specs.declared.typed.Slot.TheVariants as slot
 use Rattle.il_check.specs.declared.typed.Timer.{Timer}
 use Rattle.il_check.specs.declared.typed.Variable.{Variable}
 
--- ---- own: places of names
+-- ---- own: meanings of names
 
--- What is meant stands at its place among the externals, the variables or the timers, with this
--- name in upper case.
+-- The external, variable or timer at the index that is meant has this name in upper case.
 abbrev pub IsOwn : Checked → List ℕ → Meaning → Type 0
 IsOwn c name (meaning.Variable (slot.External n) kind writable) =
     (e : External) × (slice_get c.externals n ≡ Some e) × (e.name ≡ name) × (e.kind ≡ kind)
@@ -26,9 +25,11 @@ IsOwn c name (meaning.Variable (slot.Variable n) kind writable) =
     × (type_of v.initial ≡ kind) × (writable ≡ true)
 IsOwn c name (meaning.Timer n) = (t : Timer) × (slice_get c.timers n ≡ Some t) × (t.name ≡ name)
 
--- What a name means is declared by that name; and the name of each external, variable and timer
--- means it, at its place. What a label means is the number of the label of that name.
-pub record MeanOwnPlaces (names : ProgramNames) (c : Checked) (items : List text.Entry) : Type 0 where
+-- A name means something that is declared by that name; and the name of each external, variable and
+-- timer means this one, at its index. The name of a label means the number of the label of that
+-- name.
+pub record MeanOwnPlaces (names : ProgramNames) (c : Checked) (items : List text.Entry)
+    : Type 0 where
   pub own : (name : List ℕ) (m : Meaning) → names.meaning name ≡ Some m → IsOwn c (upper name) m
   pub externals : (n : ℕ) (e : External) → slice_get c.externals n ≡ Some e
       → names.meaning e.name ≡ Some (meaning.Variable (slot.External n) e.kind e.writable)

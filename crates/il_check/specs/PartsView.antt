@@ -1,10 +1,10 @@
--- Inner: what the parts of a checked program hold.
+-- Inner: the parts of a checked program.
 use Rattle.il_check.specs.Contents.{Contents}
 use Rattle.il_check.specs.declared.program.Parts.{Parts}
 
 -- ---- own: views of the code
 
--- vectors as lists
+-- the parts, with vectors as lists
 abbrev pub parts_view : Parts → Contents
 parts_view p =
     record {

@@ -11,8 +11,8 @@ use Rattle.il_check.specs.declared.typed.Transfer.{Transfer}
 -- ---- own: a checked program as plain data
 
 mutual
-  -- an operation; an operator, the type of both sides, whether it is negated, and the entries in
-  -- its parenthesis
+  -- an operation; or a parenthesis: its operator, the type of both sides, whether it is negated,
+  -- and its entries
   pub data Entry : Type 0 where
     operation : SimpleOperation → Entry
     block : Operator → ElementaryType → Bool → Entries → Entry
@@ -36,7 +36,7 @@ pub record Checked : Type 0 where
   pub timers : List Timer
   pub items : List ProgramItem
 
--- a list of entries as such
+-- a list of entries as those of a parenthesis
 abbrev pub entries_of : List Entry → Entries
 entries_of [] = no_entries
 entries_of (e ∷ es) = entry e (entries_of es)

@@ -1,4 +1,4 @@
--- The plain data that a checked program of the code stands for.
+-- Checked programs of the code as plain data.
 use Rattle.std.specs.Prelude.{map}
 use Rattle.il_check.specs.Contents.{Contents}
 use Rattle.il_check.specs.Program as plain
@@ -9,13 +9,13 @@ use Rattle.il_check.specs.declared.typed.TypedItem.TheVariants.{Label, Transfer,
 
 -- ---- own: views of the code
 
--- one level of an entry, with each entry inside already seen
+-- an entry, given the entries in it as plain data
 abbrev pub entry_step : TypedEntry-F plain.Entry → plain.Entry
 entry_step (TypedEntry-F.Operation o) = plain.operation o
 entry_step (TypedEntry-F.Block operator kind negated entries) =
     plain.block operator kind negated (plain.entries_of entries.items)
 
--- an entry, with each one inside
+-- an entry, with the entries in it
 abbrev pub entry_view : TypedEntry → plain.Entry
 entry_view = fold-TypedEntry plain.Entry entry_step
 

@@ -1,4 +1,4 @@
--- Which programs are right, with the points of a bay (IEC 61131-3:2003, 2.4.3 and 3.2).
+-- Which programs are valid, with the points of a bay (IEC 61131-3:2003, 2.4.3 and 3.2).
 use Rattle.std.specs.Prelude.{◌≡◌, true, false, IsSome, List, ◌∷◌, ◌++◌}
 use Rattle.std.specs.List.{list_any}
 use Rattle.bay_base.specs.Names.{same_name}
@@ -9,9 +9,9 @@ use Rattle.il_check.specs.Labelling.{IsWellTyped}
 
 -- ---- IEC 61131-3 2.4.3: declarations
 
--- A declaration is right behind others: an external's name is a point's; no name is declared twice;
--- an external has its point's type, a literal fits its variable, and a timer is no point; and there
--- are not too many.
+-- A declaration is valid after others: an external's name is a point's; no name is declared twice;
+-- an external has its point's type, a literal fits its variable, and no point is declared as a
+-- timer; and there are not too many declarations.
 pub record IsRightDeclaration (points : List Point) (before : List text.Declared)
     (d : text.Declared) : Type 0 where
   pub known : is_external d.scope ≡ true → IsSome (point_of points d.name)
@@ -19,7 +19,7 @@ pub record IsRightDeclaration (points : List Point) (before : List text.Declared
   pub typed : is_typed d.scope d.kind (point_of points d.name) d.initial ≡ true
   pub few : is_full (counts_of points before) d.kind ≡ false
 
--- Each declaration is right behind those before it.
+-- Each declaration is valid after those before it.
 abbrev pub AreRightDeclarations : List Point → List text.Declared → Type 0
 AreRightDeclarations points declared =
     (before : List text.Declared) (d : text.Declared) (after : List text.Declared)
@@ -27,8 +27,8 @@ AreRightDeclarations points declared =
 
 -- ---- IEC 61131-3 2.4.3, 3.2: programs
 
--- Each declaration is right behind those before it; and there is a type of the current result, or
--- none, for each label, with which each instruction is reached and right.
+-- Each declaration is valid after those before it, and some labelling (a type of the current
+-- result, or unset, for each label) makes every instruction reached and valid.
 pub record IsRightProgram (points : List Point) (program : text.PlainProgram) : Type 0 where
   pub declarations : AreRightDeclarations points program.declarations
   pub instructions : IsWellTyped (names_in points program) program.items

@@ -1,5 +1,5 @@
--- What an instruction wants of the current result, and what it leaves (IEC 61131-3:2003, 3.2.2 and
--- table 52).
+-- What an instruction requires of the current result, and the result after it (IEC 61131-3:2003,
+-- 3.2.2 and table 52).
 use Rattle.std.specs.Prelude.{ℕ, ℤ, Bool, true, false, not, ◌&&◌, ◌||◌, is_some, is_none, nat_lt, Option, None, Some, option_map, if◌then◌else◌}
 use Rattle.bay_base.specs.declared.types.ElementaryType.{ElementaryType}
 use Rattle.bay_base.specs.declared.types.ElementaryType.TheVariants as elementary
@@ -19,19 +19,19 @@ use Rattle.il_image.specs.Values.{value_of}
 use Rattle.il_check.specs.Operators.{result_type}
 use Rattle.il_check.specs.declared.typed.TypedOperand.{TypedOperand}
 use Rattle.il_check.specs.declared.typed.TypedOperand.TheVariants as operand
-use Rattle.il_check.specs.declared.given.Given.{Given}
-use Rattle.il_check.specs.declared.given.Given.TheVariants.{Missing, Misused, Known, Number}
-use Rattle.il_check.specs.declared.given.Called.{Called}
-use Rattle.il_check.specs.declared.given.Called.TheVariants as called
-use Rattle.il_check.specs.declared.given.GivenArgument.{GivenArgument}
-use Rattle.il_check.specs.declared.given.GivenArguments.{GivenArguments}
-use Rattle.il_check.specs.declared.given.GivenArguments.TheVariants as arguments
-use Rattle.il_check.specs.declared.given.Resolved.{Resolved}
-use Rattle.il_check.specs.declared.given.Resolved.TheVariants.{Load, Store, Combine, Not, Convert, Jump, Return, Call}
+use Rattle.il_check.specs.declared.source_operand.SourceOperand.{SourceOperand}
+use Rattle.il_check.specs.declared.source_operand.SourceOperand.TheVariants.{Missing, Misused, Known, Number}
+use Rattle.il_check.specs.declared.source_operand.CalledTimer.{CalledTimer}
+use Rattle.il_check.specs.declared.source_operand.CalledTimer.TheVariants as called
+use Rattle.il_check.specs.declared.source_operand.SourceArgument.{SourceArgument}
+use Rattle.il_check.specs.declared.source_operand.SourceArguments.{SourceArguments}
+use Rattle.il_check.specs.declared.source_operand.SourceArguments.TheVariants as arguments
+use Rattle.il_check.specs.declared.source_operand.Resolved.{Resolved}
+use Rattle.il_check.specs.declared.source_operand.Resolved.TheVariants.{Load, Store, Combine, Not, Convert, Jump, Return, Call}
 
 -- ---- own: operands of a type
 
--- the value of a type that a number without a type stands for; no number is a TIME
+-- the value of a type that an untyped number denotes; no number is a TIME
 abbrev pub number_in : ElementaryType → ℤ → Option Value
 number_in elementary.Bool z = value_of elementary.Bool z
 number_in elementary.Int z = value_of elementary.Int z
@@ -40,24 +40,24 @@ number_in elementary.Lint z = value_of elementary.Lint z
 number_in elementary.Time z = None
 
 -- the operand as one of a type, if it can be one
-abbrev pub operand_in : ElementaryType → Given → Option TypedOperand
+abbrev pub operand_in : ElementaryType → SourceOperand → Option TypedOperand
 operand_in kind Missing = None
 operand_in kind Misused = None
 operand_in kind (Known source) = if same_type source.kind kind then Some source.operand else None
 operand_in kind (Number z) = option_map (λ v. operand.Literal v) (number_in kind z)
 
--- the operand can be one of the type
-abbrev pub fits : ElementaryType → Given → Bool
+-- whether the operand can be one of the type
+abbrev pub fits : ElementaryType → SourceOperand → Bool
 fits kind given = is_some (operand_in kind given)
 
--- the type that a number has by itself: INT where it fits, else DINT where it fits, else LINT
+-- the type of an untyped number by itself: INT if it fits, else DINT if it fits, else LINT
 abbrev pub own_type : ℤ → ElementaryType
 own_type z =
     if is_some (number_in elementary.Int z) then elementary.Int
     else (if is_some (number_in elementary.Dint z) then elementary.Dint else elementary.Lint)
 
--- the type of what a load gives
-abbrev pub load_type : Given → Option ElementaryType
+-- the type of the result of a load; none for a name or literal that can't be loaded
+abbrev pub load_type : SourceOperand → Option ElementaryType
 load_type Missing = None
 load_type Misused = None
 load_type (Known source) = Some source.kind
@@ -65,53 +65,53 @@ load_type (Number z) = Some (own_type z)
 
 -- ---- own: types
 
--- the type is BOOL
+-- whether the type is BOOL
 abbrev pub is_boolean : ElementaryType → Bool
 is_boolean kind = same_type elementary.Bool kind
 
--- the type is INT, DINT or LINT
+-- whether the type is INT, DINT or LINT
 abbrev pub is_number : ElementaryType → Bool
 is_number elementary.Bool = false
 is_number elementary.Time = false
 is_number other = true
 
--- the type that is given, if there is one, or else the same
+-- the given type, if there is one, or else `kind`
 abbrev pub or_same : ElementaryType → Option ElementaryType → ElementaryType
 or_same kind None = kind
 or_same kind (Some given) = given
 
--- ---- IEC 61131-3 3.2.2, table 52: what operators take and give
+-- ---- IEC 61131-3 3.2.2, table 52: operands and results of operators
 
--- an operator takes a type on both sides where its table has a row
+-- whether an operator works with this type on both sides: its table has a row
 abbrev pub takes : Operator → ElementaryType → Bool
 takes operator kind = is_some (result_type operator kind kind)
 
--- the type of what an operator gives, where it takes the type
+-- the type of an operator's result, if the operator works with the type
 abbrev pub gives : Operator → ElementaryType → ElementaryType
 gives operator kind = or_same kind (result_type operator kind kind)
 
--- the operator divides by its operand (own)
+-- whether the operator divides by its operand (own)
 abbrev pub divides : Operator → Bool
 divides Div = true
 divides Mod = true
 divides other = false
 
--- only a BOOL is negated
+-- whether a negation, if there is one, is allowed: only a BOOL is negated
 abbrev pub may_negate : Bool → ElementaryType → Bool
 may_negate negated kind = not negated || is_boolean kind
 
--- an operator, which may negate its operand, works on a type
+-- whether an operator, which may negate its operand, works on a type
 abbrev pub works : Operator → Bool → ElementaryType → Bool
 works operator negated kind = takes operator kind && may_negate negated kind
 
--- a store writes the result as it is
+-- whether a store writes the result as it is
 abbrev pub is_plain : StoreKind → Bool
 is_plain store.Plain = true
 is_plain store.Negated = false
 is_plain store.Set = false
 is_plain store.Reset = false
 
--- a jump or a return looks at the result
+-- whether a jump or a return depends on the result
 abbrev pub is_conditional : Condition → Bool
 is_conditional Always = false
 is_conditional IfTrue = true
@@ -119,12 +119,12 @@ is_conditional IfFalse = true
 
 -- ---- IEC 61131-3 table 22: conversions
 
--- the type of what a conversion takes
+-- the type that a conversion converts
 abbrev pub converted_from : Conversion → ElementaryType
 converted_from IntToDint = elementary.Int
 converted_from DintToLint = elementary.Dint
 
--- the type of what a conversion gives
+-- the type that a conversion results in
 abbrev pub converted_to : Conversion → ElementaryType
 converted_to IntToDint = elementary.Dint
 converted_to DintToLint = elementary.Lint
@@ -136,30 +136,30 @@ abbrev pub input_type : Input → ElementaryType
 input_type input.In = elementary.Bool
 input_type input.Pt = elementary.Time
 
--- an argument has its input's type
-abbrev pub argument_fits : GivenArgument → Bool
+-- whether an argument has its input's type
+abbrev pub argument_fits : SourceArgument → Bool
 argument_fits a = fits (input_type a.input) a.given
 
--- each argument has its input's type
-abbrev pub arguments_fit : GivenArguments → Bool
+-- whether each argument has its input's type
+abbrev pub arguments_fit : SourceArguments → Bool
 arguments_fit arguments.None = true
 arguments_fit (arguments.One a) = argument_fits a
 arguments_fit (arguments.Two a b) = argument_fits a && argument_fits b
 
--- what is called is a timer (own)
-abbrev pub is_timer : Called → Bool
+-- whether the called name is a timer (own)
+abbrev pub is_timer : CalledTimer → Bool
 is_timer called.Missing = false
 is_timer called.Misused = false
 is_timer (called.Timer timer) = true
 
 -- ---- IEC 61131-3 3.2.2: the current result
 
--- a value of this type, if there is one, may be loaded, negated or not
+-- whether a value of this type, if there is one, may be loaded, negated or not
 abbrev pub may_load : Bool → Option ElementaryType → Bool
 may_load negated None = false
 may_load negated (Some kind) = may_negate negated kind
 
--- the instruction is right where the current result has this type
+-- whether the instruction is valid if the current result has this type
 abbrev pub allows : Resolved → ElementaryType → Bool
 allows (Load negated given) kind = may_load negated (load_type given)
 allows (Store how target) kind = fits kind target && may_negate (not (is_plain how)) kind
@@ -171,7 +171,7 @@ allows (Jump condition label) kind = may_negate (is_conditional condition) kind
 allows (Return condition) kind = may_negate (is_conditional condition) kind
 allows (Call called arguments) kind = is_timer called && arguments_fit arguments
 
--- the instruction uses the current result
+-- whether the instruction uses the current result
 abbrev pub uses_result : Resolved → Bool
 uses_result (Load negated given) = false
 uses_result (Store how target) = true
@@ -184,24 +184,24 @@ uses_result (Call called arguments) = false
 
 -- ---- own: what is wrong with a result
 
--- some type passes the test
+-- whether some type passes the test
 abbrev pub any_type : (ElementaryType → Bool) → Bool
 any_type test =
     test elementary.Bool || test elementary.Int || test elementary.Dint || test elementary.Lint
     || test elementary.Time
 
--- no type that the result may have makes the instruction right
+-- whether no type that the result may have makes the instruction valid
 abbrev pub is_wrong : Resolved → Option ElementaryType → Bool
 is_wrong r None = not (any_type (allows r))
 is_wrong r (Some kind) = not (allows r kind)
 
--- the instruction uses a result that is not set
+-- whether the instruction uses a result that is unset
 abbrev pub is_unset : Resolved → Option ElementaryType → Bool
 is_unset r result = uses_result r && is_none result
 
--- ---- IEC 61131-3 3.2.2: the result behind an instruction, and behind a parenthesis
+-- ---- IEC 61131-3 3.2.2: the result after an instruction, and after a parenthesis
 
--- the type of the result behind the instruction; none where it is unset
+-- the type of the result after the instruction; none if it is unset
 abbrev pub type_after : Resolved → Option ElementaryType → Option ElementaryType
 type_after (Load negated given) result = load_type given
 type_after (Store how target) result = result
@@ -212,43 +212,43 @@ type_after (Jump condition label) result = result
 type_after (Return condition) result = result
 type_after (Call called arguments) result = None
 
--- what a parenthesis gives may have this type (own)
+-- whether the result of a parenthesis may have this type (own)
 abbrev pub may_be : ElementaryType → Option ElementaryType → Bool
 may_be kind None = true
 may_be kind (Some inner) = same_type inner kind
 
--- the operator of a parenthesis is right on a result of this type
+-- whether the operator of a parenthesis is valid on a result of this type
 abbrev pub combines : Operator → Bool → Option ElementaryType → ElementaryType → Bool
 combines operator negated inner kind = works operator negated kind && may_be kind inner
 
 -- ---- own: what is wrong with an instruction
 
--- no type that the result may have makes the operator of a parenthesis right
+-- whether no type that the result may have makes the operator of a parenthesis valid
 abbrev pub combines_wrong : Operator → Bool → Option ElementaryType → Option ElementaryType → Bool
 combines_wrong operator negated inner None = not (any_type (combines operator negated inner))
 combines_wrong operator negated inner (Some kind) = not (combines operator negated inner kind)
 
--- the result is not set behind the parenthesis, or before it
+-- whether the result is unset at the end of the parenthesis, or before it
 abbrev pub combines_unset : Option ElementaryType → Option ElementaryType → Bool
 combines_unset inner result = is_none inner || is_none result
 
--- a name is not declared
-abbrev pub is_missing : Given → Bool
+-- whether the operand is an undeclared name
+abbrev pub is_missing : SourceOperand → Bool
 is_missing Missing = true
 is_missing other = false
 
--- an argument is a name that is not declared
-abbrev pub misses_argument : GivenArguments → Bool
+-- whether an argument is an undeclared name
+abbrev pub misses_argument : SourceArguments → Bool
 misses_argument arguments.None = false
 misses_argument (arguments.One a) = is_missing a.given
 misses_argument (arguments.Two a b) = is_missing a.given || is_missing b.given
 
--- what is called is a name that is not declared
-abbrev pub misses_timer : Called → Bool
+-- whether the called name is undeclared
+abbrev pub misses_timer : CalledTimer → Bool
 misses_timer called.Missing = true
 misses_timer other = false
 
--- a name of the instruction is not declared
+-- whether a name of the instruction is undeclared
 abbrev pub misses_name : Resolved → Bool
 misses_name (Load negated given) = is_missing given
 misses_name (Store how target) = is_missing target
@@ -256,43 +256,43 @@ misses_name (Combine operator negated given is_nonzero) = is_missing given
 misses_name (Call called arguments) = misses_timer called || misses_argument arguments
 misses_name other = false
 
--- a jump to a label above, where so many labels stand above
+-- whether the label is above; `passed` is the number of labels above
 abbrev pub is_above : ℕ → Option ℕ → Bool
 is_above passed None = false
 is_above passed (Some label) = nat_lt label passed
 
--- the instruction jumps to a label above
+-- whether the instruction jumps to a label above
 abbrev pub jumps_back : ℕ → Resolved → Bool
 jumps_back passed (Jump condition label) = is_above passed label
 jumps_back passed other = false
 
--- the instruction jumps to a label that is not there
+-- whether the instruction jumps to a label that does not exist
 abbrev pub misses_label : Resolved → Bool
 misses_label (Jump condition label) = is_none label
 misses_label other = false
 
--- what may only be read
-abbrev pub is_fixed : Given → Bool
+-- whether the operand may only be read
+abbrev pub is_fixed : SourceOperand → Bool
 is_fixed (Known source) = not source.writable
 is_fixed other = false
 
--- the instruction writes what may only be read
+-- whether the instruction writes what may only be read
 abbrev pub writes_fixed : Resolved → Bool
 writes_fixed (Store how target) = is_fixed target
 writes_fixed other = false
 
--- a divisor that is not a literal other than 0
+-- whether the instruction divides by anything but a literal other than 0
 abbrev pub may_divide_by_zero : Resolved → Bool
 may_divide_by_zero (Combine operator negated given is_nonzero) = divides operator && not is_nonzero
 may_divide_by_zero other = false
 
--- ---- own: where an instruction leads
+-- ---- own: successors of an instruction
 
--- what comes next in the text can be reached from the instruction
-abbrev pub goes_on : Resolved → Bool
-goes_on (Jump condition label) = is_conditional condition
-goes_on (Return condition) = is_conditional condition
-goes_on other = true
+-- whether the next item of the text can be reached from the instruction
+abbrev pub falls_through : Resolved → Bool
+falls_through (Jump condition label) = is_conditional condition
+falls_through (Return condition) = is_conditional condition
+falls_through other = true
 
 -- the label that a jump goes to, if there is one
 abbrev pub target_of : Resolved → Option ℕ

@@ -1,4 +1,4 @@
--- What holds of each checked program: it is what the checks make of some program that has no fault,
+-- What holds of each checked program: it is the result of checking some program without a fault,
 -- its names differ, and it is well typed.
 use Rattle.std.specs.Prelude.{◌≡◌, ℕ, ◌<◌, false, List, [], ◌++◌, length, map, slice_index_or, Ok}
 use Rattle.bay_base.specs.Names.{same_name}
@@ -18,17 +18,17 @@ slot_names c = map (λ e. e.name) c.externals ++ map (λ v. v.name) c.variables
 abbrev pub name_at : List (List ℕ) → ℕ → List ℕ
 name_at names slot = slice_index_or names slot []
 
--- no two names are the same
+-- No two names are the same, letters in either case.
 abbrev pub AreApart : List (List ℕ) → Type 0
 AreApart names =
     (i j : ℕ) → i < j → j < length names → same_name (name_at names i) (name_at names j) ≡ false
 
--- Some program has no fault with some points, and this is what is left of it.
+-- Some program has no fault with some points, and this is its checked program.
 abbrev pub WasChecked : Checked → Type 0
 WasChecked c =
     (points : List Point) × (program : text.PlainProgram) × (checked_of points program ≡ Ok c)
 
--- A checked program comes from the checks, its names differ, and it is well typed.
+-- A checked program is the result of the checks, its names differ, and it is well typed.
 pub record IsSound (c : Checked) : Type 0 where
   pub checked : WasChecked c
   pub apart : AreApart (slot_names c)

@@ -1,5 +1,5 @@
--- Which checked programs are well typed (IEC 61131-3:2003, 2.4.3 and 3.2), without a word of names:
--- what stands where has its type, what is written may be written, and each instruction is reached.
+-- Which checked programs are well typed (IEC 61131-3:2003, 2.4.3 and 3.2), without names: each
+-- operand has its type, each target may be written, and each instruction is reached.
 use Rattle.std.specs.Prelude.{◌≡◌, ℕ, pos, suc, ◌+◌, ◌<◌, ◌≤◌, ◌&&◌, ◌||◌, ◌==◌, max, Bool, true, false, not, List, [], ◌∷◌, length, slice_get, Option, None, Some, option_map}
 use Rattle.std.specs.Ordering.{int_eq}
 use Rattle.bay_base.specs.declared.types.ElementaryType.{ElementaryType}
@@ -9,7 +9,7 @@ use Rattle.il_text.specs.declared.program.Condition.TheVariants.{Always, IfTrue,
 use Rattle.il_image.specs.Images.{Each, IsName, IsValue}
 use Rattle.il_image.specs.Values.{number_of, type_of}
 use Rattle.il_image.specs.Machine.{most_slots, most_timers}
-use Rattle.il_check.specs.Given.{output_type}
+use Rattle.il_check.specs.SourceOperands.{output_type}
 use Rattle.il_check.specs.Labelling.{Labelling, Coming, Carried, carry_of, beginning, Falls, Jumps, with_target, behind_label}
 use Rattle.il_check.specs.Program.{Entry, operation, block, Entries, no_entries, entry, ProgramItem, label, transfer, plain, Checked}
 use Rattle.il_check.specs.Rules.{may_negate, is_plain, works, gives, divides, input_type, converted_from, converted_to}
@@ -30,38 +30,37 @@ use Rattle.il_check.specs.Limits.{most_labels, most_nested}
 
 -- ---- own: what is read and written
 
--- the type of the values in a slot, if there is the slot
+-- the type of the values in a slot, if the slot exists
 abbrev pub slot_type : Checked → Slot → Option ElementaryType
 slot_type c (slot.External n) = option_map (λ e. e.kind) (slice_get c.externals n)
 slot_type c (slot.Variable n) = option_map (λ v. type_of v.initial) (slice_get c.variables n)
 
--- the external, if it is there, may be written
+-- whether there is an external and the program may write it
 abbrev pub is_writable : Option External → Bool
 is_writable None = false
 is_writable (Some e) = e.writable
 
--- what is in the slot may be written
+-- whether the program may write the slot
 abbrev pub may_write : Checked → Slot → Bool
 may_write c (slot.External n) = is_writable (slice_get c.externals n)
 may_write c (slot.Variable n) = true
 
--- The operand is there and has this type.
+-- The operand exists and has this type.
 abbrev pub IsOperand : Checked → TypedOperand → ElementaryType → Type 0
 IsOperand c (operand.Literal v) kind = IsValue v × (type_of v ≡ kind)
 IsOperand c (operand.Slot s) kind = slot_type c s ≡ Some kind
-IsOperand c (operand.Output timer gives_what) kind =
+IsOperand c (operand.TimerOutput timer gives_what) kind =
     (timer < length c.timers) × (output_type gives_what ≡ kind)
 
--- a literal other than 0
+-- whether the operand is a literal other than 0
 abbrev pub is_divisor : TypedOperand → Bool
 is_divisor (operand.Literal v) = not (int_eq (number_of v) (pos 0))
 is_divisor (operand.Slot s) = false
-is_divisor (operand.Output timer gives_what) = false
+is_divisor (operand.TimerOutput timer gives_what) = false
 
 -- ---- IEC 61131-3 3.2.2, table 52: operations
 
--- An operation on a result of the first type leaves one of the second; none is a result that is not
--- set.
+-- An operation on a result of type t leaves one of type u; none is an unset result.
 abbrev pub IsOperation : Checked → SimpleOperation → Option ElementaryType → Option ElementaryType
     → Type 0
 IsOperation c (op.Load negated x) t u =
@@ -78,7 +77,7 @@ IsOperation c op.Not t u = (t ≡ Some elementary.Bool) × (u ≡ t)
 IsOperation c (op.Convert conversion) t u =
     (t ≡ Some (converted_from conversion)) × (u ≡ Some (converted_to conversion))
 
--- A parenthesis begins with a result that is not set, and its operator divides by no parenthesis.
+-- A parenthesis begins with an unset result, and its operator does not divide.
 abbrev mutual
   pub IsEntry : Checked → Entry → Option ElementaryType → Option ElementaryType → Type 0
   IsEntry c (operation o) t u = IsOperation c o t u
@@ -91,7 +90,7 @@ abbrev mutual
   AreEntries c (entry e es) t u =
       (w : Option ElementaryType) × IsEntry c e t w × AreEntries c es w u
 
--- how deep parentheses stand within one another (own)
+-- the nesting depth of parentheses (own)
 abbrev mutual
   pub entry_depth : Entry → ℕ
   entry_depth (operation o) = 0
@@ -107,26 +106,26 @@ abbrev mutual
 abbrev pub IsArgument : Checked → TypedArgument → Type 0
 IsArgument c a = IsOperand c a.operand (input_type a.input)
 
--- Each argument is right.
+-- Each argument has its input's type.
 abbrev pub AreArguments : Checked → TypedArguments → Type 0
 AreArguments c arguments.None = Unit {0}
 AreArguments c (arguments.One a) = IsArgument c a
 AreArguments c (arguments.Two a b) = IsArgument c a × IsArgument c b
 
--- Only a BOOL decides.
+-- A condition needs a result of type BOOL.
 abbrev pub Decides : Condition → Option ElementaryType → Type 0
 Decides Always t = Unit {0}
 Decides IfTrue t = t ≡ Some elementary.Bool
 Decides IfFalse t = t ≡ Some elementary.Bool
 
--- one of the items is the label with this number (own)
+-- whether one of the items is the label with this number (own)
 abbrev pub has_label : List ProgramItem → ℕ → Bool
 has_label [] number = false
 has_label (label n ∷ is) number = (n == number) || has_label is number
 has_label (transfer t ∷ is) number = has_label is number
 has_label (plain e ∷ is) number = has_label is number
 
--- A jump goes to a label below.
+-- The jump, return or call is valid on a result of this type; a jump goes to a label below.
 abbrev pub IsTransfer : Checked → List ProgramItem → Transfer → Option ElementaryType → Type 0
 IsTransfer c below (go.Jump condition number) t =
     Decides condition t × (has_label below number ≡ true)
@@ -139,13 +138,13 @@ target_of (go.Jump condition number) = Some number
 target_of (go.Return condition) = None
 target_of (go.Call timer args) = None
 
--- what comes behind a jump or a return on a result of this type (own)
+-- what a jump or a return on a result of this type brings to the next item (own)
 abbrev pub coming_behind_condition : Condition → Option ElementaryType → Coming
 coming_behind_condition Always t = None
 coming_behind_condition IfTrue t = Some t
 coming_behind_condition IfFalse t = Some t
 
--- what comes behind a jump, a return or a call (own)
+-- what a jump, a return or a call brings to the next item (own)
 abbrev pub coming_behind_transfer : Transfer → Option ElementaryType → Coming
 coming_behind_transfer (go.Jump condition number) t = coming_behind_condition condition t
 coming_behind_transfer (go.Return condition) t = coming_behind_condition condition t
@@ -153,34 +152,32 @@ coming_behind_transfer (go.Call timer args) t = Some None
 
 -- ---- own: types of the current result, over the items
 
--- behind a jump, a return or a call on a result of this type
+-- the state after a jump, a return or a call on a result of this type
 abbrev pub behind_transfer : Transfer → Option ElementaryType → Carried → Carried
 behind_transfer x t k =
     carry_of k.passed (with_target (target_of x) k.named) (coming_behind_transfer x t)
 
--- behind an operation or a parenthesis that leaves a result of this type
+-- the state after an operation or a parenthesis that leaves a result of this type
 abbrev pub behind_entry : Option ElementaryType → Carried → Carried
 behind_entry u k = carry_of k.passed k.named (Some u)
 
--- A label stands in the order of the numbers and is not too many, and what falls into it
--- brings its type.
+-- The label has the next number and is not too many, and the path from above brings its type.
 abbrev pub IsLabel : Labelling → ℕ → Carried → Type 0
 IsLabel labels n k = (n ≡ k.passed) × (k.passed < most_labels) × Falls labels k.passed k.now
 
--- A jump, return or call is reached by a result of this type, is right on it, and brings it where
--- it jumps.
+-- The jump, return or call is reached with a result of this type, is valid on it, and brings it to
+-- the label that it jumps to.
 abbrev pub TransferFlows : Checked → Labelling → List ProgramItem → Transfer → Option ElementaryType
     → Carried → Type 0
 TransferFlows c labels below x t k =
     (k.now ≡ Some t) × IsTransfer c below x t × Jumps labels (target_of x) t
 
--- An operation or a parenthesis is reached by a result of the first type, and leaves one of the
--- second.
+-- The operation or parenthesis is reached with a result of type t, and leaves one of type u.
 abbrev pub EntryFlows : Checked → Entry → Option ElementaryType → Option ElementaryType → Carried
     → Type 0
 EntryFlows c e t u k = (k.now ≡ Some t) × IsEntry c e t u × (entry_depth e ≤ most_nested)
 
--- Each item is reached and right on what is known before it.
+-- Each item is reached, and valid in the state before it.
 abbrev pub AreItems : Checked → Labelling → List ProgramItem → Carried → Type 0
 AreItems c labels [] k = Unit {0}
 AreItems c labels (label n ∷ is) k =
@@ -192,16 +189,16 @@ AreItems c labels (plain e ∷ is) k =
     (t : Option ElementaryType) × (u : Option ElementaryType) × EntryFlows c e t u k
     × AreItems c labels is (behind_entry u k)
 
--- The name of an external is one that an image may have.
+-- An image can represent the name of the external.
 abbrev pub HasName : External → Type 0
 HasName e = IsName e.name
 
--- The value of a variable is one of its type.
+-- The initial value of the variable is in the range of its type.
 abbrev pub BeginsRight : Variable → Type 0
 BeginsRight v = IsValue v.initial
 
--- There are no more slots and timers than a machine may have, and with some labelling each item is
--- reached and right.
+-- There are no more slots and timers than a machine may have, and some labelling makes each item
+-- reached and valid.
 pub record IsTyped (c : Checked) : Type 0 where
   pub slots : length c.externals + length c.variables ≤ most_slots
   pub timers : length c.timers ≤ most_timers

@@ -1,4 +1,4 @@
--- What is left of an instruction that is right: its operands have the type that it works on.
+-- The typed form of a valid instruction: its operands have the type that it works on.
 use Rattle.std.specs.Prelude.{ℕ, Bool, Option, None, Some, option_map}
 use Rattle.bay_base.specs.declared.types.ElementaryType.{ElementaryType}
 use Rattle.il_text.specs.declared.program.Operator.{Operator}
@@ -16,17 +16,17 @@ use Rattle.il_check.specs.declared.typed.Slot.{Slot}
 use Rattle.il_check.specs.declared.typed.TypedArgument.{TypedArgument}
 use Rattle.il_check.specs.declared.typed.TypedArguments.{TypedArguments}
 use Rattle.il_check.specs.declared.typed.TypedArguments.TheVariants as typed
-use Rattle.il_check.specs.declared.given.Given.{Given}
-use Rattle.il_check.specs.declared.given.Given.TheVariants.{Known}
-use Rattle.il_check.specs.declared.given.Called.{Called}
-use Rattle.il_check.specs.declared.given.Called.TheVariants as called
-use Rattle.il_check.specs.declared.given.GivenArgument.{GivenArgument}
-use Rattle.il_check.specs.declared.given.GivenArguments.{GivenArguments}
-use Rattle.il_check.specs.declared.given.GivenArguments.TheVariants as arguments
-use Rattle.il_check.specs.declared.given.Resolved.{Resolved}
-use Rattle.il_check.specs.declared.given.Resolved.TheVariants.{Load, Store, Combine, Not, Convert, Jump, Return, Call}
+use Rattle.il_check.specs.declared.source_operand.SourceOperand.{SourceOperand}
+use Rattle.il_check.specs.declared.source_operand.SourceOperand.TheVariants.{Known}
+use Rattle.il_check.specs.declared.source_operand.CalledTimer.{CalledTimer}
+use Rattle.il_check.specs.declared.source_operand.CalledTimer.TheVariants as called
+use Rattle.il_check.specs.declared.source_operand.SourceArgument.{SourceArgument}
+use Rattle.il_check.specs.declared.source_operand.SourceArguments.{SourceArguments}
+use Rattle.il_check.specs.declared.source_operand.SourceArguments.TheVariants as arguments
+use Rattle.il_check.specs.declared.source_operand.Resolved.{Resolved}
+use Rattle.il_check.specs.declared.source_operand.Resolved.TheVariants.{Load, Store, Combine, Not, Convert, Jump, Return, Call}
 
--- ---- own: what is left of an instruction
+-- ---- own: typed forms of instructions
 
 -- a load of the operand, if there is one
 abbrev pub load_operation : Bool → Option TypedOperand → Option SimpleOperation
@@ -34,7 +34,7 @@ load_operation negated None = None
 load_operation negated (Some o) = Some (op.Load negated o)
 
 -- a load of the operand as one of this type
-abbrev pub load_in : Bool → Given → Option ElementaryType → Option SimpleOperation
+abbrev pub load_in : Bool → SourceOperand → Option ElementaryType → Option SimpleOperation
 load_in negated given None = None
 load_in negated given (Some kind) = load_operation negated (operand_in kind given)
 
@@ -44,7 +44,7 @@ slot_in (operand.Slot slot) = Some slot
 slot_in other = None
 
 -- the slot of a target that is a variable
-abbrev pub target_slot : Given → Option Slot
+abbrev pub target_slot : SourceOperand → Option Slot
 target_slot (Known source) = slot_in source.operand
 target_slot other = None
 
@@ -60,12 +60,13 @@ combine_operation operator kind negated None = None
 combine_operation operator kind negated (Some o) = Some (op.Combine operator kind negated o)
 
 -- an operator on a result of this type, with the operand as one of the type
-abbrev pub combine_in : Operator → Bool → Given → Option ElementaryType → Option SimpleOperation
+abbrev pub combine_in : Operator → Bool → SourceOperand → Option ElementaryType
+    → Option SimpleOperation
 combine_in operator negated given None = None
 combine_in operator negated given (Some kind) =
     combine_operation operator kind negated (operand_in kind given)
 
--- the operation on a result of this type
+-- the typed operation of an instruction on a result of this type, if it is an operation
 abbrev pub operation_in : Resolved → Option ElementaryType → Option SimpleOperation
 operation_in (Load negated given) result = load_in negated given (load_type given)
 operation_in (Store kind target) result = store_operation kind (target_slot target)
@@ -75,50 +76,51 @@ operation_in Not result = Some op.Not
 operation_in (Convert conversion) result = Some (op.Convert conversion)
 operation_in other result = None
 
--- an argument as one of its input's type
-abbrev pub typed_argument : GivenArgument → Option TypedArgument
+-- an argument with its input's type, if its operand can have it
+abbrev pub typed_argument : SourceArgument → Option TypedArgument
 typed_argument a =
     option_map (λ o. record { input = a.input; operand = o })
     (operand_in (input_type a.input) a.given)
 
--- the arguments of a call, if each is right
+-- one argument as the arguments of a call, if it is valid
 abbrev pub one_argument : Option TypedArgument → Option TypedArguments
 one_argument None = None
 one_argument (Some a) = Some (typed.One a)
 
+-- two arguments as the arguments of a call, if both are valid
 abbrev pub two_arguments : Option TypedArgument → Option TypedArgument → Option TypedArguments
 two_arguments (Some a) (Some b) = Some (typed.Two a b)
 two_arguments a b = None
 
--- the arguments of a call, each as one of its input's type
-abbrev pub arguments_in : GivenArguments → Option TypedArguments
+-- the arguments of a call, each with its input's type
+abbrev pub arguments_in : SourceArguments → Option TypedArguments
 arguments_in arguments.None = Some typed.None
 arguments_in (arguments.One a) = one_argument (typed_argument a)
 arguments_in (arguments.Two a b) = two_arguments (typed_argument a) (typed_argument b)
 
--- a call of a timer, if its arguments are right
+-- a call of a timer, if its arguments are valid
 abbrev pub call_with : ℕ → Option TypedArguments → Option Transfer
 call_with timer None = None
 call_with timer (Some as_typed) = Some (go.Call timer as_typed)
 
 -- a call, if a timer is called
-abbrev pub call_in : Called → Option TypedArguments → Option Transfer
+abbrev pub call_in : CalledTimer → Option TypedArguments → Option Transfer
 call_in (called.Timer timer) args = call_with timer args
 call_in other args = None
 
--- a jump to a label, if it is there
+-- a jump to a label, if the label exists
 abbrev pub jump_in : Condition → Option ℕ → Option Transfer
 jump_in condition None = None
 jump_in condition (Some label) = Some (go.Jump condition label)
 
--- the jump, return or call that an instruction is
+-- the jump, return or call of an instruction, if it is one
 abbrev pub transfer_in : Resolved → Option Transfer
 transfer_in (Jump condition label) = jump_in condition label
 transfer_in (Return condition) = Some (go.Return condition)
 transfer_in (Call timer args) = call_in timer (arguments_in args)
 transfer_in other = None
 
--- what is left of an instruction as an entry
+-- the typed form of an instruction as an entry
 abbrev pub entry_in : Resolved → Option ElementaryType → Option Entry
 entry_in r result = option_map operation (operation_in r result)
 
@@ -127,7 +129,7 @@ abbrev pub or_entry : Option Transfer → Option Entry → Option ProgramItem
 or_entry (Some t) e = Some (transfer t)
 or_entry None e = option_map plain e
 
--- what is left of an instruction as an item
+-- the typed form of an instruction as an item
 abbrev pub item_in : Resolved → Option ElementaryType → Option ProgramItem
 item_in r result = or_entry (transfer_in r) (entry_in r result)
 

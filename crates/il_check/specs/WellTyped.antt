@@ -1,5 +1,5 @@
--- What is wrong with the instructions of a program (IEC 61131-3:2003, 3.2), with the least types of
--- the current result that what stands before allows; and what is left of one without a fault.
+-- The faults of a program's instructions (IEC 61131-3:2003, 3.2), with the least types of the
+-- current result on the paths before them; and the typed form of a program without a fault.
 use Rattle.std.specs.Prelude.{ℕ, ◌+◌, ◌-◌, ◌==◌, Bool, true, false, not, ◌&&◌, nat_lt, nat_le, List, [], ◌∷◌, ◌++◌, slice_get, slice_set, Option, None, Some, option_map, if◌then◌else◌}
 use Rattle.std.specs.List.{cons_option}
 use Rattle.bay_base.specs.declared.types.ElementaryType.{ElementaryType}
@@ -7,20 +7,20 @@ use Rattle.bay_base.specs.Types.{same_type}
 use Rattle.il_text.specs.Listing as text
 use Rattle.il_text.specs.declared.program.Operator.{Operator}
 use Rattle.il_check.specs.Faults.{fault_if}
-use Rattle.il_check.specs.Given.{ProgramNames, resolution_of}
+use Rattle.il_check.specs.SourceOperands.{ProgramNames, resolution_of}
 use Rattle.il_check.specs.Program as plain
-use Rattle.il_check.specs.Rules.{is_wrong, is_unset, type_after, combines_wrong, combines_unset, misses_name, jumps_back, misses_label, writes_fixed, may_divide_by_zero, divides, gives, goes_on, target_of}
+use Rattle.il_check.specs.Rules.{is_wrong, is_unset, type_after, combines_wrong, combines_unset, misses_name, jumps_back, misses_label, writes_fixed, may_divide_by_zero, divides, gives, falls_through, target_of}
 use Rattle.il_check.specs.Typing.{entry_in, item_in, block_in}
 use Rattle.il_check.specs.declared.reach.Reach.{Reach}
-use Rattle.il_check.specs.declared.given.Resolved.{Resolved}
+use Rattle.il_check.specs.declared.source_operand.Resolved.{Resolved}
 use Rattle.il_check.specs.declared.fault.CheckFault.{CheckFault}
 use Rattle.il_check.specs.declared.fault.CheckFault.TheVariants.{UnknownName, DuplicateName, TypeMismatch, UnsetResult, BackwardJump, UnknownLabel, Unreachable, ReadOnly, ZeroDivisor, TooMany}
 use Rattle.il_check.specs.Limits.{most_labels, most_nested}
 
--- ---- own: faults of instructions, and what is left of them
+-- ---- own: faults and typed forms of instructions
 
--- the faults of what names mean and of types: in an instruction that can't be reached no type is
--- judged
+-- the faults of names, of types and of a backward jump; types are not checked in an unreachable
+-- instruction
 abbrev pub typing_faults : Bool → ℕ → ℕ → Resolved → Option ElementaryType → List CheckFault
 typing_faults is_reached passed line r result =
     fault_if (misses_name r) (UnknownName line)
@@ -28,7 +28,7 @@ typing_faults is_reached passed line r result =
     ++ (fault_if (is_reached && is_unset r result) (UnsetResult line)
     ++ fault_if (jumps_back passed r) (BackwardJump line)))
 
--- the faults of where an instruction stands, and of what it jumps to, writes and divides by
+-- the faults of an undefined label, an unreachable instruction, a read-only target and a divisor
 abbrev pub other_faults : Bool → ℕ → Resolved → List CheckFault
 other_faults is_reached line r =
     fault_if (misses_label r) (UnknownLabel line)
@@ -36,17 +36,18 @@ other_faults is_reached line r =
     ++ (fault_if (writes_fixed r) (ReadOnly line)
     ++ fault_if (may_divide_by_zero r) (ZeroDivisor line)))
 
--- the faults of an instruction behind so many labels
+-- the faults of an instruction after `passed` labels
 abbrev pub instruction_faults : Bool → ℕ → ℕ → Resolved → Option ElementaryType → List CheckFault
 instruction_faults is_reached passed line r result =
     typing_faults is_reached passed line r result ++ other_faults is_reached line r
 
--- the faults at an operator with a parenthesis: what it divides by is no literal
+-- the faults at an operator with a parenthesis; it must not divide, since a divisor is a literal
 abbrev pub opening_faults : Bool → ℕ → Operator → List CheckFault
 opening_faults is_reached line operator =
     fault_if (not is_reached) (Unreachable line) ++ fault_if (divides operator) (ZeroDivisor line)
 
--- the faults at its `)`, where the operator combines what the parenthesis gives with the result
+-- the faults at its `)`, where the operator combines the current result with that of the
+-- parenthesis
 abbrev pub closing_faults : Bool → ℕ → Operator → Bool → Option ElementaryType
     → Option ElementaryType → List CheckFault
 closing_faults is_reached line operator negated inner result =
@@ -54,24 +55,26 @@ closing_faults is_reached line operator negated inner result =
     ++ (fault_if (is_reached && combines_unset inner result) (UnsetResult line)
     ++ fault_if (not is_reached) (Unreachable line))
 
--- the type of the result behind an entry
-abbrev pub type_behind : ProgramNames → text.Entry → Option ElementaryType → Option ElementaryType
-type_behind names (text.label line name) result = result
-type_behind names (text.action line a) result = type_after (resolution_of names a) result
-type_behind names (text.block line operator negated items end) result =
+-- the type of the result after an entry
+abbrev pub type_after_entry : ProgramNames → text.Entry → Option ElementaryType
+    → Option ElementaryType
+type_after_entry names (text.label line name) result = result
+type_after_entry names (text.action line a) result = type_after (resolution_of names a) result
+type_after_entry names (text.block line operator negated items end) result =
     option_map (gives operator) result
 
--- the type of the result behind entries
-abbrev pub type_behind_all : ProgramNames → text.Entries → Option ElementaryType → Option ElementaryType
-type_behind_all names text.no_entries result = result
-type_behind_all names (text.entry e es) result =
-    type_behind_all names es (type_behind names e result)
+-- the type of the result after entries
+abbrev pub type_after_entries : ProgramNames → text.Entries → Option ElementaryType
+    → Option ElementaryType
+type_after_entries names text.no_entries result = result
+type_after_entries names (text.entry e es) result =
+    type_after_entries names es (type_after_entry names e result)
 
 abbrev mutual
-  -- The faults of an entry, in which so many parentheses may stand within one another. A
-  -- parenthesis begins with a result that is not set; of one too deep, what is in it and its end
-  -- are not judged.
-  pub entry_faults : ProgramNames → ℕ → Bool → ℕ → text.Entry → Option ElementaryType → List CheckFault
+  -- The faults of an entry, in which parentheses may nest at most `room` deep. A parenthesis begins
+  -- with an unset result; if it is too deep, its entries and its end are not checked.
+  pub entry_faults : ProgramNames → ℕ → Bool → ℕ → text.Entry → Option ElementaryType
+      → List CheckFault
   entry_faults names room is_reached passed (text.label line name) result = []
   entry_faults names room is_reached passed (text.action line a) result =
       instruction_faults is_reached passed line (resolution_of names a) result
@@ -79,16 +82,18 @@ abbrev mutual
       opening_faults is_reached line operator
       ++ (if room == 0 then TooMany line ∷ []
       else (entries_faults names (room - 1) is_reached passed items None
-      ++ closing_faults is_reached end operator negated (type_behind_all names items None) result))
+      ++ closing_faults is_reached end operator negated (type_after_entries names items None)
+      result))
 
-  pub entries_faults : ProgramNames → ℕ → Bool → ℕ → text.Entries → Option ElementaryType → List CheckFault
+  pub entries_faults : ProgramNames → ℕ → Bool → ℕ → text.Entries → Option ElementaryType
+      → List CheckFault
   entries_faults names room is_reached passed text.no_entries result = []
   entries_faults names room is_reached passed (text.entry e es) result =
       entry_faults names room is_reached passed e result
-      ++ entries_faults names room is_reached passed es (type_behind names e result)
+      ++ entries_faults names room is_reached passed es (type_after_entry names e result)
 
 abbrev mutual
-  -- what is left of an entry; the grammar has no label, jump, return or call within a parenthesis
+  -- the typed form of an entry; the grammar has no label, jump, return or call within a parenthesis
   pub entry_left : ProgramNames → ℕ → text.Entry → Option ElementaryType → Option plain.Entry
   entry_left names room (text.label line name) result = None
   entry_left names room (text.action line a) result = entry_in (resolution_of names a) result
@@ -100,55 +105,55 @@ abbrev mutual
   entries_left names room text.no_entries result = plain.no_entries
   entries_left names room (text.entry e es) result =
       plain.entry_before (entry_left names room e result)
-      (entries_left names room es (type_behind names e result))
+      (entries_left names room es (type_after_entry names e result))
 
--- both results are set, to one type
+-- whether both results are set and have the same type
 abbrev pub same_result : Option ElementaryType → Option ElementaryType → Bool
 same_result (Some a) (Some b) = same_type a b
 same_result a b = false
 
--- where two ways meet, the result is set if it has one type on both
+-- the type of a result where two paths meet: set if it has one type on both
 abbrev pub join_types : Option ElementaryType → Option ElementaryType → Option ElementaryType
 join_types a b = if same_result a b then a else None
 
--- the join of what two ways to a place bring
+-- the join of what two paths bring to a place
 abbrev pub join : Reach → Reach → Reach
 join a b =
     if not a.is_reached then b
     else (if not b.is_reached then a
     else record { is_reached = true; kind = join_types a.kind b.kind })
 
--- no way leads to the place
+-- a place that no path leads to
 abbrev pub no_reach : Reach
 no_reach = record { is_reached = false; kind = None }
 
--- what is known before an item: of the current result; of the result at each label, from the jumps
--- so far; and how many labels stand before
+-- the state before an item: the current result; what the jumps so far bring to each label; and the
+-- number of labels before the item
 pub record Progress : Type 0 where
   pub now : Reach
   pub arrivals : List Reach
   pub passed : ℕ
 
--- what jumps to a label bring, if there is such a label
+-- what the jumps to a label bring; no path if there is no such label
 abbrev pub arrival : Option Reach → Reach
 arrival None = no_reach
 arrival (Some r) = r
 
--- what jumps to labels bring, and the jump that is done now
+-- what the jumps to labels bring, with the current result joined in at one label, if there is one
 abbrev pub arrival_at : Option ℕ → Reach → List Reach → List Reach
 arrival_at None now arrivals = arrivals
 arrival_at (Some label) now arrivals =
     slice_set arrivals label (join (arrival (slice_get arrivals label)) now)
 
--- behind an instruction
+-- the state after an instruction
 abbrev pub standing_after : Resolved → Progress → Progress
 standing_after r s = record {
-  now = record { is_reached = s.now.is_reached && goes_on r; kind = type_after r s.now.kind };
+  now = record { is_reached = s.now.is_reached && falls_through r; kind = type_after r s.now.kind };
   arrivals = arrival_at (target_of r) s.now s.arrivals;
   passed = s.passed;
 }
 
--- behind a label, what falls into it and what jumps to it meet
+-- the state after a label: joins what falls through to it and what the jumps to it bring
 abbrev pub behind_label : Progress → Progress
 behind_label s = record {
   now = join s.now (arrival (slice_get s.arrivals s.passed));
@@ -156,7 +161,7 @@ behind_label s = record {
   passed = s.passed + 1;
 }
 
--- behind a parenthesis
+-- the state after a parenthesis
 abbrev pub behind_block : Operator → Progress → Progress
 behind_block operator s = record {
   now = record { is_reached = s.now.is_reached; kind = option_map (gives operator) s.now.kind };
@@ -164,29 +169,29 @@ behind_block operator s = record {
   passed = s.passed;
 }
 
--- behind an item
-abbrev pub behind : ProgramNames → text.Entry → Progress → Progress
-behind names (text.label line name) s = behind_label s
-behind names (text.action line a) s = standing_after (resolution_of names a) s
-behind names (text.block line operator negated items end) s = behind_block operator s
+-- the state after an item
+abbrev pub progress_after_entry : ProgramNames → text.Entry → Progress → Progress
+progress_after_entry names (text.label line name) s = behind_label s
+progress_after_entry names (text.action line a) s = standing_after (resolution_of names a) s
+progress_after_entry names (text.block line operator negated items end) s = behind_block operator s
 
--- before the first item the result is not set
+-- the state before the first item: the result is unset
 abbrev pub first : List Reach → Progress
 first arrivals =
     record { now = record { is_reached = true; kind = None }; arrivals = arrivals; passed = 0 }
 
--- the first label of a name, if there is one, is this, behind so many others
+-- whether no label of a name comes before this one, which has `passed` labels before it
 abbrev pub is_first : ℕ → Option ℕ → Bool
 is_first passed None = true
 is_first passed (Some number) = not (nat_lt number passed)
 
--- the faults of a label behind so many others
+-- the faults of a label after `passed` others
 abbrev pub label_faults : ℕ → Option ℕ → ℕ → List CheckFault
 label_faults line number passed =
     fault_if (not (is_first passed number)) (DuplicateName line)
     ++ fault_if (nat_le most_labels passed) (TooMany line)
 
--- the faults of an item, behind what is known before it
+-- the faults of an item in the state before it
 abbrev pub item_faults : ProgramNames → text.Entry → Progress → List CheckFault
 item_faults names (text.label line name) s = label_faults line (names.label name) s.passed
 item_faults names (text.action line a) s =
@@ -196,22 +201,24 @@ item_faults names (text.block line operator negated items end) s =
     (text.block line operator negated items end)
     s.now.kind
 
--- the faults of items behind what is known before them
+-- the faults of items in the state before them
 abbrev pub items_faults : ProgramNames → List text.Entry → Progress → List CheckFault
 items_faults names [] s = []
-items_faults names (e ∷ es) s = item_faults names e s ++ items_faults names es (behind names e s)
+items_faults names (e ∷ es) s =
+    item_faults names e s ++ items_faults names es (progress_after_entry names e s)
 
--- what is left of an item
-abbrev pub item_left : ProgramNames → text.Entry → Progress → Option plain.ProgramItem
-item_left names (text.label line name) s = Some (plain.label s.passed)
-item_left names (text.action line a) s = item_in (resolution_of names a) s.now.kind
-item_left names (text.block line operator negated items end) s =
+-- the typed form of an item
+abbrev pub progress_after_item : ProgramNames → text.Entry → Progress → Option plain.ProgramItem
+progress_after_item names (text.label line name) s = Some (plain.label s.passed)
+progress_after_item names (text.action line a) s = item_in (resolution_of names a) s.now.kind
+progress_after_item names (text.block line operator negated items end) s =
     option_map plain.plain (entry_left names most_nested
     (text.block line operator negated items end)
     s.now.kind)
 
--- what is left of items
-abbrev pub items_left : ProgramNames → List text.Entry → Progress → List plain.ProgramItem
-items_left names [] s = []
-items_left names (e ∷ es) s =
-    cons_option (item_left names e s) (items_left names es (behind names e s))
+-- the typed forms of items
+abbrev pub progress_after_items : ProgramNames → List text.Entry → Progress → List plain.ProgramItem
+progress_after_items names [] s = []
+progress_after_items names (e ∷ es) s =
+    cons_option (progress_after_item names e s)
+    (progress_after_items names es (progress_after_entry names e s))

@@ -1,4 +1,4 @@
-// The checks of a program, and the typed program that is left of one without a fault.
+// The checks of a program: the typed program, or the fault to report.
 ghost use Rattle.std.specs.Prelude.{◌≢◌, IfErr, IfOk, IsErrOf};
 ghost use Rattle.il_text.specs.Views.{plain_program};
 ghost use Rattle.bay_base.specs.Exact.{Gives};
@@ -36,19 +36,19 @@ use std::alloc::Global;
 /// digits and underscores, which is no point's (70).
 ///
 /// Returns the typed program, or the fault with the lowest number on the first faulty line (IEC
-/// 61131-3:2003, 2.4.3 and 3.2). Looking up a name does not allocate. Out of memory is possible
+/// 61131-3:2003, 2.4.3 and 3.2). Returns `OutOfMemory` if an allocation fails, which is possible
 /// only if the program declares something or has an item.
 pub fn check(alloc: Global, program: &Program<'_>, points: &[Point]) -> Result<Typed, CheckFault>
-    // The checked program, or the fault of the first faulty line with the lowest number, unless
-    // memory ran out.
+    // The checked program, or the fault of the first faulty line with the lowest number, unless an
+    // allocation fails.
     ensures checked { Gives OutOfMemory checked_view result
         (checked_of points.now (plain_program program.now)) }
-    // It passes exactly where its declarations are right and some labelling makes every instruction
-    // right.
+    // It passes exactly if its declarations are valid and some labelling makes every instruction
+    // valid.
     ensures right { IfOk result (λ typed. IsRightProgram points.now (plain_program program.now)) }
     ensures wrong { IfErr result
         (λ fault. fault ≢ OutOfMemory → IsRightProgram points.now (plain_program program.now) → ⊥) }
-    // No fault comes before the one that is answered.
+    // No fault comes before the one that is returned.
     ensures first { IfErr result
         (λ fault. fault ≢ OutOfMemory
         → IsLeast fault (faults_of points.now (plain_program program.now))) }

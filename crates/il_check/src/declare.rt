@@ -1,4 +1,4 @@
-// The declarations of a program (IEC 61131-3:2003, 2.4.3): what names mean, and what is wrong.
+// The declarations of a program (IEC 61131-3:2003, 2.4.3): the meanings of names, and the faults.
 ghost use Rattle.std.specs.Prelude.{◌≡◌, ℕ, List, [], ◌∷◌, ◌++◌, map, vec_len, length, is_some, option_copied, option_map, ◌<◌, IfErr, IfOk, OnOk, string_bytes};
 ghost use Rattle.std.specs.BTreeMap.{get_by_text};
 ghost use Rattle.std.specs.List.{list_all};
@@ -11,11 +11,11 @@ ghost use Rattle.il_check.specs.DeclarationsView.{StandsFor, Takes, Adds, SameBu
 ghost use Rattle.il_check.specs.Declaring as spec;
 
 use crate::fault::CheckFault;
-use crate::given::Meaning;
 use crate::names::{add_meaning, upper_case};
 use crate::note::note_if;
 use crate::resolve::typed_value;
 use crate::rules::number_in;
+use crate::source_operand::Meaning;
 use crate::typed::{External, Slot, Timer, Variable};
 use bay_base::names::same_name;
 use bay_base::point::Point;
@@ -46,21 +46,21 @@ pub(crate) struct Declarations {
 // The maximum length of a name, in characters.
 const MAX_NAME: usize = 64;
 
-// Whether an octet may stand in a name, case-insensitively.
-fn may_stand(octet: u8) -> bool
+// Returns whether a name may have this octet, case-insensitively.
+fn is_allowed_here(octet: u8) -> bool
     ensures { result ≡ spec.may_stand octet }
 {
     matches!(octet.to_ascii_uppercase(), b'A'..=b'Z' | b'0'..=b'9' | b'_')
 }
 
-// Whether each of the octets may stand in a name.
+// Returns whether a name may have each of the octets.
 fn all_may_stand(octets: &[u8]) -> bool
     ensures { result ≡ list_all spec.may_stand octets.now }
 {
-    octets.iter().all(|octet| may_stand(*octet))
+    octets.iter().all(|octet| is_allowed_here(*octet))
 }
 
-// Whether a name consists of 1 to 64 letters, digits and underscores.
+// Returns whether a name consists of 1 to 64 letters, digits and underscores.
 fn is_name(name: &str) -> bool
     ensures { result ≡ spec.is_name name.now }
 {
@@ -77,7 +77,7 @@ fn named_point<'a>(points: &'a [Point], name: &str) -> Option<&'a Point>
         .find(|point| same_name(point.name.as_str(), name))
 }
 
-// Returns the point with this name. A malformed name gives `None`.
+// Returns the point with this name, or `None` if there is none or the name is malformed.
 fn point_of<'a>(points: &'a [Point], name: &str) -> Option<&'a Point>
     ensures { option_copied result ≡ spec.point_of points.now name.now }
 {
@@ -88,7 +88,7 @@ fn point_of<'a>(points: &'a [Point], name: &str) -> Option<&'a Point>
     }
 }
 
-// Whether a declaration stands in a VAR_EXTERNAL block.
+// Returns whether a declaration is in a VAR_EXTERNAL block.
 fn is_external(scope: VariableScope) -> bool
     ensures { result ≡ spec.is_external scope }
 {
@@ -128,7 +128,7 @@ fn initial_in(kind: ElementaryType, literal: Option<Literal>) -> Option<Value>
     }
 }
 
-// Whether the point has this type. Without a point, no type is wrong.
+// Returns whether the point has this type; true if there is no point.
 fn is_kind_of(point: Option<&Point>, kind: ElementaryType) -> bool
     ensures { result ≡ spec.is_kind_of (option_copied point.entry) kind }
 {
@@ -138,7 +138,8 @@ fn is_kind_of(point: Option<&Point>, kind: ElementaryType) -> bool
     }
 }
 
-// Whether an external has its point's type, and a variable's literal fits it.
+// Returns whether a declaration fits its type: an external has its point's type, a variable's
+// literal fits it, and no point is declared as a timer.
 fn is_typed(declaration: Declaration<'_>, point: Option<&Point>) -> bool
     ensures { result ≡ spec.is_typed declaration.entry.scope declaration.entry.kind
         (option_copied point.entry) declaration.entry.initial }
@@ -153,7 +154,7 @@ fn is_typed(declaration: Declaration<'_>, point: Option<&Point>) -> bool
     }
 }
 
-// Whether there is a point and the program may write it.
+// Returns whether there is a point and the program may write it.
 fn is_writable(point: Option<&Point>) -> bool
     ensures { result ≡ spec.is_writable (option_copied point.entry) }
 {
@@ -201,7 +202,7 @@ impl Declarations {
         }
     }
 
-    // Whether one more variable or timer would be too many.
+    // Returns whether one more variable or timer would be too many.
     fn is_full(&self, kind: DeclaredType) -> bool
         ensures { result ≡ spec.is_full (counts_in self.now) kind }
     {
@@ -213,7 +214,7 @@ impl Declarations {
         }
     }
 
-    // Returns what the name declared next will mean.
+    // Returns the meaning of the name that is declared next.
     fn next_meaning(
         &self,
         scope: VariableScope,
@@ -323,7 +324,8 @@ impl Declarations {
     }
 }
 
-/// Processes all declarations of a program.
+/// Processes all declarations of a program. Fails only if an allocation fails, and never if there
+/// are no declarations.
 pub(crate) fn declare_all(
     alloc: Global,
     points: &[Point],

@@ -18,7 +18,7 @@ pub enum CheckFault {
     /// A type is not the required one, or a name does not mean what the instruction needs.
     #[error("the type is not the one that is needed")]
     TypeMismatch { line: usize },
-    /// The current result is used where it is not set.
+    /// The current result is used but not set.
     #[error("the result is not set")]
     UnsetResult { line: usize },
     /// A jump goes to a label above.

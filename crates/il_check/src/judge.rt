@@ -1,20 +1,20 @@
-// The faults of one instruction, of a parenthesis, of a label.
+// The faults of one instruction, of a parenthesis, and of a label.
 ghost use Rattle.std.specs.Prelude.{◌≡◌};
 ghost use Rattle.il_check.specs.Faults.{first_fault_of};
 ghost use Rattle.il_check.specs.WellTyped as spec;
 
 use crate::fault::CheckFault;
-use crate::given::Resolved;
 use crate::note::note_if;
 use crate::rules::{
-    combines_wrong, divides, is_unset, is_wrong, jumps_back, may_divide_by_zero, misses_label,
-    misses_name, writes_fixed,
+    combines_wrong, divides, is_unset, is_wrong, jumps_back, jumps_to_undefined_label,
+    may_divide_by_zero, uses_undeclared_name, writes_read_only,
 };
+use crate::source_operand::Resolved;
 use bay_base::types::ElementaryType;
 use il_text::program::Operator;
 
-// Whether no label of a name comes before this one, which has `passed` labels before it. `number`
-// is that of the first label with the name.
+// Returns whether no label of a name comes before this one, which has `passed` labels before it.
+// `number` is that of the first label with the name.
 fn is_first(passed: usize, number: Option<usize>) -> bool
     ensures { result ≡ spec.is_first passed number }
 {
@@ -27,7 +27,7 @@ fn is_first(passed: usize, number: Option<usize>) -> bool
 // The maximum number of labels in a program.
 const MAX_LABELS: usize = 256;
 
-/// The position of an instruction: whether it is reachable, how many labels precede it, and how
+/// What is known at an instruction: whether it is reachable, how many labels precede it, and how
 /// many levels of parentheses may still open there.
 #[derive(Clone, Copy)]
 pub(crate) struct InstructionPlace {
@@ -53,7 +53,7 @@ fn note_typing(
     let is_back = jumps_back(context.passed, resolved);
     let found = note_if(
         found,
-        misses_name(resolved),
+        uses_undeclared_name(resolved),
         CheckFault::UnknownName { line },
     );
     let found = note_if(found, is_wrong, CheckFault::TypeMismatch { line });
@@ -71,11 +71,11 @@ fn note_others(
 ) -> Option<CheckFault>
     ensures { result ≡ first_fault_of found (spec.other_faults is_reached line resolved) }
 {
-    let is_read_only = writes_fixed(resolved);
+    let is_read_only = writes_read_only(resolved);
     let is_zero = may_divide_by_zero(resolved);
     let found = note_if(
         found,
-        misses_label(resolved),
+        jumps_to_undefined_label(resolved),
         CheckFault::UnknownLabel { line },
     );
     let found = note_if(found, !is_reached, CheckFault::Unreachable { line });
@@ -113,7 +113,7 @@ pub(crate) fn note_opening(
 
 /// The operator of a parenthesis, and the type of the parenthesis's result.
 #[derive(Clone, Copy)]
-pub(crate) struct ClosedParenthesis {
+pub(crate) struct ParenthesisEnd {
     pub(crate) operator: Operator,
     pub(crate) negated: bool,
     pub(crate) inner: Option<ElementaryType>,
@@ -125,13 +125,13 @@ pub(crate) fn note_closing(
     found: Option<CheckFault>,
     is_reached: bool,
     line: usize,
-    closing: ClosedParenthesis,
+    closing: ParenthesisEnd,
     kind: Option<ElementaryType>,
 ) -> Option<CheckFault>
     ensures { result ≡ first_fault_of found
         (spec.closing_faults is_reached line closing.operator closing.negated closing.inner kind) }
 {
-    let ClosedParenthesis {
+    let ParenthesisEnd {
         operator,
         negated,
         inner,

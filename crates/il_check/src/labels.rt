@@ -11,8 +11,8 @@ use il_text::program::Item;
 use std::alloc::{AllocError, Global};
 use std::collections::BTreeMap;
 
-/// The number of the first label of each name, in upper case, and for each label what jumps have
-/// brought to it so far: nothing.
+/// The number of the first label of each name, in upper case, and for each label what jumps bring
+/// to it: nothing, as no jump has been read.
 #[derive(Drop)]
 pub(crate) struct Labels {
     pub(crate) numbers: BTreeMap<String, usize>,
@@ -45,7 +45,8 @@ impl Labels {
     }
 }
 
-/// Collects all labels of a program.
+/// Collects all labels of a program. Fails only if an allocation fails, and never if there are no
+/// items.
 pub(crate) fn all_labels(alloc: Global, items: &[Item<'_>]) -> Result<Labels, AllocError>
     ensures stands { IfOk result (λ l. StandsAs (labels_from 0 (map entry_of items.now)) l) }
     ensures memory { IfErr result (λ e. 0 < length items.now) }

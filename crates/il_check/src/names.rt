@@ -1,10 +1,10 @@
-// The names of a program, and what they mean (IEC 61131-3:2003, 2.1.2 and 2.4.3).
+// The names of a program, and their meanings (IEC 61131-3:2003, 2.1.2 and 2.4.3).
 ghost use Rattle.std.specs.Prelude.{◌≡◌, ℕ, List, is_some, IfOk, OnOk, string_bytes};
 ghost use Rattle.std.specs.BTreeMap.{get_by_text};
 ghost use Rattle.bay_base.specs.Names as base;
 ghost use Rattle.il_check.specs.NamesView.{names_of, with_value};
 
-use crate::given::Meaning;
+use crate::source_operand::Meaning;
 use std::alloc::{AllocError, Global};
 use std::collections::BTreeMap;
 
@@ -15,7 +15,7 @@ pub(crate) struct ProgramNames {
     pub(crate) labels: BTreeMap<String, usize>,
 }
 
-/// Copies a name in upper case.
+/// Returns a copy of a name in upper case.
 pub(crate) fn upper_case(alloc: Global, name: &str) -> Result<String, AllocError>
     ensures { IfOk result (λ copy. string_bytes copy ≡ base.upper name.now) }
 {
@@ -34,7 +34,7 @@ fn put_upper(buffer: &mut String, name: &str) -> Result<(), AllocError>
     Ok(())
 }
 
-/// Gives a name its meaning unless it has one. Returns true if it already had one.
+/// Adds the meaning of a name, unless the name has one. Returns whether it already had one.
 pub(crate) fn add_meaning(
     meanings: &mut BTreeMap<String, Meaning>,
     name: String,
@@ -53,7 +53,7 @@ pub(crate) fn add_meaning(
     Ok(false)
 }
 
-/// Gives a label its number unless it has one.
+/// Adds the number of a label, unless the label's name has one.
 pub(crate) fn add_label(
     labels: &mut BTreeMap<String, usize>,
     name: String,

@@ -1,12 +1,12 @@
-// The fault that is answered, as faults are found one after another.
+// The fault to report, as faults are found one after another.
 ghost use Rattle.std.specs.Prelude.{◌≡◌};
 ghost use Rattle.il_check.specs.Faults as spec;
 ghost use Rattle.il_check.specs.Faults.{fault_if, first_fault_of};
 
 use crate::fault::CheckFault;
 
-// Whether a fault comes before another: by line, then by number. Out of memory, which has no number
-// and is never noted, would come first.
+// Returns whether a fault comes before another: by line, then by number. Out of memory, which has
+// no number and is never noted, would come first.
 fn is_before(first: CheckFault, second: CheckFault) -> bool
     ensures { result ≡ spec.is_before first second }
 {

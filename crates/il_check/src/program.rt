@@ -1,4 +1,4 @@
-// A checked program, which is sound as long as it lives.
+// A checked program. Its invariant: it is sound.
 ghost use Rattle.std.specs.Prelude.{◌≡◌};
 ghost use Rattle.il_check.specs.ProgramViews.{checked_view};
 ghost use Rattle.il_check.specs.Sound.{IsSound};

@@ -11,7 +11,7 @@ pub struct Reach {
     pub kind: Option<ElementaryType>,
 }
 
-/// A place that no path leads to.
+/// Returns what is known of a place that no path leads to.
 pub(crate) fn unreached() -> Reach
     ensures { result ≡ spec.no_reach }
 {
@@ -21,7 +21,7 @@ pub(crate) fn unreached() -> Reach
     }
 }
 
-// Whether both results are set and have the same type.
+// Returns whether both results are set and have the same type.
 fn same_result(first: Option<ElementaryType>, second: Option<ElementaryType>) -> bool
     ensures { result ≡ spec.same_result first second }
 {
@@ -31,7 +31,8 @@ fn same_result(first: Option<ElementaryType>, second: Option<ElementaryType>) ->
     }
 }
 
-// Returns the type of a result that has the first type on one path and the second on the other.
+// Returns the type of a result that has the first type on one path and the second on the other, or
+// `None` if they differ or one is unset.
 fn join_types(
     first: Option<ElementaryType>,
     second: Option<ElementaryType>,

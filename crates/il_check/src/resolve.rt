@@ -1,18 +1,20 @@
-// Instructions with what their names mean.
+// Resolves the names of instructions.
 ghost use Rattle.std.specs.Prelude.{◌≡◌, IfOk, OnOk, string_bytes, option_map};
 ghost use Rattle.bay_base.specs.Names as base;
 ghost use Rattle.il_text.specs.Views.{place_of, source_of, argument_of, arguments_of, action_of};
 ghost use Rattle.il_text.specs.Listing as text;
-ghost use Rattle.il_check.specs.Given as spec;
+ghost use Rattle.il_check.specs.SourceOperands as spec;
 ghost use Rattle.il_check.specs.NamesView.{names_of};
 
-use crate::given::{Called, Given, GivenArgument, GivenArguments, KnownOperand, Meaning, Resolved};
 use crate::names::ProgramNames;
+use crate::source_operand::{
+    CalledTimer, KnownOperand, Meaning, Resolved, SourceArgument, SourceArguments, SourceOperand,
+};
 use crate::typed::TypedOperand;
 use bay_base::types::ElementaryType;
 use il_image::value::Value;
 use il_text::program::{
-    Argument, Arguments, Instruction, Literal, Operand, Output, SymbolicVariable,
+    Argument, Arguments, Instruction, Literal, Operand, SymbolicVariable, TimerOutput,
 };
 use std::alloc::AllocError;
 
@@ -32,87 +34,87 @@ pub(crate) fn typed_value(literal: Literal) -> Option<Value>
 }
 
 // Returns a literal's value as a read-only operand. A number outside its type is `Misused`.
-fn known(value: Option<Value>) -> Given
-    ensures { result ≡ spec.given_of value }
+fn known(value: Option<Value>) -> SourceOperand
+    ensures { result ≡ spec.source_operand value }
 {
     match value {
-        Some(value) => Given::Known(KnownOperand {
+        Some(value) => SourceOperand::Known(KnownOperand {
             operand: TypedOperand::Literal(value),
             kind: value.type_of(),
             writable: false,
         }),
-        None => Given::Misused,
+        None => SourceOperand::Misused,
     }
 }
 
-// Returns a number without a type as an operand; it must be at least a LINT.
-fn number_given(number: i64) -> Given
-    ensures { result ≡ spec.number_given number }
+// Returns an untyped number as an operand; it must be in the range of LINT.
+fn number_operand(number: i64) -> SourceOperand
+    ensures { result ≡ spec.number_operand number }
 {
     if Value::of(ElementaryType::Lint, number).is_some() {
-        Given::Number(number)
+        SourceOperand::Number(number)
     } else {
-        Given::Misused
+        SourceOperand::Misused
     }
 }
 
 // Returns a literal as an operand.
-fn literal_given(literal: Literal) -> Given
-    ensures { result ≡ spec.literal_given literal }
+fn literal_operand(literal: Literal) -> SourceOperand
+    ensures { result ≡ spec.literal_operand literal }
 {
     match literal {
-        Literal::Number(number) => number_given(number),
+        Literal::Number(number) => number_operand(number),
         _ => known(typed_value(literal)),
     }
 }
 
-// Returns what a name means as a variable.
-fn variable_given(meaning: Option<Meaning>) -> Given
+// Returns a name, by its meaning, as a variable.
+fn variable_given(meaning: Option<Meaning>) -> SourceOperand
     ensures { result ≡ spec.variable_given meaning }
 {
     match meaning {
-        None => Given::Missing,
+        None => SourceOperand::Missing,
         Some(
             Meaning::Variable {
                 slot,
                 kind,
                 writable,
             },
-        ) => Given::Known(KnownOperand {
+        ) => SourceOperand::Known(KnownOperand {
             operand: TypedOperand::Slot(slot),
             kind,
             writable,
         }),
-        Some(Meaning::Timer(_)) => Given::Misused,
+        Some(Meaning::Timer(_)) => SourceOperand::Misused,
     }
 }
 
 // Returns the type of a timer's output.
-fn output_type(output: Output) -> ElementaryType
+fn output_type(output: TimerOutput) -> ElementaryType
     ensures { result ≡ spec.output_type output }
 {
     match output {
-        Output::Q => ElementaryType::Bool,
-        Output::Et => ElementaryType::Time,
+        TimerOutput::Q => ElementaryType::Bool,
+        TimerOutput::Et => ElementaryType::Time,
     }
 }
 
-// Returns what a name means as the timer of an output.
-fn output_given(meaning: Option<Meaning>, output: Output) -> Given
+// Returns the output of the timer of a name, by the meaning of the name.
+fn output_given(meaning: Option<Meaning>, output: TimerOutput) -> SourceOperand
     ensures { result ≡ spec.output_given meaning output }
 {
     match meaning {
-        None => Given::Missing,
-        Some(Meaning::Variable { .. }) => Given::Misused,
-        Some(Meaning::Timer(timer)) => Given::Known(KnownOperand {
-            operand: TypedOperand::Output { timer, output },
+        None => SourceOperand::Missing,
+        Some(Meaning::Variable { .. }) => SourceOperand::Misused,
+        Some(Meaning::Timer(timer)) => SourceOperand::Known(KnownOperand {
+            operand: TypedOperand::TimerOutput { timer, output },
             kind: output_type(output),
             writable: false,
         }),
     }
 }
 
-// Whether a literal is neither 0 nor FALSE.
+// Returns whether a literal is neither 0 nor FALSE.
 fn is_nonzero_literal(literal: Literal) -> bool
     ensures { result ≡ spec.is_nonzero_literal literal }
 {
@@ -126,7 +128,7 @@ fn is_nonzero_literal(literal: Literal) -> bool
     }
 }
 
-// Whether an operand is a literal other than 0 and FALSE.
+// Returns whether an operand is a literal other than 0 and FALSE.
 fn is_nonzero(operand: Operand<'_>) -> bool
     ensures { result ≡ spec.is_nonzero (source_of operand.entry) }
 {
@@ -136,14 +138,14 @@ fn is_nonzero(operand: Operand<'_>) -> bool
     }
 }
 
-// Returns what a name means as the timer of a call.
-fn called_of(meaning: Option<Meaning>) -> Called
+// Returns a name, by its meaning, as the timer of a call.
+fn called_of(meaning: Option<Meaning>) -> CalledTimer
     ensures { result ≡ spec.called_of meaning }
 {
     match meaning {
-        None => Called::Missing,
-        Some(Meaning::Variable { .. }) => Called::Misused,
-        Some(Meaning::Timer(timer)) => Called::Timer(timer),
+        None => CalledTimer::Missing,
+        Some(Meaning::Variable { .. }) => CalledTimer::Misused,
+        Some(Meaning::Timer(timer)) => CalledTimer::Timer(timer),
     }
 }
 
@@ -153,25 +155,29 @@ impl ProgramNames {
         &self,
         buffer: &mut String,
         variable: SymbolicVariable<'_>,
-    ) -> Result<Given, AllocError>
+    ) -> Result<SourceOperand, AllocError>
         ensures { IfOk result (λ given. given
             ≡ spec.place_given (names_of self.now) (place_of variable.entry)) }
     {
         match variable {
             SymbolicVariable::Name(name) => Ok(variable_given(self.meaning(buffer, name)?)),
-            SymbolicVariable::Output { timer, output } => {
+            SymbolicVariable::TimerOutput { timer, output } => {
                 Ok(output_given(self.meaning(buffer, timer)?, output))
             }
         }
     }
 
     // Resolves an operand.
-    fn operand(&self, buffer: &mut String, operand: Operand<'_>) -> Result<Given, AllocError>
+    fn operand(
+        &self,
+        buffer: &mut String,
+        operand: Operand<'_>,
+    ) -> Result<SourceOperand, AllocError>
         ensures { IfOk result (λ given. given
             ≡ spec.source_given (names_of self.now) (source_of operand.entry)) }
     {
         match operand {
-            Operand::Literal(literal) => Ok(literal_given(literal)),
+            Operand::Literal(literal) => Ok(literal_operand(literal)),
             Operand::Variable(variable) => self.variable(buffer, variable),
         }
     }
@@ -181,11 +187,11 @@ impl ProgramNames {
         &self,
         buffer: &mut String,
         argument: Argument<'_>,
-    ) -> Result<GivenArgument, AllocError>
+    ) -> Result<SourceArgument, AllocError>
         ensures { IfOk result (λ given. given
             ≡ spec.argument_given (names_of self.now) (argument_of argument.entry)) }
     {
-        Ok(GivenArgument {
+        Ok(SourceArgument {
             input: argument.input,
             given: self.operand(buffer, argument.operand)?,
         })
@@ -196,17 +202,17 @@ impl ProgramNames {
         &self,
         buffer: &mut String,
         arguments: Arguments<'_>,
-    ) -> Result<GivenArguments, AllocError>
+    ) -> Result<SourceArguments, AllocError>
         ensures { IfOk result (λ given. given
             ≡ spec.arguments_given (names_of self.now) (arguments_of arguments.entry)) }
     {
         match arguments {
-            Arguments::None => Ok(GivenArguments::None),
-            Arguments::One(first) => Ok(GivenArguments::One(self.argument(buffer, first)?)),
+            Arguments::None => Ok(SourceArguments::None),
+            Arguments::One(first) => Ok(SourceArguments::One(self.argument(buffer, first)?)),
             Arguments::Two(first, second) => {
                 let first = self.argument(buffer, first)?;
                 let second = self.argument(buffer, second)?;
-                Ok(GivenArguments::Two(first, second))
+                Ok(SourceArguments::Two(first, second))
             }
         }
     }
@@ -227,7 +233,8 @@ impl ProgramNames {
         Ok(Resolved::Call { called, arguments })
     }
 
-    /// Resolves the names of an instruction. Does not allocate for names of at most 64 characters.
+    /// Resolves the names of an instruction. Fails only if the buffer, which holds one name in
+    /// upper case, can't grow.
     pub(crate) fn resolve(
         &self,
         buffer: &mut String,

@@ -1,15 +1,17 @@
-// What instructions want of the current result, and what they leave (IEC 61131-3:2003, 3.2.2 and
-// table 52).
+// What instructions require of the current result, and the result after them (IEC 61131-3:2003,
+// 3.2.2 and table 52).
 ghost use Rattle.std.specs.Prelude.{◌≡◌, option_map};
 ghost use Rattle.il_check.specs.Rules as spec;
 
-use crate::given::{Called, Given, GivenArgument, GivenArguments, Resolved};
+use crate::source_operand::{
+    CalledTimer, Resolved, SourceArgument, SourceArguments, SourceOperand,
+};
 use crate::typed::TypedOperand;
 use bay_base::types::ElementaryType;
 use il_image::value::Value;
 use il_text::program::{Condition, Conversion, Input, Operator, StoreKind};
 
-/// Returns the value of this type that an untyped number stands for, or `None` if there is none. No
+/// Returns the value of this type that an untyped number denotes, or `None` if there is none. No
 /// number is a TIME.
 pub(crate) fn number_in(kind: ElementaryType, number: i64) -> Option<Value>
     ensures { result ≡ spec.number_in kind number }
@@ -21,27 +23,27 @@ pub(crate) fn number_in(kind: ElementaryType, number: i64) -> Option<Value>
 }
 
 /// Returns the operand as one of this type, or `None` if it cannot be one.
-pub(crate) fn operand_in(kind: ElementaryType, given: Given) -> Option<TypedOperand>
+pub(crate) fn operand_in(kind: ElementaryType, given: SourceOperand) -> Option<TypedOperand>
     ensures { result ≡ spec.operand_in kind given }
 {
     match given {
-        Given::Missing | Given::Misused => None,
-        Given::Known(source) => {
+        SourceOperand::Missing | SourceOperand::Misused => None,
+        SourceOperand::Known(source) => {
             if source.kind.is(kind) {
                 Some(source.operand)
             } else {
                 None
             }
         }
-        Given::Number(number) => match number_in(kind, number) {
+        SourceOperand::Number(number) => match number_in(kind, number) {
             Some(value) => Some(TypedOperand::Literal(value)),
             None => None,
         },
     }
 }
 
-// Whether the operand can be of the type.
-fn fits(kind: ElementaryType, given: Given) -> bool
+// Returns whether the operand can be of the type.
+fn fits(kind: ElementaryType, given: SourceOperand) -> bool
     ensures { result ≡ spec.fits kind given }
 {
     operand_in(kind, given).is_some()
@@ -61,25 +63,25 @@ fn own_type(number: i64) -> ElementaryType
     }
 }
 
-/// Returns the type of the result of a load.
-pub(crate) fn load_type(given: Given) -> Option<ElementaryType>
+/// Returns the type of the result of a load, or `None` for a name or literal that can't be loaded.
+pub(crate) fn load_type(given: SourceOperand) -> Option<ElementaryType>
     ensures { result ≡ spec.load_type given }
 {
     match given {
-        Given::Missing | Given::Misused => None,
-        Given::Known(source) => Some(source.kind),
-        Given::Number(number) => Some(own_type(number)),
+        SourceOperand::Missing | SourceOperand::Misused => None,
+        SourceOperand::Known(source) => Some(source.kind),
+        SourceOperand::Number(number) => Some(own_type(number)),
     }
 }
 
-// Whether this is BOOL, the only type that can be negated or tested.
+// Returns whether this is BOOL, the only type that can be negated or tested.
 fn is_boolean(kind: ElementaryType) -> bool
     ensures { result ≡ spec.is_boolean kind }
 {
     ElementaryType::Bool.is(kind)
 }
 
-// Whether this is INT, DINT or LINT.
+// Returns whether this is INT, DINT or LINT.
 fn is_number(kind: ElementaryType) -> bool
     ensures { result ≡ spec.is_number kind }
 {
@@ -89,7 +91,7 @@ fn is_number(kind: ElementaryType) -> bool
     }
 }
 
-// Whether an operator accepts a type on both sides.
+// Returns whether an operator accepts a type on both sides.
 fn takes(operator: Operator, kind: ElementaryType) -> bool
     ensures { result ≡ spec.takes operator kind }
 {
@@ -134,7 +136,7 @@ pub(crate) fn given_type(
     }
 }
 
-/// Whether the operator divides by its operand.
+/// Returns whether the operator divides by its operand.
 pub(crate) fn divides(operator: Operator) -> bool
     ensures { result ≡ spec.divides operator }
 {
@@ -144,21 +146,21 @@ pub(crate) fn divides(operator: Operator) -> bool
     }
 }
 
-// Whether a negation, if there is one, is allowed for the type: only a BOOL may be negated.
+// Returns whether a negation, if there is one, is allowed for the type: only a BOOL may be negated.
 fn may_negate(negated: bool, kind: ElementaryType) -> bool
     ensures { result ≡ spec.may_negate negated kind }
 {
     !negated || is_boolean(kind)
 }
 
-// Whether the operator, with its operand negated or not, works on the type.
+// Returns whether the operator, with its operand negated or not, works on the type.
 fn works(operator: Operator, negated: bool, kind: ElementaryType) -> bool
     ensures { result ≡ spec.works operator negated kind }
 {
     takes(operator, kind) && may_negate(negated, kind)
 }
 
-// Whether a store writes the result unchanged.
+// Returns whether a store writes the result unchanged.
 fn is_plain(kind: StoreKind) -> bool
     ensures { result ≡ spec.is_plain kind }
 {
@@ -168,7 +170,7 @@ fn is_plain(kind: StoreKind) -> bool
     }
 }
 
-// Whether a jump or a return depends on the current result.
+// Returns whether a jump or a return depends on the current result.
 fn is_conditional(condition: Condition) -> bool
     ensures { result ≡ spec.is_conditional condition }
 {
@@ -178,7 +180,7 @@ fn is_conditional(condition: Condition) -> bool
     }
 }
 
-// Returns the type that a conversion takes.
+// Returns the type that a conversion converts.
 fn converted_from(conversion: Conversion) -> ElementaryType
     ensures { result ≡ spec.converted_from conversion }
 {
@@ -188,7 +190,7 @@ fn converted_from(conversion: Conversion) -> ElementaryType
     }
 }
 
-// Returns the type that a conversion gives.
+// Returns the type that a conversion results in.
 fn converted_to(conversion: Conversion) -> ElementaryType
     ensures { result ≡ spec.converted_to conversion }
 {
@@ -208,35 +210,35 @@ pub(crate) fn input_type(input: Input) -> ElementaryType
     }
 }
 
-// Whether an argument fits its input's type.
-fn argument_fits(argument: GivenArgument) -> bool
+// Returns whether an argument fits its input's type.
+fn argument_fits(argument: SourceArgument) -> bool
     ensures { result ≡ spec.argument_fits argument }
 {
     fits(input_type(argument.input), argument.given)
 }
 
-// Whether each argument fits its input's type.
-fn arguments_fit(arguments: GivenArguments) -> bool
+// Returns whether each argument fits its input's type.
+fn arguments_fit(arguments: SourceArguments) -> bool
     ensures { result ≡ spec.arguments_fit arguments }
 {
     match arguments {
-        GivenArguments::None => true,
-        GivenArguments::One(first) => argument_fits(first),
-        GivenArguments::Two(first, second) => argument_fits(first) && argument_fits(second),
+        SourceArguments::None => true,
+        SourceArguments::One(first) => argument_fits(first),
+        SourceArguments::Two(first, second) => argument_fits(first) && argument_fits(second),
     }
 }
 
-// Whether the called name is a timer's.
-fn is_timer(called: Called) -> bool
+// Returns whether the called name is a timer's.
+fn is_timer(called: CalledTimer) -> bool
     ensures { result ≡ spec.is_timer called }
 {
     match called {
-        Called::Missing | Called::Misused => false,
-        Called::Timer(_) => true,
+        CalledTimer::Missing | CalledTimer::Misused => false,
+        CalledTimer::Timer(_) => true,
     }
 }
 
-// Whether a value of this type may be loaded, negated or not. Without a type, nothing may.
+// Returns whether a value of this type may be loaded, negated or not; false without a type.
 fn may_load(negated: bool, kind: Option<ElementaryType>) -> bool
     ensures { result ≡ spec.may_load negated kind }
 {
@@ -246,7 +248,7 @@ fn may_load(negated: bool, kind: Option<ElementaryType>) -> bool
     }
 }
 
-// Whether the instruction is right if the current result has this type.
+// Returns whether the instruction is valid if the current result has this type.
 fn allows(resolved: Resolved, kind: ElementaryType) -> bool
     ensures { result ≡ spec.allows resolved kind }
 {
@@ -270,7 +272,7 @@ fn allows(resolved: Resolved, kind: ElementaryType) -> bool
     }
 }
 
-// Whether the instruction uses the current result.
+// Returns whether the instruction uses the current result.
 fn uses_result(resolved: Resolved) -> bool
     ensures { result ≡ spec.uses_result resolved }
 {
@@ -282,7 +284,7 @@ fn uses_result(resolved: Resolved) -> bool
     }
 }
 
-/// Whether the instruction is wrong for every type that the current result may have.
+/// Returns whether the instruction is wrong for every type that the current result may have.
 pub(crate) fn is_wrong(resolved: Resolved, kind: Option<ElementaryType>) -> bool
     ensures { result ≡ spec.is_wrong resolved kind }
 {
@@ -298,7 +300,7 @@ pub(crate) fn is_wrong(resolved: Resolved, kind: Option<ElementaryType>) -> bool
     }
 }
 
-/// Whether the instruction uses a current result that is not set.
+/// Returns whether the instruction uses a current result that is not set.
 pub(crate) fn is_unset(resolved: Resolved, kind: Option<ElementaryType>) -> bool
     ensures { result ≡ spec.is_unset resolved kind }
 {
@@ -319,7 +321,7 @@ pub(crate) fn type_after(resolved: Resolved, kind: Option<ElementaryType>) -> Op
     }
 }
 
-// Whether the result of a parenthesis may have this type.
+// Returns whether the result of a parenthesis may have this type.
 fn may_be(kind: ElementaryType, inner: Option<ElementaryType>) -> bool
     ensures { result ≡ spec.may_be kind inner }
 {
@@ -329,7 +331,7 @@ fn may_be(kind: ElementaryType, inner: Option<ElementaryType>) -> bool
     }
 }
 
-// Whether the operator of a parenthesis is right on a current result of this type.
+// Returns whether the operator of a parenthesis is valid on a current result of this type.
 fn combines(
     operator: Operator,
     negated: bool,
@@ -341,7 +343,8 @@ fn combines(
     works(operator, negated, kind) && may_be(kind, inner)
 }
 
-/// Whether the operator of a parenthesis is wrong for every type that the current result may have.
+/// Returns whether the operator of a parenthesis is wrong for every type that the current result
+/// may have.
 pub(crate) fn combines_wrong(
     operator: Operator,
     negated: bool,
@@ -362,39 +365,39 @@ pub(crate) fn combines_wrong(
     }
 }
 
-// Whether the operand is an undeclared name.
-fn is_missing(given: Given) -> bool
+// Returns whether the operand is an undeclared name.
+fn is_missing(given: SourceOperand) -> bool
     ensures { result ≡ spec.is_missing given }
 {
     match given {
-        Given::Missing => true,
-        Given::Misused | Given::Known(_) | Given::Number(_) => false,
+        SourceOperand::Missing => true,
+        SourceOperand::Misused | SourceOperand::Known(_) | SourceOperand::Number(_) => false,
     }
 }
 
-// Whether an argument is an undeclared name.
-fn misses_argument(arguments: GivenArguments) -> bool
+// Returns whether an argument is an undeclared name.
+fn misses_argument(arguments: SourceArguments) -> bool
     ensures { result ≡ spec.misses_argument arguments }
 {
     match arguments {
-        GivenArguments::None => false,
-        GivenArguments::One(first) => is_missing(first.given),
-        GivenArguments::Two(first, second) => is_missing(first.given) || is_missing(second.given),
+        SourceArguments::None => false,
+        SourceArguments::One(first) => is_missing(first.given),
+        SourceArguments::Two(first, second) => is_missing(first.given) || is_missing(second.given),
     }
 }
 
-// Whether the called name is not declared.
-fn misses_timer(called: Called) -> bool
+// Returns whether the called name is not declared.
+fn misses_timer(called: CalledTimer) -> bool
     ensures { result ≡ spec.misses_timer called }
 {
     match called {
-        Called::Missing => true,
-        Called::Misused | Called::Timer(_) => false,
+        CalledTimer::Missing => true,
+        CalledTimer::Misused | CalledTimer::Timer(_) => false,
     }
 }
 
-/// Whether the instruction uses an undeclared name.
-pub(crate) fn misses_name(resolved: Resolved) -> bool
+/// Returns whether the instruction uses an undeclared name.
+pub(crate) fn uses_undeclared_name(resolved: Resolved) -> bool
     ensures { result ≡ spec.misses_name resolved }
 {
     match resolved {
@@ -405,7 +408,8 @@ pub(crate) fn misses_name(resolved: Resolved) -> bool
     }
 }
 
-/// Whether the instruction jumps to a label above it; `passed` labels precede the instruction.
+/// Returns whether the instruction jumps to a label above it; `passed` labels precede the
+/// instruction.
 pub(crate) fn jumps_back(passed: usize, resolved: Resolved) -> bool
     ensures { result ≡ spec.jumps_back passed resolved }
 {
@@ -418,8 +422,8 @@ pub(crate) fn jumps_back(passed: usize, resolved: Resolved) -> bool
     }
 }
 
-/// Whether the instruction jumps to a label that does not exist.
-pub(crate) fn misses_label(resolved: Resolved) -> bool
+/// Returns whether the instruction jumps to a label that does not exist.
+pub(crate) fn jumps_to_undefined_label(resolved: Resolved) -> bool
     ensures { result ≡ spec.misses_label resolved }
 {
     match resolved {
@@ -428,18 +432,18 @@ pub(crate) fn misses_label(resolved: Resolved) -> bool
     }
 }
 
-// Whether the target is read-only.
-fn is_fixed(given: Given) -> bool
+// Returns whether the target is read-only.
+fn is_fixed(given: SourceOperand) -> bool
     ensures { result ≡ spec.is_fixed given }
 {
     match given {
-        Given::Known(source) => !source.writable,
-        Given::Missing | Given::Misused | Given::Number(_) => false,
+        SourceOperand::Known(source) => !source.writable,
+        SourceOperand::Missing | SourceOperand::Misused | SourceOperand::Number(_) => false,
     }
 }
 
-/// Whether the instruction writes something read-only.
-pub(crate) fn writes_fixed(resolved: Resolved) -> bool
+/// Returns whether the instruction writes something read-only.
+pub(crate) fn writes_read_only(resolved: Resolved) -> bool
     ensures { result ≡ spec.writes_fixed resolved }
 {
     match resolved {
@@ -448,7 +452,7 @@ pub(crate) fn writes_fixed(resolved: Resolved) -> bool
     }
 }
 
-/// Whether the instruction divides by anything but a literal other than 0.
+/// Returns whether the instruction divides by anything but a literal other than 0.
 pub(crate) fn may_divide_by_zero(resolved: Resolved) -> bool
     ensures { result ≡ spec.may_divide_by_zero resolved }
 {
@@ -462,9 +466,9 @@ pub(crate) fn may_divide_by_zero(resolved: Resolved) -> bool
     }
 }
 
-/// Whether the item that follows in the text can be reached from the instruction.
-pub(crate) fn goes_on(resolved: Resolved) -> bool
-    ensures { result ≡ spec.goes_on resolved }
+/// Returns whether the next item of the text can be reached from the instruction.
+pub(crate) fn falls_through(resolved: Resolved) -> bool
+    ensures { result ≡ spec.falls_through resolved }
 {
     match resolved {
         Resolved::Jump { condition, .. } | Resolved::Return(condition) => is_conditional(condition),

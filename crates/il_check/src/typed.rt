@@ -1,11 +1,11 @@
-// A checked program: each name is resolved to what it means, and each literal has its type.
+// A checked program: each name is resolved, and each literal has its type.
 ghost use Rattle.std.specs.Prelude.{◌≡◌};
 
 use bay_base::point::Source;
 use bay_base::text::Text;
 use bay_base::types::{ElementaryType, TimerKind};
 use il_image::value::Value;
-use il_text::program::{Condition, Conversion, Input, Operator, Output, StoreKind};
+use il_text::program::{Condition, Conversion, Input, Operator, StoreKind, TimerOutput};
 
 /// A variable provided to the program (IEC 61131-3:2003, 2.4.3, VAR_EXTERNAL): a point of the bay.
 #[derive(Drop)]
@@ -24,7 +24,7 @@ pub struct External {
 pub struct Variable {
     /// Its name, in upper case.
     pub name: Text,
-    /// The initial value, which also gives the type.
+    /// The initial value, which also determines the type.
     pub initial: Value,
 }
 
@@ -36,8 +36,7 @@ pub struct Timer {
     pub kind: TimerKind,
 }
 
-/// The place of a value: the external or the variable at this index in the order of the
-/// declarations.
+/// A slot: the external or the variable at this index in the order of the declarations.
 #[derive(Clone, Copy, PartialEq, Eq)]
 pub enum Slot {
     External(usize),
@@ -50,10 +49,10 @@ pub enum TypedOperand {
     Literal(Value),
     Slot(Slot),
     /// An output of the timer at this index.
-    Output { timer: usize, output: Output },
+    TimerOutput { timer: usize, output: TimerOutput },
 }
 
-/// An operation, which may stand in a parenthesis (IEC 61131-3:2003, table 52).
+/// An operation, which may be in a parenthesis (IEC 61131-3:2003, table 52).
 #[derive(Clone, Copy, PartialEq, Eq)]
 pub enum SimpleOperation {
     /// `LD`, `LDN`
@@ -92,7 +91,7 @@ pub enum TypedEntry {
     },
 }
 
-/// An argument of a call: an input of a timer and the operand given to it.
+/// An argument of a call: an input of a timer and its operand.
 #[derive(Clone, Copy, PartialEq, Eq)]
 pub struct TypedArgument {
     pub input: Input,
@@ -110,7 +109,7 @@ pub enum TypedArguments {
 /// A jump, a return or a call (IEC 61131-3:2003, table 52).
 #[derive(Clone, Copy, PartialEq, Eq)]
 pub enum Transfer {
-    /// A jump to the label with this number, which stands below.
+    /// A jump to the label with this number, which is below.
     Jump {
         condition: Condition,
         label: usize,

@@ -1,15 +1,21 @@
-// What is left of instructions that are right: their operands have the type that they work on.
+// The typed forms of valid instructions: their operands have the type that they work on.
 ghost use Rattle.std.specs.Prelude.{◌≡◌};
 ghost use Rattle.il_check.specs.Typing as spec;
 
-use crate::given::{Called, Given, GivenArgument, GivenArguments, Resolved};
 use crate::rules::{input_type, load_type, operand_in};
+use crate::source_operand::{
+    CalledTimer, Resolved, SourceArgument, SourceArguments, SourceOperand,
+};
 use crate::typed::{SimpleOperation, Slot, Transfer, TypedArgument, TypedArguments, TypedOperand};
 use bay_base::types::ElementaryType;
 use il_text::program::{Operator, StoreKind};
 
 // Returns a load of the operand as one of this type.
-fn load_in(negated: bool, given: Given, kind: Option<ElementaryType>) -> Option<SimpleOperation>
+fn load_in(
+    negated: bool,
+    given: SourceOperand,
+    kind: Option<ElementaryType>,
+) -> Option<SimpleOperation>
     ensures { result ≡ spec.load_in negated given kind }
 {
     let operand = operand_in(kind?, given)?;
@@ -17,15 +23,15 @@ fn load_in(negated: bool, given: Given, kind: Option<ElementaryType>) -> Option<
 }
 
 // Returns the slot of a target that is a variable.
-fn target_slot(target: Given) -> Option<Slot>
+fn target_slot(target: SourceOperand) -> Option<Slot>
     ensures { result ≡ spec.target_slot target }
 {
     match target {
-        Given::Known(source) => match source.operand {
+        SourceOperand::Known(source) => match source.operand {
             TypedOperand::Slot(slot) => Some(slot),
-            TypedOperand::Literal(_) | TypedOperand::Output { .. } => None,
+            TypedOperand::Literal(_) | TypedOperand::TimerOutput { .. } => None,
         },
-        Given::Missing | Given::Misused | Given::Number(_) => None,
+        SourceOperand::Missing | SourceOperand::Misused | SourceOperand::Number(_) => None,
     }
 }
 
@@ -41,7 +47,7 @@ fn stored(kind: StoreKind, slot: Option<Slot>) -> Option<SimpleOperation>
 fn combine_in(
     operator: Operator,
     negated: bool,
-    given: Given,
+    given: SourceOperand,
     kind: Option<ElementaryType>,
 ) -> Option<SimpleOperation>
     ensures { result ≡ spec.combine_in operator negated given kind }
@@ -79,7 +85,7 @@ pub(crate) fn operation_in(
 }
 
 // Returns an argument with its input's type.
-fn typed_argument(argument: GivenArgument) -> Option<TypedArgument>
+fn typed_argument(argument: SourceArgument) -> Option<TypedArgument>
     ensures { result ≡ spec.typed_argument argument }
 {
     match operand_in(input_type(argument.input), argument.given) {
@@ -92,13 +98,13 @@ fn typed_argument(argument: GivenArgument) -> Option<TypedArgument>
 }
 
 // Returns the arguments, or `None` if one does not have its input's type.
-fn arguments_in(arguments: GivenArguments) -> Option<TypedArguments>
+fn arguments_in(arguments: SourceArguments) -> Option<TypedArguments>
     ensures { result ≡ spec.arguments_in arguments }
 {
     match arguments {
-        GivenArguments::None => Some(TypedArguments::None),
-        GivenArguments::One(first) => Some(TypedArguments::One(typed_argument(first)?)),
-        GivenArguments::Two(first, second) => {
+        SourceArguments::None => Some(TypedArguments::None),
+        SourceArguments::One(first) => Some(TypedArguments::One(typed_argument(first)?)),
+        SourceArguments::Two(first, second) => {
             match (typed_argument(first), typed_argument(second)) {
                 (Some(first), Some(second)) => Some(TypedArguments::Two(first, second)),
                 _ => None,
@@ -107,20 +113,20 @@ fn arguments_in(arguments: GivenArguments) -> Option<TypedArguments>
     }
 }
 
-// Returns a call, or `None` if no timer is called or its arguments are wrong.
-fn call_in(called: Called, arguments: Option<TypedArguments>) -> Option<Transfer>
+// Returns a call, or `None` if no timer is called or an argument does not have its input's type.
+fn call_in(called: CalledTimer, arguments: Option<TypedArguments>) -> Option<Transfer>
     ensures { result ≡ spec.call_in called arguments }
 {
     match called {
-        Called::Timer(timer) => match arguments {
+        CalledTimer::Timer(timer) => match arguments {
             Some(arguments) => Some(Transfer::Call { timer, arguments }),
             None => None,
         },
-        Called::Missing | Called::Misused => None,
+        CalledTimer::Missing | CalledTimer::Misused => None,
     }
 }
 
-/// Returns the jump, return or call that an instruction is, or `None`.
+/// Returns the jump, return or call of an instruction, or `None` if it is none.
 pub(crate) fn transfer_in(resolved: Resolved) -> Option<Transfer>
     ensures { result ≡ spec.transfer_in resolved }
 {

@@ -1,4 +1,4 @@
-// The items of a program, one after another: their faults, and what is left of them.
+// The items of a program, one after another: their faults, and their typed forms.
 ghost use Rattle.std.specs.Prelude.{◌≡◌, ◌<◌, ◌++◌, ◌∷◌, [], List, None, map, option_map, length, slice_get, IfErr, IfOk, OnOk};
 ghost use Rattle.std.specs.Option.{option_to_list};
 ghost use Rattle.il_text.specs.Listing as text;
@@ -7,21 +7,21 @@ ghost use Rattle.il_check.specs.Faults.{first_fault_of};
 ghost use Rattle.il_check.specs.NamesView.{names_of};
 ghost use Rattle.il_check.specs.ProgramViews.{entry_view, item_view};
 ghost use Rattle.il_check.specs.Program as plain;
-ghost use Rattle.il_check.specs.Given.{resolution_of};
+ghost use Rattle.il_check.specs.SourceOperands.{resolution_of};
 ghost use Rattle.il_check.specs.Typing as typing;
-ghost use Rattle.il_check.specs.WalkView.{standing_of};
+ghost use Rattle.il_check.specs.WalkView.{progress_of};
 ghost use Rattle.il_check.specs.WellTyped as spec;
 ghost use Rattle.il_check.specs.Limits.{most_nested};
 
 use crate::fault::CheckFault;
-use crate::given::Resolved;
 use crate::judge::{
-    ClosedParenthesis, InstructionPlace, note_closing, note_instruction, note_label, note_opening,
+    InstructionPlace, ParenthesisEnd, note_closing, note_instruction, note_label, note_opening,
 };
 use crate::names::ProgramNames;
 use crate::note::note_if;
 use crate::reach::{Reach, join, unreached};
-use crate::rules::{given_type, goes_on, target_of, type_after};
+use crate::rules::{falls_through, given_type, target_of, type_after};
+use crate::source_operand::Resolved;
 use crate::typed::{TypedEntry, TypedItem};
 use crate::typing::{operation_in, transfer_in};
 use bay_base::types::ElementaryType;
@@ -96,7 +96,7 @@ impl Judge {
         kind: Option<ElementaryType>,
     ) -> Result<EntryLeft, AllocError>
         ensures kind { IfOk result
-            (λ l. l.kind ≡ spec.type_behind (names_of names.now)
+            (λ l. l.kind ≡ spec.type_after_entry (names_of names.now)
             (text.action line (action_of instruction.entry)) kind) }
         ensures left { IfOk result
             (λ l. option_map entry_view l.entry
@@ -123,7 +123,7 @@ impl Judge {
         items: &[Item<'_>],
     ) -> Result<Passed, AllocError>
         ensures kind { IfOk result
-            (λ p. p.kind ≡ spec.type_behind_all (names_of names.now)
+            (λ p. p.kind ≡ spec.type_after_entries (names_of names.now)
             (text.entries_of (map entry_of items.now)) None) }
         ensures left { IfOk result
             (λ p. plain.entries_of (map entry_view p.entries.items)
@@ -156,7 +156,7 @@ impl Judge {
         kind: Option<ElementaryType>,
     ) -> Result<EntryLeft, AllocError>
         ensures kind { IfOk result
-            (λ l. l.kind ≡ spec.type_behind (names_of names.now) (entry_of item.now) kind) }
+            (λ l. l.kind ≡ spec.type_after_entry (names_of names.now) (entry_of item.now) kind) }
         ensures left { IfOk result
             (λ l. option_map entry_view l.entry
             ≡ spec.entry_left (names_of names.now) context.room (entry_of item.now) kind) }
@@ -230,7 +230,7 @@ impl Judge {
             room: context.room - 1,
         };
         let inner = self.entries(names, within, items)?;
-        let closing = ClosedParenthesis {
+        let closing = ParenthesisEnd {
             operator,
             negated,
             inner: inner.kind,
@@ -304,7 +304,7 @@ impl Passed {
     }
 }
 
-/// The typed items of a program so far, and what is known of the current result.
+/// The typed items of a program so far, and the state before the next one.
 #[derive(Drop)]
 pub(crate) struct Walk {
     pub(crate) reach: Reach,
@@ -326,7 +326,7 @@ impl Walk {
         }
     }
 
-    // Returns what jumps bring to the label with this number, as far as the text has been read.
+    // Returns what the jumps read so far bring to the label with this number.
     fn arrival(&self, label: usize) -> Reach
         ensures { result ≡ spec.arrival (slice_get self.now.arrivals.items label) }
     {
@@ -352,23 +352,23 @@ impl Walk {
         }
     }
 
-    // Moves past an instruction.
+    // Updates the state after an instruction.
     fn follow(&mut self, resolved: Resolved)
-        ensures standing { standing_of self.new
-            ≡ spec.standing_after resolved (standing_of self.old) }
+        ensures standing { progress_of self.new
+            ≡ spec.standing_after resolved (progress_of self.old) }
         ensures items { self.new.items ≡ self.old.items }
     {
         self.arrive(target_of(resolved));
         self.reach = Reach {
-            is_reached: self.reach.is_reached && goes_on(resolved),
+            is_reached: self.reach.is_reached && falls_through(resolved),
             kind: type_after(resolved, self.reach.kind),
         };
     }
 
-    // Moves past a label.
+    // Updates the state after a label.
     fn enter_label(&mut self)
         requires { self.old.passed < usize.MAX }
-        ensures standing { standing_of self.new ≡ spec.behind_label (standing_of self.old) }
+        ensures standing { progress_of self.new ≡ spec.behind_label (progress_of self.old) }
         ensures items { self.new.items ≡ self.old.items }
     {
         self.reach = join(self.reach, self.arrival(self.passed));
@@ -380,7 +380,7 @@ impl Walk {
     fn add(&mut self, item: Option<TypedItem>) -> Result<(), AllocError>
         ensures items { OnOk result (map item_view self.new.items.items
             ≡ map item_view self.old.items.items ++ option_to_list (option_map item_view item)) }
-        ensures standing { OnOk result (standing_of self.new ≡ standing_of self.old) }
+        ensures standing { OnOk result (progress_of self.new ≡ progress_of self.old) }
     {
         if let Some(item) = item {
             self.items.push(item)?;
@@ -388,11 +388,11 @@ impl Walk {
         Ok(())
     }
 
-    // Keeps the typed items, or clears them once a fault is found: a program with a fault keeps
-    // none.
+    // Leaves the typed items unchanged, or clears them once a fault is found: a program with a
+    // fault has none.
     fn keep(&mut self, found: Option<CheckFault>)
         ensures items { found ≡ None → self.new.items ≡ self.old.items }
-        ensures standing { standing_of self.new ≡ standing_of self.old }
+        ensures standing { progress_of self.new ≡ progress_of self.old }
     {
         if found.is_some() {
             self.items.clear();
@@ -404,7 +404,7 @@ impl Walk {
         ensures items { OnOk result (map item_view self.new.items.items
             ≡ map item_view self.old.items.items
             ++ option_to_list (typing.item_in resolved self.old.reach.kind)) }
-        ensures standing { OnOk result (standing_of self.new ≡ standing_of self.old) }
+        ensures standing { OnOk result (progress_of self.new ≡ progress_of self.old) }
     {
         self.add(item_in(resolved, self.reach.kind))
     }
@@ -416,7 +416,7 @@ impl Walk {
             (map item_view self.new.items.items
             ≡ map item_view self.old.items.items ++ plain.label self.old.passed ∷ []) }
         ensures standing { OnOk result
-            (standing_of self.new ≡ spec.behind_label (standing_of self.old)) }
+            (progress_of self.new ≡ spec.behind_label (progress_of self.old)) }
     {
         self.items.push(TypedItem::Label(self.passed))?;
         self.enter_label();
@@ -429,7 +429,7 @@ impl Walk {
         ensures items { OnOk result (map item_view self.new.items.items
             ≡ map item_view self.old.items.items
             ++ option_to_list (option_map (λ e. plain.plain (entry_view e)) left.entry)) }
-        ensures standing { OnOk result (standing_of self.new
+        ensures standing { OnOk result (progress_of self.new
             ≡ record {
               now = record { is_reached = self.old.reach.is_reached; kind = left.kind };
               arrivals = self.old.arrivals.items;
@@ -456,15 +456,16 @@ impl Judge {
     ) -> Result<(), AllocError>
         requires { walk.old.passed < usize.MAX }
         ensures standing { OnOk result
-            (standing_of walk.new ≡ spec.behind (names_of names.now) (text.label line name.now)
-            (standing_of walk.old)) }
+            (progress_of walk.new ≡ spec.progress_after_entry (names_of names.now)
+            (text.label line name.now)
+            (progress_of walk.old)) }
         ensures items { OnOk result
             (map item_view walk.new.items.items
             ≡ map item_view walk.old.items.items ++ plain.label walk.old.passed ∷ []) }
         ensures found { OnOk result
             (self.new.found ≡ first_fault_of self.old.found
             (spec.item_faults (names_of names.now) (text.label line name.now)
-            (standing_of walk.old))) }
+            (progress_of walk.old))) }
     {
         let number = names.label(&mut self.buffer, name)?;
         self.found = note_label(self.found, line, number, walk.passed);
@@ -480,16 +481,16 @@ impl Judge {
         walk: &mut Walk,
     ) -> Result<(), AllocError>
         ensures standing { OnOk result
-            (standing_of walk.new ≡ spec.behind (names_of names.now)
-            (text.action line (action_of instruction.entry)) (standing_of walk.old)) }
+            (progress_of walk.new ≡ spec.progress_after_entry (names_of names.now)
+            (text.action line (action_of instruction.entry)) (progress_of walk.old)) }
         ensures items { OnOk result (map item_view walk.new.items.items
             ≡ map item_view walk.old.items.items
-            ++ option_to_list (spec.item_left (names_of names.now)
-            (text.action line (action_of instruction.entry)) (standing_of walk.old))) }
+            ++ option_to_list (spec.progress_after_item (names_of names.now)
+            (text.action line (action_of instruction.entry)) (progress_of walk.old))) }
         ensures found { OnOk result (self.new.found
             ≡ first_fault_of self.old.found
             (spec.item_faults (names_of names.now)
-            (text.action line (action_of instruction.entry)) (standing_of walk.old))) }
+            (text.action line (action_of instruction.entry)) (progress_of walk.old))) }
     {
         let resolved = self.instruction(names, walk.context(), line, instruction, walk.reach.kind)?;
         walk.add_instruction(resolved)?;
@@ -504,11 +505,11 @@ impl Judge {
         item: &Item<'_>,
         walk: &mut Walk,
     ) -> Result<(), AllocError>
-        ensures standing { OnOk result (standing_of walk.new
+        ensures standing { OnOk result (progress_of walk.new
             ≡ record {
               now = record {
                 is_reached = walk.old.reach.is_reached;
-                kind = spec.type_behind (names_of names.now) (entry_of item.now)
+                kind = spec.type_after_entry (names_of names.now) (entry_of item.now)
                     walk.old.reach.kind;
               };
               arrivals = walk.old.arrivals.items;
@@ -539,15 +540,16 @@ impl Judge {
     ) -> Result<(), AllocError>
         requires { walk.old.passed < usize.MAX }
         ensures standing { OnOk result
-            (standing_of walk.new ≡ spec.behind (names_of names.now) (entry_of item.now)
-            (standing_of walk.old)) }
+            (progress_of walk.new ≡ spec.progress_after_entry (names_of names.now)
+            (entry_of item.now)
+            (progress_of walk.old)) }
         ensures items { OnOk result (map item_view walk.new.items.items
             ≡ map item_view walk.old.items.items
-            ++ option_to_list (spec.item_left (names_of names.now) (entry_of item.now)
-            (standing_of walk.old))) }
+            ++ option_to_list (spec.progress_after_item (names_of names.now) (entry_of item.now)
+            (progress_of walk.old))) }
         ensures found { OnOk result
             (self.new.found ≡ first_fault_of self.old.found
-            (spec.item_faults (names_of names.now) (entry_of item.now) (standing_of walk.old))) }
+            (spec.item_faults (names_of names.now) (entry_of item.now) (progress_of walk.old))) }
     {
         match item {
             Item::Label { line, name } => self.label(names, *line, name, walk),
@@ -558,7 +560,8 @@ impl Judge {
         }
     }
 
-    /// Checks all items of a program. No typed items are left if a fault is found.
+    /// Checks all items of a program and returns their typed forms, none if a fault was found.
+    /// Fails only if an allocation fails, and never if there are no items.
     pub(crate) fn items(
         &mut self,
         names: &ProgramNames,
@@ -567,7 +570,7 @@ impl Judge {
     ) -> Result<Vec<TypedItem>, AllocError>
         ensures left { IfOk result (λ left. self.new.found ≡ None
             → map item_view left.items
-            ≡ spec.items_left (names_of names.now) (map entry_of items.now)
+            ≡ spec.progress_after_items (names_of names.now) (map entry_of items.now)
             (spec.first arrivals.items)) }
         ensures found { OnOk result (self.new.found
             ≡ first_fault_of self.old.found

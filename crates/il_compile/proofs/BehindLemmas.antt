@@ -9,7 +9,7 @@ use Rattle.il_image.specs.Spelling.{spelling}
 use Rattle.il_image.specs.declared.instr.Instr.{Instr}
 use Rattle.il_check.specs.Program.{ProgramItem, label}
 use Rattle.il_compile.specs.Behind.{IsBehind, IsSettled, octets_bound}
-use Rattle.il_compile.specs.declared.behind.Behind.{Behind}
+use Rattle.il_compile.specs.declared.continuation.Continuation.{Continuation}
 use Rattle.il_compile.specs.Code.{octets, octets_before, items_code}
 use Rattle.il_compile.proofs.Placing.{octets-both, octets_more, spelled-both}
 use Rattle.il_compile.specs.Compiled.{most_octets}
@@ -35,7 +35,8 @@ nothing-left line behind first e f = ap (λ l. l ++ behind) (sym e) ∙ f
 -- ---- the items behind
 
 -- an item whose code has no jump
-pub item-behind : (n : ℕ) (i : ProgramItem) (is : List ProgramItem) (a instrs more : List Instr) (size all : ℕ)
+pub item-behind : (n : ℕ) (i : ProgramItem) (is : List ProgramItem) (a instrs more : List Instr)
+    (size all : ℕ)
     (places : ℕ → Option ℕ) → IsBehind n is instrs size places
     → items_code n (i ∷ is) ≡ a ++ items_code n is
     → ((l : ℕ) → octets_before n l (i ∷ is) ≡ octets a + octets_before n l is)
@@ -98,8 +99,9 @@ on_success (Ok x) a b c d f = f a b c d
 on_success (Err e) a b c d f = tt
 
 -- instructions that were put before the items behind
-pub put-settled : (n : ℕ) (i : ProgramItem) (is : List ProgramItem) (a : List Instr) (old : Behind)
-    (line : List Instr) (new : Behind) → IsSettled n is old
+pub put-settled : (n : ℕ) (i : ProgramItem) (is : List ProgramItem) (a : List Instr)
+    (old : Continuation)
+    (line : List Instr) (new : Continuation) → IsSettled n is old
     → items_code n (i ∷ is) ≡ a ++ items_code n is
     → ((l : ℕ) → octets_before n l (i ∷ is) ≡ octets a + octets_before n l is)
     → line ≡ old.line.items ++ a → reverse new.instrs.items ≡ line ++ reverse old.instrs.items
@@ -118,8 +120,9 @@ put-settled n i is a old line new s same before put rev counted empty places =
     }
 
 -- a jump that was put before them
-pub put-leap : (n : ℕ) (i : ProgramItem) (is : List ProgramItem) (jump right : Instr) (old : Behind)
-    (line : List Instr) (new : Behind) → IsSettled n is old
+pub put-leap : (n : ℕ) (i : ProgramItem) (is : List ProgramItem) (jump right : Instr)
+    (old : Continuation)
+    (line : List Instr) (new : Continuation) → IsSettled n is old
     → length (spelling jump) ≡ 3 → length (spelling right) ≡ 3
     → items_code n (i ∷ is) ≡ right ∷ items_code n is
     → ((l : ℕ) → octets_before n l (i ∷ is) ≡ 3 + octets_before n l is)
@@ -168,7 +171,8 @@ each-drop P f (suc n) [] h = tt
 each-drop P f (suc n) (x ∷ l) h = each-drop P f n l h.1
 
 -- the code behind an item is no longer than an image
-pub bounded : (n : ℕ) (is : List ProgramItem) (b : Behind) → IsSettled n is b → b.octets ≤ octets_bound
+pub bounded : (n : ℕ) (is : List ProgramItem) (b : Continuation) → IsSettled n is b
+    → b.octets ≤ octets_bound
 bounded n is b s = let c = s.behind.counted in omega arith
 
 pub shorter : (a b c : ℕ) → a ≤ b → a - c ≤ b

@@ -18,7 +18,7 @@ use Rattle.il_check.specs.declared.typed.Variable.{Variable}
 use Rattle.il_compile.specs.Behind.{IsSettled}
 use Rattle.il_compile.specs.Code.{items_code, octets, program_code, unset}
 use Rattle.il_compile.specs.Compiled.{compiled_of, image_of, image_size, point_of, points_octets, most_octets}
-use Rattle.il_compile.specs.declared.behind.Behind.{Behind}
+use Rattle.il_compile.specs.declared.continuation.Continuation.{Continuation}
 use Rattle.il_compile.specs.declared.fault.CompileFault.TheVariants.{CodeTooLong}
 use Rattle.il_compile.specs.Correct.{DoesTheText, Follows}
 use Rattle.il_compile.specs.Meaning.{Memory}
@@ -74,7 +74,8 @@ not-below a b h =
     no-more a b h e = let l = leb-true b a e in omega arith
 
 -- what the sizes say
-pub too_long : (c : Checked) (head size : ℕ) (b : Behind) → IsSettled (length c.externals) c.items b
+pub too_long : (c : Checked) (head size : ℕ) (b : Continuation)
+    → IsSettled (length c.externals) c.items b
     → head ≡ 13 + points_octets c.externals + 9 * length c.variables + length c.timers
     → size ≡ head + 3 + b.octets → most_octets < size
     → compiled_of c ≡ Err CodeTooLong
@@ -86,7 +87,7 @@ too_long c head size b settled h e lt =
     ap (λ x. if x then Ok (image_of c) else Err CodeTooLong)
     (not-below most_octets (image_size c) over)
 
-pub short-enough : (c : Checked) (head size : ℕ) (b : Behind)
+pub short-enough : (c : Checked) (head size : ℕ) (b : Continuation)
     → IsSettled (length c.externals) c.items b
     → head ≡ 13 + points_octets c.externals + 9 * length c.variables + length c.timers
     → size ≡ head + 3 + b.octets → size ≤ most_octets
@@ -102,7 +103,7 @@ pub given : (c : Checked) → image_size c ≤ most_octets → compiled_of c ≡
 given c le =
     ap (λ x. if x then Ok (image_of c) else Err CodeTooLong) (le-leb (image_size c) most_octets le)
 
-pub same-code : (c : Checked) (b : Behind) (code : List ℕ)
+pub same-code : (c : Checked) (b : Continuation) (code : List ℕ)
     → IsSettled (length c.externals) c.items b → image_size c ≤ most_octets
     → code ≡ all_spelled (unset ∷ reverse b.instrs.items ++ Halt ∷ []) → code ≡ (image_of c).code
 same-code c b code settled le e =

@@ -8,7 +8,7 @@ use Rattle.bay_base.specs.Types.{same_type}
 use Rattle.bay_base.specs.declared.types.ElementaryType.{ElementaryType}
 use Rattle.bay_base.specs.declared.types.ElementaryType.TheVariants as elementary
 use Rattle.il_text.specs.declared.program.Operator.{Operator}
-use Rattle.il_text.specs.declared.program.Output.TheVariants.{Q, Et}
+use Rattle.il_text.specs.declared.program.TimerOutput.TheVariants.{Q, Et}
 use Rattle.il_text.specs.declared.program.StoreKind.{StoreKind}
 use Rattle.il_text.specs.declared.program.StoreKind.TheVariants as store
 use Rattle.il_image.specs.Values.{number_of, type_of}
@@ -72,7 +72,7 @@ module _ (c : Checked) (now : ℕ) where
         does = fetched now (flat m) m.timers (slot_number (length c.externals) s) v.value cells
             v.slot lt;
       }
-  operand-does (operand.Output n Q) kind m cells ty ok lt =
+  operand-does (operand.TimerOutput n Q) kind m cells ty ok lt =
       let t = timer-there c m n ty ok.0 in
       record {
         value = Truth t.0.output;
@@ -80,7 +80,7 @@ module _ (c : Checked) (now : ℕ) where
         type = ok.1;
         does = output-fetched now (flat m) m.timers n t.0 cells t.1 lt;
       }
-  operand-does (operand.Output n Et) kind m cells ty ok lt =
+  operand-does (operand.TimerOutput n Et) kind m cells ty ok lt =
       let t = timer-there c m n ty ok.0 in
       record {
         value = Span t.0.elapsed;
@@ -184,7 +184,7 @@ module _ (c : Checked) (now : ℕ) where
       (elim (int_eq (number_of w) (pos 0)) as
       (λ b. not (not b) ≡ false → b ≡ false) [ true ↦ (λ g. g) | false ↦ (λ g. refl) ] h)
   divisor true (operand.Slot s) v m h e = absurd cc
-  divisor true (operand.Output n what) v m h e = absurd cc
+  divisor true (operand.TimerOutput n what) v m h e = absurd cc
 
   -- ---- operations
 

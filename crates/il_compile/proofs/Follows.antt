@@ -13,7 +13,7 @@ use Rattle.il_image.specs.declared.timer.TimerState.{TimerState}
 use Rattle.il_image.specs.declared.value.Value.{Value}
 use Rattle.il_image.specs.declared.value.Value.TheVariants.{Truth}
 use Rattle.il_image.proofs.BegunLemmas.{loose_run as run}
-use Rattle.il_check.specs.Labelling.{Labelling, Coming, Becomes, Falls, carry_of, is_named, with_target, coming_behind_label}
+use Rattle.il_check.specs.Labelling.{Labelling, Coming, Becomes, Falls, carry_of, is_named, with_target, type_after_label}
 use Rattle.il_check.specs.Program.{Checked, ProgramItem, label, transfer, plain}
 use Rattle.il_check.specs.TypedProgram.{AreItems, IsTyped, coming_behind_condition, has_label, target_of}
 use Rattle.il_check.specs.declared.typed.Transfer.{Transfer}
@@ -55,7 +55,8 @@ skipped n None is = 0
 skipped n (Some l) is = octets_before n l is
 
 -- what is known of the result there
-abbrev Comes : Labelling → Option ℕ → List ProgramItem → List ℕ → Coming → Option Value → Value → Type 0
+abbrev Comes : Labelling → Option ℕ → List ProgramItem → List ℕ → Coming → Option Value → Value
+    → Type 0
 Comes labels None is named coming result cell =
     (t : Option ElementaryType) × (coming ≡ Some t) × Agrees t result cell
 Comes labels (Some l) is named coming result cell =
@@ -66,7 +67,8 @@ module _ (c : Checked) (labels : Labelling) (now : ℕ) where
   externals = length c.externals
 
   -- the items mean something, and their code halts with it wherever it stands
-  record Finishes (sought : Option ℕ) (is : List ProgramItem) (s : State) (cell : Value) : Type 0 where
+  record Finishes (sought : Option ℕ) (is : List ProgramItem) (s : State) (cell : Value)
+      : Type 0 where
     state : State
     means : mean_from now sought is s ≡ Some state
     typed : HasTypes c state.memory
@@ -79,7 +81,8 @@ module _ (c : Checked) (labels : Labelling) (now : ℕ) where
   joined-code a b = append_assoc a b (Halt ∷ [])
 
   -- an item that is passed over
-  passed-over : (l : ℕ) (a : List Instr) (size : ℕ) (i : ProgramItem) (is : List ProgramItem) (s : State)
+  passed-over : (l : ℕ) (a : List Instr) (size : ℕ) (i : ProgramItem) (is : List ProgramItem)
+      (s : State)
       (cell : Value) → octets a ≡ size
       → items_code externals (i ∷ is) ≡ a ++ items_code externals is
       → octets_before externals l (i ∷ is) ≡ size + octets_before externals l is
@@ -100,7 +103,8 @@ module _ (c : Checked) (labels : Labelling) (now : ℕ) where
   }
 
   -- an item that does its part and goes on
-  went-on : (a : List Instr) (i : ProgramItem) (is : List ProgramItem) (s behind : State) (cell new : Value)
+  went-on : (a : List Instr) (i : ProgramItem) (is : List ProgramItem) (s behind : State)
+      (cell new : Value)
       → items_code externals (i ∷ is) ≡ a ++ items_code externals is
       → DoesAll now a (holding (cell ∷ []) s.memory) (holding (new ∷ []) behind.memory)
       → mean_from now None (i ∷ is) s ≡ mean_from now None is behind
@@ -174,7 +178,8 @@ module _ (c : Checked) (labels : Labelling) (now : ℕ) where
       (e (p + length (spelling when)) ∙ ap (λ q. Goes (at q a)) z)
 
   -- what is behind a jump that is not taken
-  fell : (condition : Condition) (x : Transfer) (d : ℕ) (is : List ProgramItem) (s : State) (cell : Value)
+  fell : (condition : Condition) (x : Transfer) (d : ℕ) (is : List ProgramItem) (s : State)
+      (cell : Value)
       (t : Option ElementaryType) (j : Jumps condition now t s.result cell) → j.leaves ≡ false
       → transfer_code externals x d ≡ Jump (when_of condition) d ∷ []
       → items_code externals (transfer x ∷ is)
@@ -251,13 +256,13 @@ module _ (c : Checked) (labels : Labelling) (now : ℕ) where
   items-finish [] (Some l) passed named coming s cell ok comes ty =
       absurd (let e : false ≡ true = comes.0 in cc)
   items-finish (label n ∷ is) None passed named coming s cell ok comes ty =
-      let now-is : coming_behind_label labels (carry_of passed named coming)
+      let now-is : type_after_label labels (carry_of passed named coming)
       ≡ Some (labels passed) =
       rw comes.1 refl in
       let falls : Becomes comes.0 (labels passed) =
       subst (λ w. Falls labels passed w) comes.1 ok.0.2 in
       next-label n is s cell (items-finish is None (passed + 1) named
-      (coming_behind_label labels (carry_of passed named coming)) s cell ok.1
+      (type_after_label labels (carry_of passed named coming)) s cell ok.1
       (labels passed, now-is, agrees-less comes.0 (labels passed) s.result cell falls comes.2)
       ty)
   items-finish (label n ∷ is) (Some l) passed named coming s cell ok comes ty =
@@ -266,12 +271,12 @@ module _ (c : Checked) (labels : Labelling) (now : ℕ) where
             (let same : passed ≡ l = sym ok.0.0 ∙ eqb-true n l e in
             let named_it : is_named named passed ≡ true =
             subst (λ k. is_named named k ≡ true) (sym same) comes.1 in
-            let now-is : coming_behind_label labels (carry_of passed named coming)
+            let now-is : type_after_label labels (carry_of passed named coming)
             ≡ Some (labels passed) =
             either-way (is_some coming) (is_named named passed) (labels passed) named_it in
             found-label n l is s cell e
             (items-finish is None (passed + 1) named
-            (coming_behind_label labels (carry_of passed named coming)) s cell ok.1 (
+            (type_after_label labels (carry_of passed named coming)) s cell ok.1 (
               labels passed,
               now-is,
               subst (λ k. Agrees (labels k) s.result cell) (sym same) comes.2,
@@ -281,7 +286,7 @@ module _ (c : Checked) (labels : Labelling) (now : ℕ) where
             subst (λ b. b || has_label is l ≡ true) e comes.0 in
             other-label n l is s cell e
             (items-finish is (Some l) (passed + 1) named
-            (coming_behind_label labels (carry_of passed named coming)) s cell ok.1
+            (type_after_label labels (carry_of passed named coming)) s cell ok.1
             (there, comes.1, comes.2) ty)))
       ] refl
     where

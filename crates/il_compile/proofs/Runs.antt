@@ -14,7 +14,7 @@ use Rattle.il_image.specs.declared.value.Value.TheVariants.{Truth}
 use Rattle.il_image.proofs.BegunLemmas.{loose_run as run, loose_turn as turn}
 use Rattle.il_check.specs.TypedProgram.{Decides, coming_behind_condition}
 use Rattle.il_compile.specs.Code.{octets}
-use Rattle.il_compile.specs.Meaning.{goes}
+use Rattle.il_compile.specs.Meaning.{jump_taken}
 use Rattle.il_compile.specs.Senses.{when_of}
 use Rattle.il_compile.proofs.Entries.{Agrees}
 use Rattle.il_compile.proofs.Placing.{Stands, back, found, within, octets_more, some-octet}
@@ -161,7 +161,7 @@ leaps-if-false now false d p next slots timers = refl
 pub record Jumps (c : Condition) (now : ℕ) (t : Option ElementaryType) (result : Option Value)
     (cell : Value) : Type 0 where
   pub leaves : Bool
-  pub is : goes c result ≡ Some leaves
+  pub is : jump_taken c result ≡ Some leaves
   pub does : (d p next : ℕ) (slots : List Value) (timers : List TimerState)
       → act now (Jump (when_of c) d) next (at p (core (cell ∷ []) slots timers))
       ≡ Goes (at (if leaves then next + d else next) (core (cell ∷ []) slots timers))

@@ -5,7 +5,7 @@ use Rattle.bay_base.specs.declared.types.ElementaryType.{ElementaryType}
 use Rattle.il_text.specs.declared.program.Input.{Input}
 use Rattle.il_text.specs.declared.program.Input.TheVariants.{In, Pt}
 use Rattle.il_text.specs.declared.program.Operator.{Operator}
-use Rattle.il_text.specs.declared.program.Output.TheVariants.{Q, Et}
+use Rattle.il_text.specs.declared.program.TimerOutput.TheVariants.{Q, Et}
 use Rattle.il_text.specs.declared.program.StoreKind.{StoreKind}
 use Rattle.il_text.specs.declared.program.StoreKind.TheVariants as store
 use Rattle.il_image.specs.Images.{Each}
@@ -81,8 +81,8 @@ module _ (c : Checked) (few : length c.externals + length c.variables ≤ most_s
       → IsInstr (fetch (length c.externals) x)
   fetch-is (operand.Literal v) kind h = h.0
   fetch-is (operand.Slot s) kind h = slot-is s kind h
-  fetch-is (operand.Output n Q) kind h = timer-is n h.0
-  fetch-is (operand.Output n Et) kind h = timer-is n h.0
+  fetch-is (operand.TimerOutput n Q) kind h = timer-is n h.0
+  fetch-is (operand.TimerOutput n Et) kind h = timer-is n h.0
 
   operation-is : (o : SimpleOperation) (t u : Option ElementaryType) → IsOperation c o t u
       → Each IsInstr (operation_code (length c.externals) o)
@@ -123,7 +123,8 @@ module _ (c : Checked) (few : length c.externals + length c.variables ≤ most_s
       each-both IsInstr (argument_code (length c.externals) n a)
       (argument_code (length c.externals) n b) (argument-is n a lt h.0) (argument-is n b lt h.1)
 
-  items-spellable : (labels : Labelling) (is : List ProgramItem) (k : Carried) → AreItems c labels is k
+  items-spellable : (labels : Labelling) (is : List ProgramItem) (k : Carried)
+      → AreItems c labels is k
       → AreSpellable (length c.externals) is
   items-spellable labels [] k h = tt
   items-spellable labels (label n ∷ is) k h = (tt, items-spellable labels is _ h.1)

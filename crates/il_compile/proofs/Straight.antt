@@ -4,7 +4,7 @@ use Rattle.std.specs.Prelude.{slice_get, slice_set, nat_lt, if◌then◌else◌,
 use Rattle.std.specs.Ordering.{int_eq}
 use Rattle.std.proofs.lemmas.Bool.{lt-ltb}
 use Rattle.bay_base.specs.Types.{same_type}
-use Rattle.il_image.specs.Machine.{State, Goes, Traps, WrongKind, ZeroDivisor, act, goes, is_comparable, divides, value_of_width, most_cells}
+use Rattle.il_image.specs.Machine.{State, Goes, Traps, WrongKind, ZeroDivisor, act, continues_at, is_comparable, divides, value_of_width, most_cells}
 use Rattle.il_image.specs.Arithmetic.{computation_of, comparison_holds, logic_of, wider_value}
 use Rattle.il_image.specs.Timers.{after_call}
 use Rattle.il_image.specs.Values.{number_of, type_of}
@@ -86,12 +86,13 @@ module _ (now : ℕ) (slots : List Value) (timers : List TimerState) where
   wider DintToLint (Long z) x cells e p next = let same : Wide z ≡ x = cc in rw same refl
   wider w v x cells e p next = absurd cc
 
-  computed-by : (o : ArithmeticOperation) (w : Width) (a b : ℤ) (c : Value) (cells : List Value) (p next : ℕ)
+  computed-by : (o : ArithmeticOperation) (w : Width) (a b : ℤ) (c : Value) (cells : List Value)
+      (p next : ℕ)
       (s : State) (zero : Bool) → zero ≡ (divides o && int_eq b (pos 0))
       → (if zero then None else Some (value_of_width w (computation_of o w a b))) ≡ Some c
       → (if zero then Traps ZeroDivisor
-      else goes next (value_of_width w (computation_of o w a b) ∷ cells) s)
-      ≡ goes next (c ∷ cells) s
+      else continues_at next (value_of_width w (computation_of o w a b) ∷ cells) s)
+      ≡ continues_at next (c ∷ cells) s
   computed-by o w a b c cells p next s true z e = absurd cc
   computed-by o w a b c cells p next s false z e =
       let same : value_of_width w (computation_of o w a b) ≡ c = cc in rw same refl
@@ -119,7 +120,8 @@ module _ (now : ℕ) (slots : List Value) (timers : List TimerState) where
       compared-by : (fits : Bool)
           → (if fits then Some (Truth (comparison_holds x (number_of a) (number_of b))) else None)
           ≡ Some c
-          → (if fits then goes next (Truth (comparison_holds x (number_of a) (number_of b)) ∷ cells)
+          → (if fits then continues_at next
+          (Truth (comparison_holds x (number_of a) (number_of b)) ∷ cells)
           (at p (core (b ∷ a ∷ cells) slots timers)) else Traps WrongKind)
           ≡ Goes (at next (core (c ∷ cells) slots timers))
       compared-by true f = let same : Truth (comparison_holds x (number_of a) (number_of b)) ≡ c =

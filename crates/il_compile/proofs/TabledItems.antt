@@ -15,7 +15,7 @@ use Rattle.il_image.specs.declared.kind.CellKind.{CellKind}
 use Rattle.il_image.specs.declared.kind.CellKind.TheVariants.{Any}
 use Rattle.il_image.specs.declared.opcode.TimerUse.TheVariants.{Run}
 use Rattle.il_image.proofs.KindLemmas.{within-along, within-any, within-self}
-use Rattle.il_check.specs.Labelling.{Becomes, Coming, Falls, Labelling, carry_of, coming_behind_label, is_named}
+use Rattle.il_check.specs.Labelling.{Becomes, Coming, Falls, Labelling, carry_of, type_after_label, is_named}
 use Rattle.il_check.specs.Program.{Checked, ProgramItem, label, plain, transfer}
 use Rattle.il_check.specs.TypedProgram.{AreItems, Decides, coming_behind_condition}
 use Rattle.il_check.specs.declared.typed.Transfer.{Transfer}
@@ -190,7 +190,8 @@ module _ (c : Checked) (labels : Labelling) where
   }
 
   -- an item without jumps
-  straight-tail : (i : ProgramItem) (is : List ProgramItem) (a : List Instr) (named : List ℕ) (now : Coming)
+  straight-tail : (i : ProgramItem) (is : List ProgramItem) (a : List Instr) (named : List ℕ)
+      (now : Coming)
       (t u : Option ElementaryType) (top : CellKind) → now ≡ Some t
       → items_code (length c.externals) (i ∷ is) ≡ a ++ items_code (length c.externals) is
       → ((l : ℕ) → octets_before (length c.externals) l (i ∷ is)
@@ -225,7 +226,8 @@ module _ (c : Checked) (labels : Labelling) where
       }
 
   -- a jump over so many octets
-  jump-tail : (x : Transfer) (condition : Condition) (n : ℕ) (is : List ProgramItem) (named more : List ℕ)
+  jump-tail : (x : Transfer) (condition : Condition) (n : ℕ) (is : List ProgramItem)
+      (named more : List ℕ)
       (now : Coming) (t : Option ElementaryType) → now ≡ Some t
       → items_code (length c.externals) (transfer x ∷ is)
       ≡ Jump (when_of condition) n ∷ items_code (length c.externals) is
@@ -262,11 +264,11 @@ module _ (c : Checked) (labels : Labelling) where
 
   -- behind a label to which a way leads
   label-comes : (passed : ℕ) (named : List ℕ) (now : Coming) (t : Option ElementaryType)
-      → now ≡ Some t → coming_behind_label labels (carry_of passed named now) ≡ Some (labels passed)
+      → now ≡ Some t → type_after_label labels (carry_of passed named now) ≡ Some (labels passed)
   label-comes passed named now t e = rw e refl
 
   label-named : (passed : ℕ) (named : List ℕ) (now : Coming) → is_named named passed ≡ true
-      → coming_behind_label labels (carry_of passed named now) ≡ Some (labels passed)
+      → type_after_label labels (carry_of passed named now) ≡ Some (labels passed)
   label-named passed named now h = either-way (is_some now) (is_named named passed) h
     where
       either-way : (a b : Bool) → b ≡ true
@@ -276,7 +278,7 @@ module _ (c : Checked) (labels : Labelling) where
 
   label-tail : (n passed : ℕ) (is : List ProgramItem) (named : List ℕ) (now : Coming) → n ≡ passed
       → Falls labels passed now
-      → Tail is named (coming_behind_label labels (carry_of passed named now))
+      → Tail is named (type_after_label labels (carry_of passed named now))
       → Tail (label n ∷ is) named now
   label-tail n passed is named now same falls next = record {
     rows = next.rows;
@@ -307,7 +309,7 @@ module _ (c : Checked) (labels : Labelling) where
   tail [] passed named now ok = end-tail named now
   tail (label n ∷ is) passed named now ok =
       label-tail n passed is named now ok.0.0 ok.0.2
-      (tail is (passed + 1) named (coming_behind_label labels (carry_of passed named now)) ok.1)
+      (tail is (passed + 1) named (type_after_label labels (carry_of passed named now)) ok.1)
   tail (plain e ∷ is) passed named now ok =
       let f = entry-flows c e ok.0 ok.1 (kind_at ok.0) [] ok.2.1 (within-self (kind_at ok.0))
       (let d = ok.2.2 in omega arith) in

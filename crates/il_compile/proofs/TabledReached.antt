@@ -9,7 +9,7 @@ use Rattle.il_image.specs.Tables.{LeadsTo}
 use Rattle.il_image.specs.declared.instr.Instr.TheVariants.{Halt, Jump, Timer}
 use Rattle.il_image.specs.declared.opcode.TimerUse.TheVariants.{Run}
 use Rattle.il_image.proofs.KindLemmas.{within-self}
-use Rattle.il_check.specs.Labelling.{Coming, Labelling, carry_of, coming_behind_label, is_named}
+use Rattle.il_check.specs.Labelling.{Coming, Labelling, carry_of, type_after_label, is_named}
 use Rattle.il_check.specs.Program.{Checked, ProgramItem, label, plain, transfer}
 use Rattle.il_check.specs.TypedProgram.{AreItems, coming_behind_condition, has_label}
 use Rattle.il_check.specs.declared.typed.Transfer.TheVariants as go
@@ -50,7 +50,7 @@ module _ (c : Checked) (labels : Labelling) where
         | true ↦ (λ e g. (let f = eqb-true n l e in omega arith))
         | false ↦
             (λ e g. (let f = no-lower is (passed + 1) named
-            (coming_behind_label labels (carry_of passed named now)) l ok.1 g in omega arith))
+            (type_after_label labels (carry_of passed named now)) l ok.1 g in omega arith))
       ] refl h
   no-lower (transfer (go.Jump condition k) ∷ is) passed named now l ok h =
       no-lower is passed (k ∷ named) (coming_behind_condition condition ok.0) l ok.2 h
@@ -62,7 +62,8 @@ module _ (c : Checked) (labels : Labelling) where
 
   -- what is led to from above: the first item, where something comes to it, each label below that
   -- was named, and, where nothing comes, the end or some label
-  pub record IsLed (P : ℕ → Type 0) (is : List ProgramItem) (named : List ℕ) (now : Coming) : Type 0 where
+  pub record IsLed (P : ℕ → Type 0) (is : List ProgramItem) (named : List ℕ) (now : Coming)
+      : Type 0 where
     pub comes : (t : Option ElementaryType) → now ≡ Some t → P 0
     pub jumps : (l : ℕ) → is_named named l ≡ true → has_label is l ≡ true
         → P (octets_before (length c.externals) l is)
@@ -78,7 +79,8 @@ module _ (c : Checked) (labels : Labelling) where
   end_led P named now (Some t) e led = led.comes t e
 
   -- behind code whose instructions go on to the next
-  straight-led : (P : ℕ → Type 0) (size : ℕ) (i : ProgramItem) (is : List ProgramItem) (named : List ℕ)
+  straight-led : (P : ℕ → Type 0) (size : ℕ) (i : ProgramItem) (is : List ProgramItem)
+      (named : List ℕ)
       (now : Coming) (u : Option ElementaryType)
       → ((l : ℕ) → octets_before (length c.externals) l (i ∷ is)
       ≡ size + octets_before (length c.externals) l is)
@@ -90,10 +92,11 @@ module _ (c : Checked) (labels : Labelling) where
     ends = λ e. absurd cc;
   }
 
-  label-led : (P : ℕ → Type 0) (n passed : ℕ) (is : List ProgramItem) (named : List ℕ) (now : Coming)
+  label-led : (P : ℕ → Type 0) (n passed : ℕ) (is : List ProgramItem) (named : List ℕ)
+      (now : Coming)
       → n ≡ passed → ((l : ℕ) → has_label is l ≡ true → passed + 1 ≤ l)
       → IsLed P (label n ∷ is) named now
-      → IsLed P is named (coming_behind_label labels (carry_of passed named now))
+      → IsLed P is named (type_after_label labels (carry_of passed named now))
   label-led P n passed is named now same above led = record {
     comes = λ t e. by_coming now refl t e;
     jumps = λ l h g. subst (λ b. P (if b then 0 else octets_before (length c.externals) l is))
@@ -113,14 +116,14 @@ module _ (c : Checked) (labels : Labelling) where
           (led.jumps passed h (ap (λ b. b || has_label is passed) it))
 
       by_coming : (other : Coming) → now ≡ other → (t : Option ElementaryType)
-          → coming_behind_label labels (carry_of passed named now) ≡ Some t → P 0
+          → type_after_label labels (carry_of passed named now) ≡ Some t → P 0
       by_coming (Some u) f t e = led.comes u f
       by_coming None f t e =
           elim (is_named named passed) as
           (λ b. is_named named passed ≡ b → (if b then Some (labels passed) else None) ≡ Some t
           → P 0)
           [ true ↦ (λ h g. here h) | false ↦ (λ h g. absurd cc) ] refl
-          (ap (λ w. coming_behind_label labels (carry_of passed named w)) (sym f) ∙ e)
+          (ap (λ w. type_after_label labels (carry_of passed named w)) (sym f) ∙ e)
 
       other-label : is_named named passed ≡ false
           → (l : ℕ) × (is_named named l ≡ true) × (has_label (label n ∷ is) l ≡ true)
@@ -138,12 +141,12 @@ module _ (c : Checked) (labels : Labelling) where
       )
 
       by-ends : (other : Coming) → now ≡ other
-          → coming_behind_label labels (carry_of passed named now) ≡ None
+          → type_after_label labels (carry_of passed named now) ≡ None
           → P (octets (items_code (length c.externals) is))
           ⊎ ((l : ℕ) × (is_named named l ≡ true) × (has_label is l ≡ true))
       by-ends (Some u) f e =
           absurd (let bad : Some (labels passed) ≡ None =
-          ap (λ w. coming_behind_label labels (carry_of passed named w)) (sym f) ∙ e in cc)
+          ap (λ w. type_after_label labels (carry_of passed named w)) (sym f) ∙ e in cc)
       by-ends None f e =
           elim (is_named named passed) as
           (λ b. is_named named passed ≡ b → (if b then Some (labels passed) else None) ≡ None
@@ -155,9 +158,10 @@ module _ (c : Checked) (labels : Labelling) where
                 (λ (x : (l : ℕ) × (is_named named l ≡ true) × (has_label (label n ∷ is) l ≡ true)).
                 inr (other-label h x))
                 (led.ends f))
-          ] refl (ap (λ w. coming_behind_label labels (carry_of passed named w)) (sym f) ∙ e)
+          ] refl (ap (λ w. type_after_label labels (carry_of passed named w)) (sym f) ∙ e)
 
-  jump-led : (P : ℕ → Type 0) (condition : Condition) (k : ℕ) (is : List ProgramItem) (named : List ℕ)
+  jump-led : (P : ℕ → Type 0) (condition : Condition) (k : ℕ) (is : List ProgramItem)
+      (named : List ℕ)
       (now : Coming) (t : Option ElementaryType) → has_label is k ≡ true
       → IsLed P (transfer (go.Jump condition k) ∷ is) named now
       → IsLed (λ d. P (length
@@ -194,11 +198,11 @@ module _ (c : Checked) (labels : Labelling) where
       → AreReached P (items_code (length c.externals) is ++ Halt ∷ [])
   items-reached [] passed named now ok P led = (end_led P named now now refl led, tt)
   items-reached (label n ∷ is) passed named now ok P led =
-      items-reached is (passed + 1) named (coming_behind_label labels (carry_of passed named now))
+      items-reached is (passed + 1) named (type_after_label labels (carry_of passed named now))
       ok.1 P
       (label-led P n passed is named now ok.0.0
       (λ l h. no-lower is (passed + 1) named
-      (coming_behind_label labels (carry_of passed named now)) l ok.1 h) led)
+      (type_after_label labels (carry_of passed named now)) l ok.1 h) led)
   items-reached (plain e ∷ is) passed named now ok P led =
       let code = entry_code (length c.externals) e in
       let f = entry-flows c e ok.0 ok.1 (kind_at ok.0) [] ok.2.1 (within-self (kind_at ok.0))

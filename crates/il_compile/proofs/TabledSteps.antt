@@ -10,7 +10,7 @@ use Rattle.bay_base.specs.declared.types.ElementaryType.{ElementaryType}
 use Rattle.bay_base.specs.declared.types.ElementaryType.TheVariants as elementary
 use Rattle.il_text.specs.declared.program.Conversion.{Conversion}
 use Rattle.il_text.specs.declared.program.Conversion.TheVariants.{IntToDint, DintToLint}
-use Rattle.il_text.specs.declared.program.Output.TheVariants.{Q, Et}
+use Rattle.il_text.specs.declared.program.TimerOutput.TheVariants.{Q, Et}
 use Rattle.il_image.specs.Arithmetic.{type_of_width}
 use Rattle.il_image.specs.Effects.{are_compared, below, compares as compares_kinds, effect, kind_of, looks_at, second_kind, two, type_of_kind, widens, with_timer, with_truth}
 use Rattle.il_image.specs.Kinds.{is_within}
@@ -350,14 +350,14 @@ module _ (c : Checked) where
         one-step (ap (λ (o : Option ElementaryType). o >>= (λ t. Some (Plain t ∷ ks)))
         (typed-slot s kind ok)) room refl (λ d e. e) tt;
   }
-  fetched (operand.Output n Q) kind ks ok room = record {
+  fetched (operand.TimerOutput n Q) kind ks ok room = record {
     top = Plain elementary.Bool;
     fits = subst (λ k. is_within (Plain elementary.Bool) (Plain k) ≡ true) ok.1 refl;
     divides = λ d n. absurd cc;
     step =
         one-step (timer-there n (Some (Plain elementary.Bool ∷ ks)) ok.0) room refl (λ d e. e) tt;
   }
-  fetched (operand.Output n Et) kind ks ok room = record {
+  fetched (operand.TimerOutput n Et) kind ks ok room = record {
     top = Plain elementary.Time;
     fits = subst (λ k. is_within (Plain elementary.Time) (Plain k) ≡ true) ok.1 refl;
     divides = λ d n. absurd cc;

@@ -86,7 +86,8 @@ inverse-made (Wide z) kind e h =
 inverse-made (Span n) kind e h =
     absurd (let f : elementary.Time ≡ elementary.Bool = e ∙ boolean-is kind h in cc)
 
-computed-made : (o : ArithmeticOperation) (w : Width) (a b : ℤ) (zero : Bool) (kind : ElementaryType)
+computed-made : (o : ArithmeticOperation) (w : Width) (a b : ℤ) (zero : Bool)
+    (kind : ElementaryType)
     → type_of (value_of_width w (computation_of o w a b)) ≡ kind → zero ≡ false
     → Made (if zero then None else Some (value_of_width w (computation_of o w a b))) kind
 computed-made o w a b true kind t z = absurd cc

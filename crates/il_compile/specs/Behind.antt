@@ -1,5 +1,5 @@
--- Inner: what the compiler knows of the items behind a place, as it goes from the last item to the
--- first.
+-- Inner: what the compiler knows of the items after a place, the continuation, as it goes from the
+-- last item to the first.
 use Rattle.std.specs.Prelude.{◌≡◌, ℕ, ◌+◌, ◌≤◌, List, min, reverse, Option, [], nat_eq}
 use Rattle.std.specs.HashMap.{get}
 use Rattle.std.specs.Option.{unwrap_or}
@@ -7,11 +7,11 @@ use Rattle.il_image.specs.Images.{Each}
 use Rattle.il_image.specs.Spelling.{IsInstr}
 use Rattle.il_image.specs.declared.instr.Instr.{Instr}
 use Rattle.il_check.specs.Program.{Entry, operation, block, Entries, no_entries, entry, ProgramItem, label, transfer, plain}
-use Rattle.il_compile.specs.declared.behind.Behind.{Behind}
+use Rattle.il_compile.specs.declared.continuation.Continuation.{Continuation}
 use Rattle.il_compile.specs.Code.{operation_code, transfer_code, octets, octets_before, items_code}
 use Rattle.il_compile.specs.Compiled.{most_octets}
 
--- The instructions of each operation can be spelled.
+-- The format can represent the instructions of each operation.
 abbrev mutual
   pub IsSpellableEntry : ℕ → Entry → Type 0
   IsSpellableEntry externals (operation o) = Each IsInstr (operation_code externals o)
@@ -22,27 +22,29 @@ abbrev mutual
   AreSpellableEntries externals (entry e es) =
       IsSpellableEntry externals e × AreSpellableEntries externals es
 
--- Its instructions can be spelled, but for the distance of a jump.
+-- The format can represent the instructions of the item, apart from the distance of a jump.
 abbrev pub IsSpellable : ℕ → ProgramItem → Type 0
 IsSpellable externals (label n) = Unit {0}
 IsSpellable externals (transfer t) = Each IsInstr (transfer_code externals t 0)
 IsSpellable externals (plain e) = IsSpellableEntry externals e
 
--- The instructions of each item can be spelled.
+-- The format can represent the instructions of each item.
 abbrev pub AreSpellable : ℕ → List ProgramItem → Type 0
 AreSpellable externals is = Each (IsSpellable externals) is
 
--- for each label the octets from it to the end of the items, and 0 where there is no such label
+-- For each label, `places` has the number of octets from the label to the end of the items, and
+-- nothing, or 0, if there is no such label.
 abbrev pub KnowsPlaces : ℕ → (ℕ → Option ℕ) → List ProgramItem → Type 0
 KnowsPlaces externals places is = (l : ℕ)
     → octets_before externals l is + unwrap_or (places l) 0 ≡ octets (items_code externals is)
 
--- the number up to which octets are counted: one more than an image may have
+-- the bound up to which octets are counted: one more than an image may have
 abbrev pub octets_bound : ℕ
 octets_bound = 65_536
 
--- The items' instructions, the last first, with the octets that they have, counted up to the bound;
--- where they have no more than an image may, the instructions and the places of labels are known.
+-- These are the instructions of the items, the last first, and the number of their octets, counted
+-- up to the bound. The instructions and the places of labels are known if there are no more octets
+-- than an image may have.
 pub record IsBehind (externals : ℕ) (is : List ProgramItem) (instrs : List Instr) (size : ℕ)
     (places : ℕ → Option ℕ) : Type 0 where
   pub counted : size ≡ min (octets (items_code externals is)) octets_bound
@@ -50,12 +52,13 @@ pub record IsBehind (externals : ℕ) (is : List ProgramItem) (instrs : List Ins
       → reverse instrs ≡ items_code externals is
   pub known : octets (items_code externals is) ≤ most_octets → KnowsPlaces externals places is
 
--- Nothing waits to be put before the items behind.
-pub record IsSettled (externals : ℕ) (is : List ProgramItem) (b : Behind) : Type 0 where
+-- No instruction is pending before the code of the continuation.
+pub record IsSettled (externals : ℕ) (is : List ProgramItem) (b : Continuation) : Type 0 where
   pub behind : IsBehind externals is b.instrs.items b.octets (get nat_eq b.places)
   pub settled : b.line.items ≡ []
 
--- These instructions wait.
-pub record Waits (externals : ℕ) (is : List ProgramItem) (code : List Instr) (b : Behind) : Type 0 where
+-- These instructions are pending before the code of the continuation.
+pub record Waits (externals : ℕ) (is : List ProgramItem) (code : List Instr) (b : Continuation)
+    : Type 0 where
   pub behind : IsBehind externals is b.instrs.items b.octets (get nat_eq b.places)
   pub waits : b.line.items ≡ code

@@ -1,12 +1,12 @@
--- The code of a program: its instructions, one behind the other.
+-- The code of a program: its instructions, one after the other.
 use Rattle.std.specs.Prelude.{ℕ, ◌+◌, ◌==◌, Bool, true, false, List, [], ◌∷◌, ◌++◌, length, if◌then◌else◌}
 use Rattle.bay_base.specs.declared.types.ElementaryType.{ElementaryType}
 use Rattle.bay_base.specs.declared.types.ElementaryType.TheVariants as elementary
 use Rattle.il_text.specs.declared.program.Input.{Input}
 use Rattle.il_text.specs.declared.program.Input.TheVariants.{In, Pt}
 use Rattle.il_text.specs.declared.program.Operator.{Operator}
-use Rattle.il_text.specs.declared.program.Output.{Output}
-use Rattle.il_text.specs.declared.program.Output.TheVariants.{Q, Et}
+use Rattle.il_text.specs.declared.program.TimerOutput.{TimerOutput}
+use Rattle.il_text.specs.declared.program.TimerOutput.TheVariants.{Q, Et}
 use Rattle.il_text.specs.declared.program.StoreKind.{StoreKind}
 use Rattle.il_text.specs.declared.program.StoreKind.TheVariants as store
 use Rattle.il_image.specs.Images.{all_spelled}
@@ -34,23 +34,23 @@ use Rattle.il_compile.specs.Senses.{Sense, connects, computes, compares, sense_o
 
 -- ---- operands and operators
 
--- the number of a slot behind so many externals: the externals come first, and then the variables
+-- the number of a slot: the externals come first, and then the variables
 abbrev pub slot_number : ℕ → typed.Slot → ℕ
 slot_number externals (External n) = n
 slot_number externals (Variable n) = externals + n
 
--- what the machine does with an output of a timer
-abbrev pub output_use : Output → TimerUse
+-- the use of a timer that pushes an output
+abbrev pub output_use : TimerOutput → TimerUse
 output_use Q = LoadOutput
 output_use Et = LoadElapsed
 
--- the instruction that puts an operand on the stack
+-- the instruction that pushes an operand
 abbrev pub fetch : ℕ → TypedOperand → Instr
 fetch externals (operand.Literal v) = Push v
 fetch externals (operand.Slot s) = Slot Load (slot_number externals s)
-fetch externals (operand.Output n what) = Timer (output_use what) n
+fetch externals (operand.TimerOutput n what) = Timer (output_use what) n
 
--- a NOT, where the operand is negated
+-- a NOT, if the operand is negated
 abbrev pub negation : Bool → List Instr
 negation false = []
 negation true = Not ∷ []
@@ -67,7 +67,7 @@ sense_instr (connects c) kind = Combine c
 sense_instr (computes o) kind = Compute o (width_of kind)
 sense_instr (compares c) kind = Compare c
 
--- what stands behind an operand or a parenthesis
+-- the instructions after an operand or a parenthesis
 abbrev pub operator_code : Operator → ElementaryType → Bool → List Instr
 operator_code operator kind negated = negation negated ++ sense_instr (sense_of operator) kind ∷ []
 
@@ -80,7 +80,7 @@ store_code store.Negated n = Not ∷ Slot Store n ∷ Not ∷ []
 store_code store.Set n = Slot SetIf n ∷ []
 store_code store.Reset n = Slot ResetIf n ∷ []
 
--- an operation, which acts on the topmost cell
+-- an operation, which acts on the top of the stack
 abbrev pub operation_code : ℕ → SimpleOperation → List Instr
 operation_code externals (op.Load negated x) = Drop ∷ fetch externals x ∷ negation negated
 operation_code externals (op.Store how s) = store_code how (slot_number externals s)
@@ -89,7 +89,7 @@ operation_code externals (op.Combine operator kind negated x) =
 operation_code externals op.Not = Not ∷ []
 operation_code externals (op.Convert conversion) = Widen (widening_of conversion) ∷ []
 
--- a cell that stands for a result that is not set
+-- pushes a cell for an unset result
 abbrev pub unset : Instr
 unset = Push (Truth false)
 
@@ -105,12 +105,12 @@ abbrev mutual
 
 -- ---- jumps, returns and calls
 
--- what the machine does with an input of a timer
+-- the use of a timer that pops an input
 abbrev pub input_use : Input → TimerUse
 input_use In = SetInput
 input_use Pt = SetPreset
 
--- an argument of a call: its operand, and the timer's input that takes it
+-- an argument of a call: its operand, and the timer's input that pops it
 abbrev pub argument_code : ℕ → ℕ → TypedArgument → List Instr
 argument_code externals n a = fetch externals a.operand ∷ Timer (input_use a.input) n ∷ []
 
@@ -121,7 +121,7 @@ arguments_code externals n (arguments.One a) = argument_code externals n a
 arguments_code externals n (arguments.Two a b) =
     argument_code externals n a ++ argument_code externals n b
 
--- a jump, a return or a call that passes over so many octets
+-- a jump, a return or a call; a jump or a return skips `distance` octets
 abbrev pub transfer_code : ℕ → Transfer → ℕ → List Instr
 transfer_code externals (go.Jump condition l) distance = Jump (when_of condition) distance ∷ []
 transfer_code externals (go.Return condition) distance = Jump (when_of condition) distance ∷ []
@@ -130,12 +130,12 @@ transfer_code externals (go.Call n args) distance =
 
 -- ---- the items
 
--- how many octets instructions have
+-- the number of octets of instructions
 abbrev pub octets : List Instr → ℕ
 octets code = length (all_spelled code)
 
--- the octets of the items up to a label, or of all where there is none; those of a jump are the
--- same at each distance
+-- the number of octets of the items up to a label, or of all items if there is no such label; a
+-- jump has the same number at each distance
 abbrev pub octets_before : ℕ → ℕ → List ProgramItem → ℕ
 octets_before externals l [] = 0
 octets_before externals l (label n ∷ is) = if n == l then 0 else octets_before externals l is
@@ -144,13 +144,14 @@ octets_before externals l (transfer t ∷ is) =
 octets_before externals l (plain e ∷ is) =
     octets (entry_code externals e) + octets_before externals l is
 
--- A jump passes over what stands before its label, and a return over all octets behind it.
+-- the number of octets that a jump skips: those before its label, and for a return all octets after
+-- it
 abbrev pub distance : ℕ → Transfer → List ProgramItem → ℕ → ℕ
 distance externals (go.Jump condition l) is behind = octets_before externals l is
 distance externals (go.Return condition) is behind = behind
 distance externals (go.Call n args) is behind = 0
 
--- the items, one behind the other
+-- the code of the items, one after the other
 abbrev pub items_code : ℕ → List ProgramItem → List Instr
 items_code externals [] = []
 items_code externals (label n ∷ is) = items_code externals is
@@ -159,6 +160,6 @@ items_code externals (transfer t ∷ is) =
     ++ items_code externals is
 items_code externals (plain e ∷ is) = entry_code externals e ++ items_code externals is
 
--- The code begins with a cell for the result, and ends with HALT.
+-- the code of a program: it begins with a cell for the result, and ends with HALT
 abbrev pub program_code : Checked → List Instr
 program_code c = unset ∷ items_code (length c.externals) c.items ++ Halt ∷ []

@@ -9,12 +9,12 @@ use Rattle.il_compile.specs.Code.{program_code}
 use Rattle.il_compile.specs.declared.fault.CompileFault.{CompileFault}
 use Rattle.il_compile.specs.declared.fault.CompileFault.TheVariants.{CodeTooLong}
 
--- the point that an external is
+-- the point of an external
 abbrev pub point_of : External → ImagePoint
 point_of e = record { name = e.name; elementary = e.kind; writable = e.writable }
 
--- The points are the externals; slots are the externals and then the variables, in the order of
--- their declarations.
+-- the image of a program: the points are the externals; slots are the externals and then the
+-- variables, in the order of their declarations
 abbrev pub image_of : Checked → Image
 image_of c = record {
   points = map point_of c.externals;
@@ -23,12 +23,12 @@ image_of c = record {
   code = all_spelled (program_code c);
 }
 
--- the octets of points: type, writability, length and name
+-- the number of octets of points: type, access, length and name
 abbrev pub points_octets : List External → ℕ
 points_octets [] = 0
 points_octets (e ∷ es) = 3 + length e.name + points_octets es
 
--- how many octets the image has as it is written
+-- the number of octets of the encoded image
 abbrev pub image_size : Checked → ℕ
 image_size c = length (image_octets Two (image_of c))
 
@@ -36,6 +36,6 @@ image_size c = length (image_octets Two (image_of c))
 abbrev pub most_octets : ℕ
 most_octets = 65_535
 
--- the image, unless it would have more octets than that
+-- the image, or `CodeTooLong` if it would have more octets than that
 abbrev pub compiled_of : Checked → Result Image CompileFault
 compiled_of c = if nat_le (image_size c) most_octets then Ok (image_of c) else Err CodeTooLong

@@ -11,13 +11,13 @@ pub record HasTypes (c : Checked) (m : Memory) : Type 0 where
   pub variables : map type_of m.variables ≡ map (λ v. type_of v.initial) c.variables
   pub timers : map (λ t. t.kind) m.timers ≡ map (λ t. t.kind) c.timers
 
--- The program means something, and leaves values of its types.
+-- The program has a meaning, and leaves values of its types.
 pub record Means (c : Checked) (now : ℕ) (m : Memory) : Type 0 where
   pub after : Memory
   pub is : mean now c.items m ≡ Some after
   pub typed : HasTypes c after
 
--- The code halts with what the program means, in no more steps than it has octets.
+-- The code halts with what the program means, in at most as many steps as it has octets.
 pub record Follows (c : Checked) (code : List ℕ) (now : ℕ) (m : Memory) : Type 0 where
   pub means : Means c now m
   pub steps : ℕ
@@ -25,6 +25,6 @@ pub record Follows (c : Checked) (code : List ℕ) (now : ℕ) (m : Memory) : Ty
       0
       ≡ Halted (means.after.externals ++ means.after.variables) means.after.timers steps
 
--- It does so at each moment, from all values of the program's types.
+-- The code follows the program at each moment, from all values of the program's types.
 abbrev pub DoesTheText : Checked → List ℕ → Type 0
 DoesTheText c code = (now : ℕ) (m : Memory) → HasTypes c m → Follows c code now m

@@ -1,16 +1,17 @@
--- What a program means, and that its code does that (IEC 61131-3:2003, 3.2 and table 52).
+-- The meaning of a program, and that its code does what it means (IEC 61131-3:2003, 3.2 and table
+-- 52).
 --
--- `Meaning` is the main file. It goes by structure, on a current result that may be unset, the
--- values of externals, variables and timers, and a time. An item is done, or a label is sought
--- among the items; a parenthesis begins with an unset result, and its operator takes what it ends
--- with. What meets an unset result, a missing name, a value of another type or a divisor of 0 means
--- nothing. `Senses` says what operators do: an operator connects BOOLs, computes with numbers of
--- one width, or compares values of one type.
+-- `Meaning` is the main file. It follows the structure of the program, on a current result that may
+-- be unset, the values of externals, variables and timers, and a time. Items are executed in order,
+-- or skipped up to a label; a parenthesis begins with an unset result, and its operator takes the
+-- result at its end. There is no meaning if an instruction uses an unset result, a missing name, a
+-- value of another type or a divisor of 0. `Senses` classifies the operators: an operator connects
+-- BOOLs, computes with numbers of one width, or compares values of one type.
 --
 -- `Code` is the list of instructions of operations, parentheses, calls and items, with the
--- distances of jumps in bytes. `Compiled` is the image, its size, and which programs are too long
+-- distances of jumps in octets. `Compiled` is the image, its size, and which programs are too long
 -- for one. `Correct` joins the two: code does what the text means. `Faults` numbers the one fault
--- (85). `Laws`: what the meaning comes to at a label.
+-- (85). `Laws`: the meaning of the items after a label.
 
 -- What public clauses cite of the crates below.
 pub use Rattle.bay_base.specs.Exact
@@ -26,5 +27,5 @@ pub mod Faults
 pub mod Laws
 pub mod Meaning
 pub mod Senses
--- Inner ones, which private functions, invariants and proofs cite, and no public clause.
+-- Inner ones: private functions, invariants and proofs cite them, public clauses don't.
 pub mod Behind

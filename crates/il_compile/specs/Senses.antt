@@ -1,5 +1,5 @@
--- What the operators do, and the conversions and conditions of Instruction List in the
--- words of images.
+-- What the operators do, and the machine's conversions and conditions for those of Instruction
+-- List.
 use Rattle.il_text.specs.declared.program.Condition.{Condition}
 use Rattle.il_text.specs.declared.program.Condition.TheVariants as condition
 use Rattle.il_text.specs.declared.program.Conversion.{Conversion}
@@ -40,12 +40,12 @@ sense_of operator.Ne = compares Ne
 sense_of operator.Le = compares Le
 sense_of operator.Lt = compares Lt
 
--- a conversion as the machine names it
+-- the machine's conversion for one of Instruction List
 abbrev pub widening_of : Conversion → Widening
 widening_of conversion.IntToDint = widening.IntToDint
 widening_of conversion.DintToLint = widening.DintToLint
 
--- when a jump goes
+-- when a jump is taken
 abbrev pub when_of : Condition → When
 when_of condition.Always = when.Always
 when_of condition.IfTrue = when.IfTrue

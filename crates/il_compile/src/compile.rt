@@ -1,4 +1,4 @@
-// A checked program becomes an image.
+// Compiles a checked program to an image.
 ghost use Rattle.std.specs.Prelude.{◌≡◌, ◌+◌, ◌*◌, ◌≤◌, ◌++◌, [], ◌∷◌, Ok, length, map, min, reverse, IfOk, OnOk};
 ghost use Rattle.bay_base.specs.Exact.{Gives};
 ghost use Rattle.il_image.specs.Images.{Each, all_spelled};
@@ -13,7 +13,7 @@ ghost use Rattle.il_compile.specs.Compiled as spec_compiled;
 ghost use Rattle.il_compile.specs.Correct.{DoesTheText};
 ghost use Rattle.il_compile.specs.declared.fault.CompileFault.TheVariants.{OutOfMemory};
 
-use crate::behind::{Behind, behind_all};
+use crate::continuation::{Continuation, compile_all};
 use crate::fault::CompileFault;
 use bay_base::listing::Listing;
 use bay_base::text::Text;
@@ -72,7 +72,7 @@ fn kinds_of(alloc: Global, timers: &[Timer]) -> Result<Vec<TimerKind>, AllocErro
     Ok(kinds)
 }
 
-// The octets of the externals' points in an image.
+// Returns the number of octets of the externals' points in an image.
 fn points_size(externals: &[External]) -> usize
     requires few { length externals.now ≤ most_slots }
     requires names { Each HasName externals.now }
@@ -87,7 +87,7 @@ fn points_size(externals: &[External]) -> usize
 }
 
 // Returns the octets of a program's code: a cell for the current result, the instructions of the
-// items, which are given last first, and HALT.
+// items, passed with the last first, and HALT.
 fn spell_all(alloc: Global, behind: Vec<Instr>) -> Result<Vec<u8>, AllocError>
     ensures { IfOk result (λ code. code.items
         ≡ all_spelled (spec.unset ∷ reverse behind.items ++ Instr.Halt ∷ [])) }
@@ -119,7 +119,7 @@ fn compiled(alloc: Global, program: &Typed) -> Result<Image, CompileFault>
         (compiled_of (checked_view program.now)) }
     ensures typed { IsTyped (checked_view program.now) }
 {
-    let behind = behind_all(alloc, program.externals().len(), program.items())?;
+    let behind = compile_all(alloc, program.externals().len(), program.items())?;
     let size = head_size(program) + 3 + behind.octets as usize;
     if size > MAX_OCTETS {
         return Err(CompileFault::CodeTooLong);
@@ -147,15 +147,15 @@ fn compiled(alloc: Global, program: &Typed) -> Result<Image, CompileFault>
 /// more than 65,535 octets. Compiling always allocates for the code, so only test cases show that
 /// out of memory is returned only after a failed allocation.
 pub fn compile(alloc: Global, program: &Typed) -> Result<Image, CompileFault>
-    // The image of the program, or that it is too long, unless memory ran out.
+    // The image of the program, or that it is too long, unless an allocation fails.
     ensures image { Gives OutOfMemory (λ image. image) result
         (compiled_of (checked_view program.now)) }
     // From all values of the program's types, at each moment, the machine runs the code without a
     // trap to HALT, in no more steps than the code has octets, and leaves in slots and timers what
     // the program means.
     ensures follows { IfOk result (λ image. DoesTheText (checked_view program.now) image.code) }
-    // A table of kinds agrees with the code: each instruction is allowed on what stands on the
-    // stack before it, and is reached.
+    // A table of kinds agrees with the code: each instruction is reached, and is allowed on the
+    // kinds on the stack before it.
     ensures tabled { IfOk result (λ image. HasTable image) }
 {
     let image = compiled(alloc, program)?;

@@ -15,7 +15,7 @@ use il_image::arithmetic::{ArithmeticOperation, Comparison, Width};
 use il_image::instr::Instr;
 use il_image::opcode::{Connective, SlotUse, TimerUse, When, Widening};
 use il_image::value::Value;
-use il_text::program::{Condition, Conversion, Input, Operator, Output, StoreKind};
+use il_text::program::{Condition, Conversion, Input, Operator, StoreKind, TimerOutput};
 use std::alloc::AllocError;
 
 // Returns the number of a slot: the externals come first, then the variables.
@@ -37,9 +37,9 @@ fn fetch(externals: usize, operand: TypedOperand) -> Instr
     match operand {
         TypedOperand::Literal(value) => Instr::Push(value),
         TypedOperand::Slot(slot) => Instr::Slot(SlotUse::Load, slot_number(externals, slot)),
-        TypedOperand::Output { timer, output } => match output {
-            Output::Q => Instr::Timer(TimerUse::LoadOutput, timer as u16),
-            Output::Et => Instr::Timer(TimerUse::LoadElapsed, timer as u16),
+        TypedOperand::TimerOutput { timer, output } => match output {
+            TimerOutput::Q => Instr::Timer(TimerUse::LoadOutput, timer as u16),
+            TimerOutput::Et => Instr::Timer(TimerUse::LoadElapsed, timer as u16),
         },
     }
 }
@@ -77,7 +77,7 @@ fn operator_instr(operator: Operator, kind: ElementaryType) -> Instr
     }
 }
 
-// Returns the machine's name for a conversion.
+// Returns the machine's conversion for one of Instruction List.
 fn widening_of(conversion: Conversion) -> Widening
     ensures { result ≡ senses.widening_of conversion }
 {
@@ -98,7 +98,7 @@ pub(crate) fn when_of(condition: Condition) -> When
     }
 }
 
-// Returns what the machine does with an input of a timer.
+// Returns the use of a timer that pops an input.
 fn input_use(input: Input) -> TimerUse
     ensures { result ≡ spec.input_use input }
 {

@@ -1,4 +1,4 @@
-// Why a program is not compiled.
+// Why a program does not compile.
 ghost use Rattle.std.specs.Prelude.{◌≡◌};
 ghost use Rattle.il_compile.specs.Faults.{code_of};
 ghost use Rattle.il_compile.specs.declared.fault.CompileFault.TheVariants.{OutOfMemory};

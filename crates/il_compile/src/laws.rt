@@ -5,11 +5,11 @@ ghost use Rattle.il_check.specs.TypedProgram.{IsTyped};
 ghost use Rattle.il_check.specs.declared.typed.Transfer.TheVariants as Transfer;
 ghost use Rattle.il_text.specs.declared.program.Condition.{Condition};
 ghost use Rattle.il_compile.specs.Correct.{HasTypes, Means};
-ghost use Rattle.il_compile.specs.Laws.{items_behind, mean_behind};
-ghost use Rattle.il_compile.specs.Meaning.{Memory, State, goes, mean_from};
+ghost use Rattle.il_compile.specs.Laws.{items_after_label, meaning_after_label};
+ghost use Rattle.il_compile.specs.Meaning.{Memory, State, jump_taken, mean_from};
 
 /// A well-typed program has a meaning at each moment, for all values of its types, and leaves
-/// values of its types: it never meets a result that is not set, a missing name, a value of another
+/// values of its types: it never uses a result that is not set, a missing name, a value of another
 /// type than its variable's, or a divisor of 0.
 pub fn programs_have_a_meaning()
     ensures { (c : Checked) (now : ℕ) (m : Memory) → IsTyped c → HasTypes c m → Means c now m }
@@ -19,10 +19,11 @@ pub fn programs_have_a_meaning()
 /// memory; a jump that is not taken continues with the next item.
 pub fn jumps_go_on()
     ensures taken { (now : ℕ) (condition : Condition) (l : ℕ) (is : List ProgramItem) (s : State)
-        → goes condition s.result ≡ Some true →
+        → jump_taken condition s.result ≡ Some true →
         mean_from now None (transfer (Transfer.Jump condition l) ∷ is) s
-        ≡ mean_behind now (items_behind l is) s }
-    ensures not_taken { (now : ℕ) (condition : Condition) (l : ℕ) (is : List ProgramItem) (s : State)
-        → goes condition s.result ≡ Some false →
+        ≡ meaning_after_label now (items_after_label l is) s }
+    ensures not_taken { (now : ℕ) (condition : Condition) (l : ℕ) (is : List ProgramItem)
+        (s : State)
+        → jump_taken condition s.result ≡ Some false →
         mean_from now None (transfer (Transfer.Jump condition l) ∷ is) s ≡ mean_from now None is s }
 {}

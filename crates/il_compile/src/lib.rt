@@ -1,14 +1,14 @@
 // Compiles checked programs of Instruction List to images, whose code does what the text means.
 //
-// - `fault`: why a program is not compiled.
+// - `fault`: why a program does not compile.
 // - `compile`: the image of a program.
-// - `behind`: the items from the last to the first, with the distances of jumps.
+// - `continuation`: the items from the last to the first, with the distances of jumps.
 // - `emit`: the instructions of operations, parentheses and calls.
-// - `laws`: what holds of what a program means.
+// - `laws`: laws of the meaning of programs.
 #![tactic(auto)]
 
-mod behind;
 pub mod compile;
+mod continuation;
 mod emit;
 pub mod fault;
 pub mod laws;

@@ -28,7 +28,7 @@ use Rattle.il_image.specs.declared.instr.Instr.TheVariants.{Halt, Push, Drop, Sl
 use Rattle.il_image.specs.declared.opcode.SlotUse.TheVariants.{Load, Store, SetIf, ResetIf}
 use Rattle.il_image.proofs.KindLemmas.{same-is, same-self}
 use Rattle.il_image.specs.Machine.{most_slots, most_timers}
-use Rattle.il_check.specs.Checking.{checked_of, checked_program, faults_of, initial_standing}
+use Rattle.il_check.specs.Checking.{checked_of, checked_program, faults_of, initial_progress}
 use Rattle.il_check.specs.Declaring.{declaration_faults, declarations_faults, external_at, external_in, externals_of, is_typed, names_in, point_of as declared_point, is_name}
 use Rattle.il_check.specs.Faults.{fault_if, least_fault}
 use Rattle.il_check.specs.Program.{Checked}
@@ -223,7 +223,7 @@ checked-fits points program c e ok =
     let p = passed (least_fault (faults_of points program)) (checked_program points program) c e in
     let none =
     (append-none (declarations_faults points [] program.declarations)
-    (items_faults (names_in points program) program.items (initial_standing program))
+    (items_faults (names_in points program) program.items (initial_progress program))
     (least_fault-none (faults_of points program) p.0)).0 in
     image-fits points c ok
     (subst (λ x. are_points points (map point_of x.externals) ≡ true) p.1

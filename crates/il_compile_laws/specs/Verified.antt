@@ -6,6 +6,7 @@ use Rattle.il_check.specs.Program.{Checked}
 use Rattle.il_verify.specs.Verdicts.{IsVerified}
 use Rattle.il_compile.specs.Compiled.{compiled_of}
 
--- The image of the program, if it is compiled, fits these points, and its code can't go wrong.
+-- The image of the program, if the program compiles, fits these points, and its code can't go
+-- wrong.
 abbrev pub Verifies : List Point → Checked → Type 0
 Verifies points c = (image : Image) → compiled_of c ≡ Ok image → IsVerified points image

@@ -1,6 +1,6 @@
-// The law that compiled code verifies, which no other law of the language stands on.
+// The law that compiled code verifies. No other law of the language depends on it.
 //
-// - `laws`: what is compiled of a checked program fits its points and can't go wrong.
+// - `laws`: the image of a checked program fits its points, and its code can't go wrong.
 #![tactic(auto)]
 
 pub mod laws;

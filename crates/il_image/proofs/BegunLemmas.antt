@@ -12,7 +12,7 @@ use Rattle.il_image.specs.declared.opcode.TimerUse.TheVariants.{SetInput, SetPre
 use Rattle.il_image.specs.declared.timer.TimerState.{TimerState}
 use Rattle.il_image.specs.declared.value.Value.{Value}
 use Rattle.il_image.specs.declared.value.Value.TheVariants.{Truth}
-use Rattle.il_image.specs.Machine.{State, StepResult, Goes, Halts, Traps, MissingSlot, MissingTimer, WrongKind, ZeroDivisor, Ending, Unfinished, act, as_number, as_span, as_truth, divides, ending_of, goes, is_comparable, pushes, run_from, stores, value_of_width, turn_of, with_slot, with_timer, with_top, with_truths, with_two, most_cells}
+use Rattle.il_image.specs.Machine.{State, StepResult, Goes, Halts, Traps, MissingSlot, MissingTimer, WrongKind, ZeroDivisor, Ending, Unfinished, act, as_number, as_span, as_truth, divides, ending_of, continues_at, is_comparable, pushes, run_from, stores, value_of_width, turn_of, with_slot, with_timer, with_top, with_truths, with_two, most_cells}
 use Rattle.bay_base.specs.Types.{same_type}
 use Rattle.il_image.specs.Arithmetic.{comparison_holds, computation_of, wider_value}
 use Rattle.il_image.specs.Values.{number_of, type_of}
@@ -150,14 +150,16 @@ module _ (P : ℕ → Type 0) where
       (λ o. Lands P (elim o [ None ↦ Traps MissingSlot | Some v ↦ f v ]))
       [ None ↦ tt | Some v ↦ h v ]
 
-  lands-timer : (n : ℕ) (s : State) (f : TimerState → StepResult) → ((t : TimerState) → Lands P (f t))
+  lands-timer : (n : ℕ) (s : State) (f : TimerState → StepResult)
+      → ((t : TimerState) → Lands P (f t))
       → Lands P (with_timer n s f)
   lands-timer n s f h =
       elim (slice_get s.timers n) as
       (λ o. Lands P (elim o [ None ↦ Traps MissingTimer | Some t ↦ f t ]))
       [ None ↦ tt | Some t ↦ h t ]
 
-  lands-truths : (n : ℕ) (s : State) (f : Bool → Bool → StepResult) → ((a b : Bool) → Lands P (f a b))
+  lands-truths : (n : ℕ) (s : State) (f : Bool → Bool → StepResult)
+      → ((a b : Bool) → Lands P (f a b))
       → Lands P (with_truths n s f)
   lands-truths n s f h =
       lands-slot n s _ (λ slot. lands-top s.cells _
@@ -195,18 +197,19 @@ lands now (Compute o w) next s =
     (λ first second below. lands-number (λ to. to ≡ next) w second _
     (λ b. lands-number (λ to. to ≡ next) w first _
     (λ a. lands-if (λ to. to ≡ next) (divides o && int_eq b (pos 0)) (Traps ZeroDivisor)
-    (goes next (value_of_width w (computation_of o w a b) ∷ below) s) tt refl)))
+    (continues_at next (value_of_width w (computation_of o w a b) ∷ below) s) tt refl)))
 lands now (Compare c) next s =
     lands-two (λ to. to ≡ next) s.cells _
     (λ a b below. lands-if (λ to. to ≡ next) (is_comparable c a b)
-    (goes next (Truth (comparison_holds c (number_of a) (number_of b)) ∷ below) s) (Traps WrongKind)
+    (continues_at next (Truth (comparison_holds c (number_of a) (number_of b)) ∷ below) s)
+    (Traps WrongKind)
     refl
     tt)
 lands now (Widen w) next s =
     lands-top (λ to. to ≡ next) s.cells _
     (λ top below. elim (wider_value w top) as
     (λ o. Lands (λ to. to ≡ next)
-    (elim o [ None ↦ Traps WrongKind | Some v ↦ goes next (v ∷ below) s ]))
+    (elim o [ None ↦ Traps WrongKind | Some v ↦ continues_at next (v ∷ below) s ]))
     [ None ↦ tt | Some v ↦ refl ])
 lands now (Jump Always distance) next s = refl
 lands now (Jump IfTrue distance) next s =

@@ -18,7 +18,7 @@ use Rattle.il_image.specs.declared.opcode.Widening.TheVariants.{IntToDint, DintT
 use Rattle.il_image.specs.declared.value.Value.{Value}
 use Rattle.il_image.specs.declared.value.Value.TheVariants.{Short, Long, Wide}
 
--- ---- own: widths, and what a width makes of a number
+-- ---- own: widths, and numbers wrapped to a width
 
 -- the elementary type of a width
 abbrev pub type_of_width : Width → ElementaryType
@@ -26,13 +26,13 @@ type_of_width width.Int = elementary.Int
 type_of_width width.Dint = elementary.Dint
 type_of_width width.Lint = elementary.Lint
 
--- how many bits a width has
+-- the number of bits of a width
 abbrev pub bits_of : Width → Bits
 bits_of width.Int = w16
 bits_of width.Dint = w32
 bits_of width.Lint = w64
 
--- the number that two's complement of the width makes of an integer
+-- an integer wrapped to the width, in two's complement
 abbrev pub wrap_to : Width → ℤ → ℤ
 wrap_to width z = int_wrap (bits_of width) z
 
@@ -46,11 +46,11 @@ exact Mul a b = a *ℤ b
 exact Div a b = int_div a b
 exact Mod a b = a -ℤ (int_div a b *ℤ b)
 
--- the result of an operation: the exact integer, reduced into the width (own)
+-- the result of an operation: the exact integer, wrapped to the width (own)
 abbrev pub computation_of : ArithmeticOperation → Width → ℤ → ℤ → ℤ
 computation_of operation width a b = wrap_to width (exact operation a b)
 
--- The operation may be done with this second operand: a divisor is not 0.
+-- The operation accepts this second operand: a divisor must not be 0.
 abbrev pub DividesBy : ArithmeticOperation → ℤ → Type 0
 DividesBy Add b = Unit {0}
 DividesBy Sub b = Unit {0}
@@ -60,7 +60,7 @@ DividesBy Mod b = b ≡ pos 0 → ⊥
 
 -- ---- IEC 61131-3 table 28: comparisons
 
--- the comparison of the numbers holds
+-- whether the comparison of two numbers holds
 abbrev pub comparison_holds : Comparison → ℤ → ℤ → Bool
 comparison_holds Gt a b = int_lt b a
 comparison_holds Ge a b = int_le b a
@@ -79,7 +79,7 @@ logic_of Xor a b = if a then not b else b
 
 -- ---- IEC 61131-3 table 22: conversions
 
--- the value of the next wider type that has the same number
+-- the value of the next wider type with the same number, if this value can be widened so
 abbrev pub wider_value : Widening → Value → Option Value
 wider_value IntToDint (Short z) = Some (Long z)
 wider_value DintToLint (Long z) = Some (Wide z)

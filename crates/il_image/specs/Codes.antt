@@ -5,7 +5,7 @@ use Rattle.il_image.specs.declared.fault.ImageFault.TheVariants.{BadMagic, BadVe
 
 -- ---- own: numbers of faults
 
--- the fault's number; want of memory has none
+-- the fault's number; out of memory has none
 abbrev pub code_of : ImageFault → Option ℕ
 code_of BadMagic = Some 80
 code_of BadVersion = Some 81

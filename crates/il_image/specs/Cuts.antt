@@ -1,4 +1,4 @@
--- Octets that are cut short: what they have is right so far.
+-- Octets that are refused as `Truncated`: the ways in which they are right so far.
 use Rattle.std.specs.Prelude.{ℕ, ◌≡◌, ◌<◌, ◌≤◌, ◌-◌, ◌++◌, ◌⊎◌, List, [], ◌∷◌, length, take, Ok}
 use Rattle.il_image.specs.declared.instr.Instr.{Instr}
 use Rattle.il_image.specs.declared.opcode.Version.{Version}
@@ -9,31 +9,33 @@ use Rattle.il_image.specs.Octets.{AreOctets, number_octets, most_counted}
 use Rattle.il_image.specs.Reading.{instr_from}
 use Rattle.il_image.specs.Spelling.{spelling}
 
--- ---- own: images that are cut short
+-- ---- own: truncated images
 
--- The version has the image, the initial value, the instruction: its spelling is read back.
+-- The version can encode the image: its encoding decodes to the image.
 abbrev pub IsImageOf : Version → Image → Type 0
 IsImageOf version image = image_spelled (image_octets version image) ≡ Ok image
 
+-- The version can encode the initial value.
 abbrev pub IsValueOf : Version → Value → Type 0
 IsValueOf version v = variable_at version (variable_octets version v) ≡ Ok (v, [])
 
+-- The version can encode the instruction.
 abbrev pub IsInstrOf : Version → Instr → Type 0
 IsInstrOf version i = instr_from version (spelling i) ≡ Ok (i, [])
 
--- The first of these octets is the spelling's, and there are fewer of them.
+-- The octets have the same first octet as the spelling, and are fewer.
 pub record IsShortOf (octets spelled : List ℕ) : Type 0 where
   pub first : take 1 octets ≡ take 1 spelled
   pub fewer : length octets < length spelled
 
--- Others complete them to an image.
+-- More octets complete these to an image.
 pub record CanEnd (octets : List ℕ) : Type 0 where
   pub more : List ℕ
   pub image : Image
   pub fits : AreOctets more
   pub ends : image_spelled (octets ++ more) ≡ Ok image
 
--- They are those of an image, and others behind it.
+-- The octets are those of an image, followed by at least one more.
 pub record HasOthers (octets : List ℕ) : Type 0 where
   pub front : List ℕ
   pub others : List ℕ
@@ -42,9 +44,10 @@ pub record HasOthers (octets : List ℕ) : Type 0 where
   pub some : 0 < length others
   pub parts : octets ≡ front ++ others
 
--- They end in a part of an initial value, where no value of the version begins so: behind the
--- image's points stands a number of variables, of which the image's are the first, and behind these
--- the part.
+-- The octets end in a part of an initial value that can't be completed: after the image's points
+-- come a count, the image's variables (fewer than the count), and the part. The part has the first
+-- octet of a value of the version and is shorter, but no value of the version begins with the whole
+-- part.
 pub record EndsInValue (octets : List ℕ) : Type 0 where
   pub version : Version
   pub image : Image
@@ -60,9 +63,11 @@ pub record EndsInValue (octets : List ℕ) : Type 0 where
       ++ (version_octet version ∷ (count_and_items point_octets image.points ++
       (number_octets count ++ (each_spelled (variable_octets version) image.variables ++ part))))
 
--- The length of their code ends in a part of an instruction, or they do, where no instruction of
--- the version that begins so has room in the length: behind the image's points, variables and
--- timers stand a length and the image's code, and behind this the part.
+-- The code, up to its length or to the end of the octets, ends in a part of an instruction that
+-- can't be completed: after the image's points, variables and timers come a length, the image's
+-- code (shorter than the length), and the part. Within the length, the part has the first octet of
+-- an instruction of the version and is shorter, but each instruction of the version that begins
+-- with it is too long for the length.
 pub record EndsInInstr (octets : List ℕ) : Type 0 where
   pub version : Version
   pub image : Image
@@ -82,7 +87,8 @@ pub record EndsInInstr (octets : List ℕ) : Type 0 where
       (count_and_items (timer_octets version) image.timers ++ (number_octets size ++
       (image.code ++ part))))))
 
--- The octets are right so far: others complete them; or an image ends before them; or the last
--- value is cut short and can't be completed, or the last instruction within the code's length.
+-- The octets are right so far: more octets complete them to an image; or they are an image followed
+-- by others; or they end in an initial value, or their code in an instruction, that can't be
+-- completed.
 abbrev pub IsRightSoFar : List ℕ → Type 0
 IsRightSoFar octets = CanEnd octets ⊎ (HasOthers octets ⊎ (EndsInValue octets ⊎ EndsInInstr octets))

@@ -18,25 +18,25 @@ use Rattle.il_image.specs.Reading.{Read, instr_from, known_value, number_at, oct
 
 -- ---- own: the format of images (docs/IMAGE.md)
 
--- the octets behind these, each of which has to be there
+-- the octets after a prefix, which must be this one; an octet that differs or is missing is a fault
 abbrev pub behind : List ℕ → List ℕ → Result (List ℕ) ImageFault
 behind [] octets = Ok octets
 behind (m ∷ marks) [] = Err Truncated
 behind (m ∷ marks) (octet ∷ octets) = if octet == m then behind marks octets else Err BadMagic
 
--- the version behind the mark
+-- the version, an octet
 abbrev pub version_at : List ℕ → Read Version
 version_at [] = Err Truncated
 version_at (octet ∷ rest) =
     if octet == 0x01 then Ok (One, rest)
     else (if octet == 0x02 then Ok (Two, rest) else Err BadVersion)
 
--- LINT is new in version 2.
+-- the type with the octet 0x05: LINT in version 2, none in version 1
 abbrev pub newest_type : Version → Option ElementaryType
 newest_type One = None
 newest_type Two = Some elementary.Lint
 
--- the type that an octet stands for
+-- the type that an octet encodes in a version
 abbrev pub type_of_octet : Version → ℕ → Option ElementaryType
 type_of_octet version octet =
     if octet == 0x01 then Some elementary.Bool
@@ -52,31 +52,31 @@ type_at version octets = do
   t ← known_value (type_of_octet version octet.0)
   Ok (t, octet.1)
 
--- whether the point may be written
+-- whether code may write the point, as an octet encodes it
 abbrev pub access_of : ℕ → Option Bool
 access_of octet = if octet == 0x00 then Some false else (if octet == 0x01 then Some true else None)
 
--- the octet that says whether a point may be written
+-- the octet of a point's access: whether code may write the point
 abbrev pub access_at : List ℕ → Read Bool
 access_at octets = do
   octet ← octet_at octets
   writable ← known_value (access_of octet.0)
   Ok (writable, octet.1)
 
--- a name of this length: its first octet that is none of a name comes before its missing end
+-- a name of this length; an octet that no name has is reported before a missing end
 abbrev pub name_of_length : ℕ → List ℕ → Read (List ℕ)
 name_of_length n octets =
     if list_all is_name_octet (take n octets)
     then (if nat_lt (length octets) n then Err Truncated else Ok (take n octets, drop n octets))
     else Err BadOpcode
 
--- a name behind its length, which is 1 to 64
+-- a name after the octet of its length, which is 1 to 64
 abbrev pub name_at : List ℕ → Read (List ℕ)
 name_at octets = do
   n ← octet_at octets
   if (n.0 == 0) || nat_lt 64 n.0 then Err BadOpcode else name_of_length n.0 n.1
 
--- a point: its type, whether it may be written, and its name
+-- a point: its type, whether code may write it, and its name
 unfoldable pub point_at : Version → List ℕ → Read ImagePoint
 point_at version octets = do
   t ← type_at version octets
@@ -90,12 +90,12 @@ variable_at version octets = do
   t ← type_at version octets
   value_at (value_size version) t.0 t.1
 
--- the kind of timer that an octet stands for
+-- the kind of timer that an octet encodes
 abbrev pub kind_of_octet : ℕ → Option TimerKind
 kind_of_octet octet =
     if octet == 0x01 then Some OnDelay else (if octet == 0x02 then Some OffDelay else None)
 
--- a timer, of which version 1 says nothing: there all are TON
+-- a timer's kind; version 1 has no octet for it, and all its timers are TON
 unfoldable pub timer_at : Version → List ℕ → Read TimerKind
 timer_at One octets = Ok (OnDelay, octets)
 timer_at Two octets = do
@@ -103,7 +103,7 @@ timer_at Two octets = do
   kind ← known_value (kind_of_octet octet.0)
   Ok (kind, octet.1)
 
--- so many items
+-- n items
 abbrev pub items_at : {A : Type 0} → (List ℕ → Read A) → ℕ → List ℕ → Read (List A)
 items_at item zero octets = Ok ([], octets)
 items_at item (suc n) octets = do
@@ -111,19 +111,19 @@ items_at item (suc n) octets = do
   xs ← items_at item n x.1
   Ok (x.0 ∷ xs.0, xs.1)
 
--- their number, and the items
+-- a list of items, after their number
 abbrev pub counted_at : {A : Type 0} → (List ℕ → Read A) → List ℕ → Read (List A)
 counted_at item octets = do
   n ← number_at octets
   items_at item n.0 n.1
 
--- the fault of what was read, or else of what is behind it
+-- the fault of the item that was read, or else the fault of the octets after it
 abbrev pub fault_behind : Read Instr → (List ℕ → Option ImageFault) → Option ImageFault
 fault_behind (Ok r) fault_of = fault_of r.1
 fault_behind (Err fault) fault_of = Some fault
 
--- the fault of the first octets that spell no instruction; no code has more instructions than
--- octets
+-- the first fault of octets that must be instructions, if there is one; `most` bounds the number of
+-- instructions, which is at most the number of octets
 abbrev pub code_fault : Version → ℕ → List ℕ → Option ImageFault
 code_fault version zero octets = None
 code_fault version (suc most) [] = None
@@ -135,13 +135,14 @@ abbrev pub unless : {A : Type 0} → Option ImageFault → Result A ImageFault �
 unless None r = r
 unless (Some fault) r = Err fault
 
--- octets that are code: a fault in them comes before a length that is not theirs
+-- code of this length, with no octets after it; a fault in the code is reported before a wrong
+-- length
 abbrev pub code_of_length : Version → ℕ → List ℕ → Result (List ℕ) ImageFault
 code_of_length version n octets =
     unless (code_fault version (length (take n octets)) (take n octets))
     (if length octets == n then Ok octets else Err Truncated)
 
--- the octets of the code behind their number, with nothing behind them
+-- the octets of the code after their number, with no octets after them
 unfoldable pub code_at : Version → List ℕ → Result (List ℕ) ImageFault
 code_at version octets = do
   n ← number_at octets
@@ -158,8 +159,8 @@ image_spelled octets = do
   code ← code_at version.0 timers.1
   Ok (record { points = points.0; variables = variables.0; timers = timers.0; code = code })
 
--- The octets begin with the mark, a version and the number of points: what is read of these takes
--- no memory.
+-- The octets begin with the mark, a version and the number of points. Decoding runs out of memory
+-- only after it has read these.
 pub record TakesMemory (octets : List ℕ) : Type 0 where
   pub version : Version
   pub rest : List ℕ
@@ -168,7 +169,8 @@ pub record TakesMemory (octets : List ℕ) : Type 0 where
 
 -- ---- own: the first octet that is wrong
 
--- The octets before it are cut short, and with it they are 82, whatever follows.
+-- The octets have a first bad one, at the index `bad`: the octets before it are `Truncated`, and
+-- those up to it are a `BadOpcode`, whatever follows.
 pub record IsFirstBad (octets : List ℕ) : Type 0 where
   pub bad : ℕ
   pub within : bad < length octets

@@ -1,5 +1,5 @@
--- The transfer function: what an instruction does to the kinds on the stack, the top first, where
--- it is allowed.
+-- The transfer function of the verifier: the kinds on the operand stack, top first, after an
+-- instruction; none if the instruction is not allowed.
 use Rattle.std.specs.Prelude.{ℕ, ℤ, pos, ◌&&◌, ◌||◌, Bool, not, List, [], ◌∷◌, nat_lt, slice_get, Option, Some, None, if◌then◌else◌}
 use Rattle.std.specs.Ordering.{int_eq}
 use Rattle.bay_base.specs.declared.types.ElementaryType.{ElementaryType}
@@ -26,25 +26,25 @@ use Rattle.il_image.specs.Machine.{divides, tells_equality}
 
 -- ---- own: what the verifier knows of cells
 
--- what lies below a top that is within the wanted kind
+-- the kinds below the top, if the top is within the wanted kind
 abbrev pub below : CellKind → List CellKind → Option (List CellKind)
 below wanted [] = None
 below wanted (top ∷ rest) = if is_within top wanted then Some rest else None
 
--- the kinds stay, where the top is within the wanted kind
+-- the same kinds, if the top is within the wanted kind
 abbrev pub looks_at : CellKind → List CellKind → Option (List CellKind)
 looks_at wanted kinds = below wanted kinds >>= (λ rest. Some kinds)
 
--- two cells within the wanted kinds, the first of them the top, become one
+-- replaces two cells within the wanted kinds, the top first, by one of the kind `gives`
 abbrev pub two : CellKind → CellKind → CellKind → List CellKind → Option (List CellKind)
 two top second gives kinds =
     below top kinds >>= (λ more. below second more >>= (λ rest. Some (gives ∷ rest)))
 
--- a number of a width: whether it is not zero is known
+-- the kind of a number of a width: nonzero, or only its type
 abbrev pub kind_of_number : Width → ℤ → CellKind
 kind_of_number w z = if int_eq z (pos 0) then Plain (type_of_width w) else NotZero w
 
--- what is known of a value: a number other than 0 is not zero
+-- the kind of a value; a number other than 0 is known to be nonzero
 abbrev pub kind_of : Value → CellKind
 kind_of (Truth b) = Plain elementary.Bool
 kind_of (Short z) = kind_of_number width.Int z
@@ -52,21 +52,21 @@ kind_of (Long z) = kind_of_number width.Dint z
 kind_of (Wide z) = kind_of_number width.Lint z
 kind_of (Span n) = Plain elementary.Time
 
--- what an operation wants on top
+-- the kind that an operation requires of its second operand, the top
 abbrev pub second_kind : ArithmeticOperation → Width → CellKind
 second_kind o w = if divides o then NotZero w else Plain (type_of_width w)
 
--- the type that a kind shows
+-- the type that a kind determines, if any
 abbrev pub type_of_kind : CellKind → Option ElementaryType
 type_of_kind Any = None
 type_of_kind (Plain t) = Some t
 type_of_kind (NotZero w) = Some (type_of_width w)
 
--- values of these types may be compared: of one type, BOOLs for equality alone
+-- whether values of these types may be compared: both of one type, and BOOLs only for equality
 abbrev pub are_compared : Comparison → ElementaryType → ElementaryType → Bool
 are_compared c t u = same_type t u && (not (same_type t elementary.Bool) || tells_equality c)
 
--- two cells that show one type become a BOOL
+-- replaces two cells of one known type, which may be compared, by a BOOL
 abbrev pub compares : Comparison → List CellKind → Option (List CellKind)
 compares c (top ∷ second ∷ rest) =
     type_of_kind top >>= (λ t. type_of_kind second
@@ -74,7 +74,7 @@ compares c (top ∷ second ∷ rest) =
 compares c (top ∷ []) = None
 compares c [] = None
 
--- the top becomes one of a wider type, and stays not zero
+-- widens the top; a nonzero number remains nonzero
 abbrev pub widens : Width → Width → List CellKind → Option (List CellKind)
 widens from to [] = None
 widens from to (top ∷ rest) =
@@ -83,18 +83,18 @@ widens from to (top ∷ rest) =
     else (if is_within top (Plain (type_of_width from))
     then Some (Plain (type_of_width to) ∷ rest) else None)
 
--- a slot's type, which has to be BOOL
+-- the same kinds, if the slot and the top are BOOLs
 abbrev pub with_truth : List ElementaryType → ℕ → List CellKind → Option (List CellKind)
 with_truth slots n kinds =
     slice_get slots n >>= (λ t. if same_type t elementary.Bool
     then looks_at (Plain elementary.Bool) kinds else None)
 
--- the kinds, where there is a timer of the number
+-- the kinds, if there is a timer with this number
 abbrev pub with_timer : ℕ → ℕ → Option (List CellKind) → Option (List CellKind)
 with_timer timers n kinds = if nat_lt n timers then kinds else None
 
--- the kinds after an instruction, where it is allowed, for the types of the slots and the number of
--- timers
+-- the kinds after an instruction, given the types of the slots and the number of timers; none if
+-- the instruction is not allowed
 abbrev pub effect : List ElementaryType → ℕ → Instr → List CellKind → Option (List CellKind)
 effect slots timers Halt kinds = Some kinds
 effect slots timers (Push v) kinds = Some (kind_of v ∷ kinds)

@@ -1,4 +1,4 @@
--- Images: what they hold, and how they are spelled in each version of the format.
+-- Images: their content, and their spelling in each version of the format.
 use Rattle.std.specs.Prelude.{ℕ, ◌≡◌, ◌<◌, ◌≤◌, ◌&&◌, ◌||◌, ◌==◌, Bool, IsSome, IsTrue, List, [], ◌∷◌, ◌++◌, length, nat_le, if◌then◌else◌}
 use Rattle.std.specs.List.{list_all}
 use Rattle.bay_base.specs.declared.types.ElementaryType.{ElementaryType}
@@ -26,7 +26,7 @@ pub record Image : Type 0 where
   pub timers : List TimerKind
   pub code : List ℕ
 
--- ---- own: what an image keeps
+-- ---- own: what the format can represent
 
 -- Each item of the list has the property.
 abbrev pub Each : {A : Type 0} → (A → Type 0) → List A → Type 0
@@ -49,23 +49,23 @@ pub record IsName (name : List ℕ) : Type 0 where
 abbrev pub HasName : ImagePoint → Type 0
 HasName p = IsName p.name
 
--- The value's number is one of its type.
+-- The value's number is in the range of its type.
 abbrev pub IsValue : Value → Type 0
 IsValue v = IsSome (value_of (type_of v) (number_of v))
 
--- spellings of instructions, one behind the other
+-- the spellings of instructions, one after the other
 abbrev pub all_spelled : List Instr → List ℕ
 all_spelled [] = []
 all_spelled (i ∷ is) = spelling i ++ all_spelled is
 
--- The octets are spellings of instructions, one behind the other.
+-- The octets are spellings of instructions, one after the other.
 pub record IsCode (code : List ℕ) : Type 0 where
   pub instrs : List Instr
   pub are : Each IsInstr instrs
   pub spelled : code ≡ all_spelled instrs
 
--- What the format can say: counts of 16 bits, names, values of their types, and code of
--- instructions.
+-- The format can represent the image: counts of 16 bits, names, values in the range of their types,
+-- and code of instructions.
 pub record IsImage (i : Image) : Type 0 where
   pub points : length i.points ≤ most_counted
   pub variables : length i.variables ≤ most_counted
@@ -75,7 +75,7 @@ pub record IsImage (i : Image) : Type 0 where
   pub values : Each IsValue i.variables
   pub code : IsCode i.code
 
--- ---- own: how an image is spelled
+-- ---- own: the spelling of an image
 
 -- the octet of a type
 abbrev pub type_octet : ElementaryType → ℕ
@@ -85,12 +85,12 @@ type_octet elementary.Dint = 0x03
 type_octet elementary.Time = 0x04
 type_octet elementary.Lint = 0x05
 
--- a point: its type, whether it may be written, and its name behind its length
+-- a point: its type, whether code may write it, the length of its name, and its name
 abbrev pub point_octets : ImagePoint → List ℕ
 point_octets p =
     type_octet p.elementary ∷ (if p.writable then 0x01 else 0x00) ∷ length p.name ∷ p.name
 
--- the size of initial values
+-- the size of initial values in a version
 abbrev pub value_size : Version → Size
 value_size One = size.Four
 value_size Two = size.Eight
@@ -100,13 +100,13 @@ abbrev pub variable_octets : Version → Value → List ℕ
 variable_octets version v =
     type_octet (type_of v) ∷ signed_octets (value_size version) (number_of v)
 
--- In version 1 all timers are TON, and nothing is said of them.
+-- a timer's kind; version 1 has no octet for it, since all its timers are TON
 abbrev pub timer_octets : Version → TimerKind → List ℕ
 timer_octets One kind = []
 timer_octets Two OnDelay = 0x01 ∷ []
 timer_octets Two OffDelay = 0x02 ∷ []
 
--- the octets of each item, one behind the other
+-- the octets of each item, one after the other
 abbrev pub each_spelled : {A : Type 0} → (A → List ℕ) → List A → List ℕ
 each_spelled spell [] = []
 each_spelled spell (x ∷ xs) = spell x ++ each_spelled spell xs

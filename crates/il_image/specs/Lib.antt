@@ -1,23 +1,24 @@
--- Images byte for byte, and the stack machine that runs them (IEC 61131-3:2003 for values,
+-- Images, octet by octet, and the stack machine that runs them (IEC 61131-3:2003 for values,
 -- operations and timers).
 --
--- `Machine` is the main file: a state is a place, the cells with the top first, slots and timers.
--- One instruction is one step; each case that has no meaning is one of seven traps. A run is at
--- most so many steps. `Values` (table 10), `Arithmetic` (tables 24 and 28: the exact integer
--- result, reduced to the width in two's complement) and `Timers` (table 38) say what the steps do.
--- `Timers` also speaks of lists of calls: the last unbroken run of calls with IN as it is, and
--- whether PT has passed since its first call.
+-- `Machine` is the main file. A state is the offset of the next instruction, the cells of the
+-- operand stack with the top first, the slots and the timers. One instruction is one step; each
+-- case without a meaning is one of seven traps. A run has a limit of steps. `Values` (table 10),
+-- `Arithmetic` (tables 24 and 28: the exact integer result, wrapped to the width in two's
+-- complement) and `Timers` (table 38) define what the steps compute. `Timers` also has lists of
+-- calls: the last unbroken run of calls with the same IN, and whether PT has passed since its first
+-- call.
 --
--- `Images` says what an image holds and how it is spelled in each version. `Opcodes`, `Octets`,
+-- `Images` defines the content of an image and its spelling in each version. `Opcodes`, `Octets`,
 -- `Spelling` and `Reading` do so for one instruction, and `Codes` numbers the faults. `Decoding`
--- reads an image from the left, and says which byte is the first wrong one, and for which bytes
--- memory may run out; `Cuts` says what bytes that are cut short have right; `Growth` what a refused
--- write leaves.
+-- decodes an image from the left; it defines which octet is the first bad one, and for which octets
+-- decoding may run out of memory. `Cuts` defines how truncated octets are right so far, `Growth`
+-- the octets after a write that failed.
 --
--- The rest is for verifying. `Kinds`: what is known of a cell (nothing, a type, or a number of a
--- width that is not zero), with order and join. `Effects`: the kinds after an instruction, if it is
+-- The rest is for the verifier. `Kinds`: what is known of a cell (nothing, a type, or a nonzero
+-- number of a width), with order and join. `Effects`: the kinds after an instruction, if it is
 -- allowed on those before. `Places`: where instructions begin. `Tables`: tables of kinds that agree
--- with an image's code, and paths through it.
+-- with an image's code, and paths through the code.
 
 -- What public clauses cite of the crates below.
 pub use Rattle.bay_base.specs.Exact

@@ -1,4 +1,4 @@
--- The stack machine. One instruction is one step; each case that has no meaning is a trap.
+-- The stack machine. One instruction is one step; each case without a meaning is a trap.
 use Rattle.std.specs.Prelude.{ℕ, ℤ, zero, suc, pos, ◌+◌, ◌&&◌, ◌||◌, Bool, true, false, not, List, [], ◌∷◌, length, nat_lt, slice_get, slice_set, Option, Some, None, if◌then◌else◌}
 use Rattle.std.specs.Ordering.{int_eq}
 use Rattle.il_image.specs.declared.arithmetic.Width.{Width}
@@ -26,15 +26,15 @@ use Rattle.il_image.specs.Values.{number_of, type_of}
 
 -- ---- own: the machine (docs/IMAGE.md)
 
--- the place of the next instruction, the cells of the operand stack with the top first, the slots,
--- and the timers
+-- the offset of the next instruction in the code, the cells of the operand stack with the top
+-- first, the slots, and the timers
 pub record State : Type 0 where
   pub place : ℕ
   pub cells : List Value
   pub slots : List Value
   pub timers : List TimerState
 
--- why an instruction has no meaning
+-- why an instruction has no meaning in a state
 pub data Trap : Type 0 where
   EmptyStack : Trap
   FullStack : Trap
@@ -44,7 +44,7 @@ pub data Trap : Type 0 where
   MissingTimer : Trap
   OutsideCode : Trap
 
--- what one step comes to
+-- the result of one step: the next state, the end of the run, or a trap
 pub data StepResult : Type 0 where
   Goes : State → StepResult
   Halts : StepResult
@@ -52,93 +52,96 @@ pub data StepResult : Type 0 where
 
 -- ---- own: the size of a machine
 
--- the most cells of its operand stack, and the most slots and timers
+-- the most cells of the operand stack
 abbrev pub most_cells : ℕ
 most_cells = 32
 
+-- the most slots
 abbrev pub most_slots : ℕ
 most_slots = 512
 
+-- the most timers
 abbrev pub most_timers : ℕ
 most_timers = 64
 
 -- ---- own: what steps are made of
 
--- What an instruction wants is looked at in this order: slot or timer, cells, kinds, divisor, room.
+-- The machine checks what an instruction needs in this order: slot or timer, cells, kinds, divisor,
+-- room.
 
--- goes on at a place, with these cells
-abbrev pub goes : ℕ → List Value → State → StepResult
-goes to cells s = Goes (record s { place = to; cells = cells })
+-- continues at an offset, with these cells
+abbrev pub continues_at : ℕ → List Value → State → StepResult
+continues_at to cells s = Goes (record s { place = to; cells = cells })
 
--- one more cell, where there is room
+-- pushes a cell, if there is room
 abbrev pub pushes : Value → ℕ → State → StepResult
 pushes v to s =
-    if nat_lt (length s.cells) most_cells then goes to (v ∷ s.cells) s else Traps FullStack
+    if nat_lt (length s.cells) most_cells then continues_at to (v ∷ s.cells) s else Traps FullStack
 
--- the top, and the cells below it
+-- a step with the top and the cells below it; the stack must not be empty
 abbrev pub with_top : List Value → (Value → List Value → StepResult) → StepResult
 with_top [] act = Traps EmptyStack
 with_top (top ∷ below) act = act top below
 
--- the two operands, the second of which is the top
+-- a step with the two operands, the second of which is the top
 abbrev pub with_two : List Value → (Value → Value → List Value → StepResult) → StepResult
 with_two [] act = Traps EmptyStack
 with_two (top ∷ []) act = Traps EmptyStack
 with_two (second ∷ first ∷ below) act = act first second below
 
--- a cell that has to be a BOOL
+-- a step with a cell that must be a BOOL
 abbrev pub as_truth : Value → (Bool → StepResult) → StepResult
 as_truth (Truth b) act = act b
 as_truth v act = Traps WrongKind
 
--- a cell that has to be a TIME
+-- a step with a cell that must be a TIME
 abbrev pub as_span : Value → (ℕ → StepResult) → StepResult
 as_span (Span n) act = act n
 as_span v act = Traps WrongKind
 
--- a cell that has to be a number of the width
+-- a step with a cell that must be a number of the width
 abbrev pub as_number : Width → Value → (ℤ → StepResult) → StepResult
 as_number width.Int (Short z) act = act z
 as_number width.Dint (Long z) act = act z
 as_number width.Lint (Wide z) act = act z
 as_number w v act = Traps WrongKind
 
--- the slot of a number
+-- a step with the slot of a number, which must exist
 abbrev pub with_slot : ℕ → State → (Value → StepResult) → StepResult
 with_slot n s act = elim (slice_get s.slots n) [ None ↦ Traps MissingSlot | Some v ↦ act v ]
 
--- the timer of a number
+-- a step with the timer of a number, which must exist
 abbrev pub with_timer : ℕ → State → (TimerState → StepResult) → StepResult
 with_timer n s act = elim (slice_get s.timers n) [ None ↦ Traps MissingTimer | Some t ↦ act t ]
 
--- the top and a slot, which are BOOLs
+-- a step with the top and a slot, which must be BOOLs
 abbrev pub with_truths : ℕ → State → (Bool → Bool → StepResult) → StepResult
 with_truths n s act =
     with_slot n s (λ slot. with_top s.cells
     (λ top below. as_truth top (λ b. as_truth slot (λ old. act b old))))
 
--- two numbers of a width
+-- a step with the two operands, which must be numbers of the width
 abbrev pub with_numbers : Width → State → (ℤ → ℤ → List Value → StepResult) → StepResult
 with_numbers w s act =
     with_two s.cells (λ first second below. as_number w second
     (λ b. as_number w first (λ a. act a b below)))
 
--- a slot changes
+-- writes a slot and continues at an offset
 abbrev pub stores : ℕ → Value → ℕ → State → StepResult
 stores n v to s = Goes (record s { place = to; slots = slice_set s.slots n v })
 
--- a timer changes, and the cells with it
+-- writes a timer and the cells, and continues at an offset
 abbrev pub changes : ℕ → TimerState → ℕ → List Value → State → StepResult
 changes n t to cells s =
     Goes (record s { place = to; cells = cells; timers = slice_set s.timers n t })
 
--- the number of a width as a value
+-- a number as a value of the width
 abbrev pub value_of_width : Width → ℤ → Value
 value_of_width width.Int z = Short z
 value_of_width width.Dint z = Long z
 value_of_width width.Lint z = Wide z
 
--- the operation has a divisor
+-- whether the operation has a divisor
 abbrev pub divides : ArithmeticOperation → Bool
 divides Div = true
 divides Mod = true
@@ -146,7 +149,7 @@ divides Add = false
 divides Sub = false
 divides Mul = false
 
--- the comparison asks only whether values are equal
+-- whether the comparison only tests for equality
 abbrev pub tells_equality : Comparison → Bool
 tells_equality Eq = true
 tells_equality Ne = true
@@ -155,96 +158,96 @@ tells_equality Ge = false
 tells_equality Le = false
 tells_equality Lt = false
 
--- Values of one type are compared, BOOLs for equality alone.
+-- whether two values may be compared: both of one type, and BOOLs only for equality
 abbrev pub is_comparable : Comparison → Value → Value → Bool
 is_comparable c a b =
     same_type (type_of a) (type_of b)
     && (not (same_type (type_of a) elementary.Bool) || tells_equality c)
 
--- ---- own: what each instruction does, with the place behind it
+-- ---- own: what each instruction does; `next` is the offset after it
 
--- The top goes.
+-- Pops the top.
 abbrev pub drops : ℕ → State → StepResult
-drops next s = with_top s.cells (λ top below. goes next below s)
+drops next s = with_top s.cells (λ top below. continues_at next below s)
 
--- The slot's value is put on the stack.
+-- Pushes the slot's value.
 abbrev pub loads : ℕ → ℕ → State → StepResult
 loads n next s = with_slot n s (λ slot. pushes slot next s)
 
--- The slot takes the top, which is of its type.
+-- Copies the top, which must be of the slot's type, to the slot.
 abbrev pub stores_top : ℕ → ℕ → State → StepResult
 stores_top n next s =
     with_slot n s (λ slot. with_top s.cells
     (λ top below. if same_type (type_of top) (type_of slot) then stores n top next s
     else Traps WrongKind))
 
--- The slot becomes TRUE where the top is TRUE.
+-- Sets the slot to TRUE if the top is TRUE.
 abbrev pub sets : ℕ → ℕ → State → StepResult
 sets n next s = with_truths n s (λ top old. stores n (Truth (top || old)) next s)
 
--- The slot becomes FALSE where the top is TRUE.
+-- Sets the slot to FALSE if the top is TRUE.
 abbrev pub resets : ℕ → ℕ → State → StepResult
 resets n next s = with_truths n s (λ top old. stores n (Truth (not top && old)) next s)
 
--- The top is negated.
+-- Negates the top.
 abbrev pub inverts : ℕ → State → StepResult
 inverts next s =
-    with_top s.cells (λ top below. as_truth top (λ b. goes next (Truth (not b) ∷ below) s))
+    with_top s.cells (λ top below. as_truth top (λ b. continues_at next (Truth (not b) ∷ below) s))
 
--- Two BOOLs become one.
+-- Replaces two BOOLs by the result of the connective.
 abbrev pub connects : Connective → ℕ → State → StepResult
 connects c next s =
     with_two s.cells (λ first second below. as_truth second
-    (λ b. as_truth first (λ a. goes next (Truth (logic_of c a b) ∷ below) s)))
+    (λ b. as_truth first (λ a. continues_at next (Truth (logic_of c a b) ∷ below) s)))
 
--- Two numbers become their result; the divisor is not 0.
+-- Replaces two numbers by their result; a divisor must not be 0.
 abbrev pub computes : ArithmeticOperation → Width → ℕ → State → StepResult
 computes o w next s =
     with_numbers w s (λ a b below. if divides o && int_eq b (pos 0) then Traps ZeroDivisor
-    else goes next (value_of_width w (computation_of o w a b) ∷ below) s)
+    else continues_at next (value_of_width w (computation_of o w a b) ∷ below) s)
 
--- Two values become a BOOL.
+-- Replaces two values by the result of their comparison, a BOOL.
 abbrev pub compares : Comparison → ℕ → State → StepResult
 compares c next s =
     with_two s.cells (λ a b below. if is_comparable c a b
-    then goes next (Truth (comparison_holds c (number_of a) (number_of b)) ∷ below) s
+    then continues_at next (Truth (comparison_holds c (number_of a) (number_of b)) ∷ below) s
     else Traps WrongKind)
 
--- The top becomes a value of the wider type.
+-- Replaces the top by the value of the wider type.
 abbrev pub widens : Widening → ℕ → State → StepResult
 widens w next s =
     with_top s.cells (λ top below.
-    elim (wider_value w top) [ None ↦ Traps WrongKind | Some v ↦ goes next (v ∷ below) s ])
+    elim (wider_value w top) [ None ↦ Traps WrongKind | Some v ↦ continues_at next (v ∷ below) s ])
 
--- A jump looks at the top, and leaves it.
+-- Jumps depending on the top, which stays on the stack.
 abbrev pub jumps_where : (Bool → ℕ) → State → StepResult
-jumps_where to s = with_top s.cells (λ top below. as_truth top (λ b. goes (to b) s.cells s))
+jumps_where to s = with_top s.cells (λ top below. as_truth top (λ b. continues_at (to b) s.cells s))
 
--- The top becomes IN of the timer.
+-- Pops the top as IN of the timer.
 abbrev pub takes_input : ℕ → ℕ → State → StepResult
 takes_input n next s =
     with_timer n s (λ t. with_top s.cells
     (λ top below. as_truth top (λ b. changes n (record t { input = b }) next below s)))
 
--- The top becomes PT of the timer.
+-- Pops the top as PT of the timer.
 abbrev pub takes_preset : ℕ → ℕ → State → StepResult
 takes_preset n next s =
     with_timer n s (λ t. with_top s.cells
     (λ top below. as_span top (λ preset. changes n (record t { preset = preset }) next below s)))
 
--- The timer is called at the moment.
+-- Calls the timer at the moment `now`.
 abbrev pub runs_timer : ℕ → ℕ → ℕ → State → StepResult
 runs_timer now n next s = with_timer n s (λ t. changes n (after_call t now) next s.cells s)
 
--- Q is put on the stack.
+-- Pushes Q.
 abbrev pub loads_output : ℕ → ℕ → State → StepResult
 loads_output n next s = with_timer n s (λ t. pushes (Truth t.output) next s)
 
--- ET is put on the stack.
+-- Pushes ET.
 abbrev pub loads_elapsed : ℕ → ℕ → State → StepResult
 loads_elapsed n next s = with_timer n s (λ t. pushes (Span t.elapsed) next s)
 
--- one instruction at a moment
+-- the step of one instruction at the moment `now`
 unfoldable pub act : ℕ → Instr → ℕ → State → StepResult
 act now Halt next s = Halts
 act now (Push v) next s = pushes v next s
@@ -258,7 +261,7 @@ act now (Combine c) next s = connects c next s
 act now (Compute o w) next s = computes o w next s
 act now (Compare c) next s = compares c next s
 act now (Widen w) next s = widens w next s
-act now (Jump Always distance) next s = goes (next + distance) s.cells s
+act now (Jump Always distance) next s = continues_at (next + distance) s.cells s
 act now (Jump IfTrue distance) next s = jumps_where (λ b. if b then next + distance else next) s
 act now (Jump IfFalse distance) next s = jumps_where (λ b. if b then next else next + distance) s
 act now (Timer SetInput n) next s = takes_input n next s
@@ -269,34 +272,34 @@ act now (Timer LoadElapsed n) next s = loads_elapsed n next s
 
 -- ---- own: a step and a run of the machine
 
--- the step of the instruction that was read, if one stands there
+-- the step of the instruction that was read, or a trap if there is none
 abbrev pub turn_of : ℕ → Option (Instr × ℕ) → State → StepResult
 turn_of now None s = Traps OutsideCode
 turn_of now (Some read) s = act now read.0 read.1 s
 
--- the step from a state, whose place has to be one at which an instruction begins
+-- the step from a state, at whose offset an instruction must begin
 abbrev pub turn : List ℕ → ℕ → State → StepResult
 turn code now s = turn_of now (begun_at code s.place) s
 
--- how a run ends: at HALT, with the slots, the timers and the number of steps, HALT's too; in a
--- trap; or not within so many steps
+-- how a run ends: at HALT, with the slots, the timers and the number of steps including HALT's; in
+-- a trap; or not within the limit of steps
 pub data Ending : Type 0 where
   Halted : List Value → List TimerState → ℕ → Ending
   Trapped : Trap → Ending
   Unfinished : Ending
 
--- the end of a run by its next step
+-- how a run ends, given its next step and how the rest ends
 abbrev pub ending_of : StepResult → State → ℕ → (State → Ending) → Ending
 ending_of (Goes after) s steps rest = rest after
 ending_of Halts s steps rest = Halted s.slots s.timers steps
 ending_of (Traps trap) s steps rest = Trapped trap
 
--- a run of at most so many steps from a state, after this many
+-- how a run ends that makes at most `most` more steps from a state, after `steps` steps
 unfoldable pub run_from : List ℕ → ℕ → ℕ → State → ℕ → Ending
 run_from code now zero s steps = Unfinished
 run_from code now (suc most) s steps =
     ending_of (turn code now s) s (steps + 1) (λ after. run_from code now most after (steps + 1))
 
--- A run begins at place 0 without cells.
+-- the state in which a run begins: offset 0, and an empty operand stack
 abbrev pub initial_state : List Value → List TimerState → State
 initial_state slots timers = record { place = 0; cells = []; slots = slots; timers = timers }

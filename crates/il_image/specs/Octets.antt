@@ -8,18 +8,18 @@ use Rattle.il_image.specs.declared.write.Size.TheVariants.{One, Two, Four, Eight
 
 -- ---- own: numbers in images
 
--- each number of the list is an octet
+-- Each number of the list is an octet.
 abbrev pub AreOctets : List ℕ → Type 0
 AreOctets octets = (i : ℕ) → slice_index octets i < 256
 
--- how many octets a size has
+-- the number of octets of a size
 abbrev pub octet_count : Size → ℕ
 octet_count One = 1
 octet_count Two = 2
 octet_count Four = 4
 octet_count Eight = 8
 
--- how many bits it has
+-- the number of bits of a size
 abbrev pub bits_of_size : Size → Bits
 bits_of_size One = w8
 bits_of_size Two = w16
@@ -34,14 +34,14 @@ size_of elementary.Dint = Four
 size_of elementary.Lint = Eight
 size_of elementary.Time = Four
 
--- the greatest number of 16 bits without a sign
+-- the greatest unsigned number of 16 bits
 abbrev pub most_counted : ℕ
 most_counted = 65_535
 
--- such a number
+-- an unsigned number of 16 bits
 abbrev pub number_octets : ℕ → List ℕ
 number_octets n = to_be_bytes w16 n
 
--- a number in two's complement
+-- a number in two's complement, in this size
 abbrev pub signed_octets : Size → ℤ → List ℕ
 signed_octets size z = bytes_high_first (octet_count size) (cast_unsigned w64 z)

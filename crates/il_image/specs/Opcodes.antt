@@ -69,11 +69,11 @@ opcodes =
     Timer SetInput ∷ Timer SetPreset ∷ Timer Run ∷ Timer LoadOutput ∷ Timer LoadElapsed ∷
     Push elementary.Lint ∷ Widen DintToLint ∷ []
 
--- the opcode that has an octet, if there is one
+-- the opcode with this octet, if there is one
 unfoldable pub opcode_of : ℕ → Option Opcode
 opcode_of octet = find (λ o. octet == octet_of o) opcodes
 
--- Version 1 has no LINT.
+-- whether the version has the opcode: version 1 has no LINT
 abbrev pub is_known : Version → Opcode → Bool
 is_known One (Push elementary.Lint) = false
 is_known One (Widen DintToLint) = false
@@ -85,7 +85,7 @@ width_octet width.Int = 0x02
 width_octet width.Dint = 0x03
 width_octet width.Lint = 0x05
 
--- the width that has an octet in a version
+-- the width with this octet in a version, if there is one
 abbrev pub width_of : Version → ℕ → Option Width
 width_of One octet =
     if octet == 0x02 then Some width.Int else (if octet == 0x03 then Some width.Dint else None)

@@ -6,12 +6,12 @@ use Rattle.il_image.specs.Reading.{instr_at}
 
 -- ---- own: places of instructions
 
--- the place behind the instruction at a place
+-- the place after the instruction at a place
 abbrev pub behind_place : List ℕ → Option ℕ → Option ℕ
 behind_place code None = None
 behind_place code (Some place) = option_map (λ r. r.1) (instr_at code place)
 
--- the place of the instruction of this number from 0: each instruction stands behind the one before
+-- the place of the n-th instruction, counted from 0: each begins where the one before it ends
 abbrev pub place_of : List ℕ → ℕ → Option ℕ
 place_of code zero = Some 0
 place_of code (suc n) = behind_place code (place_of code n)
@@ -22,20 +22,21 @@ IsPlace code place = (place < length code) × ((n : ℕ) × (place_of code n ≡
 
 -- ---- own: places of instructions, as a test
 
--- the place is this one
+-- whether the place is this one
 abbrev pub is_there : Option ℕ → ℕ → Bool
 is_there None place = false
 is_there (Some start) place = start == place
 
--- one of so many first instructions begins at the place
+-- whether one of the first n instructions begins at the place
 abbrev pub is_among : List ℕ → ℕ → ℕ → Bool
 is_among code zero place = false
 is_among code (suc n) place = is_there (place_of code n) place || is_among code n place
 
--- An instruction begins at the place: code has no more instructions than octets.
+-- whether an instruction begins at the place; code has at most as many instructions as octets
 unfoldable pub is_place : List ℕ → ℕ → Bool
 is_place code place = nat_lt place (length code) && is_among code (length code) place
 
--- the instruction that begins at a place, and the place behind it, if one begins there
+-- the instruction that begins at a place, and the place after it; none if no instruction begins
+-- there
 abbrev pub begun_at : List ℕ → ℕ → Option (Instr × ℕ)
 begun_at code place = if is_place code place then instr_at code place else None

@@ -1,4 +1,4 @@
--- Reading one item at the front of octets: the item and the octets behind it, or the first fault
+-- Reading one item from the start of octets: the item and the octets after it, or the first fault
 -- from the left.
 use Rattle.std.specs.Prelude.{ℕ, ℤ, ◌≡◌, ◌+◌, ◌-◌, ◌≤◌, ◌++◌, List, [], ◌∷◌, length, drop, Option, Some, None, Result, Ok, Err, nat_lt, if◌then◌else◌}
 use Rattle.std.specs.Int.{w16, cast_signed, from_be_bytes}
@@ -22,11 +22,11 @@ use Rattle.il_image.specs.Values.{value_of}
 
 -- ---- own: the format of images (docs/IMAGE.md)
 
--- an item and the octets behind it, or the first fault
+-- an item and the octets after it, or the first fault
 abbrev pub Read : Type 0 → Type 0
 Read A = Result (A × List ℕ) ImageFault
 
--- what an octet or a number stands for, where it stands for something
+-- the value that an octet or a number encodes; a fault if there is none
 abbrev pub known_value : {A : Type 0} → Option A → Result A ImageFault
 known_value (Some x) = Ok x
 known_value None = Err BadOpcode
@@ -50,7 +50,7 @@ signed_at size octets =
       drop (octet_count size) octets,
     )
 
--- a value, whose number has to be one of its type
+-- a value; its number must be in the range of its type
 abbrev pub value_at : Size → ElementaryType → List ℕ → Read Value
 value_at size t octets = do
   z ← signed_at size octets
@@ -64,13 +64,13 @@ width_at version octets = do
   width ← known_value (width_of version octet.0)
   Ok (width, octet.1)
 
--- an instruction with a number of 16 bits
+-- an instruction whose operand is a number of 16 bits
 abbrev pub with_number : (ℕ → Instr) → List ℕ → Read Instr
 with_number make octets = do
   n ← number_at octets
   Ok (make n.0, n.1)
 
--- the instruction of an opcode, whose operand stands first
+-- the instruction of an opcode; the octets begin with its operand
 abbrev pub operand_from : Version → Opcode → List ℕ → Read Instr
 operand_from version Halt octets = Ok (instr.Halt, octets)
 operand_from version (Push t) octets = do
@@ -88,7 +88,7 @@ operand_from version (Widen w) octets = Ok (instr.Widen w, octets)
 operand_from version (Jump when) octets = with_number (λ n. instr.Jump when n) octets
 operand_from version (Timer use_of) octets = with_number (λ n. instr.Timer use_of n) octets
 
--- the opcode that an octet stands for in a version
+-- the opcode of an octet, which the version must have
 abbrev pub known_opcode : Version → Option Opcode → Result Opcode ImageFault
 known_opcode version None = Err BadOpcode
 known_opcode version (Some opcode) = if is_known version opcode then Ok opcode else Err BadOpcode
@@ -100,16 +100,16 @@ instr_from version octets = do
   opcode ← known_opcode version (opcode_of octet.0)
   operand_from version opcode octet.1
 
--- the instruction that was read, and the place behind it in code of this length
+-- the instruction that was read, and the place after it in code of this length
 abbrev pub with_next_place : ℕ → Read Instr → Option (Instr × ℕ)
 with_next_place size (Ok r) = Some (r.0, size - length r.1)
 with_next_place size (Err e) = None
 
--- the instruction at a place of the code, and the place behind it
+-- the instruction at a place of the code, and the place after it
 unfoldable pub instr_at : List ℕ → ℕ → Option (Instr × ℕ)
 instr_at code place = with_next_place (length code) (instr_from Two (drop place code))
 
--- The instruction stands at a place of the code, and the next place is behind it.
+-- The code has the instruction at this place, and the place after it is `next`.
 pub record StandsAt (code : List ℕ) (place : ℕ) (i : Instr) (next : ℕ) : Type 0 where
   pub is_instr : IsInstr i
   pub spelled : drop place code ≡ spelling i ++ drop next code

@@ -1,4 +1,4 @@
--- The spelling of instructions: the opcode's octet, and what the instruction needs besides.
+-- The spelling of instructions: the octet of the opcode, and then the operand.
 use Rattle.std.specs.Prelude.{ℕ, ◌<◌, ◌^◌, IsSome, List, [], ◌∷◌}
 use Rattle.il_image.specs.declared.instr.Instr.{Instr}
 use Rattle.il_image.specs.declared.instr.Instr.TheVariants.{Halt, Push, Drop, Slot, Not, Combine, Compute, Compare, Widen, Jump, Timer}
@@ -24,7 +24,7 @@ opcode_of_instr (Widen w) = opcode.Widen w
 opcode_of_instr (Jump when distance) = opcode.Jump when
 opcode_of_instr (Timer use_of n) = opcode.Timer use_of
 
--- the octets behind the first
+-- the octets after the first
 abbrev pub operand_of : Instr → List ℕ
 operand_of (Push v) = signed_octets (size_of (type_of v)) (number_of v)
 operand_of (Slot use_of n) = number_octets n
@@ -42,7 +42,7 @@ operand_of (Widen w) = []
 abbrev pub spelling : Instr → List ℕ
 spelling i = octet_of (opcode_of_instr i) ∷ operand_of i
 
--- What the octets can say: a value of its type, a number of 16 bits.
+-- The octets can represent the instruction: a value in the range of its type, a number of 16 bits.
 abbrev pub IsInstr : Instr → Type 0
 IsInstr (Push v) = IsSome (value_of (type_of v) (number_of v))
 IsInstr (Slot use_of n) = n < 2 ^ 16

@@ -19,9 +19,9 @@ use Rattle.il_image.specs.Machine.{most_cells}
 abbrev pub slot_types : Image → List ElementaryType
 slot_types i = map (λ p. p.elementary) i.points ++ map type_of i.variables
 
--- ---- own: places that an instruction leads to
+-- ---- own: successors of an instruction
 
--- The instruction goes on at this place, where the next one stands at that place.
+-- The instruction can continue at the place `to`, if the place after it is `next`.
 abbrev pub LeadsTo : Instr → ℕ → ℕ → Type 0
 LeadsTo Halt next to = ⊥
 LeadsTo (Jump Always distance) next to = to ≡ next + distance
@@ -37,7 +37,7 @@ LeadsTo (Compare c) next to = to ≡ next
 LeadsTo (Widen w) next to = to ≡ next
 LeadsTo (Timer timer_use n) next to = to ≡ next
 
--- The place has an instruction, and it leads to the other place.
+-- The instruction at the first place can continue at the other.
 pub record IsSuccessor (code : List ℕ) (place to : ℕ) : Type 0 where
   pub instr : Instr
   pub next : ℕ
@@ -46,15 +46,15 @@ pub record IsSuccessor (code : List ℕ) (place to : ℕ) : Type 0 where
 
 -- ---- own: tables of kinds
 
--- the kinds on the stack before the instruction at each place
+-- the kinds on the operand stack before the instruction at each place
 abbrev pub Table : Type 0
 Table = ℕ → Option (List CellKind)
 
--- The table has kinds at the place, and these are within them, one by one.
+-- The table has kinds at the place, and the kinds of the list are within them, one by one.
 abbrev pub Enters : Table → ℕ → List CellKind → Type 0
 Enters table place kinds = (most : List CellKind) × (table place ≡ Some most) × AreWithin kinds most
 
--- The instruction at the place is allowed on these kinds, and what it gives enters each of its
+-- The instruction at the place is allowed on these kinds, and the kinds after it enter each of its
 -- successors.
 pub record IsAllowed (image : Image) (table : Table) (place : ℕ) (kinds : List CellKind)
     : Type 0 where
@@ -65,9 +65,9 @@ pub record IsAllowed (image : Image) (table : Table) (place : ℕ) (kinds : List
   pub effect : effect (slot_types image) (length image.timers) instr kinds ≡ Some after
   pub enters : (to : ℕ) → LeadsTo instr next to → Enters table to after
 
--- The table agrees with the code: it has kinds exactly at the places of the code, none of them
--- before the first instruction and no more than a stack may have anywhere; each instruction is
--- allowed on them; and each place but the first is a successor of another.
+-- The table agrees with the code: it has kinds exactly at the places of instructions, no kinds on
+-- the stack before the first, and never more than the stack has cells; each instruction is allowed
+-- on its kinds; and each instruction but the first is a successor of one.
 pub record Agrees (image : Image) (table : Table) : Type 0 where
   pub starts : table 0 ≡ Some []
   pub places : (place : ℕ) → IsSome (table place) ↔ IsPlace image.code place
@@ -84,16 +84,16 @@ HasTable image = (table : Table) × Agrees image table
 
 -- ---- own: paths through code
 
--- a path of so many places, from place 0 to this one, each a successor of the one before
+-- a path of n places, from place 0 to this one, each a successor of the one before
 abbrev pub Path : List ℕ → ℕ → ℕ → Type 0
 Path code zero place = ⊥
 Path code (suc zero) place = place ≡ 0
 Path code (suc (suc n)) place = (from : ℕ) × Path code (suc n) from × IsSuccessor code from place
 
--- A HALT stands at the place.
+-- The instruction at the place is HALT.
 abbrev pub IsHalt : List ℕ → ℕ → Type 0
 IsHalt code place = (next : ℕ) × (instr_at code place ≡ Some (Halt, next))
 
--- a path of so many places that ends at a HALT
+-- a path of n places that ends at a HALT
 abbrev pub Ends : List ℕ → ℕ → Type 0
 Ends code n = (place : ℕ) × Path code n place × IsHalt code place

@@ -24,14 +24,14 @@ phase_after OffDelay false Idle m = Idle
 phase_after OffDelay false Held m = Since m
 phase_after OffDelay false (Since start) m = Since start
 
--- Q: a TON's delay is over, or a TOF's is not
+-- Q: of a TON TRUE after its delay, of a TOF TRUE while IN is TRUE and until its delay has expired
 abbrev pub output_of : TimerKind → ℕ → TimerPhase → ℕ → Bool
 output_of kind preset Idle m = false
 output_of kind preset Held m = true
 output_of OnDelay preset (Since start) m = nat_le preset (m - start)
 output_of OffDelay preset (Since start) m = nat_lt (m - start) preset
 
--- ET
+-- ET: how long the delay has run, at most PT
 abbrev pub elapsed_of : ℕ → TimerPhase → ℕ → ℕ
 elapsed_of preset Idle m = 0
 elapsed_of preset Held m = 0
@@ -55,7 +55,7 @@ pub record Call : Type 0 where
   pub preset : ℕ
   pub moment : ℕ
 
--- a timer after calls, the last of them first in the list
+-- a timer after calls; the list has the last call first
 abbrev pub after : TimerKind → List Call → TimerState
 after kind [] = first_state kind
 after kind (c ∷ earlier) =
@@ -76,7 +76,7 @@ abbrev pub IsBroken : Bool → List Call → Type 0
 IsBroken input [] = Unit {0}
 IsBroken input (c ∷ earlier) = c.input ≡ input → ⊥
 
--- The last calls up to this first one are an unbroken run with this IN.
+-- The unbroken run of calls with this IN up to the last call begins with `first`.
 pub record LastRun (input : Bool) (calls : List Call) (first : Call) : Type 0 where
   pub later : List Call
   pub before : List Call
@@ -87,15 +87,15 @@ pub record LastRun (input : Bool) (calls : List Call) (first : Call) : Type 0 wh
 
 -- ---- IEC 61131-3 table 38: when PT has passed
 
--- The last call has IN TRUE, and PT has passed by then since the first call of the unbroken run of
--- IN TRUE.
+-- The last call has IN TRUE, and at that call PT has passed since the first call of the unbroken
+-- run with IN TRUE.
 pub record HasPassed (last : Call) (earlier : List Call) : Type 0 where
   pub first : Call
   pub run : LastRun true (last ∷ earlier) first
   pub passed : last.preset ≤ last.moment - first.moment
 
--- An earlier call than the last has IN TRUE, and less than PT has passed by the last since the
--- first call of the unbroken run of IN FALSE.
+-- The last call has IN FALSE, an earlier call has IN TRUE, and at the last call less than PT has
+-- passed since the first call of the unbroken run with IN FALSE.
 pub record HasNotPassed (last : Call) (earlier : List Call) : Type 0 where
   pub first : Call
   pub run : LastRun false (last ∷ earlier) first

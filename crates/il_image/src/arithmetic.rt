@@ -52,8 +52,7 @@ impl Width {
     }
 }
 
-/// Returns the number that the lowest bits of `number` stand for at this width, in two's
-/// complement.
+/// Returns the number that the lowest bits of `number` encode at this width, in two's complement.
 pub fn wrap(width: Width, number: i64) -> i64
     ensures { result ≡ wrap_to width number }
 {
@@ -65,7 +64,8 @@ pub fn wrap(width: Width, number: i64) -> i64
     }
 }
 
-// The result of an operation in 64 bits, of which each width takes its own.
+// Returns the result of an operation in 64 bits. Wrapped to a width, it is the result at that
+// width.
 fn compute_wide(operation: ArithmeticOperation, first: i64, second: i64) -> i64
     requires { DividesBy operation second }
     ensures { (width : Width) → wrap_to width result ≡ computation_of operation width first second }
@@ -88,7 +88,7 @@ pub fn compute(operation: ArithmeticOperation, width: Width, first: i64, second:
     wrap(width, compute_wide(operation, first, second))
 }
 
-/// Whether a comparison of two numbers holds.
+/// Returns whether a comparison of two numbers holds.
 pub fn compare(comparison: Comparison, first: i64, second: i64) -> bool
     ensures { result ≡ comparison_holds comparison first second }
 {

@@ -1,4 +1,4 @@
-// Images read from octets, from the left up to the first fault.
+// Decodes images, from the left up to the first fault.
 ghost use Rattle.std.specs.Prelude.{◌≡◌, ◌≤◌, ◌^◌, ◌<◌, length, IsErrOf, IsTrue, MatchResult, None, Some};
 ghost use Rattle.std.specs.List.{list_all};
 ghost use Rattle.bay_base.specs.Exact.{Gives};
@@ -19,7 +19,7 @@ use bay_base::text::Text;
 use bay_base::types::{ElementaryType, TimerKind};
 use std::alloc::Global;
 
-// The octets behind the mark.
+// Returns the octets after the mark.
 fn behind_mark(octets: &[u8]) -> Result<&[u8], ImageFault>
     ensures { IsRead (λ r. r.now) result (behind mark octets.now) }
 {
@@ -30,7 +30,7 @@ fn behind_mark(octets: &[u8]) -> Result<&[u8], ImageFault>
     }
 }
 
-// The version of the format.
+// Reads the version of the format.
 fn version_at(octets: &[u8]) -> Result<(Version, &[u8]), ImageFault>
     ensures { IsRead (λ r. (r.0, r.1.now)) result (spec.version_at octets.now) }
 {
@@ -42,7 +42,7 @@ fn version_at(octets: &[u8]) -> Result<(Version, &[u8]), ImageFault>
     }
 }
 
-// The type that an octet stands for.
+// Returns the type that an octet encodes in a version, or `None` if there is none.
 fn type_of_octet(version: Version, octet: u8) -> Option<ElementaryType>
     ensures { result ≡ spec.type_of_octet version octet }
 {
@@ -56,7 +56,7 @@ fn type_of_octet(version: Version, octet: u8) -> Option<ElementaryType>
     }
 }
 
-// The type at the front of octets.
+// Reads a type.
 fn type_at(version: Version, octets: &[u8]) -> Result<(ElementaryType, &[u8]), ImageFault>
     ensures { IsRead (λ r. (r.0, r.1.now)) result (spec.type_at version octets.now) }
 {
@@ -67,7 +67,7 @@ fn type_at(version: Version, octets: &[u8]) -> Result<(ElementaryType, &[u8]), I
     }
 }
 
-// Whether a point may be written.
+// Reads whether code may write a point.
 fn access_at(octets: &[u8]) -> Result<(bool, &[u8]), ImageFault>
     ensures { IsRead (λ r. (r.0, r.1.now)) result (spec.access_at octets.now) }
 {
@@ -79,21 +79,21 @@ fn access_at(octets: &[u8]) -> Result<(bool, &[u8]), ImageFault>
     }
 }
 
-// Whether an octet may stand in a name: a capital letter, a digit or `_`.
+// Returns whether a name may have this octet: a capital letter, a digit or `_`.
 fn is_name_octet(octet: u8) -> bool
     ensures { result ≡ spec_images.is_name_octet octet }
 {
     matches!(octet, b'A'..=b'Z' | b'0'..=b'9' | b'_')
 }
 
-// Whether each octet may stand in a name.
+// Returns whether a name may have each of these octets.
 fn is_name(octets: &[u8]) -> bool
     ensures { result ≡ list_all spec_images.is_name_octet octets.now }
 {
     octets.iter().all(|octet| is_name_octet(*octet))
 }
 
-// Octets that may stand in a name are text.
+// Returns the octets of a name as text.
 fn text_of(octets: &[u8]) -> &str
     requires { IsTrue (list_all spec_images.is_name_octet octets.now) }
     ensures { result.now ≡ octets.now }
@@ -104,7 +104,7 @@ fn text_of(octets: &[u8]) -> &str
     }
 }
 
-// A name of this length.
+// Reads a name of this length.
 fn name_of_length(count: usize, octets: &[u8]) -> Result<(&str, &[u8]), ImageFault>
     ensures { IsRead (λ r. (r.0.now, r.1.now)) result (spec.name_of_length count octets.now) }
 {
@@ -121,7 +121,7 @@ fn name_of_length(count: usize, octets: &[u8]) -> Result<(&str, &[u8]), ImageFau
     Ok((text_of(name), rest))
 }
 
-// A name behind the octet of its length, which is 1 to 64.
+// Reads a name after the octet of its length, which is 1 to 64.
 fn name_at(octets: &[u8]) -> Result<(&str, &[u8]), ImageFault>
     ensures { IsRead (λ r. (r.0.now, r.1.now)) result (spec.name_at octets.now) }
 {
@@ -132,7 +132,7 @@ fn name_at(octets: &[u8]) -> Result<(&str, &[u8]), ImageFault>
     name_of_length(usize::from(count), rest)
 }
 
-// A point: its type, whether it may be written, and its name.
+// Reads a point: its type, whether code may write it, and its name.
 #[tactic(auto, unfolding(crate::specs::Decoding::point_at))]
 fn point_at(
     alloc: Global,
@@ -156,7 +156,7 @@ fn point_at(
     ))
 }
 
-// The size of initial values.
+// Returns the size of initial values in a version.
 fn value_size(version: Version) -> Size
     ensures { result ≡ spec_images.value_size version }
 {
@@ -166,7 +166,7 @@ fn value_size(version: Version) -> Size
     }
 }
 
-// What stands in a list of an image.
+// An item of a list in an image.
 trait ListItem: Sized {
     ghost use Rattle.std.specs.Prelude.{List, ℕ, Result};
     ghost use Rattle.il_image.specs.declared.opcode.Version.{Version};
@@ -174,7 +174,7 @@ trait ListItem: Sized {
 
     ghost at: { Version → List ℕ → Result (Self × List ℕ) ImageFault };
 
-    // Reads the item at the front of octets.
+    // Reads the item at the start of the octets. Returns the item and the octets after it.
     fn read(version: Version, octets: &[u8]) -> Result<(Self, &[u8]), ImageFault>
         ensures { IsRead (λ r. (r.0, r.1.now)) result (at version octets.now) };
 }
@@ -190,7 +190,7 @@ impl ListItem for Value {
     }
 }
 
-// A timer's kind. Version 1 has no octet for it, and only timers on delay.
+// A timer's kind. Version 1 has no octet for it, since all its timers are TON.
 impl ListItem for TimerKind {
     ghost at = { spec.timer_at };
 
@@ -208,7 +208,7 @@ impl ListItem for TimerKind {
     }
 }
 
-// The points behind their count.
+// Reads the points after their count.
 fn points_at(
     alloc: Global,
     version: Version,
@@ -228,7 +228,7 @@ fn points_at(
     Ok((Listing::new(points), rest))
 }
 
-// The variables, or the timers, behind their count.
+// Reads the variables, or the timers, after their count.
 fn items_at<T: ListItem + Drop>(
     alloc: Global,
     version: Version,
@@ -247,7 +247,7 @@ fn items_at<T: ListItem + Drop>(
     Ok((Listing::new(items), rest))
 }
 
-// Refuses octets that are not instructions one behind the other.
+// Refuses octets that are not a sequence of instructions.
 fn check_code(version: Version, code: &[u8]) -> Result<(), ImageFault>
     ensures { MatchResult result (λ _. code_fault version (length code.now) code.now ≡ None)
         (λ fault. code_fault version (length code.now) code.now ≡ Some fault) }
@@ -260,7 +260,7 @@ fn check_code(version: Version, code: &[u8]) -> Result<(), ImageFault>
     Ok(())
 }
 
-// The octets of the code, which are all that is left.
+// Reads the octets of the code after their count. No octets may follow them.
 #[tactic(auto, unfolding(crate::specs::Decoding::code_at))]
 fn code_at(alloc: Global, version: Version, octets: &[u8]) -> Result<Listing<u8>, ImageFault>
     ensures { Gives ImageFault.OutOfMemory (λ c. c) result (spec.code_at version octets.now) }
@@ -276,9 +276,10 @@ fn code_at(alloc: Global, version: Version, octets: &[u8]) -> Result<Listing<u8>
 }
 
 /// Decodes the image that octets spell, in version 1 or 2 of the format, or returns their first
-/// fault from the left. Out of memory is possible only if the octets begin with the mark, a version
-/// and the number of points. The memory used is a few times the number of octets, plus one octet
-/// for each timer of version 1, of which there are at most 65,535.
+/// fault from the left. Returns `OutOfMemory` if an allocation fails, which is possible only if the
+/// octets begin with the mark, a version and the number of points. The memory used is a few times
+/// the number of octets, plus one octet for each timer of version 1, of which there are at most
+/// 65,535.
 #[tactic(auto, unfolding(crate::specs::Decoding::image_spelled))]
 pub fn decode(alloc: Global, octets: &[u8]) -> Result<Image, ImageFault>
     ensures image { Gives ImageFault.OutOfMemory (λ i. i) result (image_spelled octets.now) }

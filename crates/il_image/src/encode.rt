@@ -1,4 +1,4 @@
-// Images written as octets.
+// Encodes images.
 ghost use Rattle.std.specs.Prelude.{◌≡◌, ◌++◌, ◌≤◌, IfOk, OnOk, length};
 ghost use Rattle.il_image.specs.Images.{Each, HasName, count_and_items, image_octets, point_octets, timer_octets, variable_octets};
 ghost use Rattle.il_image.specs.Images as spec;
@@ -11,7 +11,7 @@ use crate::write::{Size, push_number, push_octet, push_signed};
 use bay_base::types::{ElementaryType, TimerKind};
 use std::alloc::{AllocError, Global};
 
-// The octet of a type.
+// Returns the octet of a type.
 fn type_octet(elementary: ElementaryType) -> u8
     ensures { result ≡ spec.type_octet elementary }
 {
@@ -24,8 +24,7 @@ fn type_octet(elementary: ElementaryType) -> u8
     }
 }
 
-// Appends a point as an image has it: its type, whether it may be written, and its name behind its
-// length.
+// Appends a point: its type, whether code may write it, the length of its name, and its name.
 fn push_point(octets: &mut Vec<u8>, point: &ImagePoint) -> Result<(), AllocError>
     requires { HasName point.now }
     ensures { OnOk result (octets.new.items ≡ octets.old.items ++ point_octets point.now) }
@@ -37,7 +36,7 @@ fn push_point(octets: &mut Vec<u8>, point: &ImagePoint) -> Result<(), AllocError
     octets.extend_from_slice(name)
 }
 
-// Appends the points behind their count.
+// Appends the points after their count.
 fn push_points(octets: &mut Vec<u8>, points: &[ImagePoint]) -> Result<(), AllocError>
     requires few { length points.now ≤ most_counted }
     requires names { Each HasName points.now }
@@ -59,7 +58,7 @@ fn push_variable(octets: &mut Vec<u8>, value: Value) -> Result<(), AllocError>
     push_signed(octets, Size::Eight, value.number())
 }
 
-// Appends the variables behind their count.
+// Appends the variables after their count.
 fn push_variables(octets: &mut Vec<u8>, values: &[Value]) -> Result<(), AllocError>
     requires { length values.now ≤ most_counted }
     ensures { OnOk result (octets.new.items
@@ -82,7 +81,7 @@ fn push_timer(octets: &mut Vec<u8>, kind: TimerKind) -> Result<(), AllocError>
     }
 }
 
-// Appends the timers behind their count.
+// Appends the timers after their count.
 fn push_timers(octets: &mut Vec<u8>, kinds: &[TimerKind]) -> Result<(), AllocError>
     requires { length kinds.now ≤ most_counted }
     ensures { OnOk result (octets.new.items
@@ -95,7 +94,7 @@ fn push_timers(octets: &mut Vec<u8>, kinds: &[TimerKind]) -> Result<(), AllocErr
     Ok(())
 }
 
-/// Encodes an image in version 2 of the format.
+/// Encodes an image in version 2 of the format. Fails only if an allocation fails.
 #[tactic(auto, unfolding(crate::specs::Images::image_octets))]
 pub fn encode(alloc: Global, image: &Image) -> Result<Vec<u8>, AllocError>
     ensures { IfOk result (λ octets. octets.items ≡ image_octets Version.Two image.now) }

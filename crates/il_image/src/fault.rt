@@ -1,4 +1,4 @@
-// Why an image is not read.
+// Why an image is refused.
 ghost use Rattle.std.specs.Prelude.{◌≡◌};
 ghost use Rattle.il_image.specs.Codes.{code_of};
 ghost use Rattle.il_image.specs.declared.fault.ImageFault.TheVariants.{OutOfMemory};
@@ -6,13 +6,13 @@ ghost use Rattle.il_image.specs.declared.fault.ImageFault.TheVariants.{OutOfMemo
 use std::alloc::{AllocError, AllocFailed};
 use thiserror::Error;
 
-/// Why octets cannot be read as an image. The first fault from the left is returned.
+/// Why octets cannot be decoded as an image: the first fault from the left.
 #[derive(Clone, Copy, Debug, PartialEq, Eq, Error)]
 pub enum ImageFault {
     /// The first four octets are not the image mark.
     #[error("this is no image")]
     BadMagic,
-    /// The version is not one of those supported.
+    /// The version is neither 1 nor 2.
     #[error("the version of the image is not known")]
     BadVersion,
     /// An octet is outside its table, a value is outside its type, or a name does not consist of 1

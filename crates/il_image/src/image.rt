@@ -48,7 +48,7 @@ impl Model for Image {
 impl Image {
     ghost use Rattle.il_image.specs.Images.{IsImage};
 
-    /// Creates the image of these parts, which the format can represent.
+    /// Creates the image of these parts. The format must be able to represent them.
     pub fn new(
         points: Listing<ImagePoint>,
         variables: Listing<Value>,

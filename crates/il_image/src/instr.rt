@@ -1,4 +1,4 @@
-// Instructions, and how they are spelled in octets.
+// Instructions, and their spelling in octets.
 ghost use Rattle.std.specs.Prelude.{◌≡◌, ◌++◌, OnErr, OnOk};
 ghost use Rattle.il_image.specs.Growth.{Extends};
 ghost use Rattle.il_image.specs.Spelling.{opcode_of_instr, operand_of, spelling};
@@ -57,7 +57,7 @@ impl Instr {
         }
     }
 
-    // Appends the octets behind the first.
+    // Appends the octets after the first.
     fn push_operand(self, octets: &mut Vec<u8>) -> Result<(), AllocError>
         ensures ok { OnOk result (octets.new.items ≡ octets.old.items ++ operand_of self) }
         ensures err { OnErr result (Extends octets.old.items octets.new.items) }
@@ -72,8 +72,8 @@ impl Instr {
         }
     }
 
-    /// Appends the encoding of an instruction. After an allocation failed, a part of it may have
-    /// been appended.
+    /// Appends the encoding of an instruction. If an allocation fails, a part of the encoding may
+    /// have been appended.
     pub fn spell(self, octets: &mut Vec<u8>) -> Result<(), AllocError>
         ensures ok { OnOk result (octets.new.items ≡ octets.old.items ++ spelling self) }
         ensures err { OnErr result (Extends octets.old.items octets.new.items) }

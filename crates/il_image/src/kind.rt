@@ -1,12 +1,12 @@
-// What is known of a value on the operand stack.
+// What is known of a cell of the operand stack.
 ghost use Rattle.std.specs.Prelude.{◌≡◌};
 ghost use Rattle.il_image.specs.Kinds as spec;
 
 use crate::arithmetic::Width;
 use bay_base::types::ElementaryType;
 
-/// What is known of a value on the operand stack. Knowing that a number is not zero says more than
-/// its type, and a type says more than nothing.
+/// What is known of a value on the operand stack: nothing, its type, or that it is a nonzero number
+/// of a width. Each of these includes less than the one before.
 #[derive(Clone, Copy, PartialEq, Eq)]
 pub enum CellKind {
     /// Any value.
@@ -17,14 +17,14 @@ pub enum CellKind {
     NotZero(Width),
 }
 
-/// Nothing is known.
+/// The default: nothing is known.
 impl Default for CellKind {
     fn default() -> CellKind {
         CellKind::Any
     }
 }
 
-/// Whether each value of the kind `lower` is also one of the kind `upper`.
+/// Returns whether each value of the kind `lower` is also one of the kind `upper`.
 pub fn is_within(lower: CellKind, upper: CellKind) -> bool
     ensures { result ≡ spec.is_within lower upper }
 {
@@ -37,7 +37,7 @@ pub fn is_within(lower: CellKind, upper: CellKind) -> bool
     }
 }
 
-/// Returns the least kind above both.
+/// Returns the least kind that includes both.
 pub fn join(first: CellKind, second: CellKind) -> CellKind
     ensures { result ≡ spec.join first second }
 {

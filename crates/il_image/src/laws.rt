@@ -32,9 +32,9 @@ pub fn off_delay_timer()
         ↔ ((last.input ≡ true) ⊎ HasNotPassed last earlier) }
 {}
 
-/// Each instruction has one encoding, which is read back whatever follows it. A decoded instruction
-/// is encoded by the first of the octets, and the instruction at a place of the code is the one
-/// encoded there.
+/// Each instruction has one encoding, which decodes to the instruction whatever follows it. A
+/// decoded instruction is encoded by the octets that were read. What version 1 decodes, version 2
+/// decodes likewise. The instruction at a place of the code is the one encoded there.
 pub fn one_spelling_of_instructions()
     ensures written { (i : Instr) (rest : List ℕ) → IsInstr i
         → instr_from Two (spelling i ++ rest) ≡ Ok (i, rest) }
@@ -47,15 +47,15 @@ pub fn one_spelling_of_instructions()
         → (instr_at code place ≡ Some (i, next)) ↔ StandsAt code place i next }
 {}
 
-/// A place is accepted exactly if it is the place of one of the code's instructions, which follow
-/// one another without gaps.
-pub fn a_place_is_told()
+/// `is_place` accepts a place exactly if one of the code's instructions begins there. The
+/// instructions follow one another without gaps.
+pub fn places_are_of_instructions()
     ensures { (code : List ℕ) (place : ℕ) → IsTrue (is_place code place) ↔ IsPlace code place }
 {}
 
-/// Encoding an image in version 2 and decoding it gives the same image. What is decoded is an
-/// image, and the octets are its encoding in one of the format's versions. Octets with the same
-/// fifth octet, the version, that decode to the same image are equal.
+/// Encoding an image in version 2 and decoding it yields the same image. A decoded image is one
+/// that the format can represent, and the octets are its encoding in one of the format's versions.
+/// Octets with the same fifth octet, the version, that decode to the same image are equal.
 pub fn one_spelling_of_images()
     ensures written { (i : Image) → IsImage i → image_spelled (image_octets Two i) ≡ Ok i }
     ensures read { (octets : List ℕ) (i : Image) → AreOctets octets → image_spelled octets ≡ Ok i
@@ -80,8 +80,8 @@ pub fn join_is_least()
         → IsTrue (is_within (join a b) top) }
 {}
 
-/// The first octets decide two faults whatever follows: a wrong octet among the first four, and
-/// another version than 1 or 2 after the mark.
+/// The first octets decide two faults, whatever follows: an octet among the first four that differs
+/// from the mark, and a version other than 1 or 2 after the mark.
 pub fn first_octets_decide()
     ensures mark { (octets : List ℕ) (k : ℕ) → k < 4 → k < length octets
         → (slice_index octets k ≡ slice_index mark k → ⊥) → image_spelled octets ≡ Err BadMagic }
@@ -90,9 +90,8 @@ pub fn first_octets_decide()
 {}
 
 /// An image ends where its octets end: with more octets appended, or with some of the last ones
-/// removed, the octets are `Truncated`. An octet outside its table, or the last octet of a value
-/// outside its type, is the first bad one: the octets before it are only `Truncated`, and with it
-/// they are bad whatever follows.
+/// removed, the octets are `Truncated`. Octets that are a `BadOpcode` have a first bad octet: the
+/// octets before it are `Truncated`, and those up to it are a `BadOpcode`, whatever follows.
 pub fn images_end()
     ensures behind { (octets more : List ℕ) (i : Image) → image_spelled octets ≡ Ok i
         → 0 < length more
@@ -104,8 +103,8 @@ pub fn images_end()
 
 /// Octets that are `Truncated` are right so far. Either more octets complete them to an image; or
 /// they are an image followed by more octets; or they end within an initial value, or their code
-/// ends within an instruction, such that no value or instruction that fits the space there begins
-/// this way.
+/// ends within an instruction, but no value, or no instruction that fits the code's length, begins
+/// so.
 pub fn cut_short_is_right_so_far()
     ensures { (octets : List ℕ) → AreOctets octets → image_spelled octets ≡ Err Truncated
         → IsRightSoFar octets }

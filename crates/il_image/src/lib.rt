@@ -1,7 +1,7 @@
-// Code images: values and their arithmetic, timers, instructions and their spelling in octets, and
-// the images that hold a compiled program. The machine that runs an image, and what it means for
-// code to agree with a table of kinds, stand here as definitions, which the compiler, the verifier
-// and the machine share.
+// Images of code: values and their arithmetic, timers, instructions and their spelling in octets,
+// and the images that hold a compiled program. `specs` also defines the machine that runs an image,
+// and when code agrees with a table of kinds; the compiler, the verifier and the machine share
+// these definitions.
 #![tactic(auto)]
 
 pub mod arithmetic;

@@ -1,4 +1,4 @@
-// What the first octet of an instruction says.
+// Opcodes: the first octet of an instruction.
 ghost use Rattle.std.specs.Prelude.{◌≡◌};
 ghost use Rattle.il_image.specs.Opcodes.{octet_of, opcode_of};
 ghost use Rattle.il_image.specs.Opcodes as spec;
@@ -34,15 +34,16 @@ pub enum SlotUse {
     ResetIf,
 }
 
-/// A conversion of an integer type to the next wider one, as the machine has it. What a text says is
-/// il_text's `Conversion`: neither crate stands on the other.
+/// A conversion of an integer type to the next wider one, as an instruction of the machine. A
+/// conversion in the text of a program is il_text's `Conversion`; neither crate depends on the
+/// other.
 #[derive(Clone, Copy, PartialEq, Eq)]
 pub enum Widening {
     IntToDint,
     DintToLint,
 }
 
-/// When a jump of the machine is taken. What a text says is il_text's `Condition`.
+/// When a jump of the machine is taken. A jump in the text of a program has il_text's `Condition`.
 #[derive(Clone, Copy, PartialEq, Eq)]
 pub enum When {
     Always,
@@ -174,7 +175,7 @@ impl Opcode {
         })
     }
 
-    /// Whether a version has the opcode.
+    /// Returns whether a version has the opcode.
     pub fn is_known(self, version: Version) -> bool
         ensures { result ≡ spec.is_known version self }
     {

@@ -1,5 +1,5 @@
-// Readers of one item at the front of octets. Each answers the item and the octets behind it, or
-// the first fault from the left, and takes no memory.
+// Readers of one item at the start of octets. Each returns the item and the octets after it, or the
+// first fault from the left, and does not allocate.
 ghost use Rattle.std.specs.Prelude.{◌≡◌, ◌+◌, ◌<◌, ◌≤◌, IfOk, IfSome, length};
 ghost use Rattle.bay_base.specs.Results.{IsRead};
 ghost use Rattle.il_image.specs.Reading.{with_next_place};
@@ -33,7 +33,7 @@ pub(crate) fn number_at(octets: &[u8]) -> Result<(u16, &[u8]), ImageFault>
     }
 }
 
-// A number in two's complement.
+// Reads a number in two's complement.
 fn signed_at(size: Size, octets: &[u8]) -> Result<(i64, &[u8]), ImageFault>
     ensures { IsRead (λ r. (r.0, r.1.now)) result (spec.signed_at size octets.now) }
 {
@@ -65,7 +65,7 @@ pub(crate) fn value_at(
     }
 }
 
-// A width of the version.
+// Reads a width of the version.
 fn width_at(version: Version, octets: &[u8]) -> Result<(Width, &[u8]), ImageFault>
     ensures { IsRead (λ r. (r.0, r.1.now)) result (spec.width_at version octets.now) }
 {
@@ -76,7 +76,7 @@ fn width_at(version: Version, octets: &[u8]) -> Result<(Width, &[u8]), ImageFaul
     }
 }
 
-// The instruction of an opcode, whose operand stands first.
+// Reads the operand of an opcode, and returns the instruction.
 fn operand_from(
     version: Version,
     opcode: Opcode,
@@ -126,8 +126,8 @@ pub(crate) fn instr_from(version: Version, octets: &[u8]) -> Result<(Instr, &[u8
     }
 }
 
-// The instruction that stands first in the last octets of code of this length, and the offset
-// behind it.
+// Returns the instruction at the start of octets, which are the last of code of length `size`, and
+// the offset after it, or `None` if the octets spell none.
 fn first_of(size: usize, octets: &[u8]) -> Option<(Instr, usize)>
     requires { length octets.now ≤ size }
     ensures { result ≡ with_next_place size (spec.instr_from Version.Two octets.now) }
@@ -138,8 +138,8 @@ fn first_of(size: usize, octets: &[u8]) -> Option<(Instr, usize)>
     }
 }
 
-/// Returns the instruction at an offset in the code and the offset after it, or `None` if there is
-/// none.
+/// Returns the instruction of version 2 at an offset in the code and the offset after it, or `None`
+/// if the octets there spell none.
 pub fn instr_at(code: &[u8], offset: usize) -> Option<(Instr, usize)>
     ensures value { result ≡ spec.instr_at code.now offset }
     ensures forward { IfSome result (λ r. (offset < r.1) × (r.1 ≤ length code.now)) }

@@ -14,7 +14,7 @@ pub enum TimerPhase {
     Idle,
     /// IN of a TOF is TRUE.
     Held,
-    /// The delay began at this time, in milliseconds. It may have passed.
+    /// The delay began at this time, in milliseconds. It may have expired.
     Since(u64),
 }
 
@@ -33,7 +33,7 @@ pub struct TimerState {
     pub elapsed: u32,
 }
 
-// The phase that a call of a TON at this moment leaves.
+// Returns the phase of a TON after a call at this moment.
 fn on_delay_phase(input: bool, phase: TimerPhase, now: u64) -> TimerPhase
     ensures { result ≡ phase_after TimerKind.OnDelay input phase now }
 {
@@ -46,7 +46,7 @@ fn on_delay_phase(input: bool, phase: TimerPhase, now: u64) -> TimerPhase
     }
 }
 
-// The phase that a call of a TOF at this moment leaves.
+// Returns the phase of a TOF after a call at this moment.
 fn off_delay_phase(input: bool, phase: TimerPhase, now: u64) -> TimerPhase
     ensures { result ≡ phase_after TimerKind.OffDelay input phase now }
 {
@@ -60,7 +60,8 @@ fn off_delay_phase(input: bool, phase: TimerPhase, now: u64) -> TimerPhase
     }
 }
 
-// Q.
+// Returns Q. For a TON it is TRUE after the delay; for a TOF it is TRUE while IN is TRUE and until
+// the delay has expired.
 fn output_of(kind: TimerKind, preset: u32, phase: TimerPhase, now: u64) -> bool
     ensures { result ≡ spec.output_of kind preset phase now }
 {
@@ -76,7 +77,7 @@ fn output_of(kind: TimerKind, preset: u32, phase: TimerPhase, now: u64) -> bool
     }
 }
 
-// ET.
+// Returns ET in milliseconds: how long the delay has run, at most PT.
 fn elapsed_of(preset: u32, phase: TimerPhase, now: u64) -> u32
     ensures { result ≡ spec.elapsed_of preset phase now }
 {

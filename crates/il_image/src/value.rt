@@ -1,4 +1,4 @@
-// Values of the elementary types, and the numbers that they have.
+// Values of the elementary types, and their numbers.
 ghost use Rattle.std.specs.Prelude.{◌≡◌};
 ghost use Rattle.il_image.specs.Values.{default_value, number_of, value_of};
 ghost use Rattle.il_image.specs.Values as spec;

@@ -58,7 +58,7 @@ pub(crate) fn push_number(octets: &mut Vec<u8>, number: u16) -> Result<(), Alloc
     octets.extend_from_slice(&number.to_be_bytes())
 }
 
-/// Appends the lowest octets of a number in two's complement, as many as `size` says.
+/// Appends the lowest octets of a number in two's complement; `size` is their number.
 pub(crate) fn push_signed(octets: &mut Vec<u8>, size: Size, number: i64) -> Result<(), AllocError>
     ensures ok { OnOk result (octets.new.items ≡ octets.old.items ++ signed_octets size number) }
     ensures err { OnErr result (Extends octets.old.items octets.new.items) }

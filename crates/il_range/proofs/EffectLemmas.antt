@@ -48,7 +48,8 @@ next-if : (b : Bool) (t : StepResult) (trap : Trap) (now next : ℕ) (p : Plain)
 next-if true t trap now next p h = h
 next-if false t trap now next p h = tt
 
-next-unless : (b : Bool) (t : StepResult) (trap : Trap) (now next : ℕ) (p : Plain) → NextIs t now next p
+next-unless : (b : Bool) (t : StepResult) (trap : Trap) (now next : ℕ) (p : Plain)
+    → NextIs t now next p
     → NextIs (cond b (Traps trap) t) now next p
 next-unless true t trap now next p h = tt
 next-unless false t trap now next p h = h
@@ -380,7 +381,8 @@ module _ (now next place : ℕ) (timers : List TimerState) (ts : List KnownTimer
   comes-timer SetInput n rs us e cells slots h k = comes-input n rs us e cells slots h k
   comes-timer SetPreset n rs us e cells slots h k = comes-preset n rs us e cells slots h k
   comes-timer Run n rs us e cells slots h k =
-      comes-changed n rs us (λ t. after_call t now) called (λ t u is. timer-called t u now is) e cells
+      comes-changed n rs us (λ t. after_call t now) called (λ t u is. timer-called t u now is) e
+      cells
       cells slots h k
   comes-timer LoadOutput n rs us e cells slots h k =
       comes-read n rs us (λ u. u.output) (λ t. Truth t.output) (λ t u is. is.in_output) e cells

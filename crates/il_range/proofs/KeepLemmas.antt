@@ -14,7 +14,7 @@ use Rattle.il_image.specs.declared.timer.TimerState.{TimerState}
 use Rattle.il_image.specs.declared.value.Value.{Value}
 use Rattle.il_image.specs.declared.value.Value.TheVariants.{Truth, Short, Long, Wide, Span}
 use Rattle.il_image.specs.Arithmetic.{comparison_holds, computation_of, wider_value}
-use Rattle.il_image.specs.Machine.{Halted, State, Trap, StepResult, Goes, Halts, Traps, FullStack, WrongKind, MissingSlot, MissingTimer, ZeroDivisor, act, as_number, as_span, as_truth, divides, ending_of, goes, is_comparable, run_from, stores, turn_of, value_of_width, with_slot, with_timer, with_top, with_two, most_cells}
+use Rattle.il_image.specs.Machine.{Halted, State, Trap, StepResult, Goes, Halts, Traps, FullStack, WrongKind, MissingSlot, MissingTimer, ZeroDivisor, act, as_number, as_span, as_truth, divides, ending_of, continues_at, is_comparable, run_from, stores, turn_of, value_of_width, with_slot, with_timer, with_top, with_two, most_cells}
 use Rattle.il_image.specs.Places.{begun_at}
 use Rattle.il_image.specs.declared.timer.TimerPhase.{TimerPhase}
 use Rattle.il_image.specs.declared.timer.TimerPhase.TheVariants.{Idle, Held, Since}
@@ -80,7 +80,8 @@ keep-truth : (now : ℕ) (v : Value) (f : Bool → StepResult) (s : State)
 keep-truth now (Truth b) f s h = h b
 keep-truth now v f s h = tt
 
-keep-span : (now : ℕ) (v : Value) (f : ℕ → StepResult) (s : State) → ((n : ℕ) → NextKeeps now (f n) s)
+keep-span : (now : ℕ) (v : Value) (f : ℕ → StepResult) (s : State)
+    → ((n : ℕ) → NextKeeps now (f n) s)
     → NextKeeps now (as_span v f) s
 keep-span now (Span n) f s h = h n
 keep-span now v f s h = tt
@@ -176,12 +177,12 @@ step-keeps : (now : ℕ) (i : Instr) (next : ℕ) (s : State) → NextKeeps now 
 unfolding act
 step-keeps now Halt next s = tt
 step-keeps now (Push v) next s =
-    keep-if now (nat_lt (length s.cells) most_cells) (goes next (v ∷ s.cells) s) FullStack s
+    keep-if now (nat_lt (length s.cells) most_cells) (continues_at next (v ∷ s.cells) s) FullStack s
     (same now s)
 step-keeps now Drop next s = keep-top now s.cells _ s (λ v below. same now s)
 step-keeps now (Slot Load n) next s =
     keep-slot now n s _ (λ v. keep-if now (nat_lt (length s.cells) most_cells)
-    (goes next (v ∷ s.cells) s)
+    (continues_at next (v ∷ s.cells) s)
     FullStack s
     (same now s))
 step-keeps now (Slot Store n) next s =
@@ -202,10 +203,12 @@ step-keeps now (Combine c) next s =
 step-keeps now (Compute o w) next s =
     keep-two now s.cells _ s (λ a b below. keep-number now w b _ s (λ y. keep-number now w a _ s
     (λ x. keep-unless now (divides o && int_eq y (pos 0))
-    (goes next (value_of_width w (computation_of o w x y) ∷ below) s) ZeroDivisor s (same now s))))
+    (continues_at next (value_of_width w (computation_of o w x y) ∷ below) s) ZeroDivisor s
+    (same now s))))
 step-keeps now (Compare c) next s =
     keep-two now s.cells _ s (λ a b below. keep-if now (is_comparable c a b)
-    (goes next (Truth (comparison_holds c (number_of a) (number_of b)) ∷ below) s) WrongKind s
+    (continues_at next (Truth (comparison_holds c (number_of a) (number_of b)) ∷ below) s) WrongKind
+    s
     (same now s))
 step-keeps now (Widen w) next s =
     keep-top now s.cells _ s (λ top below. keep-wider now (wider_value w top) _ s (λ v. same now s))
@@ -227,10 +230,10 @@ step-keeps now (Timer Run n) next s =
     (call-begins t.kind t.input t.phase now))
 step-keeps now (Timer LoadOutput n) next s =
     keep-timer now n s _ (λ t at. keep-if now (nat_lt (length s.cells) most_cells)
-    (goes next (Truth t.output ∷ s.cells) s) FullStack s (same now s))
+    (continues_at next (Truth t.output ∷ s.cells) s) FullStack s (same now s))
 step-keeps now (Timer LoadElapsed n) next s =
     keep-timer now n s _ (λ t at. keep-if now (nat_lt (length s.cells) most_cells)
-    (goes next (Span t.elapsed ∷ s.cells) s) FullStack s (same now s))
+    (continues_at next (Span t.elapsed ∷ s.cells) s) FullStack s (same now s))
 
 turn-keeps : (now : ℕ) (o : Option (Instr × ℕ)) (s : State) → NextKeeps now (turn_of now o s) s
 turn-keeps now None s = tt

@@ -15,7 +15,7 @@ use Rattle.il_image.specs.Machine.{value_of_width}
 use Rattle.il_image.specs.Values.{number_of}
 use Rattle.il_range.specs.declared.range.Range.{Range}
 use Rattle.il_range.specs.declared.range.Range.TheVariants.{Between}
-use Rattle.il_range.specs.Effects.{all_of, computed, fits_in, greatest_of, least_of, wrapped, wrapped_of}
+use Rattle.il_range.specs.Effects.{all_of, computed, fits_in, greatest_of, least_of, wrap_range, wrapped_of}
 use Rattle.il_range.specs.Ranges.{IsIn}
 
 number-of-width : (w : Width) (z : ℤ) → number_of (value_of_width w z) ≡ z
@@ -50,7 +50,7 @@ fit-bounds : (w : Width) (z : ℤ) → fits_in w z ≡ true → (least_of w ≤�
 fit-bounds w z e = (grind (arith, ints, common_steps), grind (arith, ints, common_steps))
 
 wrapped-in : (w : Width) (low high z : ℤ) → low ≤ℤ z → z ≤ℤ high
-    → IsIn (value_of_width w (wrap_to w z)) (wrapped w low high)
+    → IsIn (value_of_width w (wrap_to w z)) (wrap_range w low high)
 wrapped-in w low high z h k = go (fits_in w low) (fits_in w high) refl refl
   where
     go : (b c : Bool) → fits_in w low ≡ b → fits_in w high ≡ c
@@ -100,7 +100,7 @@ unwrapped : (b c : Bool) (w : Width) (low high : ℤ) → (b && c) ≡ false
 unwrapped b c w low high e = grind (arith, common_steps)
 
 pub wrapped-by : (w : Width) (low high : Option ℤ) (x y : ℤ) → SomeIff low (FitsSigned w64 x) x
-    → SomeIff high (FitsSigned w64 y) y → wrapped_of w low high ≡ wrapped w x y
+    → SomeIff high (FitsSigned w64 y) y → wrapped_of w low high ≡ wrap_range w x y
 wrapped-by w (Some a) (Some b) x y h k =
     let left : a ≡ x = h.1 in let right : b ≡ y = k.1 in cc
 wrapped-by w (Some a) None x y h k =

@@ -55,10 +55,13 @@ visits-moves code instr place next old new here reads forward was m = record {
   lands = λ j to now s at c.
       let same = one-instr code place next to instr j reads at in
       let least : place + 1 ≤ next = omega arith in
-      let mine = lands-from (act now instr next s) (place + 1) next (length code) (held now s) new least
+      let mine =
+      lands-from (act now instr next s) (place + 1) next (length code) (held now s) new least
       (m.lands now (length code) s (covers-there place old here (held now s) was c)) in
-      subst (λ (i : Instr). Lands (act now i to s) (place + 1) (length code) (held now s) new) same.0
-      (subst (λ (n : ℕ). Lands (act now instr n s) (place + 1) (length code) (held now s) new) same.1
+      subst (λ (i : Instr). Lands (act now i to s) (place + 1) (length code) (held now s) new)
+      same.0
+      (subst (λ (n : ℕ). Lands (act now instr n s) (place + 1) (length code) (held now s) new)
+      same.1
       mine);
 }
 
@@ -73,7 +76,8 @@ visits-halt code place next old new here reads was a = record {
       let same = one-instr code place next to Halt j reads at in
       let mine : CoversAt new (length code) (held now s) =
       a.brings (held now s) (covers-there place old here (held now s) was c) in
-      subst (λ (i : Instr). Lands (act now i to s) (place + 1) (length code) (held now s) new) same.0
+      subst (λ (i : Instr). Lands (act now i to s) (place + 1) (length code) (held now s) new)
+      same.0
       mine;
 }
 

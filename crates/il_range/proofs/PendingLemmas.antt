@@ -41,7 +41,8 @@ under-left one other both j h c = record {
   slots = subst (AreIn h.slots) (sym j.slots)
       (each-left IsIn join in-join_left h.slots one.slots.items other.slots.items c.slots);
   timers = subst (AreTimersIn h.now h.timers) (sym j.timers)
-      (each-left (IsTimerIn h.now) join_timer (timer-join_left h.now) h.timers one.timers.items other.timers.items
+      (each-left (IsTimerIn h.now) join_timer (timer-join_left h.now) h.timers one.timers.items
+      other.timers.items
       c.timers);
 }
 

@@ -15,7 +15,7 @@ use Rattle.il_image.specs.Arithmetic.{comparison_holds, logic_of}
 use Rattle.il_image.specs.Values.{number_of}
 use Rattle.il_range.specs.declared.range.Range.{Range}
 use Rattle.il_range.specs.declared.range.Range.TheVariants.{Any, No, Yes, Either, Between}
-use Rattle.il_range.specs.Effects.{both, compared, connected, either, exactly, high_of, are_within, is_within, join, low_of, lower, negated, one_of, surely, surely_le, surely_lt, told, upper, widened}
+use Rattle.il_range.specs.Effects.{both, compared, connected, either, exactly, high_of, are_within, is_within, join, low_of, lower, negated, one_of, surely, surely_le, surely_lt, bool_range, upper, widened}
 use Rattle.il_range.specs.Ranges.{AreIn, IsFalseValue, IsIn, IsTrueValue, IsTruth}
 
 same-le : (z : ℤ) → z ≤ℤ z
@@ -229,7 +229,7 @@ is-le v u r s h k e = go (high_of r) (low_of s) refl refl e
         let less : a ≤ℤ b = le-told a b e in omega (arith, ints)
 
 told-in : (x is_yes is_no : Bool) → (is_yes ≡ true → x ≡ true) → (is_no ≡ true → x ≡ false)
-    → IsIn (Truth x) (told is_yes is_no)
+    → IsIn (Truth x) (bool_range is_yes is_no)
 told-in true true n f g = tt
 told-in false true n f g = absurd (let e = f refl in cc)
 told-in false false true f g = tt

@@ -79,7 +79,8 @@ free-in (p ∷ points) inputs (suc n) (v ∷ slots) (r ∷ memory) few k =
         → AreIn
         (cond b v (first_input inputs v) ∷ with_inputs points (cond b inputs (drop 1 inputs)) slots)
         (cond b r (first_input (replicate (suc n) Any) r)
-        ∷ with_inputs points (cond b (replicate (suc n) Any) (drop 1 (replicate (suc n) Any))) memory)
+        ∷ with_inputs points (cond b (replicate (suc n) Any) (drop 1 (replicate (suc n) Any)))
+        memory)
     go true written read = (k.0, written)
     go false written read = (tt, read)
 
@@ -231,7 +232,8 @@ pub tells-given : (image : Image) (start memory : List Range) (limits : List (Op
     (given : List Range) (last : List (Option ℕ)) (result : List Range)
     → start ≡ with_inputs image.points given memory → Tells image start limits last result
     → Foretells image memory limits given last result
-tells-given image start memory limits given last result at t machine inputs now slots timers is r k y
+tells-given image start memory limits given last result at t machine inputs now slots timers is r k
+    y
     h l =
     t machine inputs now slots timers is r
     (rw (at, ← is) (points-in machine.image.points inputs given machine.slots memory h k)) y l

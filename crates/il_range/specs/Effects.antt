@@ -1,4 +1,4 @@
--- Inner: what an instruction without a jump does to ranges.
+-- Inner: the effect of an instruction without a jump on ranges.
 use Rattle.std.specs.Prelude.{ℕ, ℤ, pos, negsuc, ◌+ℤ◌, ◌-ℤ◌, max, Bool, true, false, List, [], ◌∷◌, ◌&&◌, ◌||◌, int_lt, int_le, slice_get, slice_set, Option, Some, None, option_and_then, option_map, if◌then◌else◌}
 use Rattle.il_image.specs.declared.arithmetic.Comparison.{Comparison}
 use Rattle.il_image.specs.declared.arithmetic.Comparison.TheVariants.{Gt, Ge, Eq, Ne, Le, Lt}
@@ -34,7 +34,7 @@ lower a b = if int_le a b then a else b
 abbrev pub upper : ℤ → ℤ → ℤ
 upper a b = if int_le a b then b else a
 
--- what stands for each value of both
+-- a range that includes both
 abbrev pub join : Range → Range → Range
 join No No = No
 join No Yes = Either
@@ -58,7 +58,7 @@ join (Between a b) Either = Any
 join (Between a b) Any = Any
 join Any b = Any
 
--- each value of the first is one of the second
+-- whether each value of the first range is one of the second
 abbrev pub is_within : Range → Range → Bool
 is_within a Any = true
 is_within No No = true
@@ -69,18 +69,19 @@ is_within Either Either = true
 is_within (Between a b) (Between c d) = int_le c a && int_le b d
 is_within a b = false
 
--- the same of lists, place by place
+-- the same for lists, index by index
 abbrev pub are_within : List Range → List Range → Bool
 are_within [] [] = true
 are_within [] (b ∷ others) = false
 are_within (a ∷ ranges) [] = false
 are_within (a ∷ ranges) (b ∷ others) = is_within a b && are_within ranges others
 
--- what stands for each value of both: the first where it does, and what grows late is unknown
+-- a range that includes both: the first if it includes the second; a range that grows late is
+-- unknown
 abbrev pub widened : Bool → Range → Range → Range
 widened is_late a b = if is_within b a then a else (if is_late then Any else join a b)
 
--- the join of two lists, place by place
+-- the join of two lists, index by index
 abbrev pub joined : {A : Type 0} → (A → A → A) → List A → List A → List A
 joined join [] others = []
 joined join (a ∷ items) [] = a ∷ items
@@ -109,8 +110,8 @@ join_timer a b =
       below = join_below a.below b.below;
     }
 
--- Less than this has passed since the delay of a TON began, after a call: where IN is FALSE none
--- runs, and one that begins with the call has run for no time.
+-- Less than this number of milliseconds has passed since the delay of a TON began, after a call: no
+-- delay runs if IN is FALSE, and one that begins with the call has run for 0 ms.
 abbrev pub below_after : Option TimerKind → Range → Option ℕ → Option ℕ
 below_after None input below = None
 below_after (Some OffDelay) input below = None
@@ -120,20 +121,20 @@ below_after (Some OnDelay) Either below = option_map (max 1) below
 below_after (Some OnDelay) Any below = option_map (max 1) below
 below_after (Some OnDelay) (Between l h) below = option_map (max 1) below
 
--- a delay that has run for less than this has run for less than PT
+-- whether a delay that has run for less than `below` has run for less than PT
 abbrev pub is_short : Option ℕ → Range → Bool
 is_short (Some below) (Between low high) = int_le (pos below) low
 is_short below preset = false
 
--- Q after a call: a TON whose IN is FALSE has FALSE, and so has one whose delay is short; and a TOF
--- whose IN is TRUE has TRUE
+-- Q after a call: FALSE for a TON whose IN is FALSE or whose delay is short, and TRUE for a TOF
+-- whose IN is TRUE; else FALSE or TRUE
 abbrev pub output_after : Option TimerKind → Range → Bool → Range
 output_after (Some OnDelay) No short = No
 output_after (Some OffDelay) Yes short = Yes
 output_after (Some OnDelay) input short = if short then No else Either
 output_after kind input short = Either
 
--- what is at most PT, where that is known
+-- the numbers that are at most PT, if PT is known
 abbrev pub up_to : Range → Range
 up_to (Between low high) = Between (pos 0) high
 up_to No = Any
@@ -141,7 +142,7 @@ up_to Yes = Any
 up_to Either = Any
 up_to Any = Any
 
--- ET after a call: 0 where no delay runs, and never more than PT
+-- ET after a call: 0 if no delay runs, and never more than PT
 abbrev pub elapsed_after : Option TimerKind → Range → Range → Range
 elapsed_after (Some OnDelay) No preset = Between (pos 0) (pos 0)
 elapsed_after (Some OffDelay) Yes preset = Between (pos 0) (pos 0)
@@ -239,25 +240,26 @@ surely_lt a b = surely int_lt (high_of a) (low_of b)
 abbrev pub surely_le : Range → Range → Bool
 surely_le a b = surely int_le (high_of a) (low_of b)
 
-abbrev pub told : Bool → Bool → Range
-told is_yes is_no = if is_yes then Yes else (if is_no then No else Either)
+abbrev pub bool_range : Bool → Bool → Range
+bool_range is_yes is_no = if is_yes then Yes else (if is_no then No else Either)
 
 abbrev pub compared : Comparison → Range → Range → Range
-compared Lt a b = told (surely_lt a b) (surely_le b a)
-compared Gt a b = told (surely_lt b a) (surely_le a b)
-compared Le a b = told (surely_le a b) (surely_lt b a)
-compared Ge a b = told (surely_le b a) (surely_lt a b)
-compared Eq a b = told (surely_le a b && surely_le b a) (surely_lt a b || surely_lt b a)
-compared Ne a b = told (surely_lt a b || surely_lt b a) (surely_le a b && surely_le b a)
+compared Lt a b = bool_range (surely_lt a b) (surely_le b a)
+compared Gt a b = bool_range (surely_lt b a) (surely_le a b)
+compared Le a b = bool_range (surely_le a b) (surely_lt b a)
+compared Ge a b = bool_range (surely_le b a) (surely_lt a b)
+compared Eq a b = bool_range (surely_le a b && surely_le b a) (surely_lt a b || surely_lt b a)
+compared Ne a b = bool_range (surely_lt a b || surely_lt b a) (surely_le a b && surely_le b a)
 
 -- ---- arithmetic
 
--- the least and the greatest number of a width
+-- the least number of a width
 abbrev pub least_of : Width → ℤ
 least_of width.Int = negsuc 0x7FFF
 least_of width.Dint = negsuc 0x7FFF_FFFF
 least_of width.Lint = negsuc 0x7FFF_FFFF_FFFF_FFFF
 
+-- the greatest number of a width
 abbrev pub greatest_of : Width → ℤ
 greatest_of width.Int = pos 0x7FFF
 greatest_of width.Dint = pos 0x7FFF_FFFF
@@ -267,23 +269,23 @@ greatest_of width.Lint = pos 0x7FFF_FFFF_FFFF_FFFF
 abbrev pub all_of : Width → Range
 all_of w = Between (least_of w) (greatest_of w)
 
--- the number is one of the width
+-- whether the number is one of the width
 abbrev pub fits_in : Width → ℤ → Bool
 fits_in w z = int_le (least_of w) z && int_le z (greatest_of w)
 
--- what numbers between these two wrap to
-abbrev pub wrapped : Width → ℤ → ℤ → Range
-wrapped w low high = if fits_in w low && fits_in w high then Between low high else all_of w
+-- the range of the numbers between these two, wrapped to the width
+abbrev pub wrap_range : Width → ℤ → ℤ → Range
+wrap_range w low high = if fits_in w low && fits_in w high then Between low high else all_of w
 
--- the same of numbers that 64 bits may not hold
+-- the same for numbers that may not fit into 64 bits
 abbrev pub wrapped_of : Width → Option ℤ → Option ℤ → Range
-wrapped_of w (Some low) (Some high) = wrapped w low high
+wrapped_of w (Some low) (Some high) = wrap_range w low high
 wrapped_of w (Some low) None = all_of w
 wrapped_of w None high = all_of w
 
 abbrev pub computed : ArithmeticOperation → Width → Range → Range → Range
-computed Add w (Between a b) (Between c d) = wrapped w (a +ℤ c) (b +ℤ d)
-computed Sub w (Between a b) (Between c d) = wrapped w (a -ℤ d) (b -ℤ c)
+computed Add w (Between a b) (Between c d) = wrap_range w (a +ℤ c) (b +ℤ d)
+computed Sub w (Between a b) (Between c d) = wrap_range w (a -ℤ d) (b -ℤ c)
 computed o w a b = all_of w
 
 -- ---- instructions
@@ -304,7 +306,7 @@ top_of (top ∷ below) act = act top below
 abbrev pub slot_of : ℕ → List Range → (Range → Option Plain) → Option Plain
 slot_of n slots act = option_and_then act (slice_get slots n)
 
--- a slot changes by what is on top, which stays
+-- changes a slot depending on the top, which stays
 abbrev pub slot_by : (Range → Range → Range) → ℕ → Plain → Option Plain
 slot_by change n p =
     slot_of n p.slots (λ old. top_of p.cells
@@ -321,7 +323,7 @@ two_of f p =
 abbrev pub timer_of : ℕ → List KnownTimer → (KnownTimer → Option Plain) → Option Plain
 timer_of n timers act = option_and_then act (slice_get timers n)
 
--- a timer changes, and the stack with it
+-- changes a timer and the stack
 abbrev pub with_timer : List Range → ℕ → KnownTimer → Plain → Option Plain
 with_timer cells n u p =
     Some (record { cells = cells; slots = p.slots; timers = slice_set p.timers n u })

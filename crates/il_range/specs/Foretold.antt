@@ -1,4 +1,4 @@
--- What a program's scans may leave in the slots.
+-- The slots that the scans of a program may leave.
 use Rattle.std.specs.Prelude.{ℕ, ◌≡◌, List, Option}
 use Rattle.il_image.specs.declared.timer.TimerState.{TimerState}
 use Rattle.il_image.specs.declared.value.Value.{Value}
@@ -21,22 +21,22 @@ pub record Leaves (machine : Held) (inputs : List Value) (now : ℕ) (slots : Li
   pub halts : run_from machine.image.code now most (scan_start machine inputs) 0
       ≡ Halted slots timers steps
 
--- The machine is as before the first scan, or as a scan leaves one that was reached, whatever the
--- inputs and the moment.
+-- The machine is in its state before the first scan, or in a state that a scan leaves of a reached
+-- machine, with any inputs at any moment.
 pub data IsReached : Held → Type 0 where
   First : (image : Image) → IsReached (held_first image)
   Next : (machine : Held) (inputs : List Value) (now : ℕ) (slots : List Value)
       (timers : List TimerState) → IsReached machine → Leaves machine inputs now slots timers
       → IsReached (with_memory slots timers machine)
 
--- The slots of each machine with the image that is reached are in the ranges.
+-- The slots of each reached machine with the image are in the ranges.
 abbrev pub IsMemory : Image → List Range → Type 0
 IsMemory image ranges =
     (machine : Held) → machine.image ≡ image → IsReached machine → AreIn machine.slots ranges
 
--- Whatever a machine with the image that is reached holds in the ranges `memory`, with delays that
--- have run for less than the limits, and at each moment: a scan with inputs in the ranges `given`
--- leaves slots in `result`, and delays that have run for less than the last ones.
+-- Take any reached machine with the image whose slots are in the ranges `memory` and whose delays
+-- have run for less than the limits, at any moment. A scan with inputs in the ranges `given` leaves
+-- slots in `result`, and delays that have run for less than the limits `last`.
 abbrev pub Foretells : Image → List Range → List (Option ℕ) → List Range → List (Option ℕ)
     → List Range → Type 0
 Foretells image memory limits given last result =

@@ -5,25 +5,25 @@ use Rattle.il_image.specs.declared.value.Value.{Value}
 use Rattle.il_scan.specs.Scans.{Held, Scans}
 use Rattle.il_range.specs.Foretold.{IsReached, Leaves, began_at}
 
--- What `scan` does is such a run.
+-- Each scan of il_scan is a run as `Leaves` defines it.
 abbrev pub IsByScan : Type 0
 IsByScan =
     (old new : Held) (inputs outputs : List Value) (now steps : ℕ)
     → Scans old inputs now new steps outputs → Leaves old inputs now new.slots new.timers
 
--- It leads from a machine that is reached to another.
+-- Each scan leads from a reached machine to a reached one.
 abbrev pub ReachesByScan : Type 0
 ReachesByScan =
     (old new : Held) (inputs outputs : List Value) (now steps : ℕ)
     → Scans old inputs now new steps outputs → IsReached old → IsReached new
 
--- A delay that runs after this moment began then, or ran before.
+-- A delay that runs after this moment began at this moment, or already ran before it.
 abbrev pub Continues : ℕ → List TimerState → List TimerState → Type 0
 Continues now after before =
     (n start : ℕ) → began_at n after ≡ Some start
     → (start ≡ now) ⊎ (began_at n before ≡ Some start)
 
--- So it is with each scan.
+-- In each scan, delays continue so.
 abbrev pub DelaysContinue : Type 0
 DelaysContinue =
     (machine : Held) (inputs : List Value) (now : ℕ) (slots : List Value)

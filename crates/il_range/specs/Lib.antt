@@ -1,12 +1,12 @@
--- What a scan may leave in the slots of a machine.
+-- The slots that a scan of a machine may leave.
 --
--- `Ranges` says which values a range stands for. `Foretold` is the main file: which machines scans
--- reach, what a scan leaves, and which ranges foretell it. `Laws`: what holds of each scan.
+-- `Ranges` defines which values are in a range. `Foretold` is the main file: which machines scans
+-- reach, what a scan leaves, and which ranges predict it. `Laws`: what holds of each scan.
 
 pub mod Foretold
 pub mod Laws
 pub mod Ranges
--- Inner ones, which private functions, invariants and proofs cite, and no public clause.
+-- Inner ones: private functions, invariants and proofs cite them, public clauses don't.
 pub mod Effects
 pub mod Outcomes
 pub mod Pending

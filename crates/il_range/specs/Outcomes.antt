@@ -1,4 +1,4 @@
--- Inner: what the slots may hold at the end of a run, and of a scan.
+-- Inner: the slots at the end of a run, and of a scan.
 use Rattle.std.specs.Prelude.{ℕ, ◌≡◌, List, Option}
 use Rattle.il_image.specs.declared.timer.TimerState.{TimerState}
 use Rattle.il_image.specs.declared.value.Value.{Value}
@@ -10,7 +10,7 @@ use Rattle.il_range.specs.declared.range.Range.{Range}
 use Rattle.il_range.specs.Foretold.{IsReached, Leaves}
 use Rattle.il_range.specs.Ranges.{AreIn, AreTimersIn, AreYoung}
 
--- A run from these slots, with some timers and at some moment, ends with those.
+-- A run from the slots `given`, with some timers and at some moment, ends with the slots `after`.
 pub record Ends (code : List ℕ) (given after : List Value) : Type 0 where
   pub timers : List TimerState
   pub now : ℕ
@@ -20,17 +20,17 @@ pub record Ends (code : List ℕ) (given after : List Value) : Type 0 where
   pub halts : run_from code now most (initial_state given timers) 0
       ≡ Halted after timers_after steps
 
--- Each end of a run from slots in the ranges, and from such timers, is in those ranges, with those
--- timers.
+-- Each run from slots in the ranges `slots`, with timers that are in `timers`, ends with slots in
+-- `result`, and with timers that are in `timers_after`.
 abbrev pub Predicts : List ℕ → List KnownTimer → List Range → List KnownTimer → List Range → Type 0
 Predicts code timers slots timers_after result =
     (given after : List Value) → AreIn given slots → (e : Ends code given after)
     → AreTimersIn e.now e.timers timers
     → AreIn after result × AreTimersIn e.now e.timers_after timers_after
 
--- Whatever a machine with the image that is reached starts a scan from in the ranges, with delays
--- that have run for less than the limits: it leaves slots in `result`, and delays that have run for
--- less than the last ones.
+-- Take any reached machine with the image that starts a scan with slots in the ranges `start`, and
+-- with delays that have run for less than the limits. The scan leaves slots in `result`, and delays
+-- that have run for less than the limits `last`.
 abbrev pub Tells : Image → List Range → List (Option ℕ) → List (Option ℕ) → List Range → Type 0
 Tells image start limits last result =
     (machine : Held) (inputs : List Value) (now : ℕ) (slots : List Value)
@@ -38,7 +38,7 @@ Tells image start limits last result =
     → AreIn (scan_start machine inputs).slots start → AreYoung now machine.timers limits
     → Leaves machine inputs now slots timers → AreIn slots result × AreYoung now timers last
 
--- From slots in `memory` a scan leaves slots in `result`, whatever its inputs are.
+-- From slots in `memory` a scan leaves slots in `result`, with any inputs.
 abbrev pub Carries : Image → List Range → List Range → Type 0
 Carries image memory result =
     (machine : Held) (inputs : List Value) (now : ℕ) (slots : List Value)

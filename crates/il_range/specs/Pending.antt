@@ -1,4 +1,4 @@
--- Inner: what the pass keeps of places that are still to come.
+-- Inner: what the pass knows at the places that are still to come.
 use Rattle.std.specs.Prelude.{ℕ, ◌≡◌, ◌≢◌, ◌+◌, ◌≤◌, true, false, List, length, reverse, slice_get, Option, Some}
 use Rattle.il_image.specs.declared.instr.Instr.{Instr}
 use Rattle.il_image.specs.declared.value.Value.{Value}
@@ -25,17 +25,17 @@ pub record Held : Type 0 where
 abbrev pub held : ℕ → State → Held
 held now s = record { now = now; cells = s.cells; slots = s.slots; timers = s.timers }
 
--- These are some of those that it stands for.
+-- The cells, slots and timers of the run are in the known ranges.
 pub record Covers (p : Plain) (h : Held) : Type 0 where
   pub cells : AreIn h.cells p.cells
   pub slots : AreIn h.slots p.slots
   pub timers : AreTimersIn h.now h.timers p.timers
 
--- What the one stands for, the other does too.
+-- Whatever the first covers, the second covers too.
 abbrev pub IsUnder : Plain → Plain → Type 0
 IsUnder p q = (h : Held) → Covers p h → Covers q h
 
--- What is known where one of both is so: the joins, place by place.
+-- What is known after two paths: the joins of what is known on each, index by index.
 pub record IsJoin (one other both : Known) : Type 0 where
   pub depth : length one.cells.items ≡ length other.cells.items
   pub size : length one.slots.items ≡ length other.slots.items
@@ -44,23 +44,23 @@ pub record IsJoin (one other both : Known) : Type 0 where
   pub slots : both.slots.items ≡ joined join one.slots.items other.slots.items
   pub timers : both.timers.items ≡ joined join_timer one.timers.items other.timers.items
 
--- Something is known at the place, and it stands for these.
+-- Something is known at the place, and it covers the run.
 pub record CoversAt (pending : List (Option Known)) (place : ℕ) (h : Held) : Type 0 where
   pub known : Known
   pub here : slice_get pending place ≡ Some (Some known)
   pub covers : Covers (plain known) h
 
--- What was covered at a place stays so.
+-- What was covered at a place is still covered there.
 abbrev pub Keeps : List (Option Known) → List (Option Known) → Type 0
 Keeps old new = (q : ℕ) (h : Held) → CoversAt old q h → CoversAt new q h
 
--- What is known comes to a place, and nothing is lost elsewhere.
+-- What is known is joined in at a place; what was covered at a place is still covered there.
 pub record Arrives (old new : List (Option Known)) (place : ℕ) (come : Plain) : Type 0 where
   pub keeps : Keeps old new
   pub brings : (h : Held) → Covers come h → CoversAt new place h
 
--- A jump that is done where this is so: what is known comes to both places, or to one alone where
--- the other is ruled out.
+-- A jump that is taken if `jumps` is TRUE: what is known is joined in at both places, or at one
+-- alone if the other is ruled out.
 pub record Branches (jumps : Range) (distance next : ℕ) (come : Plain)
     (old new : List (Option Known))
     : Type 0 where
@@ -68,22 +68,22 @@ pub record Branches (jumps : Range) (distance next : ℕ) (come : Plain)
   pub far : IsIn (Truth true) jumps → (h : Held) → Covers come h → CoversAt new (next + distance) h
   pub near : IsIn (Truth false) jumps → (h : Held) → Covers come h → CoversAt new next h
 
--- A step goes to a place from this one on, where it is covered; or it halts, and is covered at the
+-- A step goes to a place from `next` on, where it is covered; or it halts, and is covered at the
 -- end; or it traps.
 abbrev pub Lands : StepResult → ℕ → ℕ → Held → List (Option Known) → Type 0
 Lands (Goes s) next end h pending = (next ≤ s.place) × CoversAt pending s.place (held h.now s)
 Lands Halts next end h pending = CoversAt pending end h
 Lands (Traps trap) next end h pending = Unit {0}
 
--- Each step of the instruction from what is known lands, and nothing is lost elsewhere.
+-- Each step of the instruction from a covered state lands; what was covered is still covered.
 pub record Moves (instr : Instr) (next : ℕ) (come : Plain) (old new : List (Option Known))
     : Type 0 where
   pub keeps : Keeps old new
   pub lands : (now end : ℕ) (s : State) → Covers come (held now s)
       → Lands (act now instr next s) next end (held now s) new
 
--- Each step of the instruction at a place from what is pending there lands behind it, and nothing
--- is lost elsewhere. The end of the code stands for the end of a run.
+-- Each step of the instruction at a place from a state that is covered there lands after it; what
+-- was covered at other places is still covered. The end of the code represents the end of a run.
 pub record Visits (code : List ℕ) (place : ℕ) (old new : List (Option Known)) : Type 0 where
   pub keeps : (q : ℕ) → q ≢ place → (h : Held) → CoversAt old q h → CoversAt new q h
   pub lands : (instr : Instr) (next now : ℕ) (s : State)

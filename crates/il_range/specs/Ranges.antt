@@ -1,4 +1,4 @@
--- Which values a range stands for.
+-- The values of a range.
 use Rattle.std.specs.Prelude.{ℕ, ◌≡◌, ◌-◌, ◌<◌, ◌≤ℤ◌, Option, Some, None, option_and_then, true, false, List, [], ◌∷◌, slice_get}
 use Rattle.il_image.specs.declared.value.Value.{Value}
 use Rattle.il_image.specs.declared.value.Value.TheVariants.{Truth, Short, Long, Wide, Span}
@@ -11,7 +11,7 @@ use Rattle.il_range.specs.declared.timer.KnownTimer.{KnownTimer}
 use Rattle.il_range.specs.declared.range.Range.{Range}
 use Rattle.il_range.specs.declared.range.Range.TheVariants.{Any, No, Yes, Either, Between}
 
--- The value is a truth.
+-- The value is a BOOL.
 abbrev pub IsTruth : Value → Type 0
 IsTruth (Truth b) = Unit {0}
 IsTruth (Short z) = ⊥
@@ -19,7 +19,7 @@ IsTruth (Long z) = ⊥
 IsTruth (Wide z) = ⊥
 IsTruth (Span n) = ⊥
 
--- The value is this truth.
+-- The value is TRUE.
 abbrev pub IsTrueValue : Value → Type 0
 IsTrueValue (Truth true) = Unit {0}
 IsTrueValue (Truth false) = ⊥
@@ -28,6 +28,7 @@ IsTrueValue (Long z) = ⊥
 IsTrueValue (Wide z) = ⊥
 IsTrueValue (Span n) = ⊥
 
+-- The value is FALSE.
 abbrev pub IsFalseValue : Value → Type 0
 IsFalseValue (Truth true) = ⊥
 IsFalseValue (Truth false) = Unit {0}
@@ -36,7 +37,7 @@ IsFalseValue (Long z) = ⊥
 IsFalseValue (Wide z) = ⊥
 IsFalseValue (Span n) = ⊥
 
--- The value is one of the range: its number is between both ends, or it is a truth.
+-- The value is one of the range: its number is between both ends, or it is a BOOL.
 abbrev pub IsIn : Value → Range → Type 0
 IsIn v Any = Unit {0}
 IsIn v No = IsFalseValue v
@@ -44,14 +45,14 @@ IsIn v Yes = IsTrueValue v
 IsIn v Either = IsTruth v
 IsIn v (Between low high) = (low ≤ℤ number_of v) × (number_of v ≤ℤ high)
 
--- The lists are of one length, and each item has the relation to the other at its place.
+-- The lists have the same length, and each item has the relation to the other at the same index.
 abbrev pub AreEach : {A B : Type 0} → (A → B → Type 0) → List A → List B → Type 0
 AreEach Fits [] [] = Unit {0}
 AreEach Fits (x ∷ xs) (y ∷ ys) = Fits x y × AreEach Fits xs ys
 AreEach Fits [] (y ∷ ys) = ⊥
 AreEach Fits (x ∷ xs) [] = ⊥
 
--- Each value is one of the range at its place.
+-- Each value is one of the range at the same index.
 abbrev pub AreIn : List Value → List Range → Type 0
 AreIn values ranges = AreEach IsIn values ranges
 
@@ -60,30 +61,31 @@ abbrev pub IsKind : TimerKind → Option TimerKind → Type 0
 IsKind kind None = Unit {0}
 IsKind kind (Some known) = kind ≡ known
 
--- when the delay began, if one runs
+-- the moment at which the delay began, if one runs
 abbrev pub began : TimerPhase → Option ℕ
 began Idle = None
 began Held = None
 began (Since start) = Some start
 
--- the same of the timer at a place
+-- the same for the timer at an index
 abbrev pub began_at : ℕ → List TimerState → Option ℕ
 began_at n timers = option_and_then (λ (t : TimerState). began t.phase) (slice_get timers n)
 
--- A delay that runs began less than this ago, if something is said; below 0 none runs.
+-- A delay that runs began less than this number of milliseconds ago, if there is a limit; with the
+-- limit 0, no delay runs.
 abbrev pub IsYoung : ℕ → TimerPhase → Option ℕ → Type 0
 IsYoung now phase None = Unit {0}
 IsYoung now Idle (Some below) = Unit {0}
 IsYoung now Held (Some below) = Unit {0}
 IsYoung now (Since start) (Some below) = now - start < below
 
--- It is so of each timer of which something is said.
+-- Each timer is within its limit, if it has one.
 abbrev pub AreYoung : ℕ → List TimerState → List (Option ℕ) → Type 0
 AreYoung now timers [] = Unit {0}
 AreYoung now [] (below ∷ limits) = Unit {0}
 AreYoung now (t ∷ timers) (below ∷ limits) = IsYoung now t.phase below × AreYoung now timers limits
 
--- The timer is, at this moment, one of those that this is known of.
+-- At this moment, the timer is one of those that `u` describes.
 pub record IsTimerIn (now : ℕ) (t : TimerState) (u : KnownTimer) : Type 0 where
   pub of_kind : IsKind t.kind u.kind
   pub in_input : IsIn (Truth t.input) u.input
@@ -92,7 +94,7 @@ pub record IsTimerIn (now : ℕ) (t : TimerState) (u : KnownTimer) : Type 0 wher
   pub in_elapsed : IsIn (Span t.elapsed) u.elapsed
   pub young : IsYoung now t.phase u.below
 
--- Each timer is one of those at its place.
+-- Each timer is one of those at the same index.
 abbrev pub AreTimersIn : ℕ → List TimerState → List KnownTimer → Type 0
 AreTimersIn now timers known = AreEach (IsTimerIn now) timers known
 

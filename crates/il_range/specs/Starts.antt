@@ -1,4 +1,4 @@
--- Inner: what is known of a point before the first scan, and of the timers at a scan's start.
+-- Inner: what is known of a point before the first scan, and of the timers at the start of a scan.
 use Rattle.std.specs.Prelude.{ℕ, List, [], ◌∷◌, drop, Option, Some, None}
 use Rattle.bay_base.specs.declared.types.TimerKind.{TimerKind}
 use Rattle.il_image.specs.declared.image.ImagePoint.{ImagePoint}
@@ -8,11 +8,12 @@ use Rattle.il_range.specs.declared.timer.KnownTimer.{KnownTimer}
 use Rattle.il_range.specs.declared.range.Range.{Range}
 use Rattle.il_range.specs.declared.range.Range.TheVariants.{Any, Either}
 
--- a point's slot holds the default value of its type
+-- the range of a point's slot before the first scan: the default value of its type
 abbrev pub range_of_point : ImagePoint → Range
 range_of_point p = exactly (default_value p.elementary)
 
--- a timer of which the kind is known, and that less than this has passed of its delay
+-- a timer of which the kind is known, and that its delay has run for less than `below`, if there is
+-- a limit
 abbrev pub known_of_kind : TimerKind → Option ℕ → KnownTimer
 known_of_kind kind below = record {
   kind = Some kind;
@@ -23,7 +24,7 @@ known_of_kind kind below = record {
   below = below;
 }
 
--- the first limit, if one is given
+-- the first limit, if there is one
 abbrev pub first_limit : List (Option ℕ) → Option ℕ
 first_limit [] = None
 first_limit (below ∷ limits) = below

@@ -1,30 +1,32 @@
-// What is known of the stack and of the slots before an instruction.
+// What is known of the stack, the slots and the timers before an instruction.
 ghost use Rattle.std.specs.Prelude.{◌≡◌, ◌<◌, ◌∷◌, List, length, OnOk, IfOk, Some};
 ghost use Rattle.il_range.specs.Effects.{effect, joined};
 ghost use Rattle.il_range.specs.Effects as spec;
 ghost use Rattle.il_range.specs.Pending.{Arrives, IsJoin, plain};
 
-use crate::range::{Range, both, compared, computed, connected, either, exactly, join, negated};
-use crate::stop::Stop;
-use crate::timer::{KnownTimer, called, join_timer};
-use crate::traces::Traces;
+use crate::dependencies::Dependencies;
+use crate::range::{
+    Range, both, compare_ranges, compute_range, connect_ranges, either, exactly, join, not,
+};
+use crate::stop::PassStop;
+use crate::timer::{KnownTimer, join_timer, timer_after_call};
 use il_image::arithmetic::{ArithmeticOperation, Comparison, Width};
 use il_image::instr::Instr;
 use il_image::opcode::{Connective, SlotUse, TimerUse};
 use std::alloc::Global;
 
-/// What is known of the stack, the top last, and of the slots.
+/// What is known of the stack, the top last, of the slots and of the timers.
 #[derive(Drop)]
 pub(crate) struct Known {
     pub cells: Vec<Range>,
     pub slots: Vec<Range>,
     pub timers: Vec<KnownTimer>,
-    /// What all these hang on. No clause speaks of it.
-    pub traces: Traces,
+    /// What all these depend on. No clause states anything of it.
+    pub traces: Dependencies,
 }
 
-// The place of a slot or a timer, of which there are so many.
-fn place_of(number: u16, count: usize) -> Result<usize, Stop>
+// Returns the index of a slot or a timer, or `Undecided` if it is not below `count`.
+fn place_of(number: u16, count: usize) -> Result<usize, PassStop>
     ensures is { IfOk result (λ place. place ≡ number) }
     ensures there { IfOk result (λ place. place < count) }
 {
@@ -32,12 +34,12 @@ fn place_of(number: u16, count: usize) -> Result<usize, Stop>
     if place < count {
         Ok(place)
     } else {
-        Err(Stop::Undecided)
+        Err(PassStop::Undecided)
     }
 }
 
 // Pushes what is known of a value.
-fn push(known: &mut Known, range: Range) -> Result<(), Stop>
+fn push(known: &mut Known, range: Range) -> Result<(), PassStop>
     ensures cells { OnOk result ((plain known.new).cells ≡ range ∷ (plain known.old).cells) }
     ensures slots { known.new.slots ≡ known.old.slots }
     ensures timers { known.new.timers ≡ known.old.timers }
@@ -47,19 +49,19 @@ fn push(known: &mut Known, range: Range) -> Result<(), Stop>
 }
 
 // Pops what is known of the top.
-fn pop(known: &mut Known) -> Result<Range, Stop>
+fn pop(known: &mut Known) -> Result<Range, PassStop>
     ensures cells { IfOk result (λ r. (plain known.old).cells ≡ r ∷ (plain known.new).cells) }
     ensures slots { known.new.slots ≡ known.old.slots }
     ensures timers { known.new.timers ≡ known.old.timers }
 {
     match known.cells.pop() {
         Some(range) => Ok(range),
-        None => Err(Stop::Undecided),
+        None => Err(PassStop::Undecided),
     }
 }
 
-/// The top, which stays, and on which the way hangs from here on.
-pub(crate) fn top_of(known: &mut Known) -> Result<Range, Stop>
+/// Returns the top, which stays. The path depends on the top from here on.
+pub(crate) fn top_of(known: &mut Known) -> Result<Range, PassStop>
     ensures same { OnOk result (plain known.new ≡ plain known.old) }
     ensures top { IfOk result (λ r. (below : List Range) × ((plain known.old).cells ≡ r ∷ below)) }
 {
@@ -70,7 +72,7 @@ pub(crate) fn top_of(known: &mut Known) -> Result<Range, Stop>
 }
 
 // LOAD: pushes what is known of a slot.
-fn load(known: &mut Known, n: u16) -> Result<(), Stop>
+fn load(known: &mut Known, n: u16) -> Result<(), PassStop>
     ensures { OnOk result (effect (Instr.Slot SlotUse.Load n) (plain known.old)
         ≡ Some (plain known.new)) }
 {
@@ -79,8 +81,8 @@ fn load(known: &mut Known, n: u16) -> Result<(), Stop>
     push(known, range)
 }
 
-// STORE: what is known of the top is known of a slot.
-fn store(known: &mut Known, n: u16) -> Result<(), Stop>
+// STORE: copies what is known of the top to a slot.
+fn store(known: &mut Known, n: u16) -> Result<(), PassStop>
     ensures { OnOk result (effect (Instr.Slot SlotUse.Store n) (plain known.old)
         ≡ Some (plain known.new)) }
 {
@@ -90,8 +92,8 @@ fn store(known: &mut Known, n: u16) -> Result<(), Stop>
     push(known, top)
 }
 
-// SETIF: a slot is TRUE where the top is.
-fn set_if(known: &mut Known, n: u16) -> Result<(), Stop>
+// SETIF: sets a slot to TRUE if the top is TRUE.
+fn set_if(known: &mut Known, n: u16) -> Result<(), PassStop>
     ensures { OnOk result (effect (Instr.Slot SlotUse.SetIf n) (plain known.old)
         ≡ Some (plain known.new)) }
 {
@@ -102,20 +104,20 @@ fn set_if(known: &mut Known, n: u16) -> Result<(), Stop>
     push(known, top)
 }
 
-// RESETIF: a slot is FALSE where the top is TRUE.
-fn reset_if(known: &mut Known, n: u16) -> Result<(), Stop>
+// RESETIF: sets a slot to FALSE if the top is TRUE.
+fn reset_if(known: &mut Known, n: u16) -> Result<(), PassStop>
     ensures { OnOk result (effect (Instr.Slot SlotUse.ResetIf n) (plain known.old)
         ≡ Some (plain known.new)) }
 {
     let n = place_of(n, known.slots.len())?;
     let top = pop(known)?;
-    let changed = both(negated(top), known.slots[n]);
+    let changed = both(not(top), known.slots[n]);
     known.slots[n] = changed;
     push(known, top)
 }
 
-// What an instruction does with a slot.
-fn use_slot(known: &mut Known, slot_use: SlotUse, n: u16) -> Result<(), Stop>
+// Applies an instruction that uses a slot.
+fn use_slot(known: &mut Known, slot_use: SlotUse, n: u16) -> Result<(), PassStop>
     ensures { OnOk result (effect (Instr.Slot slot_use n) (plain known.old)
         ≡ Some (plain known.new)) }
 {
@@ -127,54 +129,54 @@ fn use_slot(known: &mut Known, slot_use: SlotUse, n: u16) -> Result<(), Stop>
     }
 }
 
-// AND, OR, XOR: one BOOL of two.
-fn connect(known: &mut Known, connective: Connective) -> Result<(), Stop>
+// AND, OR, XOR: replaces two BOOLs by one.
+fn connect(known: &mut Known, connective: Connective) -> Result<(), PassStop>
     ensures { OnOk result (effect (Instr.Combine connective) (plain known.old)
         ≡ Some (plain known.new)) }
 {
     let b = pop(known)?;
     let a = pop(known)?;
-    push(known, connected(connective, a, b))
+    push(known, connect_ranges(connective, a, b))
 }
 
-// A comparison: a BOOL of two values.
-fn compare(known: &mut Known, comparison: Comparison) -> Result<(), Stop>
+// A comparison: replaces two values by a BOOL.
+fn compare(known: &mut Known, comparison: Comparison) -> Result<(), PassStop>
     ensures { OnOk result (effect (Instr.Compare comparison) (plain known.old)
         ≡ Some (plain known.new)) }
 {
     let b = pop(known)?;
     let a = pop(known)?;
-    push(known, compared(comparison, a, b))
+    push(known, compare_ranges(comparison, a, b))
 }
 
-// ADD to MOD: one number of two.
-fn compute(known: &mut Known, operation: ArithmeticOperation, width: Width) -> Result<(), Stop>
+// ADD, SUB, MUL, DIV, MOD: replaces two numbers by one.
+fn compute(known: &mut Known, operation: ArithmeticOperation, width: Width) -> Result<(), PassStop>
     ensures { OnOk result (effect (Instr.Compute operation width) (plain known.old)
         ≡ Some (plain known.new)) }
 {
     let b = pop(known)?;
     let a = pop(known)?;
-    push(known, computed(operation, width, a, b))
+    push(known, compute_range(operation, width, a, b))
 }
 
-// NOT: the other BOOL.
-fn invert(known: &mut Known) -> Result<(), Stop>
+// NOT: negates the top.
+fn invert(known: &mut Known) -> Result<(), PassStop>
     ensures { OnOk result (effect Instr.Not (plain known.old) ≡ Some (plain known.new)) }
 {
     let top = pop(known)?;
-    push(known, negated(top))
+    push(known, not(top))
 }
 
-// DROP: takes the top off.
-fn drop_top(known: &mut Known) -> Result<(), Stop>
+// DROP: pops the top.
+fn drop_top(known: &mut Known) -> Result<(), PassStop>
     ensures { OnOk result (effect Instr.Drop (plain known.old) ≡ Some (plain known.new)) }
 {
     pop(known)?;
     Ok(())
 }
 
-// SETIN: the top is the IN of a timer.
-fn set_input(known: &mut Known, n: u16) -> Result<(), Stop>
+// SETIN: pops the top as the IN of a timer.
+fn set_input(known: &mut Known, n: u16) -> Result<(), PassStop>
     ensures { OnOk result (effect (Instr.Timer TimerUse.SetInput n) (plain known.old)
         ≡ Some (plain known.new)) }
 {
@@ -188,8 +190,8 @@ fn set_input(known: &mut Known, n: u16) -> Result<(), Stop>
     Ok(())
 }
 
-// SETPT: the top is the PT of a timer.
-fn set_preset(known: &mut Known, n: u16) -> Result<(), Stop>
+// SETPT: pops the top as the PT of a timer.
+fn set_preset(known: &mut Known, n: u16) -> Result<(), PassStop>
     ensures { OnOk result (effect (Instr.Timer TimerUse.SetPreset n) (plain known.old)
         ≡ Some (plain known.new)) }
 {
@@ -204,18 +206,18 @@ fn set_preset(known: &mut Known, n: u16) -> Result<(), Stop>
 }
 
 // RUN: calls a timer.
-fn call(known: &mut Known, n: u16) -> Result<(), Stop>
+fn call(known: &mut Known, n: u16) -> Result<(), PassStop>
     ensures { OnOk result (effect (Instr.Timer TimerUse.Run n) (plain known.old)
         ≡ Some (plain known.new)) }
 {
     let n = place_of(n, known.timers.len())?;
-    let timer = called(known.timers[n]);
+    let timer = timer_after_call(known.timers[n]);
     known.timers[n] = timer;
     Ok(())
 }
 
 // LOADQ: pushes what is known of Q.
-fn load_output(known: &mut Known, n: u16) -> Result<(), Stop>
+fn load_output(known: &mut Known, n: u16) -> Result<(), PassStop>
     ensures { OnOk result (effect (Instr.Timer TimerUse.LoadOutput n) (plain known.old)
         ≡ Some (plain known.new)) }
 {
@@ -225,7 +227,7 @@ fn load_output(known: &mut Known, n: u16) -> Result<(), Stop>
 }
 
 // LOADET: pushes what is known of ET.
-fn load_elapsed(known: &mut Known, n: u16) -> Result<(), Stop>
+fn load_elapsed(known: &mut Known, n: u16) -> Result<(), PassStop>
     ensures { OnOk result (effect (Instr.Timer TimerUse.LoadElapsed n) (plain known.old)
         ≡ Some (plain known.new)) }
 {
@@ -234,8 +236,8 @@ fn load_elapsed(known: &mut Known, n: u16) -> Result<(), Stop>
     push(known, elapsed)
 }
 
-// What an instruction does with a timer.
-fn use_timer(known: &mut Known, timer_use: TimerUse, n: u16) -> Result<(), Stop>
+// Applies an instruction that uses a timer.
+fn use_timer(known: &mut Known, timer_use: TimerUse, n: u16) -> Result<(), PassStop>
     ensures { OnOk result (effect (Instr.Timer timer_use n) (plain known.old)
         ≡ Some (plain known.new)) }
 {
@@ -248,8 +250,9 @@ fn use_timer(known: &mut Known, timer_use: TimerUse, n: u16) -> Result<(), Stop>
     }
 }
 
-/// What an instruction without a jump does.
-pub(crate) fn apply(known: &mut Known, instr: Instr) -> Result<(), Stop>
+/// Applies an instruction without a jump. Returns `Undecided` for a jump or a HALT, or if a cell,
+/// slot or timer is missing, and `OutOfMemory` if an allocation fails.
+pub(crate) fn apply(known: &mut Known, instr: Instr) -> Result<(), PassStop>
     ensures { OnOk result (effect instr (plain known.old) ≡ Some (plain known.new)) }
 {
     match instr {
@@ -262,12 +265,12 @@ pub(crate) fn apply(known: &mut Known, instr: Instr) -> Result<(), Stop>
         Instr::Drop => drop_top(known),
         Instr::Widen(_) => Ok(()),
         Instr::Timer(timer_use, n) => use_timer(known, timer_use, n),
-        Instr::Jump(_, _) | Instr::Halt => Err(Stop::Undecided),
+        Instr::Jump(_, _) | Instr::Halt => Err(PassStop::Undecided),
     }
 }
 
-/// Follows an instruction in what the values hang on.
-pub(crate) fn follow(known: &mut Known, instr: Instr) -> Result<(), Stop>
+/// Updates what the values depend on after an instruction.
+pub(crate) fn follow(known: &mut Known, instr: Instr) -> Result<(), PassStop>
     ensures { plain known.new ≡ plain known.old }
 {
     known.traces.step(instr)?;
@@ -277,7 +280,7 @@ pub(crate) fn follow(known: &mut Known, instr: Instr) -> Result<(), Stop>
     Ok(())
 }
 
-// Joins each value with the other at its place.
+// Joins each value with the other at the same index.
 fn join_all(ranges: &mut Vec<Range>, others: &[Range])
     requires { length ranges.old.items ≡ length others.now }
     ensures { ranges.new.items ≡ joined spec.join ranges.old.items others.now }
@@ -287,7 +290,7 @@ fn join_all(ranges: &mut Vec<Range>, others: &[Range])
     }
 }
 
-// Joins each timer with the other at its place.
+// Joins each timer with the other at the same index.
 fn join_timers(timers: &mut Vec<KnownTimer>, others: &[KnownTimer])
     requires { length timers.old.items ≡ length others.now }
     ensures { timers.new.items ≡ joined spec.join_timer timers.old.items others.now }
@@ -297,15 +300,15 @@ fn join_timers(timers: &mut Vec<KnownTimer>, others: &[KnownTimer])
     }
 }
 
-// What is known where one of both is so.
-fn merged(one: Known, other: Known) -> Result<Known, Stop>
+// Joins what is known on two paths.
+fn merged(one: Known, other: Known) -> Result<Known, PassStop>
     ensures { IfOk result (λ both. IsJoin one other both) }
 {
     if one.cells.len() != other.cells.len() || one.slots.len() != other.slots.len() {
-        return Err(Stop::Undecided);
+        return Err(PassStop::Undecided);
     }
     if one.timers.len() != other.timers.len() {
-        return Err(Stop::Undecided);
+        return Err(PassStop::Undecided);
     }
     let Known {
         mut cells,
@@ -327,17 +330,18 @@ fn merged(one: Known, other: Known) -> Result<Known, Stop>
     })
 }
 
-/// A path comes to a place.
+/// Brings a path to a place: joins what is known with what is pending there. Returns `Undecided` if
+/// there is no such place, or if the two differ in their numbers of cells, slots or timers.
 pub(crate) fn arrive(
     pending: &mut Vec<Option<Known>>,
     place: usize,
     known: Known,
-) -> Result<(), Stop>
+) -> Result<(), PassStop>
     ensures size { length pending.new.items ≡ length pending.old.items }
     ensures ok { OnOk result (Arrives pending.old.items pending.new.items place (plain known)) }
 {
     if place >= pending.len() {
-        return Err(Stop::Undecided);
+        return Err(PassStop::Undecided);
     }
     let come = match pending[place].take() {
         None => known,
@@ -347,8 +351,8 @@ pub(crate) fn arrive(
     Ok(())
 }
 
-/// A copy of what is known.
-pub(crate) fn copy_of(alloc: Global, known: &Known) -> Result<Known, Stop>
+/// Returns a copy of what is known.
+pub(crate) fn copy_of(alloc: Global, known: &Known) -> Result<Known, PassStop>
     ensures { IfOk result (λ s. plain s ≡ plain known.now) }
 {
     let cells = Vec::from_slice(alloc, known.cells.as_slice())?;

@@ -7,17 +7,17 @@ ghost use Rattle.il_range.specs.Outcomes.{Carries};
 ghost use Rattle.il_range.specs.Starts.{range_of_point};
 
 use crate::range::{Range, exactly, join};
-use crate::scan::forecast_of;
+use crate::scan::predict;
 use crate::start::{free_ranges, start_ranges};
 use il_image::image::{Image, ImagePoint};
 use il_image::value::Value;
 use il_verify::verify::Verified;
 use std::alloc::{AllocError, Global};
 
-// What still grows after so many rounds is not known.
+// A range that still grows after this number of rounds is not known.
 const EARLY: usize = 8;
 
-// Whether each value of the first is one of the second.
+// Returns whether each value of the first range is one of the second.
 fn is_within(a: Range, b: Range) -> bool
     ensures { result ≡ spec.is_within a b }
 {
@@ -30,7 +30,8 @@ fn is_within(a: Range, b: Range) -> bool
     }
 }
 
-// What stands for each value of both: the first where it does, and what grows late is unknown.
+// Returns a range that includes both: the first if it includes the second; a range that grows late
+// is unknown.
 fn widened(is_late: bool, a: Range, b: Range) -> Range
     ensures { result ≡ spec.widened is_late a b }
 {
@@ -43,7 +44,7 @@ fn widened(is_late: bool, a: Range, b: Range) -> Range
     }
 }
 
-// Whether each range is within the other at its place.
+// Returns whether each range is within the other at the same index.
 fn are_within(ranges: &[Range], others: &[Range]) -> bool
     ensures { result ≡ spec.are_within ranges.now others.now }
 {
@@ -72,7 +73,7 @@ fn widen(ranges: &mut Vec<Range>, left: &[Range], is_late: bool)
     }
 }
 
-// The ranges of the points' first values.
+// Returns the ranges of the points' first values.
 fn point_ranges(alloc: Global, points: &[ImagePoint]) -> Result<Vec<Range>, AllocError>
     ensures { IfOk result (λ ranges. ranges.items ≡ map range_of_point points.now) }
 {
@@ -82,7 +83,7 @@ fn point_ranges(alloc: Global, points: &[ImagePoint]) -> Result<Vec<Range>, Allo
         .collect(alloc)
 }
 
-// The ranges of the first values.
+// Returns the ranges of the slots' first values.
 fn first_ranges(alloc: Global, image: &Image) -> Result<Vec<Range>, AllocError>
     ensures { IfOk result (λ ranges. ranges.items
         ≡ map range_of_point image.now.points ++ map spec.exactly image.now.variables) }
@@ -94,23 +95,23 @@ fn first_ranges(alloc: Global, image: &Image) -> Result<Vec<Range>, AllocError>
     Ok(ranges)
 }
 
-// What a scan leaves from slots in these ranges, whatever its inputs are.
-fn left_by(alloc: Global, image: &Image, memory: &[Range]) -> Result<Vec<Range>, AllocError>
+// Returns the ranges that a scan leaves from slots in these ranges, with any inputs.
+fn ranges_after(alloc: Global, image: &Image, memory: &[Range]) -> Result<Vec<Range>, AllocError>
     ensures size { IfOk result
         (λ left. length left.items ≡ length image.now.points + length image.now.variables) }
     ensures carries { IfOk result (λ left. Carries image.now memory.now left.items) }
 {
     let free = free_ranges(alloc, image.points().len())?;
     let start = start_ranges(alloc, image.points(), free.as_slice(), memory)?;
-    let forecast = forecast_of(alloc, image, &[], start)?;
+    let forecast = predict(alloc, image, &[], start)?;
     Ok(forecast.ranges)
 }
 
 /// Returns ranges that a program's slots never leave between scans, whatever the inputs and the
 /// moments of its scans are: the points, then the variables. They begin at the first values and
-/// grow by what a scan leaves, until it leaves nothing else. A range whose ends still grow after
-/// eight rounds is `Any`. Fails only for want of memory. The time is that of `scan_ranges` for each
-/// round, of which there may be nine more than slots.
+/// grow by what a scan leaves, until a scan leaves nothing else. A range whose ends still grow
+/// after eight rounds is `Any`. Fails only if an allocation fails. The time is that of
+/// `scan_ranges` for each round; there are at most nine more rounds than slots.
 pub fn memory_ranges(alloc: Global, verified: &Verified) -> Result<Vec<Range>, AllocError>
     ensures { IfOk result (λ ranges. IsMemory verified.now ranges.items) }
 {
@@ -118,7 +119,7 @@ pub fn memory_ranges(alloc: Global, verified: &Verified) -> Result<Vec<Range>, A
     let slots = image.points().len() + image.variables().len();
     let mut ranges = first_ranges(alloc, image)?;
     for round in 0..slots.saturating_add(EARLY + 1) {
-        let left = left_by(alloc, image, ranges.as_slice())?;
+        let left = ranges_after(alloc, image, ranges.as_slice())?;
         if are_within(left.as_slice(), ranges.as_slice()) {
             return Ok(ranges);
         }

@@ -1,24 +1,24 @@
-// The pass over the places of the code, in their order.
+// The pass over the places of the code, in order.
 ghost use Rattle.std.specs.Prelude.{◌≡◌, ◌+◌, ◌<◌, [], List, length, slice_get, slice_set, IfOk, OnOk, Some, None, Vec};
 ghost use Rattle.std.specs.Global.{Global};
 ghost use Rattle.il_range.specs.Outcomes.{Predicts};
 ghost use Rattle.il_range.specs.Pending.{Arrives, Branches, Moves, Visits, plain};
 
 use crate::known::{Known, apply, arrive, copy_of, follow, top_of};
-use crate::range::{Range, negated};
-use crate::stop::Stop;
+use crate::range::{Range, not};
+use crate::stop::PassStop;
 use il_image::instr::Instr;
 use il_image::opcode::When;
 use il_image::read::instr_at;
 use std::alloc::Global;
 
-// An instruction without a jump.
+// Applies an instruction without a jump, and brings the result to the next instruction.
 fn step(
     instr: Instr,
     next: usize,
     here: Known,
     pending: &mut Vec<Option<Known>>,
-) -> Result<(), Stop>
+) -> Result<(), PassStop>
     ensures size { length pending.new.items ≡ length pending.old.items }
     ensures ok { OnOk result (Moves instr next (plain here) pending.old.items pending.new.items) }
 {
@@ -28,24 +28,24 @@ fn step(
     arrive(pending, next, here)
 }
 
-// A jump so many octets past the next instruction.
+// Brings what is known to the place `distance` octets past the next instruction.
 fn jump_past(
     distance: u16,
     next: usize,
     here: Known,
     pending: &mut Vec<Option<Known>>,
-) -> Result<(), Stop>
+) -> Result<(), PassStop>
     ensures size { length pending.new.items ≡ length pending.old.items }
     ensures ok { OnOk result
         (Arrives pending.old.items pending.new.items (next + distance) (plain here)) }
 {
     let Some(to) = next.checked_add(usize::from(distance)) else {
-        return Err(Stop::Undecided);
+        return Err(PassStop::Undecided);
     };
     arrive(pending, to, here)
 }
 
-// Jumps where this is so.
+// Brings what is known to the successors of a jump that is taken if `jumps` is TRUE.
 fn branch(
     alloc: Global,
     jumps: Range,
@@ -53,7 +53,7 @@ fn branch(
     next: usize,
     here: Known,
     pending: &mut Vec<Option<Known>>,
-) -> Result<(), Stop>
+) -> Result<(), PassStop>
     ensures size { length pending.new.items ≡ length pending.old.items }
     ensures ok { OnOk result
         (Branches jumps distance next (plain here) pending.old.items pending.new.items) }
@@ -69,7 +69,7 @@ fn branch(
     }
 }
 
-// A jump, which looks at the top and leaves it.
+// Applies a jump, which reads the top and leaves it.
 fn jump(
     alloc: Global,
     when: When,
@@ -77,7 +77,7 @@ fn jump(
     next: usize,
     here: Known,
     pending: &mut Vec<Option<Known>>,
-) -> Result<(), Stop>
+) -> Result<(), PassStop>
     ensures size { length pending.new.items ≡ length pending.old.items }
     ensures ok { OnOk result
         (Moves (Instr.Jump when distance) next (plain here) pending.old.items pending.new.items) }
@@ -91,12 +91,12 @@ fn jump(
         }
         When::IfFalse => {
             let top = top_of(&mut here)?;
-            branch(alloc, negated(top), distance, next, here, pending)
+            branch(alloc, not(top), distance, next, here, pending)
         }
     }
 }
 
-// What is pending at a place, which no longer is.
+// Removes what is pending at a place, and returns it.
 fn taken(pending: &mut Vec<Option<Known>>, place: usize) -> Option<Known>
     requires { place < length pending.old.items }
     ensures value { slice_get pending.old.items place ≡ Some result }
@@ -106,14 +106,14 @@ fn taken(pending: &mut Vec<Option<Known>>, place: usize) -> Option<Known>
     pending[place].take()
 }
 
-// The instruction at a place, from what is pending there. The end of the code stands for the end
-// of a run.
+// Applies the instruction at a place to what is pending there. The end of the code represents the
+// end of a run.
 fn visit(
     alloc: Global,
     code: &[u8],
     place: usize,
     pending: &mut Vec<Option<Known>>,
-) -> Result<(), Stop>
+) -> Result<(), PassStop>
     requires { place < length pending.old.items }
     ensures size { length pending.new.items ≡ length pending.old.items }
     ensures ok { OnOk result (Visits code.now place pending.old.items pending.new.items) }
@@ -122,7 +122,7 @@ fn visit(
         return Ok(());
     };
     let Some((instr, next)) = instr_at(code, place) else {
-        return Err(Stop::Undecided);
+        return Err(PassStop::Undecided);
     };
     match instr {
         Instr::Halt => arrive(pending, code.len(), here),
@@ -131,8 +131,8 @@ fn visit(
     }
 }
 
-// So many places where nothing is pending.
-fn none_pending(alloc: Global, count: usize) -> Result<Vec<Option<Known>>, Stop>
+// Returns `count` places at which nothing is pending.
+fn none_pending(alloc: Global, count: usize) -> Result<Vec<Option<Known>>, PassStop>
     ensures { IfOk result (λ v. length v.items ≡ count) }
 {
     let mut pending = Vec::new(alloc);
@@ -143,8 +143,9 @@ fn none_pending(alloc: Global, count: usize) -> Result<Vec<Option<Known>>, Stop>
 }
 
 /// Returns what is known at the end of a run of the code, at any moment, from what is known at its
-/// start.
-pub(crate) fn outcome(alloc: Global, code: &[u8], first: Known) -> Result<Known, Stop>
+/// start. Returns `Undecided` if the code is not that of a verified image, and `OutOfMemory` if an
+/// allocation fails.
+pub(crate) fn outcome(alloc: Global, code: &[u8], first: Known) -> Result<Known, PassStop>
     requires { first.cells.items ≡ [] }
     ensures { IfOk result
         (λ end. Predicts code.now first.timers.items first.slots.items end.timers.items
@@ -157,6 +158,6 @@ pub(crate) fn outcome(alloc: Global, code: &[u8], first: Known) -> Result<Known,
     }
     match taken(&mut pending, code.len()) {
         Some(end) => Ok(end),
-        None => Err(Stop::Undecided),
+        None => Err(PassStop::Undecided),
     }
 }

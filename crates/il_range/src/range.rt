@@ -17,12 +17,12 @@ pub enum Range {
     Yes,
     /// It is FALSE or TRUE.
     Either,
-    /// Its number is between these two, both ends too. The number of FALSE is 0 and of TRUE 1, and
-    /// of a TIME it is its milliseconds.
+    /// Its number is between these two, both ends included. FALSE has the number 0 and TRUE 1, and
+    /// a TIME has its milliseconds.
     Between(i64, i64),
 }
 
-/// The range of this value alone.
+/// Returns the range of this value alone.
 pub(crate) fn exactly(value: Value) -> Range
     ensures { result ≡ spec.exactly value }
 {
@@ -45,7 +45,7 @@ fn upper(a: i64, b: i64) -> i64
     if a <= b { b } else { a }
 }
 
-/// What stands for each value of both.
+/// Returns a range that includes both.
 pub(crate) fn join(a: Range, b: Range) -> Range
     ensures { result ≡ spec.join a b }
 {
@@ -59,8 +59,8 @@ pub(crate) fn join(a: Range, b: Range) -> Range
     }
 }
 
-/// NOT.
-pub(crate) fn negated(a: Range) -> Range
+/// Returns NOT of a range.
+pub(crate) fn not(a: Range) -> Range
     ensures { result ≡ spec.negated a }
 {
     match a {
@@ -70,7 +70,7 @@ pub(crate) fn negated(a: Range) -> Range
     }
 }
 
-/// AND.
+/// Returns AND of two ranges.
 pub(crate) fn both(a: Range, b: Range) -> Range
     ensures { result ≡ spec.both a b }
 {
@@ -81,14 +81,14 @@ pub(crate) fn both(a: Range, b: Range) -> Range
     }
 }
 
-/// OR.
+/// Returns OR of two ranges.
 pub(crate) fn either(a: Range, b: Range) -> Range
     ensures { result ≡ spec.either a b }
 {
-    negated(both(negated(a), negated(b)))
+    not(both(not(a), not(b)))
 }
 
-// XOR.
+// Returns XOR of two ranges.
 fn one_of(a: Range, b: Range) -> Range
     ensures { result ≡ spec.one_of a b }
 {
@@ -101,8 +101,8 @@ fn one_of(a: Range, b: Range) -> Range
     }
 }
 
-/// A connective of two BOOLs (IEC 61131-3:2003, table 26).
-pub(crate) fn connected(connective: Connective, a: Range, b: Range) -> Range
+/// Returns a connective of the ranges of two BOOLs (IEC 61131-3:2003, table 26).
+pub(crate) fn connect_ranges(connective: Connective, a: Range, b: Range) -> Range
     ensures { result ≡ spec.connected connective a b }
 {
     match connective {
@@ -112,7 +112,7 @@ pub(crate) fn connected(connective: Connective, a: Range, b: Range) -> Range
     }
 }
 
-// The least number, if it is known.
+// Returns the least number, if it is known.
 fn low_of(a: Range) -> Option<i64>
     ensures { result ≡ spec.low_of a }
 {
@@ -124,7 +124,7 @@ fn low_of(a: Range) -> Option<i64>
     }
 }
 
-// The greatest number, if it is known.
+// Returns the greatest number, if it is known.
 fn high_of(a: Range) -> Option<i64>
     ensures { result ≡ spec.high_of a }
 {
@@ -136,7 +136,7 @@ fn high_of(a: Range) -> Option<i64>
     }
 }
 
-// Whether each number of the one is less than each of the other.
+// Returns whether each number of `a` is known to be less than each of `b`.
 fn surely_lt(a: Range, b: Range) -> bool
     ensures { result ≡ spec.surely_lt a b }
 {
@@ -146,7 +146,7 @@ fn surely_lt(a: Range, b: Range) -> bool
     }
 }
 
-// Whether no number of the one is greater than one of the other.
+// Returns whether no number of `a` is greater than any of `b`, as far as is known.
 fn surely_le(a: Range, b: Range) -> bool
     ensures { result ≡ spec.surely_le a b }
 {
@@ -156,9 +156,9 @@ fn surely_le(a: Range, b: Range) -> bool
     }
 }
 
-// What is known of an answer.
-fn told(yes: bool, no: bool) -> Range
-    ensures { result ≡ spec.told yes no }
+// Returns the range of a BOOL that is known to be TRUE, known to be FALSE, or neither.
+fn bool_range(yes: bool, no: bool) -> Range
+    ensures { result ≡ spec.bool_range yes no }
 {
     if yes {
         Range::Yes
@@ -169,8 +169,8 @@ fn told(yes: bool, no: bool) -> Range
     }
 }
 
-/// A comparison (IEC 61131-3:2003, table 28).
-pub(crate) fn compared(comparison: Comparison, a: Range, b: Range) -> Range
+/// Returns the range of a comparison's result (IEC 61131-3:2003, table 28).
+pub(crate) fn compare_ranges(comparison: Comparison, a: Range, b: Range) -> Range
     ensures { result ≡ spec.compared comparison a b }
 {
     let lt = surely_lt(a, b);
@@ -178,16 +178,16 @@ pub(crate) fn compared(comparison: Comparison, a: Range, b: Range) -> Range
     let le = surely_le(a, b);
     let ge = surely_le(b, a);
     match comparison {
-        Comparison::Lt => told(lt, ge),
-        Comparison::Gt => told(gt, le),
-        Comparison::Le => told(le, gt),
-        Comparison::Ge => told(ge, lt),
-        Comparison::Eq => told(le && ge, lt || gt),
-        Comparison::Ne => told(lt || gt, le && ge),
+        Comparison::Lt => bool_range(lt, ge),
+        Comparison::Gt => bool_range(gt, le),
+        Comparison::Le => bool_range(le, gt),
+        Comparison::Ge => bool_range(ge, lt),
+        Comparison::Eq => bool_range(le && ge, lt || gt),
+        Comparison::Ne => bool_range(lt || gt, le && ge),
     }
 }
 
-// The least number of a width.
+// Returns the least number of a width.
 fn least_of(width: Width) -> i64
     ensures { result ≡ spec.least_of width }
 {
@@ -198,7 +198,7 @@ fn least_of(width: Width) -> i64
     }
 }
 
-// The greatest number of a width.
+// Returns the greatest number of a width.
 fn greatest_of(width: Width) -> i64
     ensures { result ≡ spec.greatest_of width }
 {
@@ -209,15 +209,16 @@ fn greatest_of(width: Width) -> i64
     }
 }
 
-// Whether the number is one of the width.
+// Returns whether the number is one of the width.
 fn fits_in(width: Width, number: i64) -> bool
     ensures { result ≡ spec.fits_in width number }
 {
     least_of(width) <= number && number <= greatest_of(width)
 }
 
-// What numbers between these two wrap to.
-fn wrapped(width: Width, low: Option<i64>, high: Option<i64>) -> Range
+// Returns the range of the numbers between these two, wrapped to the width; `None` is a number that
+// does not fit into 64 bits.
+fn wrap_range(width: Width, low: Option<i64>, high: Option<i64>) -> Range
     ensures { result ≡ spec.wrapped_of width low high }
 {
     match (low, high) {
@@ -228,23 +229,29 @@ fn wrapped(width: Width, low: Option<i64>, high: Option<i64>) -> Range
     }
 }
 
-// The sums of numbers of a to b and of c to d.
+// Returns the range of the sums of numbers of a to b and of c to d.
 fn sums(width: Width, a: i64, b: i64, c: i64, d: i64) -> Range
-    ensures { result ≡ spec.wrapped width (a +ℤ c) (b +ℤ d) }
+    ensures { result ≡ spec.wrap_range width (a +ℤ c) (b +ℤ d) }
 {
-    wrapped(width, a.checked_add(c), b.checked_add(d))
+    wrap_range(width, a.checked_add(c), b.checked_add(d))
 }
 
-// The differences of numbers of a to b and of c to d.
+// Returns the range of the differences of numbers of a to b and of c to d.
 fn differences(width: Width, a: i64, b: i64, c: i64, d: i64) -> Range
-    ensures { result ≡ spec.wrapped width (a -ℤ d) (b -ℤ c) }
+    ensures { result ≡ spec.wrap_range width (a -ℤ d) (b -ℤ c) }
 {
-    wrapped(width, a.checked_sub(d), b.checked_sub(c))
+    wrap_range(width, a.checked_sub(d), b.checked_sub(c))
 }
 
-/// An arithmetic operation (IEC 61131-3:2003, table 24): a sum or a difference that can't wrap
-/// stays between its ends.
-pub(crate) fn computed(operation: ArithmeticOperation, width: Width, a: Range, b: Range) -> Range
+/// Returns the range of an arithmetic operation's result (IEC 61131-3:2003, table 24). A sum or a
+/// difference that can't wrap is between its ends; any other result may be each number of the
+/// width.
+pub(crate) fn compute_range(
+    operation: ArithmeticOperation,
+    width: Width,
+    a: Range,
+    b: Range,
+) -> Range
     ensures { result ≡ spec.computed operation width a b }
 {
     match (operation, a, b) {

@@ -4,31 +4,31 @@ ghost use Rattle.il_range.specs.Foretold.{Foretells};
 ghost use Rattle.il_range.specs.Outcomes.{Tells};
 ghost use Rattle.il_range.specs.Starts as spec;
 
+use crate::dependencies::Dependencies;
 use crate::known::Known;
 use crate::pass::outcome;
 use crate::range::Range;
-use crate::sources::Sources;
+use crate::sources::SlotSources;
 use crate::start::{free_ranges, start_ranges, timers_of};
-use crate::stop::Stop;
+use crate::stop::PassStop;
 use crate::timer::KnownTimer;
-use crate::traces::Traces;
 use il_image::image::Image;
 use il_verify::verify::Verified;
 use std::alloc::{AllocError, Global};
 
 /// What a scan may leave in the slots.
 #[derive(Drop)]
-pub struct Forecast {
+pub struct ScanPrediction {
     /// The range of each slot: the points, then the variables.
     pub ranges: Vec<Range>,
-    /// For each timer, if it is known: less than this many milliseconds have passed since its delay
-    /// began; 0 where no delay runs.
+    /// For each timer, if it is known: less than this number of milliseconds has passed since its
+    /// delay began; 0 if no delay runs.
     pub limits: Vec<Option<u32>>,
-    /// What each slot's range hangs on.
-    pub sources: Sources,
+    /// What each slot's range depends on.
+    pub sources: SlotSources,
 }
 
-// What is known before the first instruction.
+// Returns what is known before the first instruction.
 fn first_known(
     alloc: Global,
     image: &Image,
@@ -41,7 +41,7 @@ fn first_known(
         (λ first. first.timers.items ≡ spec.known_of_kinds image.now.timers limits.now) }
 {
     let timers = timers_of(alloc, image.timers(), limits)?;
-    let traces = Traces::new(alloc, slots.as_slice(), timers.len())?;
+    let traces = Dependencies::new(alloc, slots.as_slice(), timers.len())?;
     Ok(Known {
         cells: Vec::new(alloc),
         slots,
@@ -50,24 +50,24 @@ fn first_known(
     })
 }
 
-// Nothing is known of what a scan leaves.
-fn unknown(alloc: Global, image: &Image) -> Result<Forecast, AllocError>
+// Returns a prediction in which nothing is known.
+fn unknown(alloc: Global, image: &Image) -> Result<ScanPrediction, AllocError>
     ensures size { IfOk result
         (λ f. length f.ranges.items ≡ length image.now.points + length image.now.variables) }
     ensures tells { (start : List Range) (limits : List (Option ℕ))
         → IfOk result (λ f. Tells image.now start limits f.limits.items f.ranges.items) }
 {
     let ranges = free_ranges(alloc, image.points().len() + image.variables().len())?;
-    Ok(Forecast {
+    Ok(ScanPrediction {
         ranges,
         limits: Vec::new(alloc),
-        sources: Sources {
+        sources: SlotSources {
             sets: Vec::new(alloc),
         },
     })
 }
 
-// The limits of timers.
+// Returns the limits of timers.
 fn limits_of(alloc: Global, timers: &[KnownTimer]) -> Result<Vec<Option<u32>>, AllocError>
     ensures { IfOk result (λ limits. limits.items ≡ map (λ u. u.below) timers.now) }
 {
@@ -78,8 +78,8 @@ fn limits_of(alloc: Global, timers: &[KnownTimer]) -> Result<Vec<Option<u32>>, A
     Ok(limits)
 }
 
-// What is known at the end of a pass.
-fn forecast_at(alloc: Global, end: Known) -> Result<Forecast, AllocError>
+// Returns the prediction from what is known at the end of a pass.
+fn prediction_at(alloc: Global, end: Known) -> Result<ScanPrediction, AllocError>
     ensures { IfOk result (λ f. (f.ranges ≡ end.slots)
         × (f.limits.items ≡ map (λ u. u.below) end.timers.items)) }
 {
@@ -88,21 +88,21 @@ fn forecast_at(alloc: Global, end: Known) -> Result<Forecast, AllocError>
     let traces = end.traces;
     let mut sets = traces.slots;
     sets.extend_from_slice(traces.timers.as_slice())?;
-    Ok(Forecast {
+    Ok(ScanPrediction {
         ranges,
         limits,
-        sources: Sources { sets },
+        sources: SlotSources { sets },
     })
 }
 
-/// What a scan may leave that starts in these ranges: by the pass, or where that does not tell
-/// nothing.
-pub(crate) fn forecast_of(
+/// Predicts a scan that starts in these ranges: by the pass, or, if the pass does not decide, with
+/// nothing known. Fails only if an allocation fails.
+pub(crate) fn predict(
     alloc: Global,
     image: &Image,
     limits: &[Option<u32>],
     start: Vec<Range>,
-) -> Result<Forecast, AllocError>
+) -> Result<ScanPrediction, AllocError>
     ensures size { IfOk result
         (λ f. length f.ranges.items ≡ length image.now.points + length image.now.variables) }
     ensures tells { IfOk result
@@ -111,29 +111,28 @@ pub(crate) fn forecast_of(
     let first = first_known(alloc, image, limits, start)?;
     match outcome(alloc, image.code(), first) {
         Ok(end) if end.slots.len() == image.points().len() + image.variables().len() => {
-            forecast_at(alloc, end)
+            prediction_at(alloc, end)
         }
-        Err(Stop::OutOfMemory) => Err(AllocError),
+        Err(PassStop::OutOfMemory) => Err(AllocError),
         _ => unknown(alloc, image),
     }
 }
 
-/// Returns what a scan of a program may leave, in each state that its scans can reach where the
-/// slots are in `memory`, at each moment: one range for each slot, the points, then the variables,
-/// as `memory_ranges` gives them. The inputs are in the ranges `given`: one for each read-only
-/// point, in the image's order. The delays of the first timers may have limits: less than so many
-/// milliseconds have passed since each began, at the moment of the scan. A limit says nothing of a
-/// TOF whose IN is TRUE: it has no delay yet, so such a start is none that the result speaks of. A
-/// range is as wide as the method needs, not always the least: `Any` or `Either` says that the
-/// value is not known. Fails only for want of memory. The time is proportional to the length of the
-/// code, and for each jump to the number of slots.
+/// Predicts what a scan of a program may leave, from each state that its scans can reach with slots
+/// in `memory`, at each moment: one range for each slot, the points, then the variables, in the
+/// order of `memory_ranges`. The inputs are in the ranges `given`: one for each read-only point, in
+/// the image's order. The delays of the first timers may have limits: less than this number of
+/// milliseconds has passed since each began, at the moment of the scan. A TOF whose IN is TRUE has
+/// no delay yet, and is within each limit. A range may be wider than necessary: `Any` or `Either`
+/// means that the value is not known. Fails only if an allocation fails. The time is proportional
+/// to the length of the code, and for each jump to the number of slots.
 pub fn scan_ranges(
     alloc: Global,
     verified: &Verified,
     memory: &[Range],
     limits: &[Option<u32>],
     given: &[Range],
-) -> Result<Forecast, AllocError>
+) -> Result<ScanPrediction, AllocError>
     ensures size { IfOk result
         (λ f. length f.ranges.items ≡ length verified.now.points + length verified.now.variables) }
     ensures foretells { IfOk result (λ f. Foretells verified.now memory.now limits.now given.now
@@ -141,5 +140,5 @@ pub fn scan_ranges(
 {
     let image = verified.image();
     let start = start_ranges(alloc, image.points(), given, memory)?;
-    forecast_of(alloc, image, limits, start)
+    predict(alloc, image, limits, start)
 }

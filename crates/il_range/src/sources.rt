@@ -1,19 +1,20 @@
-// What the ranges of slots hang on. No clause speaks of it: it says where a case is best split, and
-// no answer is read off it.
+// What the ranges of slots depend on. No clause states anything of it: it is a hint where to split
+// a case, and no answer is derived from it.
 
-// The most slots and timers of a verified image.
+// The most slots of a verified image.
 const SLOTS: usize = 512;
 
+// The most timers of a verified image.
 const TIMERS: usize = 64;
 
-/// A set of sources: slots and timers, as a scan finds them.
+/// A set of sources: slots and timers at the start of a scan.
 #[derive(Clone, Copy, Debug, PartialEq, Eq)]
 pub(crate) struct SourceSet {
     /// A bit for each slot, and then for each timer.
     words: [u64; 9],
 }
 
-// The set of the source with this number.
+// Returns the set of the source with this number, or the empty set if there is no such source.
 fn of(number: usize) -> SourceSet {
     let mut set = SourceSet::new();
     if number < SLOTS + TIMERS {
@@ -55,7 +56,7 @@ impl SourceSet {
         both
     }
 
-    // Whether the sets have a source in common.
+    // Returns whether the sets have a source in common.
     fn meets(self, other: SourceSet) -> bool {
         for k in 0..9 {
             if self.words[k] & other.words[k] != 0 {
@@ -66,28 +67,28 @@ impl SourceSet {
     }
 }
 
-/// What the range of each slot hangs on after a scan, and then what is known of each timer: a timer
-/// counts as the slot behind the last one. It may name more than it has to, and it names nothing
-/// for a range of one value.
+/// What the range of each slot depends on after a scan, and then what each timer depends on: a
+/// timer counts as a slot after the last one. It may name more sources than necessary, and names
+/// none for a range of one value.
 #[derive(Drop)]
-pub struct Sources {
-    /// What each slot's range hangs on, and then each timer.
+pub struct SlotSources {
+    /// What each slot's range depends on, and then each timer.
     pub(crate) sets: Vec<SourceSet>,
 }
 
-impl Sources {
+impl SlotSources {
     fn meets(&self, slot: usize, sources: SourceSet) -> bool {
         slot < self.sets.len() && self.sets[slot].meets(sources)
     }
 
-    /// Whether the range of a slot hangs on what a slot, another or itself, holds at the scan's
-    /// start.
-    pub fn on_slot(&self, slot: usize, other: usize) -> bool {
+    /// Returns whether the range of a slot depends on the value of a slot, another or itself, at
+    /// the start of the scan.
+    pub fn depends_on_slot(&self, slot: usize, other: usize) -> bool {
         self.meets(slot, SourceSet::of_slot(other))
     }
 
-    /// Whether the range of a slot hangs on a timer as the scan finds it.
-    pub fn on_timer(&self, slot: usize, timer: usize) -> bool {
+    /// Returns whether the range of a slot depends on a timer's state at the start of the scan.
+    pub fn depends_on_timer(&self, slot: usize, timer: usize) -> bool {
         self.meets(slot, SourceSet::of_timer(timer))
     }
 }

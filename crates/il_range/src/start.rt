@@ -10,7 +10,7 @@ use bay_base::types::TimerKind;
 use il_image::image::ImagePoint;
 use std::alloc::{AllocError, Global};
 
-/// Returns so many ranges of which nothing is known.
+/// Returns `count` ranges of which nothing is known. Fails only if an allocation fails.
 pub(crate) fn free_ranges(alloc: Global, count: usize) -> Result<Vec<Range>, AllocError>
     ensures { IfOk result (λ ranges. ranges.items ≡ replicate count Any) }
 {
@@ -21,7 +21,7 @@ pub(crate) fn free_ranges(alloc: Global, count: usize) -> Result<Vec<Range>, All
     Ok(ranges)
 }
 
-// What is known of a point's slot: what is given, where the point may only be read.
+// Returns what is known of a point's slot: the given range, if the point may only be read.
 fn range_at(point: &ImagePoint, given: &[Range], known: Range) -> Range
     ensures { result ≡ if point.now.writable then known else first_input given.now known }
 {
@@ -31,7 +31,7 @@ fn range_at(point: &ImagePoint, given: &[Range], known: Range) -> Range
     }
 }
 
-// What is given behind a point.
+// Returns the given ranges after that of a point.
 fn behind<'a>(point: &ImagePoint, given: &'a [Range]) -> &'a [Range]
     ensures { result.now ≡ if point.now.writable then given.now else drop 1 given.now }
 {
@@ -41,8 +41,8 @@ fn behind<'a>(point: &ImagePoint, given: &'a [Range]) -> &'a [Range]
     }
 }
 
-/// Returns what is known of the slots at the start of a scan, where this is known of the memory and
-/// of the inputs.
+/// Returns what is known of the slots at the start of a scan, given the ranges of the memory and of
+/// the inputs. Fails only if an allocation fails.
 pub(crate) fn start_ranges(
     alloc: Global,
     points: &[ImagePoint],
@@ -69,7 +69,7 @@ pub(crate) fn start_ranges(
     Ok(ranges)
 }
 
-// What is known of a timer of this kind whose delay may have a limit.
+// Returns what is known of a timer of this kind, whose delay may have a limit.
 fn known_of_kind(kind: TimerKind, below: Option<u32>) -> KnownTimer
     ensures { result ≡ spec.known_of_kind kind below }
 {
@@ -83,7 +83,7 @@ fn known_of_kind(kind: TimerKind, below: Option<u32>) -> KnownTimer
     }
 }
 
-// The first limit, if one is given.
+// Returns the first limit, if there is one.
 fn first_limit(limits: &[Option<u32>]) -> Option<u32>
     ensures { result ≡ spec.first_limit limits.now }
 {
@@ -93,7 +93,7 @@ fn first_limit(limits: &[Option<u32>]) -> Option<u32>
     }
 }
 
-// The limits behind the first.
+// Returns the limits after the first.
 fn behind_first(limits: &[Option<u32>]) -> &[Option<u32>]
     ensures { result.now ≡ drop 1 limits.now }
 {
@@ -103,8 +103,8 @@ fn behind_first(limits: &[Option<u32>]) -> &[Option<u32>]
     }
 }
 
-/// Returns what is known of timers of these kinds, where the delays of the first ones may have
-/// limits.
+/// Returns what is known of timers of these kinds; the delays of the first ones may have limits.
+/// Fails only if an allocation fails.
 pub(crate) fn timers_of(
     alloc: Global,
     kinds: &[TimerKind],

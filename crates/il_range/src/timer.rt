@@ -18,12 +18,12 @@ pub(crate) struct KnownTimer {
     pub output: Range,
     /// Its ET.
     pub elapsed: Range,
-    /// Less than this many milliseconds have passed since its delay began, if that is known; below
-    /// 0 no delay runs.
+    /// Less than this number of milliseconds has passed since its delay began, if that is known;
+    /// with 0, no delay runs.
     pub below: Option<u32>,
 }
 
-// The kind, where it is one.
+// Returns the kind, if both have the same known kind.
 fn join_kind(a: Option<TimerKind>, b: Option<TimerKind>) -> Option<TimerKind>
     ensures { result ≡ spec.join_kind a b }
 {
@@ -34,7 +34,7 @@ fn join_kind(a: Option<TimerKind>, b: Option<TimerKind>) -> Option<TimerKind>
     }
 }
 
-// The limit, where both have one.
+// Returns the greater limit, if both have one.
 fn join_below(a: Option<u32>, b: Option<u32>) -> Option<u32>
     ensures { result ≡ spec.join_below a b }
 {
@@ -44,7 +44,7 @@ fn join_below(a: Option<u32>, b: Option<u32>) -> Option<u32>
     }
 }
 
-/// What stands for each timer of both.
+/// Returns what is known of a timer that is one of either.
 pub(crate) fn join_timer(a: KnownTimer, b: KnownTimer) -> KnownTimer
     ensures { result ≡ spec.join_timer a b }
 {
@@ -58,7 +58,7 @@ pub(crate) fn join_timer(a: KnownTimer, b: KnownTimer) -> KnownTimer
     }
 }
 
-// The limit of the delay after a call of a timer of the kind with this IN.
+// Returns the limit of the delay after a call of a timer of the kind with this IN.
 fn below_after(kind: Option<TimerKind>, input: Range, below: Option<u32>) -> Option<u32>
     ensures { result ≡ spec.below_after kind input below }
 {
@@ -69,7 +69,7 @@ fn below_after(kind: Option<TimerKind>, input: Range, below: Option<u32>) -> Opt
     }
 }
 
-// Whether a delay that has run for less than this has run for less than PT.
+// Returns whether a delay that has run for less than this has run for less than PT.
 fn is_short(below: Option<u32>, preset: Range) -> bool
     ensures { result ≡ spec.is_short below preset }
 {
@@ -79,7 +79,7 @@ fn is_short(below: Option<u32>, preset: Range) -> bool
     }
 }
 
-// Q after a call of a timer of the kind with this IN, whose delay may be short of its PT.
+// Returns Q after a call of a timer of the kind with this IN, whose delay may be short of its PT.
 fn output_after(kind: Option<TimerKind>, input: Range, short: bool) -> Range
     ensures { result ≡ spec.output_after kind input short }
 {
@@ -91,7 +91,7 @@ fn output_after(kind: Option<TimerKind>, input: Range, short: bool) -> Range
     }
 }
 
-// What is at most PT, where that is known.
+// Returns the range of the numbers that are at most PT, if PT is known.
 fn up_to(preset: Range) -> Range
     ensures { result ≡ spec.up_to preset }
 {
@@ -101,7 +101,7 @@ fn up_to(preset: Range) -> Range
     }
 }
 
-// ET after a call of a timer of the kind with this IN and this PT.
+// Returns ET after a call of a timer of the kind with this IN and this PT.
 fn elapsed_after(kind: Option<TimerKind>, input: Range, preset: Range) -> Range
     ensures { result ≡ spec.elapsed_after kind input preset }
 {
@@ -112,8 +112,8 @@ fn elapsed_after(kind: Option<TimerKind>, input: Range, preset: Range) -> Range
     }
 }
 
-/// A timer after a call.
-pub(crate) fn called(timer: KnownTimer) -> KnownTimer
+/// Returns what is known of a timer after a call.
+pub(crate) fn timer_after_call(timer: KnownTimer) -> KnownTimer
     ensures { result ≡ spec.called timer }
 {
     let below = below_after(timer.kind, timer.input, timer.below);

@@ -17,7 +17,7 @@ use Rattle.il_image.specs.Machine.{StepResult, Traps, MissingSlot, MissingTimer}
 use Rattle.il_image.specs.Timers.{after_call, elapsed_of, first_state, phase_after}
 use Rattle.il_image.specs.Values.{number_of, type_of}
 use Rattle.il_image.proofs.KindLemmas.{kind-above}
-use Rattle.il_scan.specs.Standing.{Fit, IsTimer}
+use Rattle.il_scan.specs.MachineStates.{Fit, IsTimer}
 use Rattle.il_scan.specs.Words.{AreTyped, slot_at, words_of}
 use Rattle.il_scan.specs.Working.{timer_at}
 
@@ -103,7 +103,8 @@ pub with-slot-is : (slots : List Value) (n : ℕ) (v : Value) (act_on : Value �
 with-slot-is slots n v act_on e =
     ap (λ (o : Option Value). elim o [ None ↦ Traps MissingSlot | Some u ↦ act_on u ]) e
 
-pub with-timer-is : (timers : List TimerState) (n : ℕ) (t : TimerState) (act_on : TimerState → StepResult)
+pub with-timer-is : (timers : List TimerState) (n : ℕ) (t : TimerState)
+    (act_on : TimerState → StepResult)
     → slice_get timers n ≡ Some t
     → elim (slice_get timers n) [ None ↦ Traps MissingTimer | Some u ↦ act_on u ] ≡ act_on t
 with-timer-is timers n t act_on e =

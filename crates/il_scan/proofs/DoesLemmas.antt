@@ -27,12 +27,12 @@ use Rattle.il_image.specs.Arithmetic.{DividesBy, comparison_holds, computation_o
 use Rattle.il_image.specs.Effects.{below, kind_of}
 use Rattle.il_image.specs.Images.{IsValue}
 use Rattle.il_image.specs.Kinds.{HasKind}
-use Rattle.il_image.specs.Machine.{State, StepResult, Goes, Traps, WrongKind, ZeroDivisor, act, divides, goes, is_comparable, pushes, stores, value_of_width, most_cells}
+use Rattle.il_image.specs.Machine.{State, StepResult, Goes, Traps, WrongKind, ZeroDivisor, act, divides, continues_at, is_comparable, pushes, stores, value_of_width, most_cells}
 use Rattle.il_image.specs.Machine as machine
 use Rattle.il_image.specs.Timers.{after_call}
 use Rattle.il_image.specs.Values.{number_of, type_of}
 use Rattle.il_image.proofs.KindLemmas.{same-self}
-use Rattle.il_scan.specs.Standing.{Fit, IsTimer, Typed}
+use Rattle.il_scan.specs.MachineStates.{Fit, IsTimer, Typed}
 use Rattle.il_scan.specs.Words.{slot_at, words_of}
 use Rattle.il_scan.specs.Working.{IsReady, Words, leads, timer_at, words, words_after}
 use Rattle.il_scan.proofs.ValueLemmas.{combined-is, kind-there, number_in, span-value, span-within, truth-there, truth-value, truth-word, type-in, widened-long, widened-short, wrapped-value}
@@ -100,12 +100,12 @@ module _ (types : List ElementaryType) (count now next p : ℕ) (cells slots : L
       → words_after now i (words_for cells slots timers) ≡ words_for (v ∷ cells) slots timers
       → HasKind v k × IsValue v → length (k ∷ kinds) ≤ most_cells
       → Does types count now i next p cells slots timers (k ∷ kinds)
-  put {kinds} i v k fit ready goes leads_to words_are good room =
+  put {kinds} i v k fit ready continues_at leads_to words_are good room =
       let d = depth_of cells kinds fit in
       let size = fit-length cells kinds fit in
       let e : nat_lt (length cells) most_cells ≡ true =
       lt-ltb (length cells) most_cells (omega arith) in
-      on-stack next (v ∷ cells) (ready (omega arith)) (goes ∙ rw e refl) leads_to words_are
+      on-stack next (v ∷ cells) (ready (omega arith)) (continues_at ∙ rw e refl) leads_to words_are
       (good, fit) typed
 
   -- A slot takes a value of its type.
@@ -116,14 +116,14 @@ module _ (types : List ElementaryType) (count now next p : ℕ) (cells slots : L
       → words_after now i (words_for cells slots timers)
       ≡ words (words_of cells) (slice_set (words_of slots) n (number_of v)) timers
       → Does types count now i next p cells slots timers kinds
-  put-slot i n t v e is good fit ready goes leads_to words_are =
+  put-slot i n t v e is good fit ready continues_at leads_to words_are =
       record {
         ready = ready;
         to = next;
         new_cells = cells;
         new_slots = slice_set slots n v;
         new_timers = timers;
-        goes_on = goes;
+        goes_on = continues_at;
         leads_to = leads_to;
         words_are = words_are
             ∙ ap (λ (w : List ℤ). words (words_of cells) w timers)
@@ -147,7 +147,7 @@ module _ (types : List ElementaryType) (count now next p : ℕ) (cells slots : L
       ≡ words_for new slots (slice_set timers n (make (timer_at timers n))) → Fit new kinds
       → IsTimer (make (timer_at timers n))
       → Does types count now i next p cells slots timers kinds
-  change i n make new below ready goes leads_to words_are fit good =
+  change i n make new below ready continues_at leads_to words_are fit good =
       let size : length timers ≡ count = typed.so_many in
       let there : n < length timers = omega arith in
       let t : TimerState = make (timer_at timers n) in
@@ -157,7 +157,7 @@ module _ (types : List ElementaryType) (count now next p : ℕ) (cells slots : L
         new_cells = new;
         new_slots = slots;
         new_timers = slice_set timers n t;
-        goes_on = goes ∙ with-timer-is timers n (timer_at timers n)
+        goes_on = continues_at ∙ with-timer-is timers n (timer_at timers n)
             (λ u. machine.changes n (make u) next new here) (timer-is timers n there);
         leads_to = leads_to;
         words_are = words_are;
@@ -181,11 +181,11 @@ module _ (types : List ElementaryType) (count now next p : ℕ) (cells slots : L
       → HasKind (make (timer_at timers n)) k × IsValue (make (timer_at timers n))
       → length (k ∷ kinds) ≤ most_cells
       → Does types count now i next p cells slots timers (k ∷ kinds)
-  show i n make k below fit ready goes leads_to words_are good room =
+  show i n make k below fit ready continues_at leads_to words_are good room =
       let size : length timers ≡ count = typed.so_many in
       let there : n < length timers = omega arith in
       put i (make (timer_at timers n)) k fit (λ deep. ready deep there)
-      (goes ∙ with-timer-is timers n (timer_at timers n) (λ u. pushes (make u) next here)
+      (continues_at ∙ with-timer-is timers n (timer_at timers n) (λ u. pushes (make u) next here)
       (timer-is timers n there)) leads_to words_are good room
 
   module _ (kinds : List CellKind) (fit : Fit cells kinds) where
@@ -314,12 +314,12 @@ module _ (types : List ElementaryType) (count now next p : ℕ) (others slots : 
       ≡ words (words_of (Truth b ∷ others))
       (slice_set (words_of slots) n (number_of (Truth (made old)))) timers)
       → Does types count now i next p (Truth b ∷ others) slots timers kinds
-  sets i n b kinds made e all ready goes leads done =
+  sets i n b kinds made e all ready continues_at leads done =
       let s = slot-there types slots n elementary.Bool e typed.of_types in
       let t = truth-there s.value s.type in
       put-slot types count now next p (Truth b ∷ others) slots timers typed i n elementary.Bool
       (Truth (made t.0)) e refl (truth-value (made t.0)) all (ready s.below)
-      (goes t.0 (s.get ∙ ap (λ (u : Value). Some u) t.1)) leads
+      (continues_at t.0 (s.get ∙ ap (λ (u : Value). Some u) t.1)) leads
       (done t.0 (s.word ∙ ap number_of t.1))
 
   pub does-set-if : (n : ℕ) (b : Bool) (kinds : List CellKind)
@@ -368,7 +368,8 @@ module _ (types : List ElementaryType) (count now next p : ℕ) (others slots : 
 
   -- ---- two values
 
-  pub does-compute : (o : ArithmeticOperation) (w : Width) (a b : ℤ) → (divides o && int_eq b (pos 0)) ≡ false
+  pub does-compute : (o : ArithmeticOperation) (w : Width) (a b : ℤ)
+      → (divides o && int_eq b (pos 0)) ≡ false
       → DividesBy o b → Does types count now (Compute o w) next p
       (value_of_width w b ∷ value_of_width w a ∷ others) slots timers
       (Plain (type_of_width w) ∷ rest)

@@ -14,7 +14,7 @@ use Rattle.il_image.specs.Values.{number_of, type_of}
 use Rattle.il_scan.specs.declared.span.Span.{Span}
 use Rattle.il_scan.specs.PointPlaces.{AllAbove, IsPut, IsRising, read_places, with_words}
 use Rattle.il_scan.specs.Scans.{AreHeld, AreInputs, Held, IsOutside, Scans, first_input, inputs_in, read_only, type_of_point, with_inputs}
-use Rattle.il_scan.specs.Standing.{IsHeld}
+use Rattle.il_scan.specs.MachineStates.{IsHeld}
 use Rattle.il_scan.specs.Words.{AreTyped, slot_at, values_of, words_of}
 use Rattle.il_scan.proofs.SlotLemmas.{held-points}
 
@@ -321,7 +321,8 @@ inputs-stay (p ∷ points) inputs (s ∷ slots) (w ∷ new) are few less keeps =
     by-case : (b : Bool) (is : List Value)
         → AreTyped (map type_of_point (cond (not b) (p ∷ read_only points) (read_only points))) is
         → (b ≡ false → Some w ≡ Some (cond b s (first_input is s)))
-        → ((left : List Value) → AreInputs points left → Keeps points left slots new → inputs_in points new ≡ left)
+        → ((left : List Value) → AreInputs points left → Keeps points left slots new
+        → inputs_in points new ≡ left)
         → Keeps points (cond b is (drop 1 is)) slots new
         → cond b (inputs_in points new) (w ∷ inputs_in points new) ≡ is
     by-case true is are own rest keeps = rest is are keeps

@@ -9,7 +9,7 @@ use Rattle.il_image.specs.Values.{type_of}
 use Rattle.il_verify.specs.Verdicts.{IsSafe}
 use Rattle.il_scan.specs.Laws.{Ends, NeverGoesWrong}
 use Rattle.il_scan.specs.Scans.{AreInputs, with_inputs}
-use Rattle.il_scan.specs.Standing.{IsHeld, RunsTo, Turns, first_state, words_at}
+use Rattle.il_scan.specs.MachineStates.{IsHeld, RunsTo, Turns, first_state, words_at}
 use Rattle.il_scan.specs.Scans.{held_of}
 use Rattle.il_scan.specs.Words.{values_of, words_of}
 use Rattle.il_scan.specs.Working.{Words, leads, words_after}

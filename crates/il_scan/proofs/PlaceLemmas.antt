@@ -10,7 +10,7 @@ use Rattle.il_scan.specs.Places.{output_value, value_there}
 use Rattle.il_scan.specs.PointPlaces.{AllBelow, read_places, with_words, write_places}
 use Rattle.il_scan.specs.Scans.{first_input, read_only, type_of_point, with_inputs}
 use Rattle.il_scan.specs.PointPlaces.{AreValues, writable_count}
-use Rattle.il_scan.specs.Standing.{AreWords, given_by}
+use Rattle.il_scan.specs.MachineStates.{AreWords, given_by}
 use Rattle.il_scan.specs.Words.{AreTyped, slot_at, value_at}
 
 -- ---- one element moves from behind a seam to before it

@@ -14,7 +14,7 @@ use Rattle.il_image.specs.Tables.{IsHalt, IsSuccessor, Path, slot_types}
 use Rattle.il_verify.specs.Verdicts.{IsBudget, IsDepth, IsSafe}
 use Rattle.il_verify.proofs.TableLemmas.{leads-on}
 use Rattle.il_scan.specs.Scans.{IsWithin}
-use Rattle.il_scan.specs.Standing.{IsAt, IsHeld, KeepsSlots, RunsTo, StandsAs, StandsAt, Turns, first_state, words_at}
+use Rattle.il_scan.specs.MachineStates.{IsAt, IsHeld, KeepsSlots, RunsTo, StandsAs, StandsAt, Turns, first_state, words_at}
 use Rattle.il_scan.specs.Words.{values_of, words_of}
 use Rattle.il_scan.specs.Working.{IsReady, Step, Steps, Words, words, words_after, leads}
 use Rattle.il_scan.proofs.StandLemmas.{held-by, held-typed, stand-again}

@@ -11,7 +11,7 @@ use Rattle.il_image.specs.Timers as time
 use Rattle.il_image.specs.Tables.{slot_types}
 use Rattle.il_image.specs.Values.{type_of}
 use Rattle.il_scan.specs.Scans.{AreInputs, Held, IsWithin, Scans, first_slots, held_first, scan_start, with_inputs}
-use Rattle.il_scan.specs.Standing.{AreWords, IsHeld, RunsTo, first_state, given_by}
+use Rattle.il_scan.specs.MachineStates.{AreWords, IsHeld, RunsTo, first_state, given_by}
 use Rattle.il_scan.specs.Scans.{held_of}
 use Rattle.il_scan.specs.Words.{StandFor, values_of, words_of}
 use Rattle.il_scan.proofs.SlotLemmas.{first-stand, held-words, only-read, outputs_are, same-slot, taken-stand, times-first}

@@ -36,7 +36,7 @@ use Rattle.il_image.specs.Spelling.{IsInstr}
 use Rattle.il_image.specs.Values.{number_of, type_of}
 use Rattle.il_image.proofs.KindLemmas.{kind-above, same-is}
 use Rattle.il_verify.proofs.EffectLemmas.{bind-some}
-use Rattle.il_scan.specs.Standing.{Fit, Typed}
+use Rattle.il_scan.specs.MachineStates.{Fit, Typed}
 use Rattle.il_scan.proofs.ValueLemmas.{number_in, number-there, span-there, truth-there, type-in}
 use Rattle.il_scan.proofs.CellLemmas.{on-top}
 use Rattle.il_scan.proofs.DoesLemmas.{Does, does-combine, does-compare, does-compute, does-drop, does-jump, does-jump-if, does-jump-if-not, does-load, does-load-elapsed, does-load-output, does-not, does-push, does-reset-if, does-run, does-set-if, does-set-input, does-set-preset, does-store, does-widen, does-widen-long}
@@ -61,7 +61,8 @@ record Divisor (o : ArithmeticOperation) (w : Width) (v : Value) : Type 0 where
   test : (divides o && int_eq (number_of v) (pos 0)) ≡ false
   divisor : DividesBy o (number_of v)
 
-divisor-of : (o : ArithmeticOperation) (w : Width) (v : Value) → HasKind v (second_kind o w) → Divisor o w v
+divisor-of : (o : ArithmeticOperation) (w : Width) (v : Value) → HasKind v (second_kind o w)
+    → Divisor o w v
 divisor-of Div w v h = record { type = h.0; test = not-zero (number_of v) h.1; divisor = h.1 }
 divisor-of Mod w v h = record { type = h.0; test = not-zero (number_of v) h.1; divisor = h.1 }
 divisor-of i w v h = record { type = h; test = refl; divisor = tt }
@@ -145,7 +146,8 @@ module _ (types : List ElementaryType) (count now next p : ℕ) (slots : List Va
         (λ v more is good f all. on-top second m.0 r.0 (λ these. Done i (v ∷ these) (gives ∷ r.0))
         r.1 (λ u others is_u good_u g all. does v u others r.0 is is_u g) more f) cells fit)
 
-    compute-does : (o : ArithmeticOperation) (w : Width) (cells : List Value) (kinds : List CellKind)
+    compute-does : (o : ArithmeticOperation) (w : Width) (cells : List Value)
+        (kinds : List CellKind)
         → two (second_kind o w) (Plain (type_of_width w)) (Plain (type_of_width w)) kinds
         ≡ Some after
         → Fit cells kinds → Done (Compute o w) cells after

@@ -23,7 +23,7 @@ use Rattle.std.proofs.lemmas.Bool.{and_parts}
 use Rattle.std.specs.Prelude.{is_some}
 use Rattle.il_scan.specs.Scans.{AreInputs, first_input, first_slots, outputs_of, read_only, type_of_point, with_inputs}
 use Rattle.il_scan.specs.PointPlaces.{are_inputs, begins_with, is_of}
-use Rattle.il_scan.specs.Standing.{AreWords, IsHeld, IsTimer, given_by}
+use Rattle.il_scan.specs.MachineStates.{AreWords, IsHeld, IsTimer, given_by}
 use Rattle.il_scan.specs.Words.{AreTyped, StandFor, value_at, values_of, words_of}
 
 -- ---- first words, variable by variable

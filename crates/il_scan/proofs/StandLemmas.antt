@@ -5,7 +5,7 @@ use Rattle.il_image.specs.declared.timer.TimerState.{TimerState}
 use Rattle.il_image.specs.declared.value.Value.{Value}
 use Rattle.il_image.specs.Images.{Image}
 use Rattle.il_image.specs.Tables.{slot_types}
-use Rattle.il_scan.specs.Standing.{IsHeld, Typed}
+use Rattle.il_scan.specs.MachineStates.{IsHeld, Typed}
 use Rattle.il_scan.specs.Words.{AreTyped, StandFor, values_of, words_of}
 use Rattle.il_scan.proofs.ValueLemmas.{value-again}
 

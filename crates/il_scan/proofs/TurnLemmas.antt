@@ -26,7 +26,7 @@ use Rattle.il_verify.proofs.TableLemmas.{same-instr, some-way}
 use Rattle.il_verify.proofs.WithinLemmas.{within-length}
 use Rattle.il_image.specs.declared.value.Value.{Value}
 use Rattle.il_image.proofs.SetLemmas.{set-elsewhere}
-use Rattle.il_scan.specs.Standing.{Fit, KeepsSlots, StandsAs, StandsAt, Turns, words_at}
+use Rattle.il_scan.specs.MachineStates.{Fit, KeepsSlots, StandsAs, StandsAt, Turns, words_at}
 use Rattle.il_scan.specs.Working.{IsReady, Words, leads, top, words_after}
 use Rattle.il_scan.proofs.CellLemmas.{fit-length}
 use Rattle.il_scan.proofs.DoesLemmas.{Does}

@@ -1,4 +1,4 @@
--- Verified code, from any state that its types allow.
+-- Scans of verified code, from any state of its types.
 use Rattle.std.specs.Prelude.{ℕ, List, length}
 use Rattle.il_image.specs.declared.timer.TimerState.{TimerState}
 use Rattle.il_image.specs.declared.value.Value.{Value}
@@ -7,16 +7,15 @@ use Rattle.il_image.specs.Octets.{AreOctets}
 use Rattle.il_image.specs.Tables.{slot_types}
 use Rattle.il_verify.specs.Verdicts.{IsSafe}
 use Rattle.il_scan.specs.Scans.{AreInputs, Held, Scans, outputs_of}
-use Rattle.il_scan.specs.Standing.{Typed}
+use Rattle.il_scan.specs.MachineStates.{Typed}
 
--- A scan with these inputs at this moment comes to an end: there are a state and a number of steps
--- after it.
+-- A scan with these inputs at this moment ends: there are a state and a number of steps after it.
 pub record Ends (old : Held) (inputs : List Value) (now : ℕ) : Type 0 where
   pub new : Held
   pub steps : ℕ
   pub scans : Scans old inputs now new steps (outputs_of old.image.points new.slots)
 
--- Code of octets with an agreeing table, which writes what it may, ends in each scan: from all
+-- Code of octets with an agreeing table, which writes only what it may, ends in each scan: from all
 -- slots and timers of its types, with all inputs that fit, at each moment.
 abbrev pub NeverGoesWrong : Type 0
 NeverGoesWrong =

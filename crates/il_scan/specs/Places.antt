@@ -5,7 +5,7 @@ use Rattle.il_image.specs.declared.value.Value.{Value}
 use Rattle.il_image.specs.declared.value.Value.TheVariants.{Truth}
 use Rattle.il_scan.specs.Words.{slot_at, value_at}
 
--- the value that a word stands for at a point, if there is one
+-- the value that a word encodes at a point; FALSE if there is no point
 abbrev pub value_there : Option ImagePoint → ℤ → Value
 value_there None w = Truth false
 value_there (Some p) w = value_at p.elementary w

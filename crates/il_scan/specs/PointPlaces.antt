@@ -1,4 +1,4 @@
--- Inner: how the code goes over the points of an image: their places, and the test of inputs.
+-- Inner: the places of an image's points, and the test of inputs.
 use Rattle.std.specs.Prelude.{ℕ, ℤ, ◌≡◌, ◌+◌, ◌<◌, ◌&&◌, Bool, true, false, is_some, List, [], ◌∷◌, drop, slice_get, slice_index_or, slice_set, Some, if◌then◌else◌}
 use Rattle.bay_base.specs.Types.{same_type}
 use Rattle.bay_base.specs.declared.types.ElementaryType.{ElementaryType}
@@ -10,13 +10,13 @@ use Rattle.il_scan.specs.Words.{slot_at}
 
 -- ---- places
 
--- the places of the points that may only be read, where the first point's place is n
+-- the places of the points that may only be read; the first point has the place n
 abbrev pub read_places : ℕ → List ImagePoint → List ℕ
 read_places n [] = []
 read_places n (p ∷ points) =
     if p.writable then read_places (n + 1) points else n ∷ read_places (n + 1) points
 
--- the places of the points that may be written
+-- the places of the points that may be written; the first point has the place n
 abbrev pub write_places : ℕ → List ImagePoint → List ℕ
 write_places n [] = []
 write_places n (p ∷ points) =
@@ -33,7 +33,7 @@ abbrev pub AllBelow : ℕ → List ℕ → Type 0
 AllBelow most [] = Unit {0}
 AllBelow most (n ∷ places) = (n < most) × AllBelow most places
 
--- The places are above this one.
+-- Each place is above this one.
 abbrev pub AllAbove : ℕ → List ℕ → Type 0
 AllAbove least [] = Unit {0}
 AllAbove least (n ∷ places) = (least < n) × AllAbove least places
@@ -45,7 +45,7 @@ IsRising (n ∷ places) = AllAbove n places × IsRising places
 
 -- ---- inputs and outputs
 
--- The input of this number, if there is one, is of its type and stands at its place.
+-- The k-th input, if there is one, is of its type, and the slot at its place has its word.
 pub record IsPut (places : List ℕ) (types : List ElementaryType) (values : List Value)
     (slots : List ℤ) (k : ℕ) : Type 0 where
   pub word : (v : Value) → slice_get values k ≡ Some v
@@ -53,20 +53,20 @@ pub record IsPut (places : List ℕ) (types : List ElementaryType) (values : Lis
   pub typed : (t : ElementaryType) (v : Value) → slice_get types k ≡ Some t
       → slice_get values k ≡ Some v → (type_of v ≡ t) × IsValue v
 
--- Each is a value of its type.
+-- Each value is in the range of its type.
 abbrev pub AreValues : List Value → Type 0
 AreValues values = (k : ℕ) (v : Value) → slice_get values k ≡ Some v → IsValue v
 
--- The value is one of the type.
+-- whether the value is one of the type
 abbrev pub is_of : ElementaryType → Value → Bool
 is_of t v = same_type (type_of v) t && is_some (value_of t (number_of v))
 
--- the first of the inputs is of the type
+-- whether there is a first input and it is of the type
 abbrev pub begins_with : ElementaryType → List Value → Bool
 begins_with t [] = false
 begins_with t (input ∷ inputs) = is_of t input
 
--- the test of `AreInputs`
+-- whether the inputs fit the points, as `AreInputs` defines it
 abbrev pub are_inputs : List ImagePoint → List Value → Bool
 are_inputs [] [] = true
 are_inputs [] (input ∷ inputs) = false

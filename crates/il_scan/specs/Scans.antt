@@ -1,4 +1,4 @@
--- What a scan of a machine is.
+-- Scans of a machine.
 use Rattle.std.specs.Prelude.{ℕ, ℤ, zero, suc, ◌≡◌, ◌+◌, ◌<◌, ◌≤◌, ◌⊎◌, false, not, List, [], ◌∷◌, length, map, filter, drop, slice_get, Some, if◌then◌else◌}
 use Rattle.bay_base.specs.declared.types.ElementaryType.{ElementaryType}
 use Rattle.il_image.specs.declared.image.ImagePoint.{ImagePoint}
@@ -13,21 +13,21 @@ use Rattle.il_verify.specs.Verdicts.{IsBudget, IsDepth}
 use Rattle.il_scan.specs.Words.{AreTyped, values_of}
 use Rattle.il_scan.specs.declared.span.Span.{Span}
 
--- what callers see of a machine: its verified image, and what its slots and its timers hold between
+-- a machine as callers see it: its verified image, and the values of its slots and timers between
 -- scans
 pub record Held : Type 0 where
   pub image : Image
   pub slots : List Value
   pub timers : List TimerState
 
--- what callers see of words and timers
+-- a machine as callers see it, from its words and timers
 abbrev pub held_of : Image → List ℤ → List TimerState → Held
 held_of image slots timers =
     record { image = image; slots = values_of (slot_types image) slots; timers = timers }
 
 -- ---- the first state
 
--- the points' slots, and behind them the variables' with their initial values
+-- the slots of the points, and then those of the variables with their initial values
 abbrev pub first_slots : List ImagePoint → List Value → List Value
 first_slots [] variables = variables
 first_slots (p ∷ points) variables = default_value p.elementary ∷ first_slots points variables
@@ -41,13 +41,13 @@ held_first image =
       timers = map first_state image.timers;
     }
 
--- The image has a slot or a timer, so that a machine keeps something beside it.
+-- The image has a slot or a timer. Creating a machine of another image does not run out of memory.
 abbrev pub TakesMemory : Image → Type 0
 TakesMemory image = 0 < length image.points + length image.variables + length image.timers
 
 -- ---- inputs and outputs
 
--- the points that may only be read, and those that may be written, in the table's order
+-- the points that may only be read, in the image's order
 abbrev pub read_only : List ImagePoint → List ImagePoint
 read_only points = filter (λ p. not p.writable) points
 
@@ -55,12 +55,12 @@ read_only points = filter (λ p. not p.writable) points
 abbrev pub type_of_point : ImagePoint → ElementaryType
 type_of_point p = p.elementary
 
--- There is one input for each point that may only be read, in the table's order, and it is of its
--- type.
+-- There is one input for each point that may only be read, in the image's order, and it is of the
+-- point's type.
 abbrev pub AreInputs : List ImagePoint → List Value → Type 0
 AreInputs points inputs = AreTyped (map type_of_point (read_only points)) inputs
 
--- the first of the inputs, or else what was there
+-- the first of the inputs, or else the old value
 abbrev pub first_input : {A : Type 0} → List A → A → A
 first_input [] old = old
 first_input (input ∷ inputs) old = input
@@ -87,11 +87,11 @@ inputs_in (p ∷ points) [] = []
 inputs_in (p ∷ points) (slot ∷ slots) =
     if p.writable then inputs_in points slots else slot ∷ inputs_in points slots
 
--- The place is not in the span.
+-- The index is not in the span.
 abbrev pub IsOutside : Span → ℕ → Type 0
 IsOutside span k = (k < span.from) ⊎ (span.to ≤ k)
 
--- Outside the span, what is held are the inputs.
+-- Outside the span, the values held are the inputs.
 abbrev pub AreHeld : Span → List Value → List Value → Type 0
 AreHeld span inputs held =
     (k : ℕ) (v : Value) → IsOutside span k → slice_get inputs k ≡ Some v
@@ -99,35 +99,35 @@ AreHeld span inputs held =
 
 -- ---- a scan
 
--- where the run of a scan starts
+-- the state in which the run of a scan starts
 abbrev pub scan_start : Held → List Value → State
 scan_start held_of inputs =
     initial_state (with_inputs held_of.image.points inputs held_of.slots) held_of.timers
 
--- No state of a run of at most so many steps has more cells than this on its stack.
+-- No state of a run of at most this number of steps has more cells than `depth` on its stack.
 abbrev pub IsWithin : List ℕ → ℕ → ℕ → ℕ → State → Type 0
 IsWithin code now depth zero s = length s.cells ≤ depth
 IsWithin code now depth (suc most) s =
     (length s.cells ≤ depth)
     × ((next : State) → turn code now s ≡ Goes next → IsWithin code now depth most next)
 
--- The machine's run from these inputs at this moment ends at HALT, after so many steps, with these
--- slots and timers.
+-- The machine's run from these inputs at this moment ends at HALT, after `steps` steps, with the
+-- new slots and timers.
 pub record Scans (old : Held) (inputs : List Value) (now : ℕ) (new : Held) (steps : ℕ)
     (outputs : List Value) : Type 0 where
-  -- the image stays
+  -- the image is unchanged
   pub image : new.image ≡ old.image
-  -- the run is over at HALT, given as many steps as it takes, and no step of it is a trap
+  -- a run of at least `steps` steps ends at HALT, and no step of it is a trap
   pub halts : (most : ℕ) → steps ≤ most
       → run_from old.image.code now most (scan_start old inputs) 0
       ≡ Halted new.slots new.timers steps
-  -- it takes no more steps than the budget, nor than the code has octets
+  -- the run takes no more steps than the budget, nor than the code has octets
   pub within : (budget : ℕ) → IsBudget old.image.code budget → steps ≤ budget
   pub few : steps ≤ length old.image.code
   -- the stack is never deeper than the image's depth
   pub depth : (most : ℕ) (steps : ℕ) → IsDepth old.image most
       → IsWithin old.image.code now most steps (scan_start old inputs)
-  -- a point that may only be read keeps its input
+  -- the slot of a point that may only be read still has its input after the run
   pub keeps : (n : ℕ) (p : ImagePoint) → slice_get old.image.points n ≡ Some p → p.writable ≡ false
       → slice_get new.slots n ≡ slice_get (scan_start old inputs).slots n
   -- the outputs are the points that may be written

@@ -1,4 +1,4 @@
--- Words that stand for typed values.
+-- Words that encode typed values.
 use Rattle.std.specs.Prelude.{ℕ, ℤ, pos, ◌≡◌, false, List, [], ◌∷◌, map, slice_index_or, unwrap_or}
 use Rattle.bay_base.specs.declared.types.ElementaryType.{ElementaryType}
 use Rattle.il_image.specs.declared.value.Value.{Value}
@@ -13,26 +13,26 @@ AreTyped (t ∷ types) (v ∷ values) = ((type_of v ≡ t) × IsValue v) × AreT
 AreTyped [] (v ∷ values) = ⊥
 AreTyped (t ∷ types) [] = ⊥
 
--- a value's word is its number
+-- the words of values: their numbers
 abbrev pub words_of : List Value → List ℤ
 words_of values = map number_of values
 
--- The words stand for these values, which are of these types.
+-- The words encode these values, which are of these types.
 pub record StandFor (types : List ElementaryType) (words : List ℤ) (values : List Value)
     : Type 0 where
   pub are : words ≡ words_of values
   pub typed : AreTyped types values
 
--- the value of a type that a word stands for
+-- the value of a type that a word encodes; FALSE if it encodes none
 abbrev pub value_at : ElementaryType → ℤ → Value
 value_at t w = unwrap_or (value_of t w) (Truth false)
 
--- the values of these types that words stand for
+-- the values of these types that words encode
 abbrev pub values_of : List ElementaryType → List ℤ → List Value
 values_of [] words = []
 values_of (t ∷ types) [] = []
 values_of (t ∷ types) (w ∷ words) = value_at t w ∷ values_of types words
 
--- the word of a slot
+-- the word of a slot; 0 if there is no such slot
 abbrev pub slot_at : List ℤ → ℕ → ℤ
 slot_at slots n = slice_index_or slots n (pos 0)

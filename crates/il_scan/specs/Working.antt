@@ -1,5 +1,5 @@
--- Inner: what each instruction does to words, with no test of what they are, and what it needs for
--- that.
+-- Inner: the effect of each instruction on words, which are not tested, and what the instruction
+-- requires for that.
 use Rattle.std.specs.Prelude.{ℕ, ℤ, zero, suc, pos, ◌≡◌, ◌+◌, ◌<◌, ◌≤◌, Bool, not, List, ◌∷◌, length, drop, slice_index_or, slice_set, unsigned_abs, Option, Some, None, if◌then◌else◌}
 use Rattle.std.specs.Ordering.{int_eq}
 use Rattle.il_image.specs.declared.instr.Instr.{Instr}
@@ -20,7 +20,7 @@ use Rattle.il_image.specs.Machine.{most_cells}
 use Rattle.il_image.specs.Reading.{instr_at}
 use Rattle.il_scan.specs.Words.{slot_at}
 
--- ---- what an instruction does to words
+-- ---- the effect of an instruction on words
 
 -- the words of the stack, the top first, and of the slots; and the timers
 pub record Words : Type 0 where
@@ -28,7 +28,7 @@ pub record Words : Type 0 where
   pub slots : List ℤ
   pub timers : List TimerState
 
--- a record of these
+-- such a record
 abbrev pub words : List ℤ → List ℤ → List TimerState → Words
 words stack slots timers = record { stack = stack; slots = slots; timers = timers }
 
@@ -58,7 +58,7 @@ logic_word And a b = if int_eq a (pos 0) then pos 0 else b
 logic_word Or a b = if int_eq a (pos 0) then b else pos 1
 logic_word Xor a b = word_of (not (int_eq a b))
 
--- what an instruction does with a slot
+-- the words after an instruction that uses a slot
 abbrev pub slot_worked : SlotUse → ℕ → Words → Words
 slot_worked Load n m = record m { stack = slot_at m.slots n ∷ m.stack }
 slot_worked Store n m = record m { slots = slice_set m.slots n (top m.stack) }
@@ -73,7 +73,7 @@ slot_worked ResetIf n m =
           (if int_eq (top m.stack) (pos 0) then slot_at m.slots n else pos 0);
     }
 
--- what an instruction does with a timer at this moment
+-- the words after an instruction that uses a timer at this moment
 abbrev pub timer_worked : ℕ → TimerUse → ℕ → Words → Words
 timer_worked now SetInput n m =
     record m {
@@ -93,7 +93,7 @@ timer_worked now LoadOutput n m =
     record m { stack = word_of (timer_at m.timers n).output ∷ m.stack }
 timer_worked now LoadElapsed n m = record m { stack = pos (timer_at m.timers n).elapsed ∷ m.stack }
 
--- A word of a narrower type is the word of the same number of a wider one.
+-- the words after an instruction at this moment; a widened number has the same word
 abbrev pub words_after : ℕ → Instr → Words → Words
 words_after now Halt m = m
 words_after now (Push v) m = record m { stack = number_of v ∷ m.stack }
@@ -128,14 +128,13 @@ leads (Compare c) next stack = Some next
 leads (Widen w) next stack = Some next
 leads (Timer use_of n) next stack = Some next
 
--- ---- what an instruction needs, so that nothing is tested
+-- ---- what an instruction requires, so that nothing is tested
 
 -- The word is the number of a TIME.
 abbrev pub IsSpan : ℤ → Type 0
 IsSpan w = (n : ℕ) × (w ≡ pos n) × (n ≤ 0x7FFF_FFFF)
 
--- What the instruction needs is there: words, room, the slot or the timer, and a divisor other than
--- 0.
+-- The instruction has what it requires: words, room, its slot or timer, and a divisor other than 0.
 abbrev pub IsReady : Instr → Words → Type 0
 IsReady Halt m = Unit {0}
 IsReady (Push v) m = length m.stack < most_cells
@@ -160,7 +159,7 @@ IsReady (Timer LoadElapsed n) m = (length m.stack < most_cells) × (n < length m
 
 -- ---- instructions of code
 
--- what the instruction at a place does to words, and where it leads
+-- one instruction at a place: its effect on words, and the place of the next one
 pub record Step (now : ℕ) (code : List ℕ) (place : ℕ) (w : Words) (to : Option ℕ) (after : Words)
     : Type 0 where
   pub instr : Instr
@@ -169,7 +168,7 @@ pub record Step (now : ℕ) (code : List ℕ) (place : ℕ) (w : Words) (to : Op
   pub leads_to : to ≡ leads instr next w.stack
   pub words_are : after ≡ words_after now instr w
 
--- what so many instructions from a place on do, one after the other
+-- n instructions from a place on, one after the other
 abbrev pub Steps : ℕ → List ℕ → ℕ → ℕ → Words → Option ℕ → Words → Type 0
 Steps now code zero place w to after = ⊥
 Steps now code (suc zero) place w to after = Step now code place w to after

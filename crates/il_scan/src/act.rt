@@ -1,4 +1,4 @@
-// What each instruction does to the stack, the slots and the timers.
+// The effect of each instruction on the stack, the slots and the timers.
 ghost use Rattle.std.specs.Prelude.{◌≡◌, ◌+◌, ◌^◌, ◌<◌, ◌∷◌, length, slice_set, drop, pos, unsigned_abs, if◌then◌else◌};
 ghost use Rattle.std.specs.Ordering.{int_eq};
 ghost use Rattle.il_image.specs.Arithmetic.{DividesBy, comparison_holds, computation_of};
@@ -87,8 +87,8 @@ fn calculate(stack: &mut OperandStack, operation: ArithmeticOperation, width: Wi
     stack.replace_top(compute(operation, width, first, second));
 }
 
-// ADD, SUB, MUL, DIV or MOD. Each is a separate call, so that the operation is known where the
-// opcode is.
+// ADD, SUB, MUL, DIV or MOD. Each is a separate call, so that the compiler knows the operation at
+// each opcode.
 #[inline(always)]
 fn calculate_by(stack: &mut OperandStack, operation: ArithmeticOperation, width: Width)
     requires two { 1 < length stack.old }
@@ -105,7 +105,7 @@ fn calculate_by(stack: &mut OperandStack, operation: ArithmeticOperation, width:
     }
 }
 
-// One of GT, GE, EQ, NE, LE and LT: compares two values of the same type and gives a BOOL.
+// One of GT, GE, EQ, NE, LE and LT: replaces two values of the same type by a BOOL.
 #[inline(always)]
 fn relate(stack: &mut OperandStack, comparison: Comparison)
     requires two { 1 < length stack.old }
@@ -295,10 +295,10 @@ pub(crate) fn act(
     Some(next)
 }
 
-/// Executes two instructions at this time, each with the place behind it, of which the first leads
-/// to the second. Returns the place of the next one, or `None` if there is none. A LOAD with a NOT,
-/// an AND or an OR behind it, and a DROP with a LOAD behind it, work on the last cell in place, so
-/// that nothing is pushed and popped again.
+/// Executes two instructions at this time, each with the place after it; the first leads to the
+/// second. Returns the place of the next one, or `None` if there is none. A LOAD followed by a NOT,
+/// an AND or an OR, and a DROP followed by a LOAD, are executed as one, so that nothing is pushed
+/// and popped again.
 #[inline(always)]
 pub(crate) fn act_both(
     now: u64,

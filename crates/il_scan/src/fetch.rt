@@ -1,4 +1,4 @@
-// The instruction at a place of verified code, read with no test of what is there.
+// Reads the instruction at a place of verified code, without testing what is there.
 ghost use Rattle.std.specs.Prelude.{◌≡◌, ◌+◌, ◌≤◌, ◌<◌, IsOk, IsSome, Ok, Some, drop, length};
 ghost use Rattle.std.specs.Int.{w16, from_be_bytes};
 ghost use Rattle.il_image.specs.declared.opcode.Version.TheVariants.{Two};

@@ -1,13 +1,13 @@
-// The virtual machine that runs verified images. It tests nothing that the verifier has shown: no
-// type, no depth, no divisor, no slot, no timer and no place. A value on its stack or in a slot is
-// a word of 64 bits, the value's number, without its type.
+// The virtual machine that runs verified images. It does not test what the verifier has
+// established: no type, no depth, no divisor, no slot, no timer and no place. A value on its stack
+// or in a slot is a word of 64 bits, the value's number, without its type.
 //
 // - `stack`: the operand stack.
-// - `fetch`: the instruction at a place.
-// - `act`: what each instruction does.
+// - `fetch`: reads the instruction at a place.
+// - `act`: the effect of each instruction.
 // - `run`: a run of the code, from its first instruction to a HALT.
-// - `slots`: inputs and outputs, and what slots hold at first.
-// - `span`: some of the read-only points.
+// - `slots`: inputs and outputs, and the initial slots and timers.
+// - `span`: a range of the read-only points.
 // - `points`: inputs and outputs point by point.
 // - `machine`: the machine, and its scans.
 // - `laws`: what holds of verified code in any state.

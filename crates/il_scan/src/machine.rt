@@ -3,7 +3,7 @@ ghost use Rattle.std.specs.Prelude.{◌≡◌, ◌↔◌, IfErr, IfOk, IsTrue, m
 ghost use Rattle.std.specs.Borrow.{sem};
 ghost use Rattle.il_scan.specs.PointPlaces.{read_places};
 ghost use Rattle.il_scan.specs.Scans.{AreHeld, AreInputs, Scans, TakesMemory, held_first, inputs_in, outputs_of, read_only, type_of_point};
-ghost use Rattle.il_scan.specs.Standing.{IsHeld, IsKept};
+ghost use Rattle.il_scan.specs.MachineStates.{IsHeld, IsKept};
 ghost use Rattle.il_scan.specs.Scans.{held_of};
 ghost use Rattle.il_scan.specs.Words.{values_of};
 ghost use Rattle.il_image.specs.Tables.{slot_types};
@@ -36,7 +36,7 @@ pub struct Machine {
 
 impl Model for Machine {
     ghost use Rattle.il_scan.specs.Scans.{Held};
-    ghost use Rattle.il_scan.specs.Standing.{IsKept};
+    ghost use Rattle.il_scan.specs.MachineStates.{IsKept};
     ghost use Rattle.il_scan.specs.Scans.{held_of};
 
     ghost Value = { Held };
@@ -87,7 +87,7 @@ fn memory_of(alloc: Global, image: &Image) -> Result<Memory, AllocError>
     })
 }
 
-// Runs a scan over words: takes the inputs of a span, where the slots hold the others, and runs the
+// Runs a scan over words: reads the inputs of a span, since the slots hold the others, and runs the
 // code.
 fn run_points<I: Inputs>(
     image: &Image,
@@ -149,8 +149,8 @@ impl Machine {
     ghost use Rattle.il_scan.specs.Loan.{LendsOutputs};
 
     /// Creates a machine whose variables have their initial values, whose points are FALSE or 0,
-    /// and whose timers were never called. A failed allocation gives the verified image back, and
-    /// is possible only if the image has a slot or a timer.
+    /// and whose timers were never called. If an allocation fails, the error has the verified
+    /// image; this is possible only if the image has a slot or a timer.
     pub fn new(alloc: Global, verified: Verified) -> Result<Machine, AllocFailed<Verified>>
         ensures ok { IfOk result (λ m. m ≡ held_first verified) }
         ensures back { IfErr result (λ refused. refused.value ≡ verified) }
@@ -182,18 +182,18 @@ impl Machine {
         &self.verified
     }
 
-    /// Whether a scan can take these inputs: one for each read-only point, in the image's order, of
-    /// the point's type.
+    /// Returns whether a scan accepts these inputs: one for each read-only point, in the image's
+    /// order, of the point's type.
     pub fn fits(&self, inputs: &[Value]) -> bool
         ensures { IsTrue result ↔ AreInputs self.now.image.points inputs.now }
     {
         are_inputs(self.verified.image().points(), inputs)
     }
 
-    /// Runs one scan. The read-only points take the inputs, one for each in the image's order, of
-    /// the point's type. The code runs once from its first instruction to a HALT, at time `now` in
-    /// milliseconds. The writable points are the outputs, which `outputs` returns. Returns the
-    /// number of instructions executed, including HALT. Never fails and does not allocate. If a
+    /// Runs one scan. The inputs are written to the read-only points, one for each in the image's
+    /// order, of the point's type. The code runs once from its first instruction to a HALT, at time
+    /// `now` in milliseconds. The writable points are the outputs, which `outputs` returns. Returns
+    /// the number of instructions executed, including HALT. Never fails and does not allocate. If a
     /// timer's start is after `now`, no time counts as passed.
     pub fn scan_points<I: Inputs>(&mut self, inputs: &I, now: u64) -> u32
         requires { I.types inputs.now ≡ map type_of_point (read_only self.old.image.points) }
@@ -207,8 +207,8 @@ impl Machine {
         self.scan_changed(inputs, all, now)
     }
 
-    /// Runs one scan as `scan_points` does, where the slots of the read-only points outside a span
-    /// hold their inputs, as an earlier scan left them there.
+    /// Runs one scan as `scan_points` does, but reads only the inputs of a span. The slots of the
+    /// other read-only points must hold their inputs, as an earlier scan left them.
     pub fn scan_changed<I: Inputs>(&mut self, inputs: &I, changed: Span, now: u64) -> u32
         requires types { I.types inputs.now ≡ map type_of_point (read_only self.old.image.points) }
         requires hold { AreHeld changed (I.values inputs.now)

@@ -1,4 +1,4 @@
-// Inputs that are read point by point, and outputs that are given so, without a list of either.
+// Inputs and outputs that are read point by point, without a list of either.
 ghost use Rattle.std.specs.Prelude.{◌≡◌, ◌<◌, Some, length, map, slice_get};
 ghost use Rattle.il_image.specs.Images.{IsValue};
 ghost use Rattle.il_image.specs.Values.{type_of};
@@ -6,7 +6,7 @@ ghost use Rattle.il_scan.specs.Places.{output_value};
 ghost use Rattle.il_scan.specs.Places as spec;
 ghost use Rattle.il_scan.specs.PointPlaces.{AllBelow};
 ghost use Rattle.il_scan.specs.PointPlaces.{AreValues};
-ghost use Rattle.il_scan.specs.Standing.{AreWords};
+ghost use Rattle.il_scan.specs.MachineStates.{AreWords};
 
 use crate::slots::is_output_true;
 use il_image::image::ImagePoint;
@@ -73,7 +73,7 @@ impl<'a> Model for Outputs<'a> {
     ghost use Rattle.il_image.specs.declared.value.Value.{Value as ImageValue};
     ghost use Rattle.il_scan.specs.Places.{output_value};
     ghost use Rattle.il_scan.specs.PointPlaces.{AllBelow};
-    ghost use Rattle.il_scan.specs.Standing.{AreWords};
+    ghost use Rattle.il_scan.specs.MachineStates.{AreWords};
 
     ghost Value = { List ImageValue };
 
@@ -97,8 +97,8 @@ impl<'a> Outputs<'a> {
         }
     }
 
-    /// Whether there is a writable point at this index among the writable points and its value is
-    /// TRUE.
+    /// Returns whether there is a writable point at this index among the writable points and its
+    /// value is TRUE.
     #[inline(always)]
     pub fn is_true(&self, place: usize) -> bool
         ensures { result ≡ spec.is_true (slice_get self.now place) }

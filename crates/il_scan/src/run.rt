@@ -2,7 +2,7 @@
 ghost use Rattle.std.specs.Prelude.{ℕ, ◌≡◌, ◌≤◌, Some};
 ghost use Rattle.il_image.specs.declared.instr.Instr.TheVariants.{Drop};
 ghost use Rattle.il_image.specs.Reading.{instr_at};
-ghost use Rattle.il_scan.specs.Standing.{IsAt, IsHeld, RunsTo};
+ghost use Rattle.il_scan.specs.MachineStates.{IsAt, IsHeld, RunsTo};
 ghost use Rattle.il_scan.specs.Working.{Steps, words};
 ghost use Rattle.il_verify.specs.Verdicts.{IsSafe};
 
@@ -14,8 +14,8 @@ use il_image::instr::Instr;
 use il_image::opcode::SlotUse;
 use il_image::timer::TimerState;
 
-// Executes the DROP at a place and what often follows it: a LOAD, and a NOT behind it. Returns the
-// place of the next instruction, and how many were executed.
+// Executes the DROP at a place, and a LOAD that follows it with a NOT that follows the LOAD.
+// Returns the place of the next instruction, and the number of instructions executed.
 #[inline(always)]
 fn turn_drop(
     code: &[u8],
@@ -46,9 +46,9 @@ fn turn_drop(
     }
 }
 
-// Executes the instruction at a place, and a NOT, an AND or an OR behind a LOAD. Returns the place
-// of the next one, or `None` if there is none, and how many were executed. Each pair is a call of
-// its own, so that both instructions are known where their opcodes are.
+// Executes the instruction at a place, and a NOT, an AND or an OR that follows a LOAD. Returns the
+// place of the next instruction, or `None` if there is none, and the number executed. Each pair is
+// a call of its own, so that the compiler knows both instructions at their opcodes.
 #[inline(always)]
 fn turn(
     code: &[u8],
@@ -85,8 +85,8 @@ fn turn(
     }
 }
 
-/// Runs the code on the slots and the timers at this time, and counts the instructions executed,
-/// including HALT.
+/// Runs the code on the slots and the timers at this time. Returns the number of instructions
+/// executed, including HALT.
 pub(crate) fn run(image: &Image, now: u64, slots: &mut [i64], timers: &mut [TimerState]) -> u32
     requires safe { IsSafe image.now }
     requires held { IsHeld image.now slots.old timers.old }

@@ -1,11 +1,11 @@
-// Inputs, outputs, and what slots and timers hold at first.
+// Inputs and outputs, and the initial slots and timers.
 ghost use Rattle.std.specs.Prelude.{ℕ, ◌≡◌, ◌+◌, ◌<◌, ◌≤◌, ◌++◌, IfErr, IfOk, IsSome, OnOk, Some, drop, if◌then◌else◌, length, map, pos, slice_set};
 ghost use Rattle.il_image.specs.Timers.{first_state};
 ghost use Rattle.il_image.specs.Values as values;
 ghost use Rattle.il_scan.specs.PointPlaces as places;
 ghost use Rattle.il_scan.specs.PointPlaces.{writable_count};
 ghost use Rattle.il_scan.specs.Scans.{IsOutside};
-ghost use Rattle.il_scan.specs.Standing.{AreWords};
+ghost use Rattle.il_scan.specs.MachineStates.{AreWords};
 ghost use Rattle.il_scan.specs.Places as spec;
 ghost use Rattle.il_scan.specs.PointPlaces.{AllBelow, IsPut, IsRising, read_places, with_words, write_places};
 ghost use Rattle.il_scan.specs.Words.{AreTyped, slot_at, value_at, words_of};
@@ -18,14 +18,14 @@ use il_image::timer::TimerState;
 use il_image::value::Value;
 use std::alloc::{AllocError, Global};
 
-// Whether the value is one of the type.
+// Returns whether the value is one of the type.
 fn is_of(elementary: ElementaryType, value: Value) -> bool
     ensures { result ≡ places.is_of elementary value }
 {
     value.type_of() == elementary && Value::of(elementary, value.number()).is_some()
 }
 
-// Whether there is a first input and it is of the type.
+// Returns whether there is a first input and it is of the type.
 fn begins_with(elementary: ElementaryType, inputs: &[Value]) -> bool
     ensures { result ≡ places.begins_with elementary inputs.now }
 {
@@ -45,7 +45,7 @@ fn behind(inputs: &[Value]) -> &[Value]
     }
 }
 
-/// Whether there is one input for each read-only point, in order, of the point's type.
+/// Returns whether there is one input for each read-only point, in order, of the point's type.
 pub(crate) fn are_inputs(points: &[ImagePoint], inputs: &[Value]) -> bool
     ensures { result ≡ places.are_inputs points.now inputs.now }
 {
@@ -90,7 +90,7 @@ pub(crate) fn places_of(alloc: Global, points: &[ImagePoint]) -> Result<Places, 
     Ok(Places { reads, writes })
 }
 
-// Puts an input into the slot at a place.
+// Writes an input to the slot at a place.
 #[inline(always)]
 fn take_input(slots: &mut [i64], place: usize, input: Value)
     requires { place < length slots.old }
@@ -99,8 +99,8 @@ fn take_input(slots: &mut [i64], place: usize, input: Value)
     slots[place] = input.number();
 }
 
-/// Puts the inputs of a span into the slots at their places. The other inputs are there already, so
-/// that all are there then.
+/// Writes the inputs of a span to the slots at their places. The slots already hold the other
+/// inputs, so after that they hold all.
 #[inline(always)]
 pub(crate) fn read_inputs<I: Inputs>(reads: &[usize], inputs: &I, span: Span, slots: &mut [i64])
     requires within { AllBelow (length slots.old) reads.now }
@@ -118,7 +118,7 @@ pub(crate) fn read_inputs<I: Inputs>(reads: &[usize], inputs: &I, span: Span, sl
     }
 }
 
-// Returns the value of a type that a word stands for.
+// Returns the value that a word encodes, for a type.
 #[inline(always)]
 fn value_of(elementary: ElementaryType, word: i64) -> Value
     requires { IsSome (values.value_of elementary word) }
@@ -140,7 +140,7 @@ pub(crate) fn output_value(points: &[ImagePoint], slots: &[i64], place: usize) -
     value_of(points[place].elementary, slots[place])
 }
 
-// Whether a word of this type stands for TRUE.
+// Returns whether a word of this type encodes TRUE.
 #[inline(always)]
 fn is_true_word(elementary: ElementaryType, word: i64) -> bool
     ensures { result ≡ spec.is_true (Some (value_at elementary word)) }
@@ -151,7 +151,7 @@ fn is_true_word(elementary: ElementaryType, word: i64) -> bool
     }
 }
 
-/// Whether the value of the point at a place is TRUE.
+/// Returns whether the value of the point at a place is TRUE.
 #[inline(always)]
 pub(crate) fn is_output_true(points: &[ImagePoint], slots: &[i64], place: usize) -> bool
     requires words { AreWords points.now slots.now }

@@ -1,8 +1,8 @@
-// Some of a program's read-only points, one behind the other.
+// A range of a program's read-only points.
 ghost use Rattle.std.specs.Prelude.{◌≡◌, max, min};
 
-/// Some of the read-only points, by their places among them: those at `from` and behind it, but
-/// before `to`.
+/// A range of the read-only points, by their indices among them: from `from` up to, but not
+/// including, `to`.
 #[derive(Clone, Copy)]
 pub struct Span {
     pub from: usize,
@@ -10,7 +10,7 @@ pub struct Span {
 }
 
 impl Span {
-    /// Returns the shortest span that has the points of both.
+    /// Returns the span from the lesser `from` to the greater `to`, which has the points of both.
     #[inline(always)]
     pub fn with(self, other: Span) -> Span
         ensures from { result.from ≡ min self.from other.from }

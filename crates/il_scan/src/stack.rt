@@ -6,7 +6,7 @@ ghost use Rattle.il_scan.specs.Working as spec;
 use arrayvec::ArrayVec;
 use std::marker::Model;
 
-// The room for words.
+// The number of words that the stack has room for.
 const ROOM: usize = 32;
 
 /// The operand stack. Verified code always leaves room for a pushed word and has a word to pop, so

@@ -3,7 +3,7 @@ use Rattle.std.proofs.Common.{arith}
 use Rattle.std.proofs.lemmas.Grind.{common_steps}
 use Rattle.std.proofs.Common.{◌≡◌, ℕ, Bool, true, false, cond, List, [], ◌∷◌, Option, Some, None, option_map, option_and_then, is_some, map, codes, refl, ap, ◌∙◌}
 use Rattle.il_text.specs.Forms as form
-use Rattle.il_text.specs.TokenForms.{Form, made, such, nothing, one, one_of, behind, after, after_of, either, or_of, by, split_at_mark, onto_front, has_mark, parted, parted_of, name_of, is_mark, names_from}
+use Rattle.il_text.specs.TokenForms.{Form, map_form, such, nothing, one, one_of, bind_form, after, after_of, either, or_of, by, split_at_mark, onto_front, has_mark, parted, parted_of, name_of, is_mark, names_from}
 use Rattle.il_text.specs.LetterCase.{upper_place, upper_source, upper_argument, upper_action}
 use Rattle.il_text.specs.Listing.{OperandData, Action}
 use Rattle.il_text.specs.Parts.{LineContent, heading, opening, declaring, closing, labelling, acting, entering, leaving, ending}
@@ -63,7 +63,7 @@ then-up u v f g h None = refl
 then-up u v f g h (Some x) = h x
 
 made-up : {A B : Type 0} {u : A → A} {v : B → B} {to make : A → B} {f g : Form A}
-    → ((x : A) → to (u x) ≡ v (make x)) → Up u f g → Up v (made to f) (made make g)
+    → ((x : A) → to (u x) ≡ v (make x)) → Up u f g → Up v (map_form to f) (map_form make g)
 made-up {to = to} {g = g} h k =
     record { up = λ ts. ap (option_map to) (k.up ts) ∙ mapped _ _ _ _ h (g.reads ts) }
 
@@ -89,11 +89,11 @@ one-up {A} {u} {is} h = record { up = by-list }
     by-list (t ∷ s ∷ ts) = refl
 
 behind-up : {A B : Type 0} (u : A → A) {v : B → B} {is : Symbol → Option A} {f : A → Form B}
-    → IsUp u is → ((x : A) → Up v (f (u x)) (f x)) → Up v (behind is f) (behind is f)
+    → IsUp u is → ((x : A) → Up v (f (u x)) (f x)) → Up v (bind_form is f) (bind_form is f)
 behind-up {A} {B} u {v} {is} {f} h k = record { up = by-list }
   where
     by-list : (ts : List Symbol)
-        → (behind is f).reads (upper_symbols ts) ≡ option_map v ((behind is f).reads ts)
+        → (bind_form is f).reads (upper_symbols ts) ≡ option_map v ((bind_form is f).reads ts)
     by-list [] = refl
     by-list (t ∷ ts) =
         ap (option_and_then (λ x. (f x).reads (upper_symbols ts))) (h t)

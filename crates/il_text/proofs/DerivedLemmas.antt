@@ -201,7 +201,8 @@ declare-step : (d : Declaration) (scope : VariableScope) (name : List ℕ) (ds :
 unfolding step
 declare-step d scope name ds h = rw (begins scope d h) refl
 
-declarations-run : (dls : List Declaration) (scope : VariableScope) (name : List ℕ) (ds : List Declared)
+declarations-run : (dls : List Declaration) (scope : VariableScope) (name : List ℕ)
+    (ds : List Declared)
     (ps : List Numbered) → list_all (may_declare scope) dls ≡ true
     → run (state (place.Block scope) name ds [] []) (map declaration_part dls ++ ps)
     ≡ run (state (place.Block scope) name (ds ++ flat_map (names_declared scope) dls) [] []) ps

@@ -5,7 +5,7 @@ use Rattle.std.proofs.lemmas.Grind.{common_steps}
 use Rattle.std.proofs.lemmas.Option.{same_Some}
 use Rattle.std.specs.List.{list_any}
 use Rattle.il_text.specs.Tokens.{Symbol, name, mark_symbol}
-use Rattle.il_text.specs.TokenForms.{Form, made, such, none, nothing, nothing_of, one, one_of, behind, after, after_of, either, or_of, by, same_mark, split_at_mark, onto_front, parted, parted_of, name_of, is_mark, names, names_from, spelled_names}
+use Rattle.il_text.specs.TokenForms.{Form, map_form, such, none, nothing, nothing_of, one, one_of, bind_form, after, after_of, either, or_of, by, same_mark, split_at_mark, onto_front, parted, parted_of, name_of, is_mark, names, names_from, spelled_names}
 use Rattle.il_text.specs.declared.token.Mark.{Mark}
 use Rattle.il_text.specs.declared.token.Mark.TheVariants as mark
 
@@ -25,7 +25,7 @@ pub then-some : {A B : Type 0} (f : A → Option B) (o : Option A) (y : B)
 then-some f None y e = absurd cc
 then-some f (Some x) y e = (x, refl, e)
 
-pub made-exact : {A B : Type 0} (make : A → B) {f : Form A} → Exact f → Exact (made make f)
+pub made-exact : {A B : Type 0} (make : A → B) {f : Form A} → Exact f → Exact (map_form make f)
 made-exact make {f} e = record {
   read = λ ts y is. ap (option_map make) (e.read ts is.0 is.1) ∙ ap Some is.2;
   back = λ ts y is. let x = map-some make (f.reads ts) y is in (x.0, e.back ts x.0 x.1, x.2);
@@ -64,14 +64,14 @@ one-exact is = record {
 }
 
 behind-back : {A B : Type 0} (is : Symbol → Option A) (f : A → Form B) → ((x : A) → Exact (f x))
-    → (ts : List Symbol) (y : B) → (behind is f).reads ts ≡ Some y → (behind is f).Spells ts y
+    → (ts : List Symbol) (y : B) → (bind_form is f).reads ts ≡ Some y → (bind_form is f).Spells ts y
 behind-back is f e [] y h = absurd cc
 behind-back is f e (t ∷ ts) y h =
     let x = then-some (λ x. (f x).reads ts) (is t) y h in
     (t, ts, x.0, refl, x.1, (e x.0).back ts y x.2)
 
 pub behind-exact : {A B : Type 0} (is : Symbol → Option A) (f : A → Form B)
-    → ((x : A) → Exact (f x)) → Exact (behind is f)
+    → ((x : A) → Exact (f x)) → Exact (bind_form is f)
 behind-exact is f e = record {
   read = λ ts y s. rw (s.3, s.4) ((e s.2).read s.1 y s.5);
   back = behind-back is f e;

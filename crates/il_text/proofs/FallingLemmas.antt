@@ -327,7 +327,8 @@ cuts ds name w r e n m =
       drop-append_seam name w,
     ) (refl, refl, refl)
 
-part-cuts : (behind : Bool) (p : DurationPart) (w r : List ℕ) → IsPart behind p → r ≡ spelling p ++ w
+part-cuts : (behind : Bool) (p : DurationPart) (w r : List ℕ) → IsPart behind p
+    → r ≡ spelling p ++ w
     → prefix_len is_ascii_alphabetic w ≡ 0
     → (take (number_len r) r ≡ p.digits) × (take (unit_len r) (drop (number_len r) r) ≡ p.name)
     × (drop (unit_len r) (drop (number_len r) r) ≡ w)

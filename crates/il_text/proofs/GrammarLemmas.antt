@@ -240,7 +240,8 @@ declaring-taken n ns kind initial scope ps r a h =
       outside = a.outside;
     }
 
-closing-taken : (n : ℕ) (scope : VariableScope) (ps : List Numbered) (r : Reached) → InBlock scope ps r
+closing-taken : (n : ℕ) (scope : VariableScope) (ps : List Numbered) (r : Reached)
+    → InBlock scope ps r
     → Between (ps ++ (n, closing) ∷ []) (at_place place.Declarations r)
 closing-taken n scope ps r a =
     let b : Block =

@@ -92,20 +92,23 @@ unfolding declared_from names_from
 at-name line scope tail before s n e ss =
     rw e (name-before (declared_in line scope tail.kind tail.initial) before n (names_from true ss))
 
-pub at-no-name : (line : ℕ) (scope : VariableScope) (tail : Tail) (before : List Declared) (s : Symbol)
+pub at-no-name : (line : ℕ) (scope : VariableScope) (tail : Tail) (before : List Declared)
+    (s : Symbol)
     (ss : List Symbol) → name_of s ≡ None
     → declared_from line scope tail before false (s ∷ ss) ≡ None
 unfolding declared_from names_from
 at-no-name line scope tail before s ss e = rw e refl
 
-pub at-comma : (line : ℕ) (scope : VariableScope) (tail : Tail) (before : List Declared) (s : Symbol)
+pub at-comma : (line : ℕ) (scope : VariableScope) (tail : Tail) (before : List Declared)
+    (s : Symbol)
     (ss : List Symbol) → is_mark mark.Comma s ≡ true
     → declared_from line scope tail before true (s ∷ ss)
     ≡ declared_from line scope tail before false ss
 unfolding declared_from names_from
 at-comma line scope tail before s ss e = rw e refl
 
-pub at-no-comma : (line : ℕ) (scope : VariableScope) (tail : Tail) (before : List Declared) (s : Symbol)
+pub at-no-comma : (line : ℕ) (scope : VariableScope) (tail : Tail) (before : List Declared)
+    (s : Symbol)
     (ss : List Symbol) → is_mark mark.Comma s ≡ false
     → declared_from line scope tail before true (s ∷ ss) ≡ None
 unfolding declared_from names_from
@@ -139,7 +142,8 @@ pub steps-one : (n : ℕ) (r : Reached) (p : LineContent) → steps n r (p ∷ [
 unfolding steps
 steps-one n r p = and-some (step n r p)
 
-pub steps-more : (n : ℕ) (r s : Reached) (p : LineContent) (ps : List LineContent) → step n r p ≡ Some s
+pub steps-more : (n : ℕ) (r s : Reached) (p : LineContent) (ps : List LineContent)
+    → step n r p ≡ Some s
     → steps n r (p ∷ ps) ≡ steps n s ps
 unfolding steps
 steps-more n r s p ps e = rw e refl
@@ -162,7 +166,8 @@ with_listed r ds =
       parentheses = r.parentheses;
     }
 
-declared-with : (line : ℕ) (r : Reached) (scope : VariableScope) (t : Tail) (o : Option (List (List ℕ)))
+declared-with : (line : ℕ) (r : Reached) (scope : VariableScope) (t : Tail)
+    (o : Option (List (List ℕ)))
     (ds : List Declared) → block_scope r.place ≡ Some scope → may_begin_with scope t.initial ≡ true
     → option_map (λ ns. r.declarations ++ map (declared_in line scope t.kind t.initial) ns) o
     ≡ Some ds

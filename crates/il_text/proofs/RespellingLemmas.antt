@@ -266,7 +266,8 @@ opens-step x y xs true o h f g =
     (f (and-right (is_blank (cond (closes xs) 32 256)) _ q)))
 opens-step x y xs false o h f g =
     let q = rw o at h in
-    and_from (no_end x) _ (no_end-blank x (and-left (is_blank x) _ q)) (g (and-right (is_blank x) _ q))
+    and_from (no_end x) _ (no_end-blank x (and-left (is_blank x) _ q))
+    (g (and-right (is_blank x) _ q))
 
 -- where a line end stands, no blank does
 no-ends-inside : (b : Bool) (w : List ℕ) → list_all is_blank (without_comments b w) ≡ true
@@ -274,7 +275,8 @@ no-ends-inside : (b : Bool) (w : List ℕ) → list_all is_blank (without_commen
 unfolding without_comments
 no-ends-inside b [] a = refl
 no-ends-inside true (x ∷ []) a =
-    and_from (no_end x) true (no_end-inside (eqb x 10) (and-left (is_blank (blank_of x)) true a)) refl
+    and_from (no_end x) true (no_end-inside (eqb x 10) (and-left (is_blank (blank_of x)) true a))
+    refl
 no-ends-inside false (x ∷ []) a =
     and_from (no_end x) true (no_end-blank x (and-left (is_blank x) true a)) refl
 no-ends-inside true (x ∷ y ∷ xs) a =

@@ -132,7 +132,8 @@ quiet-depth n (p ∷ ps) r s h e =
     let same : depth c.0 ≡ depth r = quiet-sum (depth c.0) (depth r) _ _ f.0 f.1 one in
     (unfold steps in quiet-depth n ps c.0 s q.1 c.2) ∙ same
 
-steps-run : (n : ℕ) (ps : List LineContent) (r : Reached) → run r (numbered_parts (n, ps)) ≡ steps n r ps
+steps-run : (n : ℕ) (ps : List LineContent) (r : Reached)
+    → run r (numbered_parts (n, ps)) ≡ steps n r ps
 unfolding steps
 steps-run n [] r = refl
 steps-run n (p ∷ ps) r =
@@ -201,7 +202,8 @@ ends-so last before s place.Body e h = (not-finished before s place.Body e refl 
 ends-so last before s place.Finished e h = ended-derives (all_parts before) s h (sym e)
 
 -- what a line's parts make, and what the lines behind it read as
-abbrev Going : ℕ → List TextLine → ℕ → List (List Piece) → Result PlainProgram TextFault → List LineContent
+abbrev Going : ℕ → List TextLine → ℕ → List (List Piece) → Result PlainProgram TextFault
+    → List LineContent
     → Type 0
 Going last before n ls x ps =
     (Allowed (before ++ (n, ps) ∷ []) × Reads last (before ++ (n, ps) ∷ []) (n + 1) ls x)
@@ -215,7 +217,8 @@ abbrev More : ℕ → ℕ → List (List Piece) → Type 0
 More last n ls =
     (b : List TextLine) (s : Read) → After b s → Reads last b (n + 1) ls (rest last n ls s)
 
-goes-quiet : (last n instr : ℕ) (before : List TextLine) (ls : List (List Piece)) (ps : List LineContent)
+goes-quiet : (last n instr : ℕ) (before : List TextLine) (ls : List (List Piece))
+    (ps : List LineContent)
     (s : Reached) → More last n ls
     → run nothing_read (all_parts (before ++ (n, ps) ∷ [])) ≡ Some s → has_instruction ps ≡ false
     → instr ≡ count_by holds before → instr ≤ most_instructions → depth s ≤ most_open
@@ -234,7 +237,8 @@ goes-quiet last n instr before ls ps s f h q c k d =
           (record { runs = h; count = t; short = k; shallow = d }),
     )
 
-counts-so : (last n instr : ℕ) (before : List TextLine) (ls : List (List Piece)) (ps : List LineContent)
+counts-so : (last n instr : ℕ) (before : List TextLine) (ls : List (List Piece))
+    (ps : List LineContent)
     (s : Reached) (b : Bool) → More last n ls
     → run nothing_read (all_parts (before ++ (n, ps) ∷ [])) ≡ Some s → has_instruction ps ≡ true
     → instr ≡ count_by holds before → ltb instr most_instructions ≡ b → depth s ≤ most_open
@@ -263,7 +267,8 @@ counts-so last n instr before ls ps s false f h q c t d =
     inr (too_long (goes_on _ s h) (shallow-so (before ++ (n, ps) ∷ []) s h d)
     (omega (arith, m, z, c, k)) refl)
 
-bounded-so : (last n instr : ℕ) (before : List TextLine) (ls : List (List Piece)) (ps : List LineContent)
+bounded-so : (last n instr : ℕ) (before : List TextLine) (ls : List (List Piece))
+    (ps : List LineContent)
     (s : Reached) (b : Bool) → More last n ls
     → run nothing_read (all_parts (before ++ (n, ps) ∷ [])) ≡ Some s → has_instruction ps ≡ true
     → instr ≡ count_by holds before → leb (depth s) most_open ≡ b

@@ -61,15 +61,19 @@ going-one last n ls P x y f (inr a) (inl b) = absurd (not-both last n ls x b.0 a
 going-one last n ls P x y f (inr a) (inr b) = refused-one last n ls x y a b
 
 parts-one : (n : ℕ) (o : Option (List LineContent))
-    (G : Result PlainProgram TextFault → List LineContent → Type 0) (x y : Result PlainProgram TextFault)
-    → ((ps : List LineContent) → G x ps → G y ps → x ≡ y) → OnParts n (G x) o x → OnParts n (G y) o y
+    (G : Result PlainProgram TextFault → List LineContent → Type 0)
+    (x y : Result PlainProgram TextFault)
+    → ((ps : List LineContent) → G x ps → G y ps → x ≡ y) → OnParts n (G x) o x
+    → OnParts n (G y) o y
     → x ≡ y
 parts-one n None G x y f a b = a ∙ sym b
 parts-one n (Some ps) G x y f a b = f ps a b
 
 tokens-one : (n : ℕ) (t : Result (List Symbol) TextFault)
-    (G : Result PlainProgram TextFault → List LineContent → Type 0) (x y : Result PlainProgram TextFault)
-    → ((ps : List LineContent) → G x ps → G y ps → x ≡ y) → OnTokens n (G x) t x → OnTokens n (G y) t y
+    (G : Result PlainProgram TextFault → List LineContent → Type 0)
+    (x y : Result PlainProgram TextFault)
+    → ((ps : List LineContent) → G x ps → G y ps → x ≡ y) → OnTokens n (G x) t x
+    → OnTokens n (G y) t y
     → x ≡ y
 tokens-one n (Err e) G x y f a b = a ∙ sym b
 tokens-one n (Ok ts) G x y f a b = parts-one n (parts_of ts) G x y f a b
@@ -160,13 +164,15 @@ derived-rises ps p m d c =
     rises-lower 0 back.0 (item_lines p.items) back.1
     (climbs-front back.0 m (map line_of (flat_map entry_parts p.items)) (d.end ∷ []) back.2)
 
-parts_rise : (n : ℕ) (o : Option (List LineContent)) (G : List LineContent → Type 0) (p : PlainProgram)
+parts_rise : (n : ℕ) (o : Option (List LineContent)) (G : List LineContent → Type 0)
+    (p : PlainProgram)
     (R : Type 0) → ((ps : List LineContent) → G ps → R) → OnParts n G o (Ok p) → R
 parts_rise n None G p R f a = cc
 parts_rise n (Some ps) G p R f a = f ps a
 
 tokens_rise : (n : ℕ) (t : Result (List Symbol) TextFault) (G : List LineContent → Type 0)
-    (p : PlainProgram) (R : Type 0) → ((ps : List LineContent) → G ps → R) → OnTokens n G t (Ok p) → R
+    (p : PlainProgram) (R : Type 0) → ((ps : List LineContent) → G ps → R) → OnTokens n G t (Ok p)
+    → R
 tokens_rise n (Err e) G p R f a = cc
 tokens_rise n (Ok ts) G p R f a = parts_rise n (parts_of ts) G p R f a
 

@@ -5,7 +5,7 @@ use Rattle.il_text.specs.declared.fault.TextFault.TheVariants.{BadToken, BadLine
 
 -- ---- own: numbers and lines of faults
 
--- the fault's number; want of memory has none
+-- the fault's number; out of memory has none
 abbrev pub code_of : TextFault → Option ℕ
 code_of (BadToken line) = Some 60
 code_of (BadLine line) = Some 61
@@ -14,7 +14,7 @@ code_of (BadLiteral line) = Some 63
 code_of (TooLong line) = Some 64
 code_of OutOfMemory = None
 
--- the line of the fault, or 0 for want of memory
+-- the line of the fault, or 0 for out of memory
 abbrev pub line_of : TextFault → ℕ
 line_of (BadToken line) = line
 line_of (BadLine line) = line

@@ -1,4 +1,4 @@
--- Inner: the declarations that a list of names makes after others.
+-- Inner: the declarations of a list of names, after others.
 use Rattle.std.specs.Prelude.{ℕ, Bool, List, ◌++◌, map, Option, option_map}
 use Rattle.il_text.specs.TokenForms.{names_from}
 use Rattle.il_text.specs.Listing.{Declared}
@@ -9,8 +9,8 @@ use Rattle.il_text.specs.declared.program.VariableScope.{VariableScope}
 
 -- ---- own: views of the code
 
--- the declarations before, and one for each name of the list; `after_name` says that a comma or the
--- end comes next
+-- the declarations before, and one for each name of the list; none if the tokens are no list of
+-- names; `after_name`: a comma or the end comes next
 unfoldable pub declared_from : ℕ → VariableScope → Tail → List Declared → Bool → List Symbol
     → Option (List Declared)
 declared_from line scope tail before after_name ss =

@@ -1,5 +1,5 @@
--- A duration in the terms of its grammar: numbers with units, one behind the other, the units
--- falling (IEC 61131-3:2003, 2.2.3.1 and annex B.1.2.3.1).
+-- A duration by its grammar: numbers with units, one after the other, in descending units (IEC
+-- 61131-3:2003, 2.2.3.1 and annex B.1.2.3.1).
 use Rattle.std.specs.Prelude.{◌≡◌, ◌<◌, ⊤, ℕ, ◌*◌, Bool, true, false, List, [], ◌∷◌, ◌++◌, codes, Some}
 use Rattle.std.specs.List.{flat_map, sum_by}
 use Rattle.bay_base.specs.Names.{same_name}
@@ -31,7 +31,8 @@ size minutes = 60000
 size seconds = 1000
 size thousandths = 1
 
--- a part of a duration: the octets of its number, those of its unit's name, and what they stand for
+-- a part of a duration: the octets of its number, those of its unit, and the number and unit that
+-- they spell
 pub record DurationPart : Type 0 where
   pub digits : List ℕ
   pub name : List ℕ
@@ -46,19 +47,20 @@ spelling p = p.digits ++ p.name
 abbrev pub value : DurationPart → ℕ
 value p = p.count * size p.unit
 
--- The octets of this part are its number and its unit; behind another part, an `_` may stand before
--- the number.
+-- The octets of this part spell its number and its unit. After another part (`behind`), an `_` may
+-- precede the number.
 pub record IsPart (behind : Bool) (p : DurationPart) : Type 0 where
   pub counted : number_of_part behind p.digits ≡ Some p.count
   pub named : same_name p.name (letters p.unit) ≡ true
 
--- the parts behind a part: each has a smaller unit than the one before it
+-- The parts may follow a part whose unit has `above` milliseconds: each has a smaller unit than the
+-- one before it.
 abbrev pub Fall : ℕ → List DurationPart → Type 0
 Fall above [] = ⊤
 Fall above (p ∷ ps) = IsPart true p × (size p.unit < above) × Fall (size p.unit) ps
 
--- These octets are a duration of so many milliseconds: at least one part, the units falling,
--- spelled one behind the other; the milliseconds are their sum.
+-- The octets are a duration of `ms` milliseconds: at least one part, in descending units, spelled
+-- one after the other; `ms` is the sum of the parts.
 pub record IsDuration (octets : List ℕ) (ms : ℕ) : Type 0 where
   pub first : DurationPart
   pub more : List DurationPart
@@ -67,7 +69,7 @@ pub record IsDuration (octets : List ℕ) (ms : ℕ) : Type 0 where
   pub spelled : octets ≡ flat_map spelling (first ∷ more)
   pub summed : ms ≡ sum_by value (first ∷ more)
 
--- These octets have so many milliseconds exactly where they are a duration of as many (own).
+-- Octets have this number of milliseconds exactly if they are a duration of this many (own).
 abbrev pub DurationsFall : Type 0
 DurationsFall = (octets : List ℕ) (ms : ℕ)
     → (milliseconds octets ≡ Some ms → IsDuration octets ms)

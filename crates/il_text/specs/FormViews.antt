@@ -16,7 +16,7 @@ use Rattle.il_text.specs.declared.program.Operator.{Operator}
 
 -- ---- own: views of the code
 
--- an operator with `(`, and the load of the operand behind it
+-- an operator with `(`, and the load of the operand after it, if there is one
 abbrev pub opened_parts : Operator → Bool → Option Operand → List LineContent
 opened_parts o n None = entering o n ∷ []
 opened_parts o n (Some x) = entering o n ∷ acting (load false (source_of x)) ∷ []
@@ -26,7 +26,7 @@ abbrev pub statement_parts : Statement → List LineContent
 statement_parts (Plain instruction) = acting (action_of instruction) ∷ []
 statement_parts (Open operator negated operand) = opened_parts operator negated operand
 
--- the parts of the code's line; a declaration has none where its names are no list
+-- the parts of the code's line; none if the names of a declaration are no list
 abbrev pub line_parts : Line → Option (List LineContent)
 line_parts (line.Heading name) = Some (heading name.now ∷ [])
 line_parts (line.Opening scope) = Some (opening scope ∷ [])
@@ -38,6 +38,6 @@ line_parts (line.Statement statement) = Some (statement_parts statement)
 line_parts line.Leaving = Some (leaving ∷ [])
 line_parts line.Ending = Some (ending ∷ [])
 
--- the tokens before and after the one that parts them
+-- the tokens before and after the mark that separates them
 abbrev pub halves_of : Halves → List Symbol × List Symbol
 halves_of h = (symbols_of h.front.now, symbols_of h.rest.now)

@@ -36,7 +36,7 @@ pub record Block : Type 0 where
 abbrev pub declaration_part : Declaration → Numbered
 declaration_part d = (d.line, declaring d.names d.kind d.initial)
 
--- the parts of a block: both its words, and the declarations between them
+-- the parts of a block: its first and last line, and the declarations between them
 abbrev pub block_parts : Block → List Numbered
 block_parts b =
     (b.line, opening b.scope) ∷ (map declaration_part b.declarations ++ (b.end, closing) ∷ [])
@@ -56,12 +56,12 @@ names_declared scope d =
 abbrev pub block_declared : Block → List Declared
 block_declared b = flat_map (names_declared b.scope) b.declarations
 
--- an external has no initial value
+-- whether the scope allows the declaration: an external has no initial value
 abbrev pub may_declare : VariableScope → Declaration → Bool
 may_declare Local d = true
 may_declare External d = is_none d.initial
 
--- each declaration of the block may stand in it
+-- whether the scope of the block allows each of its declarations
 abbrev pub is_allowed : Block → Bool
 is_allowed b = list_all (may_declare b.scope) b.declarations
 
@@ -78,7 +78,7 @@ abbrev mutual
   entries_parts no_entries = []
   entries_parts (entry e es) = entry_parts e ++ entries_parts es
 
--- an instruction that may stand in a parenthesis: no jump, no return, and no call
+-- whether an instruction may be in a parenthesis: no jump, no return, and no call
 abbrev pub is_plain : Action → Bool
 is_plain (load negated source) = true
 is_plain (store kind place) = true
@@ -89,7 +89,7 @@ is_plain (jump condition to) = false
 is_plain (leave condition) = false
 is_plain (call timer arguments) = false
 
--- a parenthesis begins with LD or LDN
+-- whether a parenthesis may begin with the entry: LD or LDN
 abbrev pub is_first : Entry → Bool
 is_first (label line name) = false
 is_first (action line (load negated source)) = true
@@ -97,7 +97,7 @@ is_first (action line other) = false
 is_first (block line operator negated es end) = false
 
 abbrev mutual
-  -- an entry that may stand in a parenthesis
+  -- whether an entry may be in a parenthesis
   pub is_inner : Entry → Bool
   is_inner (label line name) = false
   is_inner (action line a) = is_plain a
@@ -107,12 +107,12 @@ abbrev mutual
   all_inner no_entries = true
   all_inner (entry e es) = is_inner e && all_inner es
 
-  -- the entries of a parenthesis
+  -- whether entries may be those of a parenthesis
   pub is_parenthesis : Entries → Bool
   is_parenthesis no_entries = false
   is_parenthesis (entry e es) = is_first e && (is_inner e && all_inner es)
 
--- an entry of the body
+-- whether an entry may be in the body
 abbrev pub is_outer : Entry → Bool
 is_outer (label line name) = true
 is_outer (action line a) = true
@@ -134,13 +134,13 @@ pub record Derives (ps : List Numbered) (program : PlainProgram) : Type 0 where
 
 -- ---- own: beginnings of programs, and lines of parts
 
--- some parts after these make a program
+-- More parts after these make a program.
 pub record CanGoOn (ps : List Numbered) : Type 0 where
   pub more : List Numbered
   pub program : PlainProgram
   pub derived : Derives (ps ++ more) program
 
--- at most one program is derived from the parts of lines
+-- At most one program is derived from the parts of lines.
 abbrev pub OneProgram : Type 0
 OneProgram = (ps : List Numbered) (p q : PlainProgram) → Derives ps p → Derives ps q → p ≡ q
 
@@ -148,12 +148,12 @@ OneProgram = (ps : List Numbered) (p q : PlainProgram) → Derives ps p → Deri
 abbrev pub line_of : Numbered → ℕ
 line_of p = p.0
 
--- numbers that never fall, from this one on
+-- whether the numbers never decrease, from k on
 abbrev pub rises : ℕ → List ℕ → Bool
 rises k [] = true
 rises k (x ∷ xs) = nat_le k x && rises x xs
 
--- the lines of entries, from the first to the last: of a parenthesis that of its operator, those in
--- it, and that of its `)`
+-- the lines of entries in order; a parenthesis has the line of its operator, those of its entries,
+-- and the line of its `)`
 abbrev pub item_lines : List Entry → List ℕ
 item_lines es = map line_of (flat_map entry_parts es)

@@ -1,4 +1,4 @@
--- The plain data that declarations and items of the code stand for.
+-- Declarations and items of the code as plain data.
 use Rattle.std.specs.Prelude.{List, [], ◌∷◌}
 use Rattle.il_text.specs.Listing.{Place, named, output, OperandData, constant, variable, Action, load, store, combine, invert, convert, jump, leave, call, Entry, label, action, block, entries_of, Declared}
 use Rattle.il_text.specs.declared.program.SymbolicVariable.{SymbolicVariable}
@@ -20,14 +20,14 @@ use Rattle.il_text.specs.declared.program.Declaration.{Declaration}
 -- a name, or an output of a timer
 abbrev pub place_of : SymbolicVariable → Place
 place_of (v.Name name) = named name.now
-place_of (v.Output timer gives) = output timer.now gives
+place_of (v.TimerOutput timer gives) = output timer.now gives
 
--- what an instruction reads
+-- the operand that an instruction reads
 abbrev pub source_of : Operand → OperandData
 source_of (o.Literal value) = constant value
 source_of (o.Variable place) = variable (place_of place)
 
--- an input of a timer, and what it is given
+-- an input of a timer, and its operand
 abbrev pub argument_of : Argument → Input × OperandData
 argument_of given = (given.input, source_of given.operand)
 
@@ -48,14 +48,14 @@ action_of (i.Jump condition to) = jump condition to.now
 action_of (i.Return condition) = leave condition
 action_of (i.Call timer arguments) = call timer.now (arguments_of arguments)
 
--- one level of an item, with each item inside already seen as its entry
+-- an item as an entry, given the entries of the items in it
 abbrev pub entry_step : Item-F Entry → Entry
 entry_step (Item-F.Label line name) = label line name.now
 entry_step (Item-F.Instruction line instruction) = action line (action_of instruction)
 entry_step (Item-F.Block line operator negated items end) =
     block line operator negated (entries_of items.items) end
 
--- an item with all that it holds
+-- an item as an entry
 abbrev pub entry_of : Item → Entry
 entry_of = fold-Item Entry entry_step
 

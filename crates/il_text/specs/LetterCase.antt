@@ -13,7 +13,7 @@ abbrev pub upper_place : Place → Place
 upper_place (named n) = named (upper n)
 upper_place (output timer gives) = output (upper timer) gives
 
--- what is read, with its names in upper case
+-- an operand with its names in upper case
 abbrev pub upper_source : OperandData → OperandData
 upper_source (constant value) = constant value
 upper_source (variable place) = variable (upper_place place)
@@ -64,13 +64,13 @@ upper_listing l =
       items = map upper_entry l.items;
     }
 
--- the same of a text's program; a fault stays as it is
+-- the same for the reading of a text; a fault is unchanged
 abbrev pub upper_program : Result PlainProgram TextFault → Result PlainProgram TextFault
 upper_program (Ok l) = Ok (upper_listing l)
 upper_program (Err e) = Err e
 
--- What a text reads as, its upper case reads as with the names in upper case; its fault is the
--- same. So letters may be spelled in either case (IEC 61131-3, 2.1.1).
+-- A text in upper case reads as the original does, with its names in upper case, and has the same
+-- fault. So letters may be spelled in either case (IEC 61131-3, 2.1.1).
 abbrev pub LettersMayBeRespelled : Type 0
 LettersMayBeRespelled = (text : List ℕ) (read : Result PlainProgram TextFault) → ReadsAs text read
     → ReadsAs (upper text) (upper_program read)

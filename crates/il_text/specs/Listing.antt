@@ -8,23 +8,23 @@ use Rattle.il_text.specs.declared.program.StoreKind.{StoreKind}
 use Rattle.il_text.specs.declared.program.Condition.{Condition}
 use Rattle.il_text.specs.declared.program.Conversion.{Conversion}
 use Rattle.il_text.specs.declared.program.Input.{Input}
-use Rattle.il_text.specs.declared.program.Output.{Output}
+use Rattle.il_text.specs.declared.program.TimerOutput.{TimerOutput}
 
 -- ---- IEC 61131-3 B.2.1: instructions as plain data
 
 -- a name, or an output of the timer of that name
 pub data Place : Type 0 where
   named : List ℕ → Place
-  output : List ℕ → Output → Place
+  output : List ℕ → TimerOutput → Place
 
--- what an instruction reads
+-- the operand that an instruction reads
 pub data OperandData : Type 0 where
   constant : Literal → OperandData
   variable : Place → OperandData
 
--- An instruction: LD, or LDN where the truth value says so; a store of some kind; an operator with
--- its operand, negated where the truth value says so; NOT; a conversion; a jump to a label; a
--- return; a call of a timer with its arguments.
+-- An instruction: LD, or LDN if the flag is true; a store of some kind; an operator with its
+-- operand, negated if the flag is true; NOT; a conversion; a jump to a label; a return; a call of a
+-- timer with its arguments.
 pub data Action : Type 0 where
   load : Bool → OperandData → Action
   store : StoreKind → Place → Action
@@ -36,8 +36,8 @@ pub data Action : Type 0 where
   call : List ℕ → List (Input × OperandData) → Action
 
 mutual
-  -- a label with its line; an instruction with its line; an operator, and whether it is negated,
-  -- with the entries in its parenthesis and the lines of both ends
+  -- a label with its line; an instruction with its line; a parenthesis: the line of its operator,
+  -- the operator, whether that is negated, its entries, and the line of its `)`
   pub data Entry : Type 0 where
     label : ℕ → List ℕ → Entry
     action : ℕ → Action → Entry
@@ -47,14 +47,14 @@ mutual
     no_entries : Entries
     entry : Entry → Entries → Entries
 
--- entries as those of a parenthesis (own)
+-- a list of entries as those of a parenthesis (own)
 abbrev pub entries_of : List Entry → Entries
 entries_of [] = no_entries
 entries_of (e ∷ es) = entry e (entries_of es)
 
 -- ---- IEC 61131-3 B.1.4.3, B.1.5.3: declarations and programs as plain data
 
--- one declared name, with its line, its type and the initial value that the text gives
+-- one declared name, with its line, its type and its initial value in the text, if it has one
 pub record Declared : Type 0 where
   pub line : ℕ
   pub scope : VariableScope

@@ -1,4 +1,4 @@
--- Inner: what the lines so far stand for in the code.
+-- Inner: the lines read so far by the code, as plain data.
 use Rattle.std.specs.Prelude.{map, reverse}
 use Rattle.il_text.specs.Reading.{Read}
 use Rattle.il_text.specs.Steps.{Opened, Reached}
@@ -29,6 +29,6 @@ reached_of l =
       parentheses = reverse (map opened_of l.parentheses.items);
     }
 
--- the same, and how many lines held an instruction or `)`
+-- the same, and the number of lines with an instruction or `)`
 abbrev pub read_of : code.Draft → Read
 read_of l = record { reached = reached_of l; instructions = l.instructions }

@@ -1,4 +1,4 @@
--- A text is cut into pieces: tokens, blanks and line ends (IEC 61131-3:2003, 2.1 and annex B.2.1).
+-- Cuts a text into lexemes: tokens, blanks and line ends (IEC 61131-3:2003, 2.1 and annex B.2.1).
 use Rattle.std.specs.Prelude.{ℕ, Bool, true, false, ◌&&◌, ◌||◌, ◌==◌, if◌then◌else◌, List, [], ◌∷◌, slice_index, codes}
 use Rattle.std.specs.Str.{byte}
 use Rattle.il_text.specs.Characters.{are_linked}
@@ -6,29 +6,29 @@ use Rattle.bay_base.specs.Names.{same_name}
 
 -- ---- IEC 61131-3 2.1.5: comments
 
--- the text begins with `(*`
+-- whether the text begins with `(*`
 abbrev pub opens : List ℕ → Bool
 opens xs = slice_index xs 0 == byte "(" && slice_index xs 1 == byte "*"
 
--- the text begins with `*)`
+-- whether the text begins with `*)`
 abbrev pub ends : List ℕ → Bool
 ends xs = slice_index xs 0 == byte "*" && slice_index xs 1 == byte ")"
 
--- a `*)` stands in the text
+-- whether the text contains `*)`
 unfoldable pub closes : List ℕ → Bool
 closes [] = false
 closes (x ∷ xs) = ends (x ∷ xs) || closes xs
 
--- what stands in the place of the opening of a comment that is not closed: it is no character (own)
+-- in place of the opening of a comment that is not closed: no character (own)
 abbrev pub unclosed_comment : ℕ
 unclosed_comment = 256
 
--- a character within a comment
+-- a character of a comment as a blank; a line end remains
 abbrev pub blank_of : ℕ → ℕ
 blank_of x = if x == 10 then 10 else byte " "
 
--- The text with a space for each character of a comment but its line ends (2.1.5). `inside` says
--- that the text begins within a comment. A comment ends at the first `*)` after its `(*`.
+-- The text with a space for each character of a comment but its line ends (2.1.5). `inside`: the
+-- text begins within a comment. A comment ends at the first `*)` after its `(*`.
 unfoldable pub without_comments : Bool → List ℕ → List ℕ
 without_comments inside [] = []
 without_comments inside (x ∷ []) = (if inside then blank_of x else x) ∷ []
@@ -41,21 +41,21 @@ without_comments inside (x ∷ y ∷ xs) =
     ∷ without_comments true xs
     else x ∷ without_comments false (y ∷ xs))
 
--- ---- own: pieces, the longest runs of characters that belong together
+-- ---- own: lexemes, the longest runs of characters that belong together
 
--- Whether the character and the piece that directly follows it are one piece. A `&` takes the word
--- `N` to itself, where it stands alone.
+-- Whether a character and the lexeme directly after it are one lexeme. A `&` joins a lexeme that is
+-- just `N`.
 unfoldable pub joins : ℕ → List ℕ → Bool
 joins x p = are_linked x (slice_index p 0) || (x == byte "&" && same_name p (codes "N"))
 
--- a character in front of pieces: a part of the first one, or a piece of its own
+-- a character before the lexemes: part of the first one, or a lexeme of its own
 abbrev pub join : ℕ → List (List ℕ) → List (List ℕ)
 join x [] = (x ∷ []) ∷ []
 join x (p ∷ ps) = if joins x p then (x ∷ p) ∷ ps else (x ∷ []) ∷ p ∷ ps
 
--- The pieces of a text without comments: the longest runs of characters that belong together. They
--- are joined from the right, so each piece is whole before the character in front of it is looked
--- at.
+-- The lexemes of a text without comments: the longest runs of characters that belong together. They
+-- are joined from the right, so each lexeme is complete before the character in front of it is
+-- considered.
 unfoldable pub pieces : List ℕ → List (List ℕ)
 pieces [] = []
 pieces (x ∷ xs) = join x (pieces xs)

@@ -3,7 +3,7 @@ use Rattle.std.specs.Prelude.{ℕ, ◌+◌, ◌&&◌, ◌==◌, nat_lt, if◌the
 
 -- ---- own: lines of a text
 
--- Each line end that something follows begins another line.
+-- the number of the last line: a line end begins another line if something follows it
 unfoldable pub last_line : List ℕ → ℕ
 last_line [] = 1
 last_line (x ∷ xs) = if x == 10 && nat_lt 0 (length xs) then last_line xs + 1 else last_line xs

@@ -1,4 +1,4 @@
--- Inner: what is left to read, at one place of a text.
+-- Inner: the result of reading on from a state of the reader.
 use Rattle.std.specs.Prelude.{ℕ, ◌+◌, List, [], ◌++◌, map, drop, Result}
 use Rattle.bay_base.specs.Results.{◌>>=◌}
 use Rattle.il_text.specs.Listing.{PlainProgram}
@@ -12,24 +12,24 @@ use Rattle.il_text.specs.declared.read.Reader as code
 
 -- ---- own: views of the code
 
--- the program that pieces make after the tokens of an unfinished line and what the lines before it
--- reached
+-- the result of reading the lexemes on, after the tokens of an unfinished line and the lines before
+-- it
 unfoldable pub read_on : ℕ → Read → ℕ → List Symbol → List Piece → Result PlainProgram TextFault
 read_on last r line ss ps = reading last r line (lines (map token ss ++ ps))
 
--- the program that what is read and what is left of a text make
+-- the result of reading on from a state of the reader
 abbrev pub left_of : code.Reader → Result PlainProgram TextFault
 left_of r =
     read_on r.last (read_of r.listing) r.line (symbols_of r.tokens.items)
     (pieces_of r.in_comment (drop r.at r.text.now))
 
--- the same where the line ends here
+-- the same, if the line ends here
 abbrev pub ended_of : code.Reader → Result PlainProgram TextFault
 ended_of r =
     after_line r.line r.last (read_of r.listing) (symbols_of r.tokens.items)
     >>= (λ s. read_on r.last s (r.line + 1) [] (pieces_of r.in_comment (drop r.at r.text.now)))
 
--- and where the text does
+-- the same, if the text ends here
 abbrev pub whole_of : code.Reader → Result PlainProgram TextFault
 whole_of r =
     after_line r.line r.last (read_of r.listing) (symbols_of r.tokens.items)

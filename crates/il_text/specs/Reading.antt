@@ -15,12 +15,12 @@ use Rattle.il_text.specs.declared.listing.Stage.TheVariants as place
 
 -- ---- own: how a program is read line by line
 
--- a piece in front of the first of the lines
+-- a lexeme before those of the first line
 abbrev pub onto : Piece → List (List Piece) → List (List Piece)
 onto p [] = (p ∷ []) ∷ []
 onto p (l ∷ ls) = (p ∷ l) ∷ ls
 
--- the lines of a text, without their blanks
+-- the lexemes of each line of a text, without blanks
 unfoldable pub lines : List Piece → List (List Piece)
 lines [] = [] ∷ []
 lines (blank ∷ ps) = lines ps
@@ -38,12 +38,12 @@ tokens_of line (token s ∷ ps) = tokens_of line ps >>= (λ ss. Ok (s ∷ ss))
 tokens_of line (bad_token ∷ ps) = Err (BadToken line)
 tokens_of line (bad_literal ∷ ps) = Err (BadLiteral line)
 
--- what the lines so far make, and how many of them held an instruction or `)`
+-- what the lines so far make, and the number of these lines with an instruction or `)`
 pub record Read : Type 0 where
   pub reached : Reached
   pub instructions : ℕ
 
--- the part counts towards the limit of lines
+-- whether the part counts towards the limit of lines
 abbrev pub is_instruction : LineContent → Bool
 is_instruction (heading name) = false
 is_instruction (opening scope) = false
@@ -55,56 +55,57 @@ is_instruction (entering operator negated) = true
 is_instruction leaving = true
 is_instruction ending = false
 
--- an instruction or `)` is among the parts
+-- whether an instruction or `)` is among the parts
 abbrev pub has_instruction : List LineContent → Bool
 has_instruction [] = false
 has_instruction (p ∷ ps) = is_instruction p || has_instruction ps
 
--- A line past a limit. Where it is the last line, the text ends early there too, and that fault
--- comes first.
+-- The fault of a line past a limit. If it is the last line, the text also ends early there, and
+-- that fault comes first.
 abbrev pub past_limit : ℕ → ℕ → TextFault → TextFault
 past_limit line last fault = if line == last then BadLine line else fault
 
--- the most lines with an instruction or `)`, and the most open parentheses
+-- the most lines with an instruction or `)`
 abbrev pub most_instructions : ℕ
 most_instructions = 4000
 
+-- the most open parentheses
 abbrev pub most_open : ℕ
 most_open = 16
 
--- one line with an instruction more, within their limit
+-- one more line with an instruction, if the limit allows it
 abbrev pub with_instruction : ℕ → ℕ → ℕ → Reached → Result Read TextFault
 with_instruction line last before s =
     if nat_lt before most_instructions
     then Ok (record { reached = s; instructions = before + 1 })
     else Err (past_limit line last (TooLong line))
 
--- what a line with an instruction leaves, within both limits
+-- the state after a line with an instruction, if both limits allow it
 unfoldable pub within_bounds : ℕ → ℕ → ℕ → Reached → Result Read TextFault
 within_bounds line last before s =
     if nat_le (length s.parentheses) most_open
     then with_instruction line last before s
     else Err (past_limit line last (TooDeep line))
 
--- what a line leaves, where the limits count only one with an instruction
+-- the state after a line; the limits apply only to a line with an instruction
 abbrev pub within_limits : ℕ → ℕ → ℕ → List LineContent → Reached → Result Read TextFault
 within_limits line last before ps s =
     if has_instruction ps
     then within_bounds line last before s
     else Ok (record { reached = s; instructions = before })
 
--- the same of a line that may not stand here
+-- the same; none means that the line is not allowed here
 abbrev pub after_text_line : ℕ → ℕ → ℕ → List LineContent → Option Reached → Result Read TextFault
 after_text_line line last before ps None = Err (BadLine line)
 after_text_line line last before ps (Some s) = within_limits line last before ps s
 
--- the same of a line that may have no form
+-- the same; none means that the line has no form
 abbrev pub after_parts : ℕ → ℕ → Read → Option (List LineContent) → Result Read TextFault
 after_parts line last r None = Err (BadLine line)
 after_parts line last r (Some ps) =
     after_text_line line last r.instructions ps (steps line r.reached ps)
 
--- what a line of tokens leaves, or its fault
+-- the state after a line of tokens, or the fault of the line
 unfoldable pub after_line : ℕ → ℕ → Read → List Symbol → Result Read TextFault
 after_line line last r ts = after_parts line last r (parts_of ts)
 
@@ -112,23 +113,23 @@ after_line line last r ts = after_parts line last r (parts_of ts)
 abbrev pub program_made : Reached → PlainProgram
 program_made s = record { name = s.name; declarations = s.declarations; items = s.items }
 
--- the text is whole after END_PROGRAM
+-- the program; the text must be complete: END_PROGRAM was the last line
 abbrev pub whole_at : ℕ → Reached → Stage → Result PlainProgram TextFault
 whole_at last s place.Finished = Ok (program_made s)
 whole_at last s other = Err (BadLine last)
 
--- the program, if the text is whole
+-- the program, if the text is complete
 abbrev pub whole : ℕ → Reached → Result PlainProgram TextFault
 whole last s = whole_at last s s.place
 
--- the program that lines make after others, the first of them at this number: its first faulty line
--- decides
+-- the program of the lines after others; the first of them has the number `line`, and the first
+-- faulty one decides
 unfoldable pub reading : ℕ → Read → ℕ → List (List Piece) → Result PlainProgram TextFault
 reading last r line [] = whole last r.reached
 reading last r line (l ∷ ls) =
     tokens_of line l >>= (λ ts. after_line line last r ts >>= (λ s. reading last s (line + 1) ls))
 
--- before the first line
+-- the state before the first line
 abbrev pub none_yet : Read
 none_yet = record { reached = nothing_read; instructions = 0 }
 

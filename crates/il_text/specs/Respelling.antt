@@ -1,4 +1,4 @@
--- Blanks and comments within their lines may be spelled otherwise.
+-- Blanks, and comments within one line, may be spelled otherwise.
 use Rattle.std.specs.Prelude.{◌≡◌, ℕ, ◌<◌, ◌==◌, Bool, true, false, if◌then◌else◌, List, [], ◌∷◌, ◌++◌, length, Result}
 use Rattle.std.specs.List.{list_all}
 use Rattle.il_text.specs.Characters.{is_blank}
@@ -9,7 +9,7 @@ use Rattle.il_text.specs.declared.fault.TextFault.{TextFault}
 
 -- ---- IEC 61131-3 2.1.4, 2.1.5: blanks and comments
 
--- whether a text ends within a comment, where it begins within one or not
+-- whether a text ends within a comment; `inside`: it begins within one
 unfoldable pub ends_inside : Bool → List ℕ → Bool
 ends_inside inside [] = inside
 ends_inside inside (x ∷ []) = inside
@@ -17,13 +17,13 @@ ends_inside inside (x ∷ y ∷ xs) =
     if inside then (if ends (x ∷ y ∷ xs) then ends_inside false xs else ends_inside true (y ∷ xs))
     else (if opens (x ∷ y ∷ xs) then ends_inside true xs else ends_inside false (y ∷ xs))
 
--- spaces, tabs and whole comments without a line end, at least one of them
+-- The text is spaces, tabs and whole comments without a line end, at least one of them.
 pub record AreBlanks (w : List ℕ) : Type 0 where
   pub some : 0 < length w
   pub closed : ends_inside false w ≡ false
   pub blank : list_all is_blank (without_comments false w) ≡ true
 
--- a text with one spelling of blanks between two parts reads as that with another
+-- Other blanks in place of blanks, outside of comments, do not change how a text is read.
 abbrev pub BlanksMayBeRespelled : Type 0
 BlanksMayBeRespelled =
     (before blanks others after : List ℕ) (read : Result PlainProgram TextFault)
@@ -38,8 +38,8 @@ ends_with_cr [] = false
 ends_with_cr (x ∷ []) = x == 13
 ends_with_cr (x ∷ y ∷ xs) = ends_with_cr (y ∷ xs)
 
--- a text reads as that with CR LF in the place of a LF, which stands outside of comments and not
--- behind a CR
+-- CR LF in place of an LF, outside of comments and not after a CR, does not change how a text is
+-- read.
 abbrev pub LineEndsMayBeRespelled : Type 0
 LineEndsMayBeRespelled =
     (before after : List ℕ) (read : Result PlainProgram TextFault)

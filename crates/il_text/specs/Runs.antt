@@ -1,4 +1,4 @@
--- Inner: what the private functions find.
+-- Inner: the results of private functions.
 use Rattle.std.specs.Prelude.{◌≡◌, ◌<◌, ◌≤◌, ◌+◌, ◌-◌, ◌^◌, ◌==◌, ◌&&◌, not, Bool, ℕ, true, false, List, ◌∷◌, length, drop, slice_index, slice_range, Option, option_map, min}
 use Rattle.std.specs.Char.{to_ascii_uppercase}
 use Rattle.std.specs.Str.{byte}
@@ -6,10 +6,10 @@ use Rattle.il_text.specs.Pieces.{pieces, without_comments}
 use Rattle.il_text.specs.Characters.{are_linked}
 use Rattle.il_text.specs.Literals.{Signed}
 
--- ---- own: what the code finds
+-- ---- own: results of private functions
 
--- from start to end each character belongs to the one before it, and that at end, if there is one,
--- does not
+-- From start to end each character belongs to the one before it; the character at end, if there is
+-- one, does not.
 pub record IsRun (bytes : List ℕ) (start end : ℕ) : Type 0 where
   pub after : start < end
   pub within : end ≤ length bytes
@@ -17,21 +17,21 @@ pub record IsRun (bytes : List ℕ) (start end : ℕ) : Type 0 where
       → are_linked (slice_index bytes (k - 1)) (slice_index bytes k) ≡ true
   pub last : are_linked (slice_index bytes (end - 1)) (slice_index bytes end) ≡ false
 
--- numbers past those of every type count as one
+-- a number, at most 2 ^ 64 - 1, which is outside each type
 abbrev pub capped_number : Option ℕ → Option ℕ
 capped_number = option_map (λ n. min n (2 ^ 64 - 1))
 
--- the same of a number with its sign
+-- the same for a number with its sign
 abbrev pub capped_signed : Option Signed → Option Signed
 capped_signed = option_map (λ z. (z.0, min z.1 (2 ^ 64 - 1)))
 
--- `&N` stands here, with nothing that would make a longer word of the `N`
+-- whether `&N` is at the index, and no character follows that would make the `N` a longer word
 unfoldable pub is_negated_and : List ℕ → ℕ → Bool
 is_negated_and bytes at =
     slice_index bytes at == byte "&" && to_ascii_uppercase (slice_index bytes (at + 1)) == byte "N"
     && not (are_linked (slice_index bytes (at + 1)) (slice_index bytes (at + 2)))
 
--- the first piece from start on ends at end
+-- The first lexeme from start on ends at end.
 abbrev pub IsPiece : List ℕ → ℕ → ℕ → Type 0
 IsPiece bytes start end =
     pieces (without_comments false (drop start bytes))

@@ -1,4 +1,4 @@
--- What the parts of lines make, one after the other, where parentheses are open.
+-- Reads the parts of lines one after the other, with a list of the open parentheses.
 use Rattle.std.specs.Prelude.{ℕ, Bool, true, false, ◌&&◌, ◌||◌, if◌then◌else◌, List, [], ◌∷◌, ◌++◌, map, Option, Some, None, option_and_then}
 use Rattle.il_text.specs.Listing.{Action, load, Entry, label, action, block, entries_of, Declared}
 use Rattle.il_text.specs.Grammar.{is_plain}
@@ -20,7 +20,7 @@ pub record Opened : Type 0 where
   pub negated : Bool
   pub outer : List Entry
 
--- where the next line stands; the name; the declarations; the items of the innermost open
+-- the stage of the next line; the name; the declarations; the items of the innermost open
 -- parenthesis, or of the body; and the open parentheses, the innermost first
 pub record Reached : Type 0 where
   pub place : Stage
@@ -29,12 +29,12 @@ pub record Reached : Type 0 where
   pub items : List Entry
   pub parentheses : List Opened
 
--- before the first line
+-- the state before the first line
 abbrev pub nothing_read : Reached
 nothing_read =
     record { place = place.Start; name = []; declarations = []; items = []; parentheses = [] }
 
--- the same at another place of the program
+-- the same at another stage of the program
 abbrev pub at_place : Stage → Reached → Reached
 at_place p r =
     record {
@@ -45,7 +45,7 @@ at_place p r =
       parentheses = r.parentheses;
     }
 
--- behind the line of PROGRAM
+-- the state after the line of PROGRAM
 abbrev pub with_name : List ℕ → Reached → Reached
 with_name n r =
     record {
@@ -61,7 +61,7 @@ abbrev pub declared_in : ℕ → VariableScope → DeclaredType → Option Liter
 declared_in line scope kind initial name =
     record { line = line; scope = scope; name = name; kind = kind; initial = initial }
 
--- with these names declared besides
+-- the state with these names declared too
 abbrev pub with_declarations : List Declared → Reached → Reached
 with_declarations ds r =
     record {
@@ -72,7 +72,7 @@ with_declarations ds r =
       parentheses = r.parentheses;
     }
 
--- the items with one more, in the body
+-- the state with one more item, in the body
 abbrev pub with_item : Entry → Reached → Reached
 with_item e r =
     record {
@@ -83,7 +83,7 @@ with_item e r =
       parentheses = r.parentheses;
     }
 
--- within a parenthesis that begins on this line
+-- the state within a parenthesis that begins on this line
 abbrev pub with_opened : ℕ → Operator → Bool → Reached → Reached
 with_opened line operator negated r =
     record {
@@ -96,7 +96,7 @@ with_opened line operator negated r =
           ∷ r.parentheses;
     }
 
--- behind the innermost parenthesis, which ends on this line
+-- the state after the innermost parenthesis, which ends on this line
 abbrev pub with_closed : ℕ → Reached → Opened → List Opened → Reached
 with_closed line r f fs =
     record {
@@ -107,49 +107,50 @@ with_closed line r f fs =
       parentheses = fs;
     }
 
--- the line of PROGRAM comes next
+-- whether the line of PROGRAM comes next
 abbrev pub is_start : Stage → Bool
 is_start place.Start = true
 is_start other = false
 
--- a declaration block may begin here
+-- whether a declaration block may begin here
 abbrev pub is_between_blocks : Stage → Bool
 is_between_blocks place.Declarations = true
 is_between_blocks other = false
 
--- the scope of the open block
+-- the scope of the open block, if one is open
 abbrev pub block_scope : Stage → Option VariableScope
 block_scope (place.Block scope) = Some scope
 block_scope other = None
 
--- a line of the body may stand here, the first one too
+-- whether a line of the body may come here, the first one or a later one
 abbrev pub is_body : Stage → Bool
 is_body place.Declarations = true
 is_body place.Body = true
 is_body other = false
 
--- no parenthesis is open
+-- whether no parenthesis is open
 abbrev pub is_outside : List Opened → Bool
 is_outside [] = true
 is_outside (f ∷ fs) = false
 
--- there is an entry
+-- whether there is an entry
 abbrev pub is_some : List Entry → Bool
 is_some [] = false
 is_some (e ∷ es) = true
 
--- the instruction is LD or LDN
+-- whether the instruction is LD or LDN
 abbrev pub is_load : Action → Bool
 is_load (load negated source) = true
 is_load other = false
 
--- an external has no initial value
+-- whether a variable of the scope may have this initial value: an external has none
 abbrev pub may_begin_with : VariableScope → Option Literal → Bool
 may_begin_with Local initial = true
 may_begin_with External None = true
 may_begin_with External (Some value) = false
 
--- declares names in the open block, if there is one
+-- declares names in the open block; none if no block is open, or it does not allow the initial
+-- value
 abbrev pub declared_here : ℕ → List (List ℕ) → DeclaredType → Option Literal → Reached
     → Option VariableScope → Option Reached
 declared_here n ns kind initial r None = None
@@ -158,34 +159,34 @@ declared_here n ns kind initial r (Some scope) =
     then Some (with_declarations (map (declared_in n scope kind initial) ns) r)
     else None
 
--- ends the open block, if there is one
+-- ends the open block; none if no block is open
 abbrev pub closed_block : Reached → Option VariableScope → Option Reached
 closed_block r None = None
 closed_block r (Some scope) = Some (at_place place.Declarations r)
 
--- a line of the body may stand here, outside of parentheses
+-- whether a line of the body may come here, outside of parentheses
 unfoldable pub may_stand : Reached → Bool
 may_stand r = is_body r.place && is_outside r.parentheses
 
--- an instruction may stand here: in a parenthesis the first is a load, and none leaves it
+-- whether an instruction may come here: the first in a parenthesis is a load, and none leaves it
 unfoldable pub may_act : Reached → Action → Bool
 may_act r a =
     is_body r.place && (is_outside r.parentheses || (is_plain a && (is_some r.items || is_load a)))
 
--- a parenthesis may begin here
+-- whether a parenthesis may begin here
 unfoldable pub may_enter : Reached → Bool
 may_enter r = is_body r.place && (is_outside r.parentheses || is_some r.items)
 
--- the innermost parenthesis may end here
+-- whether the innermost parenthesis may end here
 unfoldable pub may_leave : Reached → Bool
 may_leave r = is_body r.place && is_some r.items
 
--- ends the innermost parenthesis, if there is one
+-- ends the innermost parenthesis; none if none is open
 abbrev pub left_here : ℕ → Reached → List Opened → Option Reached
 left_here n r [] = None
 left_here n r (f ∷ fs) = Some (with_closed n r f fs)
 
--- one part, of the line of this number
+-- the state after one part, on line n; none if the part is not allowed here
 unfoldable pub step : ℕ → Reached → LineContent → Option Reached
 step n r (heading name) = if is_start r.place then Some (with_name name r) else None
 step n r (opening scope) =
@@ -199,7 +200,7 @@ step n r (entering operator negated) =
 step n r leaving = if may_leave r then left_here n r r.parentheses else None
 step n r ending = if may_stand r then Some (at_place place.Finished r) else None
 
--- parts of one line, one after the other
+-- the state after the parts of one line, in order
 unfoldable pub steps : ℕ → Reached → List LineContent → Option Reached
 steps n r [] = Some r
 steps n r (p ∷ ps) = option_and_then (λ s. steps n s ps) (step n r p)

@@ -1,5 +1,5 @@
--- What a piece of a text is: a blank, a line end, a token, or none (IEC 61131-3:2003, 2.1 and annex
--- B).
+-- What a lexeme of a text is: a blank, a line end, a token, or none of these (IEC 61131-3:2003, 2.1
+-- and annex B).
 use Rattle.std.specs.Prelude.{ℕ, Bool, true, false, ◌||◌, nat_le, if◌then◌else◌, List, [], ◌∷◌, length, slice_index, codes, map, Option, Some, None, Result, Ok, Err}
 use Rattle.std.specs.Str.{bytes_eq}
 use Rattle.bay_base.specs.Names.{same_name}
@@ -17,7 +17,7 @@ use Rattle.il_text.specs.declared.token.Mnemonic.TheVariants.{Combine}
 
 -- ---- IEC 61131-3 2.1.2, 2.1.3: names and reserved words
 
--- a word that was read as a literal, or why it is none (own)
+-- the lexeme of a word that was read as a literal, or of the fault found in it (own)
 abbrev pub literal_piece : Result Literal LiteralFault → Piece
 literal_piece (Ok value) = token (literal value)
 literal_piece (Err Malformed) = bad_token
@@ -32,7 +32,7 @@ name_or_reserved w None = if nat_le (length w) 64 then token (name w) else bad_t
 unfoldable pub plain_word : List ℕ → Piece
 plain_word w = name_or_reserved w (reserved_symbol w)
 
--- a word by whether a `#` parts it (own)
+-- a word: a literal if it has a `#`, or else a name, a reserved word or a number (own)
 abbrev word_by_halves : List ℕ → Option (List ℕ × List ℕ) → Piece
 word_by_halves w (Some h) = literal_piece (prefixed_literal h.0 h.1)
 word_by_halves w None =
@@ -46,7 +46,7 @@ word w = word_by_halves w (halves w)
 
 -- ---- IEC 61131-3 annex C: marks
 
--- the marks, and the operators `&` and `&N`
+-- the token of a mark, or of the operators `&` and `&N`
 unfoldable pub mark_of : List ℕ → Option Symbol
 mark_of p =
     if bytes_eq p (codes ":") then Some (mark_symbol mark.Colon)
@@ -60,18 +60,18 @@ mark_of p =
     else if same_name p (codes "&N") then Some (mnemonic_word (Combine And true))
     else None
 
--- ---- own: pieces of a text
+-- ---- own: lexemes of a text
 
--- a mark, or what is no token
+-- the lexeme of a mark; other characters are a bad token
 abbrev pub mark_piece : Option Symbol → Piece
 mark_piece (Some s) = token s
 mark_piece None = bad_token
 
--- LF, or CR LF
+-- whether a lexeme is LF, or CR LF
 abbrev pub is_line_end : List ℕ → Bool
 is_line_end p = bytes_eq p (10 ∷ []) || bytes_eq p (13 ∷ 10 ∷ [])
 
--- what a piece of the text is
+-- what a lexeme of the text is
 unfoldable pub piece : List ℕ → Piece
 piece p =
     if is_blank (slice_index p 0) then blank
@@ -79,6 +79,6 @@ piece p =
     else if begins_word (slice_index p 0) then word p
     else mark_piece (mark_of p)
 
--- the pieces of a text, which begins within a comment where `inside` says so
+-- the lexemes of a text; `inside`: the text begins within a comment
 unfoldable pub pieces_of : Bool → List ℕ → List Piece
 pieces_of inside text = map piece (pieces (without_comments inside text))

@@ -1,5 +1,4 @@
--- What a text reads as: its program, or its first faulty line (IEC 61131-3:2003, 2.1, 2.5.3 and
--- 3.2).
+-- How a text is read: its program, or its first faulty line (IEC 61131-3:2003, 2.1, 2.5.3 and 3.2).
 use Rattle.std.specs.Prelude.{◌≡◌, ◌↔◌, ℕ, ◌+◌, ◌<◌, ◌⊎◌, Bool, true, false, List, [], ◌∷◌, ◌++◌, map, count_by, Option, Some, None, Result, Ok, Err}
 use Rattle.std.specs.List.{flat_map}
 use Rattle.il_text.specs.Forms.{parts_of}
@@ -27,31 +26,31 @@ numbered_parts l = map (λ p. (l.0, p)) l.1
 abbrev pub all_parts : List TextLine → List Numbered
 all_parts = flat_map numbered_parts
 
--- the part opens a parenthesis
+-- whether the part opens a parenthesis
 abbrev pub is_entering : Numbered → Bool
 is_entering (line, entering operator negated) = true
 is_entering (line, other) = false
 
--- the part closes one
+-- whether the part closes a parenthesis
 abbrev pub is_leaving : Numbered → Bool
 is_leaving (line, leaving) = true
 is_leaving (line, other) = false
 
--- more parentheses are open than may be
+-- More parentheses are open than allowed.
 abbrev pub IsDeep : List TextLine → Type 0
 IsDeep ls = count_by is_leaving (all_parts ls) + most_open < count_by is_entering (all_parts ls)
 
--- more lines hold an instruction or `)` than may
+-- More lines have an instruction or `)` than allowed.
 abbrev pub IsLong : List TextLine → Type 0
 IsLong ls = most_instructions < count_by (λ l. has_instruction l.1) ls
 
--- lines with which a program may begin
+-- A program may begin with these lines.
 pub record Allowed (ls : List TextLine) : Type 0 where
   pub goes_on : CanGoOn (all_parts ls)
   pub shallow : IsDeep ls → ⊥
   pub short : IsLong ls → ⊥
 
--- what is wrong with the last of these lines, where the lines before it are allowed
+-- The fault of the last of these lines, if the lines before it are allowed.
 pub data LineFault (last line : ℕ) (ls : List TextLine) (fault : TextFault) : Type 0 where
   no_program : (CanGoOn (all_parts ls) → ⊥) → fault ≡ BadLine line → LineFault last line ls fault
   too_deep : CanGoOn (all_parts ls) → IsDeep ls → fault ≡ past_limit line last (TooDeep line)
@@ -60,32 +59,33 @@ pub data LineFault (last line : ℕ) (ls : List TextLine) (fault : TextFault) : 
       → fault ≡ past_limit line last (TooLong line)
       → LineFault last line ls fault
 
--- the last of these lines is the faulty one
+-- The last of these lines is the faulty one.
 abbrev pub Refused : ℕ → ℕ → List TextLine → Result PlainProgram TextFault → Type 0
 Refused last line ls (Ok program) = ⊥
 Refused last line ls (Err fault) = LineFault last line ls fault
 
--- the text ends: the lines are a program, or it ends early
+-- The text ends here: the lines are a program, or it ends too early.
 abbrev pub Ends : ℕ → List TextLine → Result PlainProgram TextFault → Type 0
 Ends last ls (Ok program) = Derives (all_parts ls) program
 Ends last ls (Err fault) =
     ((program : PlainProgram) → Derives (all_parts ls) program → ⊥) × (fault ≡ BadLine last)
 
--- a line that has no form is a bad line
-abbrev pub OnParts : ℕ → (List LineContent → Type 0) → Option (List LineContent) → Result PlainProgram TextFault
+-- A line without a form is a bad line.
+abbrev pub OnParts : ℕ → (List LineContent → Type 0) → Option (List LineContent)
+    → Result PlainProgram TextFault
     → Type 0
 OnParts line goes None r = r ≡ Err (BadLine line)
 OnParts line goes (Some ps) r = goes ps
 
--- a bad token or literal is the fault of its line
+-- A bad token or literal is the fault of its line.
 abbrev pub OnTokens : ℕ → (List LineContent → Type 0) → Result (List Symbol) TextFault
     → Result PlainProgram TextFault → Type 0
 OnTokens line goes (Err fault) r = r ≡ Err fault
 OnTokens line goes (Ok ts) r = OnParts line goes (parts_of ts) r
 
--- What the lines from this number on read as, after allowed lines: the first faulty line decides.
--- In a line a bad token comes first, then what is no form of a line, then what cannot be gone on to
--- a program, then the limits.
+-- How the lines from this number on are read, after allowed lines: the first faulty line decides.
+-- In a line a bad token or literal comes first, then a missing form, then a line after which no
+-- program is possible, then the limits.
 abbrev pub Reads : ℕ → List TextLine → ℕ → List (List Piece) → Result PlainProgram TextFault
     → Type 0
 Reads last before line [] r = Ends last before r
@@ -96,16 +96,16 @@ Reads last before line (l ∷ ls) r =
     ⊎ Refused last line (before ++ (line, ps) ∷ []) r)
     (tokens_of line l) r
 
--- what a text reads as
+-- The text is read as this program, or has this fault.
 unfoldable pub ReadsAs : List ℕ → Result PlainProgram TextFault → Type 0
 ReadsAs text r = Reads (last_line text) [] 1 (lines (pieces_of false text)) r
 
--- a text reads as one program, or has one fault
+-- A text is read as at most one program, or has at most one fault.
 abbrev pub OneReading : Type 0
 OneReading =
     (text : List ℕ) (x y : Result PlainProgram TextFault) → ReadsAs text x → ReadsAs text y → x ≡ y
 
--- a text reads as a program, or has a fault, exactly where the reading by lines gives it
+-- A text is read as a program, or has a fault, exactly if the reading line by line results in it.
 abbrev pub ProgramIsRead : Type 0
 ProgramIsRead =
     (text : List ℕ) (r : Result PlainProgram TextFault) → ReadsAs text r ↔ (program_of text ≡ r)

@@ -1,5 +1,6 @@
--- Forms: how the tokens of a line spell something, once as a function that reads them and once as a
--- relation, made of smaller forms. A lemma for each way of making them says that the two agree.
+-- Forms: parser combinators over the tokens of a line. A form is both a function that reads tokens
+-- and a relation between tokens and what they spell. A lemma for each combinator states that the
+-- two agree.
 use Rattle.std.specs.Prelude.{ℕ, ◌≡◌, ◌⊎◌, Bool, true, false, List, [], ◌∷◌, ◌++◌, Option, Some, None, option_map, option_and_then, is_some, if◌then◌else◌}
 use Rattle.il_text.specs.Tokens.{Symbol, name, mark_symbol}
 use Rattle.il_text.specs.declared.token.Mark.{Mark}
@@ -7,26 +8,26 @@ use Rattle.il_text.specs.declared.token.Mark.TheVariants as mark
 
 -- ---- own: forms of tokens
 
--- what tokens are read as, if anything, and what they spell
+-- a form: what tokens are read as, if anything, and what they spell
 pub record Form (A : Type 0) : Type 1 where
   pub reads : List Symbol → Option A
   pub Spells : List Symbol → A → Type 0
 
--- of what f reads
-abbrev pub made : {A B : Type 0} → (A → B) → Form A → Form B
-made make f = record {
+-- applies a function to what f reads
+abbrev pub map_form : {A B : Type 0} → (A → B) → Form A → Form B
+map_form make f = record {
   reads = λ ts. option_map make (f.reads ts);
   Spells = λ ts y. (x : _) × f.Spells ts x × (make x ≡ y);
 }
 
--- the same, where there is something
+-- the same with a function that may have no result
 abbrev pub such : {A B : Type 0} → (A → Option B) → Form A → Form B
 such test f = record {
   reads = λ ts. option_and_then test (f.reads ts);
   Spells = λ ts y. (x : _) × f.Spells ts x × (test x ≡ Some y);
 }
 
--- no tokens are anything
+-- the form that no tokens have
 abbrev pub none : {A : Type 0} → Form A
 none = record { reads = λ ts. None; Spells = λ ts x. ⊥ }
 
@@ -34,7 +35,7 @@ abbrev pub nothing_of : {A : Type 0} → A → List Symbol → Option A
 nothing_of x [] = Some x
 nothing_of x (t ∷ ts) = None
 
--- no token, which stands for this
+-- no token, read as this value
 abbrev pub nothing : {A : Type 0} → A → Form A
 nothing x = record { reads = nothing_of x; Spells = λ ts y. (ts ≡ []) × (x ≡ y) }
 
@@ -43,7 +44,7 @@ one_of is [] = None
 one_of is (t ∷ []) = is t
 one_of is (t ∷ u ∷ ts) = None
 
--- one token
+-- exactly one token
 abbrev pub one : {A : Type 0} → (Symbol → Option A) → Form A
 one is = record {
   reads = one_of is;
@@ -55,15 +56,15 @@ abbrev pub behind_of : {A B : Type 0} → (Symbol → Option A) → (A → List 
 behind_of is f [] = None
 behind_of is f (t ∷ ts) = option_and_then (λ x. f x ts) (is t)
 
--- one token, and by what it is, those behind it
-abbrev pub behind : {A B : Type 0} → (Symbol → Option A) → (A → Form B) → Form B
-behind is f = record {
+-- one token, and then the form that this token selects
+abbrev pub bind_form : {A B : Type 0} → (Symbol → Option A) → (A → Form B) → Form B
+bind_form is f = record {
   reads = behind_of is (λ x. (f x).reads);
   Spells = λ ts y. (t : Symbol) × (rest : List Symbol) × (x : _) × (ts ≡ t ∷ rest) × (is t ≡ Some x)
       × (f x).Spells rest y;
 }
 
--- the marks are one
+-- whether two marks are the same
 abbrev pub same_mark : Mark → Mark → Bool
 same_mark mark.Colon mark.Colon = true
 same_mark mark.Assign mark.Assign = true
@@ -74,7 +75,7 @@ same_mark mark.Open mark.Open = true
 same_mark mark.Close mark.Close = true
 same_mark m other = false
 
--- the token is this mark
+-- whether the token is this mark
 abbrev pub is_mark : Mark → Symbol → Bool
 is_mark m (mark_symbol n) = same_mark m n
 is_mark m other = false
@@ -83,7 +84,7 @@ abbrev pub after_of : {A : Type 0} → Mark → (List Symbol → Option A) → L
 after_of m f [] = None
 after_of m f (t ∷ ts) = if is_mark m t then f ts else None
 
--- a mark, and the tokens behind it
+-- a mark, and then a form
 abbrev pub after : {A : Type 0} → Mark → Form A → Form A
 after m f = record {
   reads = after_of m f.reads;
@@ -94,31 +95,31 @@ abbrev pub or_of : {A : Type 0} → Option A → Option A → Option A
 or_of (Some x) o = Some x
 or_of None o = o
 
--- one of two forms; where f reads nothing, it is g
+-- one of two forms; g is tried if f reads nothing
 abbrev pub either : {A : Type 0} → Form A → Form A → Form A
 either f g = record {
   reads = λ ts. or_of (f.reads ts) (g.reads ts);
   Spells = λ ts x. f.Spells ts x ⊎ g.Spells ts x;
 }
 
--- one of two forms, of which a test of the tokens says which it may be
+-- one of two forms; a test of the tokens selects the one to try
 abbrev pub by : {A : Type 0} → (List Symbol → Bool) → Form A → Form A → Form A
 by test f g = record {
   reads = λ ts. if test ts then f.reads ts else g.reads ts;
   Spells = λ ts x. f.Spells ts x ⊎ g.Spells ts x;
 }
 
--- a token in front of the first of two parts
+-- a token before the first of two parts
 abbrev pub onto_front : Symbol → List Symbol × List Symbol → List Symbol × List Symbol
 onto_front s p = (s ∷ p.0, p.1)
 
--- what stands before and after the first token of this mark
+-- the tokens before and after the first token of this mark, if there is one
 abbrev pub split_at_mark : Mark → List Symbol → Option (List Symbol × List Symbol)
 split_at_mark m [] = None
 split_at_mark m (s ∷ ss) =
     if is_mark m s then Some ([], ss) else option_map (onto_front s) (split_at_mark m ss)
 
--- the mark is among the tokens
+-- whether the mark is among the tokens
 abbrev pub has_mark : Mark → List Symbol → Bool
 has_mark m ts = is_some (split_at_mark m ts)
 
@@ -127,7 +128,7 @@ abbrev pub parted_of : {A B : Type 0} → (List Symbol → Option A) → (List S
 parted_of f g None = None
 parted_of f g (Some p) = option_and_then (λ y. option_map (λ x. (x, y)) (f p.0)) (g p.1)
 
--- the tokens before the first of a mark, and those behind it
+-- two forms, separated by a mark; tokens are split at the first one
 abbrev pub parted : {A B : Type 0} → Mark → Form A → Form B → Form (A × B)
 parted m f g = record {
   reads = λ ts. parted_of f.reads g.reads (split_at_mark m ts);
@@ -135,14 +136,14 @@ parted m f g = record {
       × (ts ≡ front ++ mark_symbol m ∷ rest) × f.Spells front x.0 × g.Spells rest x.1;
 }
 
--- the name that a token is
+-- the name of a token, if it is one
 abbrev pub name_of : Symbol → Option (List ℕ)
 name_of (name n) = Some n
 name_of other = None
 
 -- ---- IEC 61131-3 B.1.4.3: lists of names
 
--- name {"," name}, from a name on, or after one
+-- name {"," name}, beginning with a name; after a name if the flag is true
 unfoldable pub names_from : Bool → List Symbol → Option (List (List ℕ))
 names_from false [] = None
 names_from true [] = Some []
@@ -150,12 +151,12 @@ names_from false (s ∷ ss) =
     option_and_then (λ n. option_map (λ ns. n ∷ ns) (names_from true ss)) (name_of s)
 names_from true (s ∷ ss) = if is_mark mark.Comma s then names_from false ss else None
 
--- name {"," name}
+-- the tokens of name {"," name}
 abbrev pub spelled_names : List ℕ → List (List ℕ) → List Symbol
 spelled_names n [] = name n ∷ []
 spelled_names n (m ∷ ns) = name n ∷ mark_symbol mark.Comma ∷ spelled_names m ns
 
--- a list of names
+-- the form of a list of names
 abbrev pub names : Form (List (List ℕ))
 names = record {
   reads = names_from false;

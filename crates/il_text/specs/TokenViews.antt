@@ -1,4 +1,4 @@
--- Inner: the plain data that tokens and pieces of the code stand for.
+-- Inner: tokens and lexemes of the code as plain data.
 use Rattle.std.specs.Prelude.{List, map}
 use Rattle.il_text.specs.Tokens.{Symbol, name, keyword_word, type_word, literal, mnemonic_word, mark_symbol, Piece, blank, line_end, token, bad_token, bad_literal}
 use Rattle.il_text.specs.declared.token.Token.{Token}
@@ -21,7 +21,7 @@ symbol_of (t.Mark m) = mark_symbol m
 abbrev pub symbols_of : List Token → List Symbol
 symbols_of = map symbol_of
 
--- a piece of the text
+-- a lexeme of the text
 abbrev pub piece_of : Lexeme → Piece
 piece_of x.Blank = blank
 piece_of x.LineEnd = line_end

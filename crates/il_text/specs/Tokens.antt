@@ -1,4 +1,4 @@
--- The tokens of a line, and the pieces of a text (IEC 61131-3:2003, 2.1 and annex B).
+-- The tokens of a line, and the lexemes of a text (IEC 61131-3:2003, 2.1 and annex B).
 use Rattle.std.specs.Prelude.{ℕ, List}
 use Rattle.il_text.specs.declared.program.DeclaredType.{DeclaredType}
 use Rattle.il_text.specs.declared.program.Literal.{Literal}
@@ -17,7 +17,7 @@ pub data Symbol : Type 0 where
   mnemonic_word : Mnemonic → Symbol
   mark_symbol : Mark → Symbol
 
--- a piece (own)
+-- a lexeme (own)
 pub data Piece : Type 0 where
   blank : Piece
   line_end : Piece

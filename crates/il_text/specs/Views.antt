@@ -1,4 +1,4 @@
--- The plain data that a program of the code stands for.
+-- Programs of the code as plain data.
 use Rattle.std.specs.Prelude.{map}
 pub use Rattle.il_text.specs.ItemViews.{place_of, source_of, argument_of, arguments_of, action_of, entry_of, declared_of}
 use Rattle.il_text.specs.Listing.{PlainProgram}

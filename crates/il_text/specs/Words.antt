@@ -1,4 +1,4 @@
--- Inner: what each reserved word is in a line (IEC 61131-3:2003, annex B and table 52).
+-- Inner: the token of each reserved word (IEC 61131-3:2003, annex B and table 52).
 use Rattle.std.specs.Prelude.{ℕ, true, false, List, Option, option_map}
 use Rattle.bay_base.specs.Words.{reserved_of}
 use Rattle.bay_base.specs.declared.types.ElementaryType.TheVariants as elementary
@@ -67,6 +67,6 @@ symbol_of_word word.Tof = type_word (Timer timer.OffDelay)
 symbol_of_word word.True = literal (Truth true)
 symbol_of_word word.False = literal (Truth false)
 
--- the token that a word is, if it is reserved
+-- the token of a word, if the word is reserved
 unfoldable pub reserved_symbol : List ℕ → Option Symbol
 reserved_symbol w = option_map symbol_of_word (reserved_of w)

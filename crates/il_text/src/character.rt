@@ -2,28 +2,28 @@
 ghost use Rattle.std.specs.Prelude.{◌≡◌, ◌<◌, true, slice_index};
 ghost use Rattle.il_text.specs.Characters as spec;
 
-/// A space or a tab.
+/// Returns whether a character is a space or a tab.
 pub(crate) fn is_blank(x: u8) -> bool
     ensures { result ≡ spec.is_blank x }
 {
     x == b' ' || x == b'\t'
 }
 
-/// `+` or `-`, the sign of a number.
+/// Returns whether a character is `+` or `-`, the sign of a number.
 pub(crate) fn is_sign(x: u8) -> bool
     ensures { result ≡ spec.is_sign x }
 {
     x == b'+' || x == b'-'
 }
 
-/// A letter, a digit, `_` or `#`.
+/// Returns whether a character is a letter, a digit, `_` or `#`.
 pub(crate) fn is_word(x: u8) -> bool
     ensures { result ≡ spec.is_word x }
 {
     x.is_ascii_alphanumeric() || (x == b'_' || x == b'#')
 }
 
-/// A character that may begin a word: a word character or a sign.
+/// Returns whether a character may begin a word: a word character or a sign.
 pub(crate) fn begins_word(x: u8) -> bool
     ensures value { result ≡ spec.begins_word x }
     ensures ascii { result ≡ true → x < 128 }
@@ -31,14 +31,14 @@ pub(crate) fn begins_word(x: u8) -> bool
     is_word(x) || is_sign(x)
 }
 
-/// A character that may begin a name: a letter or `_`.
+/// Returns whether a character may begin a name: a letter or `_`.
 pub(crate) fn begins_name(x: u8) -> bool
     ensures { result ≡ spec.begins_name x }
 {
     x.is_ascii_alphabetic() || x == b'_'
 }
 
-/// Whether two adjacent characters belong to one token.
+/// Returns whether two adjacent characters belong to one token.
 #[tactic(auto, unfolding(crate::specs::Characters::are_linked))]
 pub(crate) fn is_linked(x: u8, y: u8) -> bool
     ensures { result ≡ spec.are_linked x y }
@@ -49,7 +49,7 @@ pub(crate) fn is_linked(x: u8, y: u8) -> bool
         || (y == b'\n' && x == b'\r')
 }
 
-/// The octet at an index, or 0 past the end.
+/// Returns the octet at an index, or 0 past the end.
 pub(crate) fn byte_at(bytes: &[u8], index: usize) -> u8
     ensures { result ≡ slice_index bytes.now index }
 {

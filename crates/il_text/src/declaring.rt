@@ -1,4 +1,4 @@
-// The names that a line of declarations declares.
+// Declares the names of a declaration line.
 ghost use Rattle.std.specs.Prelude.{◌≡◌, ◌≢◌, List, ◌∷◌, map, false, Some, None, OnOk, IfOk, IfErr};
 ghost use Rattle.il_text.specs.Declaring.{declared_from};
 ghost use Rattle.il_text.specs.TokenViews.{symbol_of, symbols_of};
@@ -11,7 +11,7 @@ use crate::form::{Tail, is_mark, name_of};
 use crate::program::{Declaration, VariableScope};
 use crate::token::{Mark, Token};
 
-/// What one line of declarations gives to each of its names.
+/// What one declaration line declares each of its names with.
 #[derive(Clone, Copy)]
 pub(crate) struct Declaring {
     pub(crate) line: usize,
@@ -19,7 +19,8 @@ pub(crate) struct Declaring {
     pub(crate) tail: Tail,
 }
 
-/// Declares the names of a list, `name {"," name}`.
+/// Declares the names of a list, `name {"," name}`. Returns `BadLine` if the tokens are no such
+/// list, and `OutOfMemory` if an allocation fails.
 pub(crate) fn declare<'a>(
     declarations: &mut Vec<Declaration<'a>>,
     names: &[Token<'a>],
@@ -46,7 +47,7 @@ pub(crate) fn declare<'a>(
     }
 }
 
-// Takes one token of a list of names, and returns whether it was a name.
+// Reads one token of a list of names, and returns whether it was a name.
 #[tactic(auto, using(crate::proofs::ListingLemmas::declare_rules))]
 fn declare_token<'a>(
     declarations: &mut Vec<Declaration<'a>>,

@@ -1,4 +1,4 @@
-// Why a text is no program.
+// Why a text is not a program.
 ghost use Rattle.std.specs.Prelude.{◌≡◌};
 ghost use Rattle.il_text.specs.Code.{code_of, line_of};
 ghost use Rattle.il_text.specs.declared.fault.TextFault.TheVariants.{OutOfMemory};

@@ -12,7 +12,7 @@ ghost use Rattle.il_text.specs.Views.{action_of, argument_of, arguments_of, plac
 
 use crate::program::{
     Argument, Arguments, Condition, DeclaredType, Input, Instruction, Literal, Operand, Operator,
-    Output, StoreKind, SymbolicVariable, VariableScope,
+    StoreKind, SymbolicVariable, TimerOutput, VariableScope,
 };
 use crate::token::{Keyword, Mark, Mnemonic, Token};
 use bay_base::names::same_name;
@@ -49,7 +49,7 @@ pub(crate) enum Line<'t, 'a> {
     Ending,
 }
 
-// The tokens before and after a given token.
+// The tokens before and after a mark.
 #[derive(Clone, Copy)]
 struct Halves<'t, 'a> {
     front: &'t [Token<'a>],
@@ -86,7 +86,7 @@ fn type_of(token: Token<'_>) -> Option<DeclaredType>
     }
 }
 
-// Returns the elementary type if the token is one. A timer type gives `None`, since a timer has no
+// Returns the elementary type if the token is one, and `None` for a timer type: a timer has no
 // initial value.
 fn elementary_of(token: Token<'_>) -> Option<DeclaredType>
     ensures { result ≡ spec.elementary_of (symbol_of token.entry) }
@@ -97,14 +97,14 @@ fn elementary_of(token: Token<'_>) -> Option<DeclaredType>
     }
 }
 
-// Whether a token is an operator.
+// Returns whether a token is an operator.
 fn is_mnemonic(token: Token<'_>) -> bool
     ensures { result ≡ spec.is_mnemonic (symbol_of token.entry) }
 {
     matches!(token, Token::Mnemonic(_))
 }
 
-/// Whether a token is the given mark.
+/// Returns whether a token is the given mark.
 pub(crate) fn is_mark(token: Token<'_>, mark: Mark) -> bool
     ensures { result ≡ spec.is_mark mark (symbol_of token.entry) }
 {
@@ -123,14 +123,14 @@ fn only_name<'a>(tokens: &[Token<'a>]) -> Option<&'a str>
 
 // Returns the timer output that a word names, case-insensitively.
 #[tactic(auto, unfolding(crate::specs::Forms::output_named))]
-fn output_named(word: &str) -> Option<Output>
+fn output_named(word: &str) -> Option<TimerOutput>
     ensures { result ≡ spec.output_named word.now }
 {
     if same_name(word, "Q") {
-        return Some(Output::Q);
+        return Some(TimerOutput::Q);
     }
     if same_name(word, "ET") {
-        return Some(Output::Et);
+        return Some(TimerOutput::Et);
     }
     None
 }
@@ -144,7 +144,7 @@ fn output_by<'a>(timer: Token<'a>, output: Token<'a>) -> Option<SymbolicVariable
 {
     let timer = name_of(timer)?;
     let output = output_named(name_of(output)?)?;
-    Some(SymbolicVariable::Output { timer, output })
+    Some(SymbolicVariable::TimerOutput { timer, output })
 }
 
 // Reads a name, or a name with `.Q` or `.ET`.
@@ -169,7 +169,7 @@ fn only_literal(tokens: &[Token<'_>]) -> Option<Literal>
     }
 }
 
-// Reads a literal, or whatever `place` reads.
+// Reads a literal, a name, or a name with `.Q` or `.ET`.
 #[tactic(auto, unfolding(crate::specs::Forms::operand))]
 fn operand<'a>(tokens: &[Token<'a>]) -> Option<Operand<'a>>
     ensures { option_map source_of result ≡ spec.operand.reads (symbols_of tokens.now) }
@@ -234,7 +234,7 @@ fn mark_at(tokens: &[Token<'_>], mark: Mark) -> usize
 
 // Returns the tokens before and after the first one of this mark.
 #[tactic(auto, using(crate::proofs::FormLemmas::split_rules))]
-fn parted<'t, 'a>(tokens: &'t [Token<'a>], mark: Mark) -> Option<Halves<'t, 'a>>
+fn split_at_first<'t, 'a>(tokens: &'t [Token<'a>], mark: Mark) -> Option<Halves<'t, 'a>>
     ensures { option_map halves_of result ≡ spec.split_at_mark mark (symbols_of tokens.now) }
 {
     let (front, back) = tokens.split_at(mark_at(tokens, mark));
@@ -248,7 +248,7 @@ fn argument_list<'a>(tokens: &[Token<'a>]) -> Option<Arguments<'a>>
     ensures { option_map arguments_of result
         ≡ spec.argument_list.reads (symbols_of tokens.now) }
 {
-    match parted(tokens, Mark::Comma) {
+    match split_at_first(tokens, Mark::Comma) {
         None => argument(tokens).map(Arguments::One),
         Some(halves) => {
             let second = argument(halves.rest)?;
@@ -274,7 +274,7 @@ fn arguments<'a>(tokens: &[Token<'a>]) -> Option<Arguments<'a>>
 fn closed_arguments<'a>(tokens: &[Token<'a>]) -> Option<Arguments<'a>>
     ensures { option_map arguments_of result ≡ spec.closed_arguments.reads (symbols_of tokens.now) }
 {
-    let halves = parted(tokens, Mark::Close)?;
+    let halves = split_at_first(tokens, Mark::Close)?;
     match halves.rest {
         [] => arguments(halves.front),
         _ => None,
@@ -283,7 +283,7 @@ fn closed_arguments<'a>(tokens: &[Token<'a>]) -> Option<Arguments<'a>>
 
 // Reads the call of a timer.
 #[tactic(auto, unfolding(crate::specs::Forms::call_action))]
-fn called<'a>(tokens: &[Token<'a>]) -> Option<Instruction<'a>>
+fn timer_call<'a>(tokens: &[Token<'a>]) -> Option<Instruction<'a>>
     ensures { option_map action_of result ≡ spec.call_action.reads (symbols_of tokens.now) }
 {
     match tokens {
@@ -371,7 +371,7 @@ fn jump<'a>(condition: Condition, tokens: &[Token<'a>]) -> Option<Instruction<'a
     Some(Instruction::Jump { condition, label })
 }
 
-// Reads what belongs to an operator.
+// Reads the tokens after an operator.
 #[tactic(auto, unfolding(crate::specs::Forms::statement))]
 fn statement_of<'a>(mnemonic: Mnemonic, tokens: &[Token<'a>]) -> Option<Statement<'a>>
     ensures { option_map statement_parts result
@@ -385,7 +385,7 @@ fn statement_of<'a>(mnemonic: Mnemonic, tokens: &[Token<'a>]) -> Option<Statemen
         Mnemonic::Convert(conversion) => alone(Instruction::Convert(conversion), tokens),
         Mnemonic::Return(condition) => alone(Instruction::Return(condition), tokens),
         Mnemonic::Jump(condition) => jump(condition, tokens).map(Statement::Plain),
-        Mnemonic::Call => called(tokens).map(Statement::Plain),
+        Mnemonic::Call => timer_call(tokens).map(Statement::Plain),
     }
 }
 
@@ -417,7 +417,7 @@ fn tail_of(tokens: &[Token<'_>]) -> Option<Tail>
 fn declaration<'t, 'a>(tokens: &'t [Token<'a>]) -> Option<Line<'t, 'a>>
     ensures { option_and_then line_parts result ≡ spec.declaration.reads (symbols_of tokens.now) }
 {
-    let halves = parted(tokens, Mark::Colon)?;
+    let halves = split_at_first(tokens, Mark::Colon)?;
     let tail = tail_of(halves.rest)?;
     Some(Line::Declaration {
         names: halves.front,
@@ -425,7 +425,7 @@ fn declaration<'t, 'a>(tokens: &'t [Token<'a>]) -> Option<Line<'t, 'a>>
     })
 }
 
-// Whether these tokens may follow a label: nothing, or tokens that begin with an operator.
+// Returns whether these tokens may follow a label: none, or tokens that begin with an operator.
 #[tactic(auto, unfolding(crate::specs::Forms::may_follow_label))]
 fn may_follow_label(tokens: &[Token<'_>]) -> bool
     ensures { result ≡ spec.may_follow_label (symbols_of tokens.now) }
@@ -436,7 +436,7 @@ fn may_follow_label(tokens: &[Token<'_>]) -> bool
     }
 }
 
-// Reads an operator, given as a token, and what belongs to it.
+// Reads an instruction: its operator, given as a token, and the tokens after it.
 #[tactic(auto, unfolding(crate::specs::Forms::instruction))]
 fn statement_by<'a>(first: Token<'a>, tokens: &[Token<'a>]) -> Option<Statement<'a>>
     ensures { option_map statement_parts result
@@ -515,14 +515,14 @@ pub(crate) fn line_of<'t, 'a>(tokens: &'t [Token<'a>]) -> Option<Line<'t, 'a>>
     }
 }
 
-// Whether a line that begins with this token has no other token.
+// Returns whether a line that begins with this token has no other token.
 fn is_single(token: Token<'_>) -> bool
     ensures { result ≡ spec.is_single (symbol_of token.entry) }
 {
     matches!(token, Token::Type(_) | Token::Literal(_) | Token::Mark(_))
 }
 
-// Whether the second token cannot follow the first, where the first begins a line.
+// Returns whether the second token cannot follow the first, if the first begins a line.
 fn is_misplaced(first: Token<'_>, second: Token<'_>) -> bool
     ensures { result ≡ spec.is_misplaced (symbol_of first.entry) (symbol_of second.entry) }
 {
@@ -532,7 +532,8 @@ fn is_misplaced(first: Token<'_>, second: Token<'_>) -> bool
     }
 }
 
-/// Whether no line begins with these tokens, so that the rest of the line need not be kept.
+/// Returns whether the first two tokens show that no line begins with these tokens. The rest of the
+/// line then need not be stored.
 pub(crate) fn is_hopeless(tokens: &[Token<'_>]) -> bool
     ensures { result ≡ spec.is_hopeless (symbols_of tokens.now) }
 {

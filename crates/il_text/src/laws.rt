@@ -1,4 +1,4 @@
-// Laws of the definition of a text's program, each the contract of a function that does nothing.
+// Laws of the definitions. Each function does nothing, and its contract is the law.
 ghost use Rattle.il_text.specs.Falling.{DurationsFall};
 ghost use Rattle.il_text.specs.Forms.{LinesAreProduced};
 ghost use Rattle.il_text.specs.Grammar.{OneProgram};
@@ -12,8 +12,8 @@ pub fn one_program_is_derived()
     ensures { OneProgram }
 {}
 
-/// A line of tokens is read to the parts that it spells by its grammar; a line that spells none is
-/// read to no parts (IEC 61131-3:2003, annexes B.1.4.3, B.1.5.3 and B.2).
+/// Reading a line of tokens returns the parts that the line spells by its grammar, and none if it
+/// spells none (IEC 61131-3:2003, annexes B.1.4.3, B.1.5.3 and B.2).
 pub fn lines_are_produced()
     ensures { LinesAreProduced }
 {}
@@ -23,20 +23,20 @@ pub fn one_reading()
     ensures { OneReading }
 {}
 
-/// The reader's line-by-line definition and the grammar agree on every text: the definition gives a
-/// program exactly where the text reads as that program, and a fault exactly where the text has
+/// The reader's line-by-line definition and the grammar agree on every text: the definition results
+/// in a program exactly if the text reads as that program, and in a fault exactly if the text has
 /// that fault.
 pub fn program_is_read()
     ensures { ProgramIsRead }
 {}
 
 /// Blanks and whole comments between two parts of a line may be replaced by other blanks and
-/// comments: the text gives the same program or the same fault (IEC 61131-3:2003, 2.1.4 and 2.1.5).
+/// comments: the text has the same program or the same fault (IEC 61131-3:2003, 2.1.4 and 2.1.5).
 pub fn blanks_may_be_respelled()
     ensures { BlanksMayBeRespelled }
 {}
 
-/// A line may end in CR LF instead of LF: the text reads the same.
+/// A line may end in CR LF instead of LF, outside of comments: the text reads the same.
 pub fn line_ends_may_be_respelled()
     ensures { LineEndsMayBeRespelled }
 {}

@@ -1,4 +1,4 @@
-// What a piece of a text is: a blank, a line end, a token, or none.
+// Lexemes: a blank, a line end, a token, or none of these.
 ghost use Rattle.std.specs.Prelude.{◌≡◌, ◌<◌, ◌≤◌, ◌-◌, length, slice_index, slice_range, option_map};
 ghost use Rattle.il_text.specs.Symbols as spec;
 ghost use Rattle.il_text.specs.TokenViews.{piece_of, symbol_of};
@@ -10,7 +10,7 @@ use crate::reserved::{combine, reserved_token};
 use crate::token::{Mark, Token};
 use bay_base::names::same_letters;
 
-/// A piece of a text.
+/// A lexeme of a text.
 #[derive(Clone, Copy)]
 pub(crate) enum Lexeme<'a> {
     Blank,
@@ -83,7 +83,7 @@ fn mark_of<'a>(piece: &[u8]) -> Option<Token<'a>>
     }
 }
 
-// Whether a piece is LF or CR LF.
+// Returns whether a lexeme is LF or CR LF.
 fn is_line_end(piece: &[u8]) -> bool
     ensures { result ≡ spec.is_line_end piece.now }
 {

@@ -1,4 +1,4 @@
-// What has been read of a program, line by line.
+// A program as it is read, line by line.
 ghost use Rattle.std.specs.Prelude.{◌≡◌, ◌≢◌, List, ◌∷◌, map, reverse, option_and_then, Some, None, Ok, Err, OnOk, IfErr};
 ghost use Rattle.il_text.specs.Forms.{declared_names};
 ghost use Rattle.il_text.specs.FormViews.{line_parts, opened_parts, statement_parts};
@@ -26,7 +26,7 @@ const MAX_INSTRUCTIONS: usize = 4_000;
 // The maximum number of open parentheses.
 const MAX_OPEN: usize = 16;
 
-/// The place in the text that the lines so far have reached.
+/// The stage of the program that the lines so far have reached.
 #[derive(Clone, Copy)]
 pub enum Stage {
     /// Before the PROGRAM line.
@@ -50,7 +50,7 @@ pub(crate) struct Open<'a> {
     pub(crate) outer: Vec<Item<'a>>,
 }
 
-/// What has been read of a program so far, and where in the program the next line stands.
+/// What has been read of a program so far, and the stage of the next line.
 #[derive(Drop)]
 pub(crate) struct Draft<'a> {
     pub(crate) alloc: Global,
@@ -72,7 +72,7 @@ pub(crate) struct Position {
     pub(crate) last: usize,
 }
 
-// Whether an instruction may stand in a parenthesis: any but a jump, a return or a call.
+// Returns whether an instruction may be in a parenthesis: any but a jump, a return or a call.
 fn is_plain(instruction: Instruction<'_>) -> bool
     ensures { result ≡ grammar.is_plain (action_of instruction.entry) }
 {
@@ -86,21 +86,21 @@ fn is_plain(instruction: Instruction<'_>) -> bool
     }
 }
 
-// Whether an instruction is LD or LDN, which a parenthesis begins with.
+// Returns whether an instruction is LD or LDN, with which a parenthesis begins.
 fn is_load(instruction: Instruction<'_>) -> bool
     ensures { result ≡ rules.is_load (action_of instruction.entry) }
 {
     matches!(instruction, Instruction::Load { .. })
 }
 
-// Whether the PROGRAM line comes next.
+// Returns whether the PROGRAM line comes next.
 fn is_start(place: Stage) -> bool
     ensures { result ≡ rules.is_start place }
 {
     matches!(place, Stage::Start)
 }
 
-// Whether a declaration block may begin here.
+// Returns whether a declaration block may begin here.
 fn is_between_blocks(place: Stage) -> bool
     ensures { result ≡ rules.is_between_blocks place }
 {
@@ -117,14 +117,14 @@ fn block_scope(place: Stage) -> Option<VariableScope>
     }
 }
 
-// Whether a line of the body may stand here, be it the first or a later one.
+// Returns whether a line of the body may come here, the first one or a later one.
 fn is_body(place: Stage) -> bool
     ensures { result ≡ rules.is_body place }
 {
     matches!(place, Stage::Declarations | Stage::Body)
 }
 
-// Whether a variable of the scope may have this initial value: an external has none.
+// Returns whether a variable of the scope may have this initial value: an external has none.
 fn may_begin_with(scope: VariableScope, initial: Option<Literal>) -> bool
     ensures { result ≡ rules.may_begin_with scope initial }
 {
@@ -134,7 +134,7 @@ fn may_begin_with(scope: VariableScope, initial: Option<Literal>) -> bool
     }
 }
 
-// Whether a line counts towards the line limit: it holds an instruction or `)`.
+// Returns whether a line counts towards the line limit: it holds an instruction or `)`.
 fn has_instruction(line: Line<'_, '_>) -> bool
     ensures { (ps : List LineContent) → line_parts line.entry ≡ Some ps
         → result ≡ spec.has_instruction ps }
@@ -150,8 +150,8 @@ fn has_instruction(line: Line<'_, '_>) -> bool
     }
 }
 
-// Returns the fault of a line past a limit. On the last line of the text this is a bad line,
-// because the text also ends early there and that fault comes first.
+// Returns the fault of a line past a limit. On the last line of the text it is a bad line, because
+// the text also ends early there and that fault comes first.
 fn past_limit(position: Position, fault: TextFault) -> TextFault
     ensures { result ≡ spec.past_limit position.line position.last fault }
 {
@@ -164,7 +164,7 @@ fn past_limit(position: Position, fault: TextFault) -> TextFault
 }
 
 impl<'a> Draft<'a> {
-    /// Creates a program of which no line has been read.
+    /// Creates a draft of which no line has been read.
     pub(crate) fn new(alloc: Global) -> Self
         ensures { read_of result ≡ spec.none_yet }
     {
@@ -179,7 +179,7 @@ impl<'a> Draft<'a> {
         }
     }
 
-    /// Takes one line.
+    /// Reads one line. Returns the fault of the line, or `OutOfMemory` if an allocation fails.
     #[tactic(auto, using(crate::proofs::ListingLemmas::blank_line))]
     pub(crate) fn take_line(
         &mut self,
@@ -229,7 +229,7 @@ impl<'a> Draft<'a> {
         Ok(())
     }
 
-    // Takes the parts of a line, given by its form.
+    // Reads the parts of a line, given by its form.
     #[tactic(auto, using(crate::proofs::ListingLemmas::steps_rules))]
     fn take_form(&mut self, form: Line<'_, 'a>, line: usize) -> Result<(), TextFault>
         ensures ok { OnOk result
@@ -254,7 +254,7 @@ impl<'a> Draft<'a> {
         }
     }
 
-    // Whether a line of the body may stand here, outside parentheses.
+    // Returns whether a line of the body may come here, outside parentheses.
     #[tactic(auto, unfolding(crate::specs::Steps::may_stand))]
     fn may_stand(&self) -> bool
         ensures { result ≡ rules.may_stand (reached_of self.now) }
@@ -262,7 +262,7 @@ impl<'a> Draft<'a> {
         is_body(self.place) && is_outside(self.parentheses.as_slice())
     }
 
-    // Whether an instruction may stand here.
+    // Returns whether an instruction may come here.
     #[tactic(auto, unfolding(crate::specs::Steps::may_act))]
     fn may_act(&self, instruction: Instruction<'a>) -> bool
         ensures { result ≡ rules.may_act (reached_of self.now) (action_of instruction.entry) }
@@ -272,7 +272,7 @@ impl<'a> Draft<'a> {
         is_body(self.place) && (is_outside(self.parentheses.as_slice()) || inside)
     }
 
-    // Whether a parenthesis may open here.
+    // Returns whether a parenthesis may open here.
     #[tactic(auto, unfolding(crate::specs::Steps::may_enter))]
     fn may_enter(&self) -> bool
         ensures { result ≡ rules.may_enter (reached_of self.now) }
@@ -281,7 +281,7 @@ impl<'a> Draft<'a> {
             && (is_outside(self.parentheses.as_slice()) || is_some(self.items.as_slice()))
     }
 
-    // Whether the innermost parenthesis may close here.
+    // Returns whether the innermost parenthesis may close here.
     #[tactic(auto, unfolding(crate::specs::Steps::may_leave))]
     fn may_leave(&self) -> bool
         ensures { result ≡ rules.may_leave (reached_of self.now) }
@@ -289,7 +289,7 @@ impl<'a> Draft<'a> {
         is_body(self.place) && is_some(self.items.as_slice())
     }
 
-    // Takes the PROGRAM line.
+    // Reads the PROGRAM line.
     #[tactic(auto, unfolding(crate::specs::Steps::step))]
     fn take_heading(&mut self, name: &'a str, line: usize) -> Result<(), TextFault>
         ensures ok { OnOk result
@@ -307,7 +307,7 @@ impl<'a> Draft<'a> {
         Ok(())
     }
 
-    // Takes VAR or VAR_EXTERNAL.
+    // Reads VAR or VAR_EXTERNAL.
     #[tactic(auto, unfolding(crate::specs::Steps::step))]
     fn take_opening(&mut self, scope: VariableScope, line: usize) -> Result<(), TextFault>
         ensures ok { OnOk result
@@ -323,7 +323,7 @@ impl<'a> Draft<'a> {
         Ok(())
     }
 
-    // Takes END_VAR.
+    // Reads END_VAR.
     #[tactic(auto, unfolding(crate::specs::Steps::step))]
     fn take_closing(&mut self, line: usize) -> Result<(), TextFault>
         ensures ok { OnOk result
@@ -339,7 +339,7 @@ impl<'a> Draft<'a> {
         Ok(())
     }
 
-    // Takes a declaration, and checks its names.
+    // Reads a declaration, and checks its names.
     fn take_declaration(
         &mut self,
         names: &[Token<'a>],
@@ -366,7 +366,7 @@ impl<'a> Draft<'a> {
         Ok(())
     }
 
-    // Takes a label.
+    // Reads a label.
     #[tactic(auto, unfolding(crate::specs::Steps::step))]
     fn take_label(&mut self, name: &'a str, line: usize) -> Result<(), TextFault>
         ensures ok { OnOk result
@@ -384,7 +384,7 @@ impl<'a> Draft<'a> {
         Ok(())
     }
 
-    // Takes an instruction. The first one in a parenthesis is a load, and none in it leaves the
+    // Reads an instruction. The first one in a parenthesis is a load, and none in it leaves the
     // parenthesis.
     #[tactic(auto, unfolding(crate::specs::Steps::step))]
     fn take_acting(&mut self, instruction: Instruction<'a>, line: usize) -> Result<(), TextFault>
@@ -405,7 +405,7 @@ impl<'a> Draft<'a> {
         Ok(())
     }
 
-    // Takes an operator with `(`.
+    // Reads an operator with `(`.
     #[tactic(auto, unfolding(crate::specs::Steps::step))]
     fn take_entering(
         &mut self,
@@ -436,7 +436,7 @@ impl<'a> Draft<'a> {
         Ok(())
     }
 
-    // Takes a `)`. The parenthesis must not be empty.
+    // Reads a `)`. The parenthesis must not be empty.
     #[tactic(auto, unfolding(crate::specs::Steps::step))]
     fn take_leaving(&mut self, line: usize) -> Result<(), TextFault>
         ensures ok { OnOk result
@@ -470,7 +470,7 @@ impl<'a> Draft<'a> {
         Ok(())
     }
 
-    // Takes END_PROGRAM.
+    // Reads END_PROGRAM.
     #[tactic(auto, unfolding(crate::specs::Steps::step))]
     fn take_ending(&mut self, line: usize) -> Result<(), TextFault>
         ensures ok { OnOk result
@@ -486,7 +486,7 @@ impl<'a> Draft<'a> {
         Ok(())
     }
 
-    // Takes an instruction, or an operator with `(` and its operand.
+    // Reads an instruction, or an operator with `(` and its operand.
     #[tactic(auto, using(crate::proofs::ListingLemmas::steps_rules))]
     fn take_statement(&mut self, statement: Statement<'a>, line: usize) -> Result<(), TextFault>
         ensures ok { OnOk result
@@ -513,7 +513,7 @@ impl<'a> Draft<'a> {
         }
     }
 
-    // Takes an operator with `(` and the operand after it.
+    // Reads an operator with `(` and the operand after it.
     #[tactic(auto, using(crate::proofs::ListingLemmas::steps_rules))]
     fn take_loaded(
         &mut self,
@@ -540,7 +540,7 @@ impl<'a> Draft<'a> {
         Ok(())
     }
 
-    // Takes a label and the instruction after it.
+    // Reads a label and the instruction after it.
     #[tactic(auto, using(crate::proofs::ListingLemmas::steps_rules))]
     fn take_labelled(
         &mut self,
@@ -563,7 +563,7 @@ impl<'a> Draft<'a> {
     }
 }
 
-// Whether no parenthesis is open.
+// Returns whether no parenthesis is open.
 #[tactic(auto, using(crate::proofs::ListingLemmas::outside_rules))]
 fn is_outside(parentheses: &[Open<'_>]) -> bool
     ensures { result ≡ rules.is_outside (reverse (map opened_of parentheses.now)) }
@@ -571,7 +571,7 @@ fn is_outside(parentheses: &[Open<'_>]) -> bool
     parentheses.is_empty()
 }
 
-// Whether there are any items.
+// Returns whether there are any items.
 #[tactic(auto, using(crate::proofs::ListingLemmas::some_rules))]
 fn is_some(items: &[Item<'_>]) -> bool
     ensures { result ≡ rules.is_some (map entry_of items.now) }

@@ -22,7 +22,7 @@ pub enum LiteralFault {
     OutOfRange,
 }
 
-// The cap on milliseconds: greater values count as this many, which no duration has.
+// The cap on milliseconds: greater totals count as this one, which no TIME has.
 const CAP: u64 = 0x1_0000_0000;
 
 // Reads the number that digits spell, with single underscores allowed between them.
@@ -221,7 +221,7 @@ fn typed_lint(word: &str) -> Result<Literal, LiteralFault>
     Ok(Literal::Lint(typed_number(word)?))
 }
 
-/// Reads a literal that has something before its first `#`.
+/// Reads a literal, given the texts before and after its first `#`.
 #[tactic(auto, using(crate::proofs::LiteralLemmas::untyped_capped), unfolding(crate::specs::Literals::prefixed_literal))]
 pub(crate) fn prefixed(before: &str, word: &str) -> Result<Literal, LiteralFault>
     ensures { result ≡ spec.prefixed_literal before.now word.now }
@@ -244,7 +244,8 @@ pub(crate) fn prefixed(before: &str, word: &str) -> Result<Literal, LiteralFault
     untyped(based(before, word))
 }
 
-// The unread rest of a duration, its milliseconds so far, and whether a part has been read.
+// A duration as it is read: the rest of the text, the milliseconds so far, and whether a part was
+// read.
 #[derive(Clone, Copy)]
 struct Duration<'a> {
     rest: &'a [u8],
@@ -252,7 +253,7 @@ struct Duration<'a> {
     begun: bool,
 }
 
-// Counts the number characters at the front of the word: digits and `_`.
+// Counts the digits and `_` at the start of the word.
 fn number_len(word: &[u8]) -> usize
     ensures len { result ≡ spec.number_len word.now }
     ensures within { result ≤ length word.now }
@@ -262,7 +263,7 @@ fn number_len(word: &[u8]) -> usize
         .count()
 }
 
-// Counts the letters at the front of the word.
+// Counts the letters at the start of the word.
 fn letter_len(word: &[u8]) -> usize
     ensures len { result ≡ prefix_len is_ascii_alphabetic word.now }
     ensures within { result ≤ length word.now }
@@ -288,7 +289,7 @@ fn add_capped(total: u64, number: u64, factor: u64) -> u64
     (total.min(CAP) + number.min(CAP) * factor).min(CAP)
 }
 
-// Takes the part in this unit, if it comes first.
+// Reads the part in this unit, if it comes first.
 #[tactic(auto, using(crate::proofs::DurationLemmas::part_rules))]
 fn part<'a>(duration: Option<Duration<'a>>, unit: &[u8], factor: u64) -> Option<Duration<'a>>
     requires some { 0 < factor }
@@ -312,7 +313,7 @@ fn part<'a>(duration: Option<Duration<'a>>, unit: &[u8], factor: u64) -> Option<
     })
 }
 
-// Reads the parts of a duration in descending units. The first may exceed one of the next greater
+// Reads the parts of a duration in descending units. A number may exceed one of the next greater
 // unit.
 fn parts(word: &[u8]) -> Option<Duration<'_>>
     ensures { capped_duration (spec.parts word.now) ≡ option_map duration_view result }

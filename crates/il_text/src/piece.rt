@@ -1,4 +1,4 @@
-// Where the pieces of a text and its comments end.
+// Finds where the lexemes of a text and its comments end.
 ghost use Rattle.std.specs.Prelude.{◌≡◌, ◌+◌, ◌-◌, ◌<◌, ◌≤◌, ◌∷◌, true, false, length, drop, slice_index, slice_range};
 ghost use Rattle.il_text.specs.Pieces as spec;
 ghost use Rattle.il_text.specs.Runs.{IsRun, IsPiece};
@@ -6,7 +6,7 @@ ghost use Rattle.il_text.specs.Runs as spec_runs;
 
 use crate::character::{byte_at, is_linked};
 
-/// Whether a comment begins here.
+/// Returns whether a comment begins at the index.
 pub(crate) fn opens(bytes: &[u8], at: usize) -> bool
     requires { at < length bytes.now }
     ensures { result ≡ spec.opens (drop at bytes.now) }
@@ -14,7 +14,7 @@ pub(crate) fn opens(bytes: &[u8], at: usize) -> bool
     bytes[at] == b'(' && byte_at(bytes, at + 1) == b'*'
 }
 
-/// Whether a comment ends here.
+/// Returns whether a comment ends at the index.
 pub(crate) fn ends(bytes: &[u8], at: usize) -> bool
     requires { at < length bytes.now }
     ensures { result ≡ spec.ends (drop at bytes.now) }
@@ -22,7 +22,7 @@ pub(crate) fn ends(bytes: &[u8], at: usize) -> bool
     bytes[at] == b'*' && byte_at(bytes, at + 1) == b')'
 }
 
-/// Whether a comment ends here or later.
+/// Returns whether a comment ends at the index or later.
 #[tactic(auto, using(crate::proofs::PieceLemmas::closes_rules))]
 pub(crate) fn closes(bytes: &[u8], at: usize) -> bool
     ensures { result ≡ spec.closes (drop at bytes.now) }
@@ -49,7 +49,7 @@ fn run_end(bytes: &[u8], start: usize) -> usize
     bytes.len()
 }
 
-// Whether `&N` stands here and no letter, digit, `_` or `#` follows it.
+// Returns whether `&N` is at the index and no letter, digit, `_` or `#` follows it.
 #[tactic(auto, unfolding(crate::specs::Runs::is_negated_and))]
 fn is_negated_and(bytes: &[u8], at: usize) -> bool
     requires { at < length bytes.now }
@@ -60,7 +60,7 @@ fn is_negated_and(bytes: &[u8], at: usize) -> bool
         && !is_linked(byte_at(bytes, at + 1), byte_at(bytes, at + 2))
 }
 
-/// Returns the end of the piece that begins here. No comment begins here.
+/// Returns the end of the lexeme that begins at `start`. No comment may begin there.
 #[tactic(auto, using(crate::proofs::CutLemmas::piece_rules))]
 pub(crate) fn piece_end(bytes: &[u8], start: usize) -> usize
     requires within { start < length bytes.now }

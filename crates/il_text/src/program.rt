@@ -22,7 +22,7 @@ pub struct Declaration<'a> {
     pub scope: VariableScope,
     pub name: &'a str,
     pub kind: DeclaredType,
-    /// The initial value, if the text gives one; an external and a timer have none.
+    /// The initial value, if the text has one; an external and a timer have none.
     pub initial: Option<Literal>,
 }
 
@@ -63,7 +63,7 @@ pub enum Literal {
 
 /// An output of a timer (IEC 61131-3:2003, table 38).
 #[derive(Clone, Copy, Debug, PartialEq, Eq)]
-pub enum Output {
+pub enum TimerOutput {
     /// `.Q`, a BOOL.
     Q,
     /// `.ET`, the elapsed time.
@@ -76,7 +76,7 @@ pub enum SymbolicVariable<'a> {
     /// A name.
     Name(&'a str),
     /// A timer's name and one of its outputs.
-    Output { timer: &'a str, output: Output },
+    TimerOutput { timer: &'a str, output: TimerOutput },
 }
 
 /// The operand that an instruction reads.
@@ -201,7 +201,7 @@ pub enum Instruction<'a> {
 /// A label, an instruction, or a parenthesis. Lines are counted from 1.
 #[derive(Drop)]
 pub enum Item<'a> {
-    /// A label; the instruction after it may stand on the same line.
+    /// A label; the instruction after it may be on the same line.
     Label {
         line: usize,
         name: &'a str,
@@ -211,8 +211,8 @@ pub enum Item<'a> {
         instruction: Instruction<'a>,
     },
     /// The line of `operator(`, the items of the parenthesis, and the line of its `)`. The result
-    /// of the items is negated first if `negated`. An operand after the `(` is a load of it on the
-    /// same line and the first item.
+    /// of the items is negated first if `negated`. An operand after the `(` is the first item: a
+    /// load of the operand on the same line.
     Block {
         line: usize,
         operator: Operator,

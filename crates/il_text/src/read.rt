@@ -18,7 +18,7 @@ use crate::program::Program;
 use crate::token::Token;
 use std::alloc::Global;
 
-// A text, how far it has been read, and what was read.
+// A text, how far it has been read, and the program so far.
 #[derive(Drop)]
 struct Reader<'a> {
     text: &'a str,
@@ -26,17 +26,18 @@ struct Reader<'a> {
     line: usize,
     last: usize,
     in_comment: bool,
-    /// The tokens of the line so far. No more are kept once no line begins with them.
+    /// The tokens of the line so far. No more are stored once no line begins with them.
     tokens: Vec<Token<'a>>,
     listing: Draft<'a>,
     ghost within: { at ≤ length text.now },
     ghost line_within: { line ≤ at + 1 },
 }
 
-/// Reads a program in Instruction List (IEC 61131-3:2003, 3.2 and annex B.2.1). The first faulty
-/// line gives the error. Within a line the order is: the leftmost bad token or bad literal, a bad
-/// line, parentheses too deep, too many lines. A text that ends early is a bad line at its last
-/// line. Does not allocate for an empty text. The line numbers of the items never decrease.
+/// Reads a program in Instruction List (IEC 61131-3:2003, 3.2 and annex B.2.1), or returns the
+/// fault of the first faulty line. Within a line the order is: the leftmost bad token or bad
+/// literal, a bad line, parentheses too deep, too many lines. A text that ends early is a bad line
+/// at its last line. Returns `OutOfMemory` if an allocation fails; an empty text needs none. The
+/// line numbers of the items never decrease.
 pub fn read_program<'a>(alloc: Global, text: &'a str) -> Result<Program<'a>, TextFault>
     ensures ok { IfOk result (λ program. ReadsAs text.now (Ok (plain_program program))) }
     ensures refused { IfErr result (λ fault. fault ≢ OutOfMemory → ReadsAs text.now (Err fault)) }
@@ -114,7 +115,7 @@ fn last_line_of(text: &str) -> usize
 impl<'a> Reader<'a> {
     ghost use Rattle.il_text.specs.ReaderViews.{left_of, ended_of, whole_of};
 
-    // Reads one piece, or one character of a comment.
+    // Reads one lexeme, or a step of a comment: its opening, one character or its closing.
     #[tactic(auto, using(crate::proofs::ReadLemmas::step_rules))]
     fn step(&mut self) -> Result<(), TextFault>
         requires { self.old.at < length self.old.text.now }
@@ -132,7 +133,7 @@ impl<'a> Reader<'a> {
         self.piece_step()
     }
 
-    // Reads one piece outside comments.
+    // Reads one lexeme outside comments.
     #[tactic(auto, using(crate::proofs::ReadLemmas::piece_rules))]
     fn piece_step(&mut self) -> Result<(), TextFault>
         requires within { self.old.at < length self.old.text.now }
@@ -201,7 +202,7 @@ impl<'a> Reader<'a> {
         self.end_line()
     }
 
-    // Takes the tokens of the line that ends here.
+    // Reads the line that ends here.
     fn end_line(&mut self) -> Result<(), TextFault>
         requires { self.old.line ≤ self.old.at }
         ensures text { OnOk result (self.new.text.now ≡ self.old.text.now) }
@@ -219,7 +220,7 @@ impl<'a> Reader<'a> {
         Ok(())
     }
 
-    // Takes the last line, after which the program must be complete.
+    // Reads the last line, after which the program must be complete.
     fn finish(&mut self) -> Result<(), TextFault>
         ensures ok { OnOk result
             (whole_of self.old ≡ Ok (program_made (reached_of self.new.listing))) }

@@ -9,7 +9,7 @@ use crate::token::{Keyword, Mnemonic, Token};
 use bay_base::types::{ElementaryType, TimerKind};
 use bay_base::words::{ReservedWord, reserved_word};
 
-/// The mnemonic of an operator that combines the current result with an operand.
+/// Returns the mnemonic of an operator that combines the current result with an operand.
 pub(crate) fn combine(operator: Operator, negated: bool) -> Mnemonic
     ensures { result ≡ Combine operator negated }
 {
@@ -71,7 +71,7 @@ fn token_of<'a>(word: ReservedWord) -> Token<'a>
     }
 }
 
-/// Returns the token of a word if the word is reserved.
+/// Returns the token of a word, or `None` if the word is not reserved.
 #[tactic(auto, unfolding(crate::specs::Words::reserved_symbol))]
 pub(crate) fn reserved_token<'a>(word: &str) -> Option<Token<'a>>
     ensures { option_map symbol_of result ≡ spec.reserved_symbol word.now }

@@ -8,7 +8,7 @@ use Rattle.il_image.specs.declared.instr.Instr.{Instr}
 use Rattle.il_image.specs.declared.kind.CellKind.{CellKind}
 use Rattle.il_verify.specs.declared.frame.Frame.{Frame}
 use Rattle.il_image.proofs.SetLemmas.{set-elsewhere, set-here}
-use Rattle.il_verify.specs.Frames.{Clashing, Falls, Grows, PlainFrame, Pends, beside, frame_at, goes_on, plain_frame, plain_frames}
+use Rattle.il_verify.specs.Frames.{Clashing, Falls, Grows, PlainFrame, Pends, beside, frame_at, falls_through, plain_frame, plain_frames}
 
 here-is : (p q : ℕ) → q ≡ p → (q == p) ≡ true
 here-is p q e = grind (arith, nat_tests)
@@ -91,7 +91,7 @@ clash-at old place o kinds was c =
 -- ---- to the next place
 
 pub falls-to : (instr : Instr) (next : ℕ) (come : PlainFrame) (old mid : List (Option Frame))
-    (o : Option Frame) (m : PlainFrame) → goes_on instr ≡ true → o ≡ frame_at old next
+    (o : Option Frame) (m : PlainFrame) → falls_through instr ≡ true → o ≡ frame_at old next
     → ((q : ℕ) → (q ≡ next → ⊥) → plain_frames mid q ≡ plain_frames old q)
     → Grows come (option_map plain_frame o) m
     → Falls instr next come (plain_frames old) (beside next (Some m) (plain_frames mid))
@@ -109,12 +109,12 @@ falls-to instr next come old mid o m on was gone grows to = elim (cases_eq to ne
 ]
 
 pub stays-so : (instr : Instr) (next : ℕ) (come : PlainFrame) (old mid : List (Option Frame))
-    (o : Option Frame) → goes_on instr ≡ false → o ≡ frame_at old next
+    (o : Option Frame) → falls_through instr ≡ false → o ≡ frame_at old next
     → ((q : ℕ) → (q ≡ next → ⊥) → plain_frames mid q ≡ plain_frames old q)
     → Falls instr next come (plain_frames old)
     (beside next (option_map plain_frame o) (plain_frames mid))
 stays-so instr next come old mid o off was gone to = inr (
-  (λ h. let on : goes_on instr ≡ true = h.0 in cc),
+  (λ h. let on : falls_through instr ≡ true = h.0 in cc),
   (elim (cases_eq to next) [
     | inl e ↦ beside-here next to (option_map plain_frame o) (plain_frames mid) e
         ∙ (sym (plain-at old next o was) ∙ ap (plain_frames old) (sym e))

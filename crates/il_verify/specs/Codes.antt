@@ -3,7 +3,7 @@ use Rattle.std.specs.Prelude.{ℕ, Option, Some, None}
 use Rattle.il_verify.specs.declared.fault.VerifyFault.{VerifyFault}
 use Rattle.il_verify.specs.declared.fault.VerifyFault.TheVariants.{StackEmpty, StackFull, WrongKind, ZeroDivisor, NoSlot, NoTimer, BadTarget, Unreachable, DepthClash, NoHalt, BadBinding, OutOfMemory}
 
--- 90 to 100 in the order of the faults; want of memory has none
+-- the fault's number, 90 to 100 in the order of the faults; out of memory has none
 abbrev pub code_of : VerifyFault → Option ℕ
 code_of StackEmpty = Some 90
 code_of StackFull = Some 91

@@ -1,5 +1,4 @@
--- Inner: what the code keeps of places that are still to come, and what one instruction makes of
--- it.
+-- Inner: the frames of the places that are still to come, and how one instruction changes them.
 use Rattle.std.specs.Prelude.{ℕ, ◌≡◌, ◌≢◌, ◌+◌, ◌<◌, ◌≤◌, ◌==◌, ◌⊎◌, ◌↔◌, Bool, true, false, List, [], ◌∷◌, length, reverse, Option, Some, None, option_and_then, option_map, slice_get, if◌then◌else◌}
 use Rattle.il_image.specs.declared.instr.Instr.{Instr}
 use Rattle.il_image.specs.declared.instr.Instr.TheVariants.{Halt, Push, Drop, Slot, Not, Combine, Compute, Compare, Widen, Jump, Timer}
@@ -17,9 +16,9 @@ use Rattle.il_verify.specs.Judging.{fault_of}
 use Rattle.il_verify.specs.Refusals.{JumpsTo}
 use Rattle.il_verify.specs.Slots.{slots_of, types_of}
 
--- ---- what is looked up
+-- ---- what the pass looks up
 
--- These are true exactly at the places of the code.
+-- The list is true exactly at the places of the code's instructions.
 abbrev pub MarksPlaces : List ℕ → List Bool → Type 0
 MarksPlaces code starts = (place : ℕ) → (slice_get starts place ≡ Some true) ↔ IsPlace code place
 
@@ -37,28 +36,28 @@ pub record PlainFrame : Type 0 where
   pub kinds : List CellKind
   pub longest : ℕ
 
--- what a frame of the code says, whose kinds stand with the top last
+-- a frame of the code, whose kinds have the top last, as a plain frame
 abbrev pub plain_frame : Frame → PlainFrame
 plain_frame f = record { kinds = reverse f.kinds.items; longest = f.longest }
 
--- the plain frame of each place, if a path comes there so far
+-- the plain frame of each place, if a path has led there so far
 abbrev pub PlainFrames : Type 0
 PlainFrames = ℕ → Option PlainFrame
 
--- the frame that is pending at a place, if there is one
+-- the frame pending at a place, if there is one
 abbrev pub frame_at : List (Option Frame) → ℕ → Option Frame
 frame_at pending place = option_and_then (λ o. o) (slice_get pending place)
 
--- the plain frames of those that are pending
+-- the pending frames as plain frames
 unfoldable pub plain_frames : List (Option Frame) → PlainFrames
 plain_frames pending place = option_map plain_frame (frame_at pending place)
 
--- what is known of one place beside what is known of the others
+-- the values `others`, with the value `known` at one place
 abbrev pub beside : {A : Type 0} → ℕ → Option A → (ℕ → Option A) → ℕ → Option A
 beside place known others q = if q == place then known else others q
 
--- Another path comes to a place: the new frame is the join of the old one, if there is one, and of
--- what comes.
+-- Another path leads to a place: the new frame is the join of the old one, if there is one, and of
+-- `come`, the frame that the path brings.
 pub record Grows (come : PlainFrame) (old : Option PlainFrame) (new : PlainFrame) : Type 0 where
   pub over : AreWithin come.kinds new.kinds
   pub keeps : (m : PlainFrame) → old ≡ Some m → AreWithin m.kinds new.kinds
@@ -69,7 +68,7 @@ pub record Grows (come : PlainFrame) (old : Option PlainFrame) (new : PlainFrame
   pub from : (new.longest ≡ come.longest)
       ⊎ ((m : PlainFrame) × (old ≡ Some m) × (new.longest ≡ m.longest))
 
--- It comes where this is so, and else the frame stays.
+-- If P holds, a path brings the frame `come`; otherwise the frame is unchanged.
 abbrev pub ComesWhere : Type 0 → PlainFrame → Option PlainFrame → Option PlainFrame → Type 0
 ComesWhere P come old new = (P × ((frame : PlainFrame) × (new ≡ Some frame) × Grows come old frame))
     ⊎ ((P → ⊥) × (new ≡ old))
@@ -78,13 +77,13 @@ ComesWhere P come old new = (P × ((frame : PlainFrame) × (new ≡ Some frame) 
 abbrev pub Clashing : Option PlainFrame → List CellKind → Type 0
 Clashing old kinds = (m : PlainFrame) × (old ≡ Some m) × (length m.kinds ≢ length kinds)
 
--- the join of both, place by place: the least kinds above both
+-- the join of both, index by index: the least kinds that include both
 abbrev pub join_all : List CellKind → List CellKind → List CellKind
 join_all [] others = []
 join_all (a ∷ kinds) [] = a ∷ kinds
 join_all (a ∷ kinds) (b ∷ others) = join a b ∷ join_all kinds others
 
--- It comes to this place, and the other places keep what they have.
+-- A path brings a frame to this place; the frames of all other places are unchanged.
 pub record Pends (old new : PlainFrames) (place : ℕ) (come : PlainFrame) : Type 0 where
   pub frame : PlainFrame
   pub is : new place ≡ Some frame
@@ -93,61 +92,63 @@ pub record Pends (old new : PlainFrames) (place : ℕ) (come : PlainFrame) : Typ
 
 -- ---- one instruction
 
--- The instruction may be followed by the next one.
-abbrev pub goes_on : Instr → Bool
-goes_on Halt = false
-goes_on (Jump Always distance) = false
-goes_on (Jump IfTrue distance) = true
-goes_on (Jump IfFalse distance) = true
-goes_on (Push v) = true
-goes_on Drop = true
-goes_on (Slot slot_use n) = true
-goes_on Not = true
-goes_on (Combine c) = true
-goes_on (Compute o w) = true
-goes_on (Compare c) = true
-goes_on (Widen w) = true
-goes_on (Timer timer_use n) = true
+-- whether the next instruction may run after this one
+abbrev pub falls_through : Instr → Bool
+falls_through Halt = false
+falls_through (Jump Always distance) = false
+falls_through (Jump IfTrue distance) = true
+falls_through (Jump IfFalse distance) = true
+falls_through (Push v) = true
+falls_through Drop = true
+falls_through (Slot slot_use n) = true
+falls_through Not = true
+falls_through (Combine c) = true
+falls_through (Compute o w) = true
+falls_through (Compare c) = true
+falls_through (Widen w) = true
+falls_through (Timer timer_use n) = true
 
--- It goes on to this place.
+-- The instruction falls through to this place.
 abbrev pub GoesOn : Instr → ℕ → ℕ → Type 0
-GoesOn instr next to = (goes_on instr ≡ true) × (to ≡ next)
+GoesOn instr next to = (falls_through instr ≡ true) × (to ≡ next)
 
--- The instruction leads to places alone.
+-- The instruction leads only to places of instructions.
 pub record LeadsRight (code : List ℕ) (instr : Instr) (next : ℕ) : Type 0 where
   pub jumps : (to : ℕ) → JumpsTo instr next to → IsPlace code to
-  pub falls : goes_on instr ≡ true → next < length code
+  pub falls : falls_through instr ≡ true → next < length code
 
--- It jumps to no place, or else goes on behind the code.
+-- The instruction jumps to a place without an instruction.
 pub record JumpsWrong (code : List ℕ) (instr : Instr) (next : ℕ) : Type 0 where
   pub to : ℕ
   pub jumps : JumpsTo instr next to
   pub bad : IsPlace code to → ⊥
 
--- It jumps to places alone, but goes on where the code is at its end.
+-- The instruction jumps only to places of instructions, but falls through past the end of the code.
 pub record FallsOff (code : List ℕ) (instr : Instr) (next : ℕ) : Type 0 where
   pub jumps : (to : ℕ) → JumpsTo instr next to → IsPlace code to
-  pub falls : goes_on instr ≡ true
+  pub falls : falls_through instr ≡ true
   pub past : length code ≤ next
 
--- It leads to no place, with the fault of that: a wrong jump comes before the end of the code.
+-- The instruction leads to a place without an instruction. The fault of a wrong jump comes before
+-- that of the end of the code.
 abbrev pub LeadsWrong : List ℕ → Instr → ℕ → VerifyFault → Type 0
 LeadsWrong code instr next fault = ((fault ≡ BadTarget) × JumpsWrong code instr next)
     ⊎ ((fault ≡ NoHalt) × FallsOff code instr next)
 
--- A path comes to where it jumps, and to where it goes on.
+-- The instruction brings a frame to the place that it jumps to; other frames are unchanged.
 abbrev pub Jumps : Instr → ℕ → PlainFrame → PlainFrames → PlainFrames → Type 0
 Jumps instr next come old new = (to : ℕ) → ComesWhere (JumpsTo instr next to) come (old to) (new to)
 
--- It jumps to a place where another number of kinds is.
+-- The instruction jumps to a place whose frame has another number of kinds.
 abbrev pub JumpClash : Instr → ℕ → PlainFrames → List CellKind → Type 0
 JumpClash instr next old kinds = (to : ℕ) × JumpsTo instr next to × Clashing (old to) kinds
 
--- A path comes to where it goes on.
+-- The instruction brings a frame to the place that it falls through to; other frames are unchanged.
 abbrev pub Falls : Instr → ℕ → PlainFrame → PlainFrames → PlainFrames → Type 0
 Falls instr next come old new = (to : ℕ) → ComesWhere (GoesOn instr next to) come (old to) (new to)
 
--- The instruction of the image is done on the kinds at its place.
+-- The instruction of the image has no fault on the kinds at its place, and brings the kinds after
+-- it to the places that it leads to.
 pub record Visits (image : Image) (instr : Instr) (next : ℕ) (come : PlainFrame)
     (old new : PlainFrames) : Type 0 where
   pub gives : List CellKind
@@ -159,13 +160,14 @@ pub record Visits (image : Image) (instr : Instr) (next : ℕ) (come : PlainFram
   pub jumps : Jumps instr next (record { kinds = gives; longest = come.longest + 1 }) old mid
   pub falls : Falls instr next (record { kinds = gives; longest = come.longest + 1 }) mid new
 
--- The instruction fails, by itself, or by where it leads, or by what is there.
+-- The instruction has no fault of its own, but leads to a place without an instruction.
 pub record MisLeads (image : Image) (instr : Instr) (next : ℕ) (come : PlainFrame)
     (fault : VerifyFault) : Type 0 where
   pub faultless : fault_of (slots_of image) (length image.timers) instr come.kinds ≡ None
   pub wrong : LeadsWrong image.code instr next fault
 
--- It is right by itself, but leads to a place where another number of kinds is.
+-- The instruction has no fault of its own and leads only to instructions, but the frame of one of
+-- these has another number of kinds.
 pub record Collides (image : Image) (instr : Instr) (next : ℕ) (come : PlainFrame)
     (old : PlainFrames) : Type 0 where
   pub gives : List CellKind
@@ -177,7 +179,8 @@ pub record Collides (image : Image) (instr : Instr) (next : ℕ) (come : PlainFr
   pub leads : JumpsTo instr next to ⊎ GoesOn instr next to
   pub clash : Clashing (old to) gives
 
--- The first fault of an instruction at its place: its own, where it leads, or the depth of a stack.
+-- The first fault of an instruction at its place: its own, that of a target, or that of the depth
+-- of a stack.
 abbrev pub FailsVisit : Image → Instr → ℕ → PlainFrame → PlainFrames → VerifyFault → Type 0
 FailsVisit image instr next come old fault =
     (fault_of (slots_of image) (length image.timers) instr come.kinds ≡ Some fault)

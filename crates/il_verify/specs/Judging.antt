@@ -1,4 +1,4 @@
--- The faults of one instruction by itself, on the kinds before it, in the format's order.
+-- The faults of one instruction by itself, on the kinds before it, in the order of the format.
 use Rattle.std.specs.Prelude.{ℕ, Bool, false, not, List, length, nat_lt, slice_get, Option, Some, None, option_map, unwrap_or, if◌then◌else◌}
 use Rattle.bay_base.specs.declared.types.ElementaryType.TheVariants as elementary
 use Rattle.il_image.specs.declared.arithmetic.ArithmeticOperation.{ArithmeticOperation}
@@ -19,14 +19,14 @@ use Rattle.il_verify.specs.declared.fault.VerifyFault.TheVariants.{StackEmpty, S
 use Rattle.il_verify.specs.declared.slots.SlotType.{SlotType}
 use Rattle.il_verify.specs.Slots.{types_of}
 
--- the slot or the timer that an instruction names is missing, where there are so many slots and
+-- the fault of an instruction whose slot or timer does not exist, given the numbers of slots and
 -- timers
 abbrev pub missing : ℕ → ℕ → Instr → Option VerifyFault
 missing slots timers (Slot slot_use n) = if nat_lt n slots then None else Some NoSlot
 missing slots timers (Timer timer_use n) = if nat_lt n timers then None else Some NoTimer
 missing slots timers other = None
 
--- the number of values that an instruction takes or looks at
+-- the number of values that an instruction pops or reads
 abbrev pub operands : Instr → ℕ
 operands Halt = 0
 operands (Push v) = 0
@@ -49,40 +49,40 @@ operands (Timer Run n) = 0
 operands (Timer LoadOutput n) = 0
 operands (Timer LoadElapsed n) = 0
 
--- the instruction that takes the same, but any divisor
+-- an instruction on the same operands that accepts any divisor
 abbrev pub without_divisor : Instr → Instr
 without_divisor (Compute o w) = Compute Add w
 without_divisor other = other
 
--- the kinds behind an instruction, where it is allowed on these
+-- the kinds after an instruction, if it is allowed on these
 abbrev pub effect_on : List SlotType → ℕ → List CellKind → Instr → Option (List CellKind)
 effect_on slots timers kinds i = effect (types_of slots) timers i kinds
 
--- a value is of a wrong kind where the instruction is not allowed with any divisor, and else only
--- the divisor may be zero
+-- the fault of the operands: a wrong kind if the instruction that accepts any divisor is not
+-- allowed either; otherwise a divisor that may be zero
 abbrev pub unfit : Option (List CellKind) → Option (List CellKind) → Option VerifyFault
 unfit None actual = Some WrongKind
 unfit (Some with_any) None = Some ZeroDivisor
 unfit (Some with_any) (Some actual) = None
 
--- the fault of the kinds that the instruction takes or looks at
+-- the fault of the kinds that the instruction pops or reads
 abbrev pub misfit : List SlotType → ℕ → Instr → List CellKind → Option VerifyFault
 misfit slots timers i kinds =
     unfit (effect_on slots timers kinds (without_divisor i)) (effect_on slots timers kinds i)
 
--- what the contracts of the code's parts cite: a BOOL, and an operation of two numbers
+-- the kind of a BOOL
 abbrev pub truth : CellKind
 truth = Plain elementary.Bool
 
--- the kinds behind an operation of two numbers of a width
+-- the kinds after an operation on two numbers of a width
 abbrev pub computes : ArithmeticOperation → Width → List CellKind → Option (List CellKind)
 computes o w kinds = two (second_kind o w) (Plain (type_of_width w)) (Plain (type_of_width w)) kinds
 
--- the slot that an instruction writes may only be read
+-- whether the slot exists and may only be read
 abbrev pub is_read_only : List SlotType → ℕ → Bool
 is_read_only slots n = unwrap_or (option_map (λ s. not s.writable) (slice_get slots n)) false
 
--- the instruction writes a slot that may only be read
+-- whether the instruction writes a slot that may only be read
 abbrev pub writes_read_only : List SlotType → Instr → Bool
 writes_read_only slots (Slot Load n) = false
 writes_read_only slots (Slot Store n) = is_read_only slots n
@@ -90,18 +90,18 @@ writes_read_only slots (Slot SetIf n) = is_read_only slots n
 writes_read_only slots (Slot ResetIf n) = is_read_only slots n
 writes_read_only slots other = false
 
--- more values lie on the stack behind the instruction than it may have
+-- whether more values are on the stack after the instruction than it may have
 abbrev pub is_full : Option (List CellKind) → Bool
 is_full None = false
 is_full (Some kinds) = nat_lt most_cells (length kinds)
 
--- the first fault of two tests
+-- the first of two faults
 infixr 5 ◌or_else◌
 abbrev pub ◌or_else◌ : Option VerifyFault → Option VerifyFault → Option VerifyFault
 None or_else other = other
 (Some fault) or_else other = Some fault
 
--- the fault, where the test holds
+-- the fault, if the test holds
 abbrev pub where_so : Bool → VerifyFault → Option VerifyFault
 where_so b fault = if b then Some fault else None
 

@@ -17,12 +17,12 @@ use Rattle.il_verify.specs.Slots.{slots_of}
 
 -- ---- the kinds before a place
 
--- the kinds behind an instruction of the image
+-- the kinds after an instruction of the image, if it is allowed
 abbrev pub after : Image → Instr → List CellKind → Option (List CellKind)
 after image instr kinds = effect (slot_types image) (length image.timers) instr kinds
 
--- The table has kinds before the instruction at a place, which leads to the other place, and gives
--- these.
+-- The table has kinds before the instruction at the place `from`; the instruction leads to the
+-- place `to`, and these are the kinds after it.
 pub record ComesFrom (image : Image) (table : Table) (from to : ℕ) (kinds : List CellKind)
     : Type 0 where
   pub instr : Instr
@@ -33,13 +33,14 @@ pub record ComesFrom (image : Image) (table : Table) (from to : ℕ) (kinds : Li
   pub gives : after image instr before ≡ Some kinds
   pub leads : LeadsTo instr next to
 
--- These kinds come to the place: none at the start of the code, and what an instruction before
--- `done` gives that leads there.
+-- These kinds reach the place: an empty list at the start of the code, and the kinds after each
+-- instruction before `done` that leads there.
 abbrev pub Comes : Image → Table → ℕ → ℕ → List CellKind → Type 0
 Comes image table done to kinds =
     ((to ≡ 0) × (kinds ≡ [])) ⊎ ((from : ℕ) × (from < done) × ComesFrom image table from to kinds)
 
--- Something comes to the place, and these are the join of all that comes: the least kinds above it.
+-- Some kinds reach the place, and these are the join of all that do: the least kinds that include
+-- them.
 pub record IsJoin (image : Image) (table : Table) (done to : ℕ) (kinds : List CellKind)
     : Type 0 where
   pub some : (first : List CellKind) × Comes image table done to first
@@ -48,8 +49,8 @@ pub record IsJoin (image : Image) (table : Table) (done to : ℕ) (kinds : List 
       → ((others : List CellKind) → Comes image table done to others → AreWithin others top)
       → AreWithin kinds top
 
--- The place has no fault: its instruction has none on the kinds there, leads to instructions alone,
--- and gives as many kinds as come there from places before it.
+-- The place has no fault: its instruction has none on the kinds there, leads only to instructions,
+-- and leaves as many kinds as reach each of these from earlier places.
 pub record Passes (image : Image) (table : Table) (place : ℕ) : Type 0 where
   pub instr : Instr
   pub next : ℕ
@@ -63,8 +64,8 @@ pub record Passes (image : Image) (table : Table) (place : ℕ) : Type 0 where
   pub depths : (to : ℕ) → LeadsTo instr next to → (others : List CellKind)
       → Comes image table place to others → length others ≡ length gives
 
--- The table has the least kinds at each place below `done`, and nothing elsewhere; and none of
--- these places has a fault.
+-- The table has the least kinds at each place below `done`, and none elsewhere; and none of these
+-- places has a fault.
 pub record IsFront (image : Image) (table : Table) (done : ℕ) : Type 0 where
   pub only : (place : ℕ) (kinds : List CellKind) → table place ≡ Some kinds
       → (place < done) × IsPlace image.code place
@@ -82,7 +83,7 @@ pub record Arrives (image : Image) (table : Table) (place : ℕ) : Type 0 where
   pub here : instr_at image.code place ≡ Some (instr, next)
   pub joined : IsJoin image table place place kinds
 
--- the fault of the place's instruction by itself
+-- the own fault of the place's instruction, on the kinds before it
 abbrev pub own_fault : {image : Image} {table : Table} {place : ℕ} → Arrives image table place
     → Option VerifyFault
 own_fault {image} a = fault_of (slots_of image) (length image.timers) a.instr a.kinds
@@ -101,7 +102,7 @@ JumpsTo (Compare c) next to = ⊥
 JumpsTo (Widen w) next to = ⊥
 JumpsTo (Timer timer_use n) next to = ⊥
 
--- An instruction without a fault of its own jumps to no instruction.
+-- The instruction has no fault of its own, but jumps to a place without an instruction.
 pub record JumpsBadly (image : Image) (table : Table) (place : ℕ) : Type 0 where
   pub at : Arrives image table place
   pub faultless : own_fault at ≡ None
@@ -109,7 +110,8 @@ pub record JumpsBadly (image : Image) (table : Table) (place : ℕ) : Type 0 whe
   pub jumps : JumpsTo at.instr at.next to
   pub bad : IsPlace image.code to → ⊥
 
--- One that jumps to instructions alone goes on behind the code.
+-- The instruction has no fault of its own and jumps only to instructions, but falls through past
+-- the end of the code.
 pub record GoesPast (image : Image) (table : Table) (place : ℕ) : Type 0 where
   pub at : Arrives image table place
   pub faultless : own_fault at ≡ None
@@ -117,8 +119,8 @@ pub record GoesPast (image : Image) (table : Table) (place : ℕ) : Type 0 where
   pub leads : LeadsTo at.instr at.next at.next
   pub past : at.next ≡ length image.code
 
--- One that leads to instructions alone gives another number of kinds than comes to one of them from
--- a place before it.
+-- The instruction has no fault of its own and leads only to instructions, but leaves another number
+-- of kinds than reaches one of these from an earlier place.
 pub record Clashes (image : Image) (table : Table) (place : ℕ) : Type 0 where
   pub at : Arrives image table place
   pub gives : List CellKind
@@ -131,7 +133,7 @@ pub record Clashes (image : Image) (table : Table) (place : ℕ) : Type 0 where
   pub comes : Comes image table place to others
   pub unequal : length others ≡ length gives → ⊥
 
--- The instruction's own fault comes first.
+-- The instruction at the place has this fault of its own.
 abbrev pub HasOwn : Image → Table → ℕ → VerifyFault → Type 0
 HasOwn image table place fault = (a : Arrives image table place) × (own_fault a ≡ Some fault)
 
@@ -157,21 +159,21 @@ IsFaultAt image table place BadBinding = HasOwn image table place BadBinding
 abbrev pub DoesNotFit : List Point → Image → VerifyFault → ℕ → Type 0
 DoesNotFit bay image fault place = (fits bay image ≡ false) × (fault ≡ BadBinding) × (place ≡ 0)
 
--- It has no code.
+-- The image has no code.
 abbrev pub IsWithoutCode : Image → VerifyFault → ℕ → Type 0
 IsWithoutCode image fault place = (image.code ≡ []) × (fault ≡ NoHalt) × (place ≡ 0)
 
--- The first place with a fault is this one.
+-- This place is the first one with a fault, and this is its fault.
 abbrev pub FailsAt : Image → VerifyFault → ℕ → Type 0
 FailsAt image fault place =
     (table : Table) × IsFront image table place × IsPlace image.code place
     × IsFaultAt image table place fault
 
--- It fits the bay and has code, so that its places are gone over.
+-- The image fits the bay and has code. Verifying another image does not run out of memory.
 abbrev pub TakesMemory : List Point → Image → Type 0
 TakesMemory bay image = (fits bay image ≡ true) × (0 < length image.code)
 
--- This is the image's first fault, and the place of it.
+-- This is the image's first fault, at this place.
 abbrev pub IsRefusal : List Point → Image → VerifyFault → ℕ → Type 0
 IsRefusal bay image fault place =
     DoesNotFit bay image fault place

@@ -4,7 +4,7 @@ use Rattle.il_image.specs.declared.opcode.Opcode.{Opcode}
 use Rattle.il_image.specs.declared.opcode.Opcode.TheVariants.{Halt, Push, Drop, Slot, Not, Combine, Compute, Compare, Widen, Jump, Timer}
 use Rattle.il_image.specs.Octets.{octet_count, size_of}
 
--- with its operand
+-- the number of octets, with the operand
 abbrev pub size_of_opcode : Opcode → ℕ
 size_of_opcode Halt = 1
 size_of_opcode (Push t) = suc (octet_count (size_of t))

@@ -1,4 +1,4 @@
--- What is known of an image that is accepted.
+-- What holds of an accepted image.
 use Rattle.std.specs.Prelude.{ℕ, ◌≡◌, ◌≤◌, true, false, List, length, Some}
 use Rattle.bay_base.specs.declared.point.Point.{Point}
 use Rattle.il_image.specs.declared.instr.Instr.{Instr}
@@ -16,28 +16,28 @@ KeepsReadOnly image = (place : ℕ) (instr : Instr) (next : ℕ) → IsPlace ima
     → instr_at image.code place ≡ Some (instr, next)
     → writes_read_only (slots_of image) instr ≡ false
 
--- A table agrees with the code, and it writes what it may.
+-- A table agrees with the code, and the code writes no point that may only be read.
 pub record IsSafe (image : Image) : Type 0 where
   pub table : HasTable image
   pub writes : KeepsReadOnly image
 
--- The number of places of a path that ends at a HALT, and than which none is longer.
+-- The number of places of a longest path that ends at a HALT.
 pub record IsBudget (code : List ℕ) (budget : ℕ) : Type 0 where
   pub some : Ends code budget
   pub most : (n : ℕ) → Ends code n → n ≤ budget
 
--- the length of a longest list of the table
+-- The length of a longest list of the table.
 pub record IsLongest (table : Table) (depth : ℕ) : Type 0 where
   pub some : (place : ℕ) × (kinds : List CellKind) × (table place ≡ Some kinds)
       × (length kinds ≡ depth)
   pub most : (place : ℕ) (kinds : List CellKind) → table place ≡ Some kinds → length kinds ≤ depth
 
--- A table agrees with the code, and this is the length of a longest list of each that does.
+-- A table agrees with the code, and in each that does a longest list has this length.
 pub record IsDepth (image : Image) (depth : ℕ) : Type 0 where
   pub some : HasTable image
   pub each : (table : Table) → Agrees image table → IsLongest table depth
 
--- What a verified image keeps.
+-- The image is safe, and these are its budget and its depth.
 pub record IsMeasured (image : Image) (budget depth : ℕ) : Type 0 where
   pub safe : IsSafe image
   pub longest : IsBudget image.code budget

@@ -1,5 +1,5 @@
-// The transfer function of each instruction: what it makes of the kinds on the stack, and the
-// faults that it has by itself. The top is the last element.
+// The transfer function of each instruction: the kinds on the stack after it, or its own fault. The
+// top is the last element.
 ghost use Rattle.std.specs.Prelude.{◌≡◌, ◌≤◌, Some, None, reverse, length, OnOk, OnErr, IfErr, IfSome, IfNone, IsTrue, MatchResult, [], ◌∷◌, ◌⊎◌, ℕ, List};
 ghost use Rattle.il_image.specs.Machine as spec_machine;
 ghost use Rattle.il_image.specs.Effects.{below, compares, effect, looks_at, second_kind, two, type_of_kind, widens, with_truth};
@@ -21,7 +21,7 @@ use il_image::kind::{CellKind, is_within};
 use il_image::opcode::{SlotUse, TimerUse, When, Widening};
 use il_image::value::Value;
 
-// Puts a kind on the stack.
+// Pushes a kind.
 fn put(kinds: &mut KindStack, kind: CellKind)
     requires { length kinds.old.items ≤ most_cells }
     ensures { reverse kinds.new.items ≡ kind ∷ reverse kinds.old.items }
@@ -29,7 +29,7 @@ fn put(kinds: &mut KindStack, kind: CellKind)
     kinds.push(kind);
 }
 
-// Takes the top, where it is within the wanted kind.
+// Pops the top, which must be within the wanted kind.
 fn take(kinds: &mut KindStack, wanted: CellKind) -> Result<(), VerifyFault>
     ensures ok { OnOk result
         (below wanted (reverse kinds.old.items) ≡ Some (reverse kinds.new.items)) }
@@ -43,7 +43,7 @@ fn take(kinds: &mut KindStack, wanted: CellKind) -> Result<(), VerifyFault>
     }
 }
 
-// Looks at the top, and leaves it.
+// Checks that the top, which stays, is within the wanted kind.
 fn look(kinds: &[CellKind], wanted: CellKind) -> Result<(), VerifyFault>
     ensures ok { OnOk result (looks_at wanted (reverse kinds.now) ≡ Some (reverse kinds.now)) }
     ensures err { IfErr result
@@ -55,7 +55,7 @@ fn look(kinds: &[CellKind], wanted: CellKind) -> Result<(), VerifyFault>
     }
 }
 
-// What is known of a value.
+// Returns the kind of a value.
 fn kind_of(value: Value) -> CellKind
     ensures { result ≡ spec.kind_of value }
 {
@@ -67,7 +67,7 @@ fn kind_of(value: Value) -> CellKind
     }
 }
 
-// The two values on top, the first of them the topmost.
+// Pops two values and returns them, the top first, or returns `None` if there are fewer.
 fn take_two(kinds: &mut KindStack) -> Option<(CellKind, CellKind)>
     ensures some { IfSome result
         (λ r. reverse kinds.old.items ≡ r.0 ∷ r.1 ∷ reverse kinds.new.items) }
@@ -80,7 +80,7 @@ fn take_two(kinds: &mut KindStack) -> Option<(CellKind, CellKind)>
     Some((top, second))
 }
 
-// Whether an operation needs a divisor that is not zero.
+// Returns whether an operation needs a divisor that is not zero.
 fn divides(operation: ArithmeticOperation) -> bool
     ensures { result ≡ spec_machine.divides operation }
 {
@@ -90,7 +90,7 @@ fn divides(operation: ArithmeticOperation) -> bool
     }
 }
 
-// Two numbers of a width become one. A divisor has to be not zero.
+// Replaces two numbers of a width by one. A divisor must be nonzero.
 fn compute(
     kinds: &mut KindStack,
     operation: ArithmeticOperation,
@@ -99,7 +99,8 @@ fn compute(
     requires room { length kinds.old.items ≤ most_cells }
     ensures ok { OnOk result
         (computes operation width (reverse kinds.old.items) ≡ Some (reverse kinds.new.items)) }
-    ensures err { IfErr result (λ f. unfit (computes ArithmeticOperation.Add width (reverse kinds.old.items))
+    ensures err { IfErr result
+        (λ f. unfit (computes ArithmeticOperation.Add width (reverse kinds.old.items))
         (computes operation width (reverse kinds.old.items)) ≡ Some f) }
 {
     let number = CellKind::Plain(width.elementary());
@@ -115,7 +116,7 @@ fn compute(
     }
 }
 
-// Two BOOLs become one.
+// Replaces two BOOLs by one.
 fn combine(kinds: &mut KindStack) -> Result<(), VerifyFault>
     requires room { length kinds.old.items ≤ most_cells }
     ensures ok { OnOk result
@@ -134,7 +135,7 @@ fn combine(kinds: &mut KindStack) -> Result<(), VerifyFault>
     }
 }
 
-// The type that a kind shows.
+// Returns the type that a kind determines, or `None` for any value.
 fn type_of(kind: CellKind) -> Option<ElementaryType>
     ensures { result ≡ type_of_kind kind }
 {
@@ -145,7 +146,8 @@ fn type_of(kind: CellKind) -> Option<ElementaryType>
     }
 }
 
-// Whether a comparison takes values of these types: of one type, and of BOOL only for = and <>.
+// Returns whether a comparison accepts values of these types: of one type, and of BOOL only for =
+// and <>.
 fn are_compared(comparison: Comparison, first: ElementaryType, second: ElementaryType) -> bool
     ensures { result ≡ spec.are_compared comparison first second }
 {
@@ -156,7 +158,7 @@ fn are_compared(comparison: Comparison, first: ElementaryType, second: Elementar
     first == second && (first != ElementaryType::Bool || equality)
 }
 
-// Two values that show one type become a BOOL.
+// Replaces two values of one known type by a BOOL.
 fn compare(kinds: &mut KindStack, comparison: Comparison) -> Result<(), VerifyFault>
     requires room { length kinds.old.items ≤ most_cells }
     ensures ok { OnOk result
@@ -176,7 +178,7 @@ fn compare(kinds: &mut KindStack, comparison: Comparison) -> Result<(), VerifyFa
     }
 }
 
-// The top becomes one of a wider type, and stays not zero.
+// Widens the top. A nonzero number remains nonzero.
 fn widen(kinds: &mut KindStack, from: Width, to: Width) -> Result<(), VerifyFault>
     requires room { length kinds.old.items ≤ most_cells }
     ensures ok { OnOk result
@@ -213,7 +215,7 @@ fn check_bools(slots: &[SlotType], number: u16, kinds: &[CellKind]) -> Result<()
     }
 }
 
-// What an instruction does with a slot.
+// Applies an instruction that uses a slot.
 fn use_slot(
     slots: &[SlotType],
     slot_use: SlotUse,
@@ -244,7 +246,7 @@ fn use_slot(
     }
 }
 
-// What an instruction does with a timer that is there.
+// Applies an instruction that uses a timer. The timer exists.
 fn use_timer(timer_use: TimerUse, kinds: &mut KindStack) -> Result<(), VerifyFault>
     requires room { length kinds.old.items ≤ most_cells }
     ensures ok { OnOk result
@@ -268,7 +270,7 @@ fn use_timer(timer_use: TimerUse, kinds: &mut KindStack) -> Result<(), VerifyFau
     }
 }
 
-// Does to the kinds what an instruction does, where they are of the kinds that it wants.
+// Applies an instruction to the kinds, if these are within the kinds that it needs.
 fn apply(
     slots: &[SlotType],
     timers: usize,
@@ -306,7 +308,7 @@ fn apply(
     }
 }
 
-// Checks that the slot or the timer that an instruction names is there.
+// Checks that the slot or the timer of an instruction exists.
 fn check_slot_or_timer(slots: usize, timers: usize, instr: Instr) -> Result<(), VerifyFault>
     ensures { MatchResult result (λ _. missing slots timers instr ≡ None)
         (λ f. missing slots timers instr ≡ Some f) }
@@ -318,7 +320,7 @@ fn check_slot_or_timer(slots: usize, timers: usize, instr: Instr) -> Result<(), 
     }
 }
 
-// The number of values that an instruction takes or looks at.
+// Returns the number of values that an instruction pops or reads.
 fn operands(instr: Instr) -> usize
     ensures { result ≡ spec_judging.operands instr }
 {
@@ -333,7 +335,7 @@ fn operands(instr: Instr) -> usize
     }
 }
 
-// Whether an instruction writes a slot that may only be read.
+// Returns whether an instruction writes a slot that may only be read.
 fn writes_read_only(slots: &[SlotType], instr: Instr) -> bool
     ensures { result ≡ spec_judging.writes_read_only slots.now instr }
 {

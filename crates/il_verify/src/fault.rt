@@ -33,7 +33,7 @@ pub enum VerifyFault {
     /// A jump goes past the code or into the middle of an instruction.
     #[error("a jump leads to no instruction")]
     BadTarget,
-    /// An instruction that neither the one before it nor a jump leads to.
+    /// Neither the instruction before this one nor a jump leads to it.
     #[error("an instruction is not reached")]
     Unreachable,
     /// Paths to an instruction bring stacks of different depths.

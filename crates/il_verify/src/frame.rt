@@ -16,10 +16,10 @@ use std::alloc::{AllocError, Global};
 /// The most kinds on a stack.
 pub(crate) const MAX_KINDS: usize = 32;
 
-// What an instruction leaves before it is refused: one kind more.
+// The room of a kind stack: one kind more, which an instruction pushes before it is refused.
 const ROOM: usize = MAX_KINDS + 1;
 
-/// The kinds on a stack, the top last. It holds one more than the stack may.
+/// The kinds on a stack, the top last. It has room for one more than the stack may have.
 pub(crate) type KindStack = ArrayVec<CellKind, ROOM>;
 
 /// What is known of the stack before an instruction, and the length of the longest path to it.
@@ -31,7 +31,7 @@ pub(crate) struct Frame {
     pub longest: u32,
 }
 
-// A copy of the kinds on a stack.
+// Returns a copy of the kinds on a stack.
 fn copy_of(kinds: &[CellKind]) -> KindStack
     requires { length kinds.now ≤ most_cells }
     ensures { result.items ≡ kinds.now }
@@ -44,7 +44,7 @@ fn copy_of(kinds: &[CellKind]) -> KindStack
     copy
 }
 
-// Joins each kind with the other at its place: the least kind above both.
+// Joins each kind with the other at the same index: the least kind that includes both.
 fn join_all(kinds: &mut KindStack, others: &[CellKind])
     requires { length kinds.old.items ≡ length others.now }
     ensures { kinds.new.items ≡ join_all kinds.old.items others.now }
@@ -54,8 +54,8 @@ fn join_all(kinds: &mut KindStack, others: &[CellKind])
     }
 }
 
-// Joins a frame with what another path brings to its place. A frame of another depth stays as it
-// was.
+// Joins a frame with what another path brings to its place. Returns `DepthClash` if the depths
+// differ, and leaves the frame unchanged.
 fn join_frame(frame: &mut Frame, kinds: &[CellKind], longest: u32) -> Result<(), VerifyFault>
     ensures ok { OnOk result
         (Grows (record { kinds = reverse kinds.now; longest = longest })
@@ -84,7 +84,7 @@ pub(crate) fn grow(pending: &mut Vec<Option<Frame>>, place: usize) -> Result<(),
     Ok(())
 }
 
-// A path comes to a place where a frame may be pending.
+// Brings a path to a place, at which a frame may be pending.
 fn arrive(slot: &mut Option<Frame>, kinds: &[CellKind], longest: u32) -> Result<(), VerifyFault>
     requires { length kinds.now ≤ most_cells }
     ensures ok { OnOk result
@@ -105,7 +105,7 @@ fn arrive(slot: &mut Option<Frame>, kinds: &[CellKind], longest: u32) -> Result<
     Ok(())
 }
 
-// A path comes to a place by a jump.
+// Brings a path to the target of a jump.
 fn pend(
     pending: &mut Vec<Option<Frame>>,
     place: usize,
@@ -125,7 +125,8 @@ fn pend(
     arrive(&mut pending[place], kinds, longest)
 }
 
-/// Brings a path to the target of an instruction, if it is a jump.
+/// Brings a path to the target of an instruction, if it is a jump. Returns `DepthClash` if the
+/// frame pending there has another depth.
 pub(crate) fn jump(
     instr: Instr,
     next: usize,
@@ -150,9 +151,9 @@ pub(crate) fn jump(
     }
 }
 
-/// Whether the next instruction may run after this one.
-pub(crate) fn goes_on(instr: Instr) -> bool
-    ensures { result ≡ spec.goes_on instr }
+/// Returns whether the next instruction may run after this one.
+pub(crate) fn falls_through(instr: Instr) -> bool
+    ensures { result ≡ spec.falls_through instr }
 {
     match instr {
         Instr::Halt | Instr::Jump(When::Always, _) => false,
@@ -160,7 +161,7 @@ pub(crate) fn goes_on(instr: Instr) -> bool
     }
 }
 
-// What is pending at a place, which no longer is.
+// Removes the frame pending at a place and returns it, if there is one.
 fn taken(pending: &mut Vec<Option<Frame>>, place: usize) -> Option<Frame>
     ensures value { result ≡ frame_at pending.old.items place }
     ensures size { length pending.new.items ≡ length pending.old.items }
@@ -175,7 +176,8 @@ fn taken(pending: &mut Vec<Option<Frame>>, place: usize) -> Option<Frame>
 }
 
 /// Returns the frame of the next place: the frame pending there, joined with this one if the
-/// instruction continues to it.
+/// instruction falls through to it, or `None` if no path leads there. Returns `DepthClash` if the
+/// two have different depths.
 pub(crate) fn fall(
     instr: Instr,
     next: usize,
@@ -188,11 +190,11 @@ pub(crate) fn fall(
         (beside next (option_map plain_frame behind) (plain_frames pending.new.items))) }
     ensures err { IfErr result
         (λ f. (f ≡ VerifyFault.DepthClash)
-        × ((spec.goes_on instr ≡ true)
+        × ((spec.falls_through instr ≡ true)
         × Clashing (plain_frames pending.old.items next) (plain_frame frame).kinds)) }
 {
     let old = taken(pending, next);
-    if !goes_on(instr) {
+    if !falls_through(instr) {
         return Ok(old);
     }
     match old {

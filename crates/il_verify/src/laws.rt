@@ -12,7 +12,7 @@ pub fn one_refusal()
         → IsRefusal points image f p → IsRefusal points image g q → (f ≡ g) × (p ≡ q) }
 {}
 
-/// An image with a first fault is not a verified one.
+/// An image with a first fault is not verified.
 pub fn refused_or_verified()
     ensures { (points : List Point) (image : Image) (fault : VerifyFault) (place : ℕ)
         → IsRefusal points image fault place → IsVerified points image → ⊥ }

@@ -1,17 +1,17 @@
-// The verifier of code images: it accepts exactly the code that can't go wrong, from whatever hand
-// it comes.
+// The verifier of code images: it accepts exactly the images that fit the bay and whose code can't
+// go wrong, whoever made them.
 //
 // - `fault`: why an image is refused.
 // - `points`: whether an image's points are points of the bay.
 // - `slots`: the slots that the code uses.
-// - `plan`: what is looked up: the slots, and where instructions begin.
+// - `plan`: what the pass looks up: the slots, and where instructions begin.
 // - `effect`: the transfer function of each instruction on the kinds on the stack, and its own
 // faults.
 // - `frame`: the frames of the places that are still to come, and how frames are joined.
 // - `visit`: one place of the code.
 // - `pass`: the pass over all places.
-// - `laws`: what holds of the definitions that the contracts cite.
-// - `verify`: `verify`, and the verified image that it gives.
+// - `laws`: laws of the definitions that the contracts cite.
+// - `verify`: `verify`, and the verified image that it returns.
 #![tactic(auto)]
 
 pub(crate) mod effect;

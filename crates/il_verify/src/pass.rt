@@ -1,4 +1,4 @@
-// The pass over the places of the code, in their order.
+// The pass over the places of the code, in order.
 ghost use Rattle.std.specs.Prelude.{◌≡◌, ◌<◌, ◌≤◌, ◌↔◌, ℕ, None, IfErr, IfOk, IsTrue, length, max};
 ghost use Rattle.il_image.specs.Images.{IsImage};
 ghost use Rattle.il_verify.specs.Frames.{IsPlan, plain_frames};
@@ -18,7 +18,7 @@ use il_image::read::instr_at;
 /// The measures of code without a fault.
 #[derive(Drop)]
 pub(crate) struct Measures {
-    /// The number of places on a longest path.
+    /// The number of places on a longest path to a HALT.
     pub budget: u32,
     /// The maximum number of values on the stack before an instruction.
     pub depth: u32,
@@ -26,12 +26,12 @@ pub(crate) struct Measures {
 
 /// A fault and its place.
 #[derive(Drop)]
-pub(crate) struct Stop {
+pub(crate) struct PlacedFault {
     pub fault: VerifyFault,
     pub place: usize,
 }
 
-// Whether a scan ends here.
+// Returns whether a run ends at this instruction.
 fn is_halt(instr: Instr) -> bool
     ensures { IsTrue result ↔ (instr ≡ Instr.Halt) }
 {
@@ -41,20 +41,20 @@ fn is_halt(instr: Instr) -> bool
     }
 }
 
-// The budget after a place, which may be a HALT.
+// Returns the budget after a place, raised if its instruction is HALT.
 fn raised(halts: bool, longest: u32, budget: u32) -> u32
     ensures { result ≡ spec.raised_budget halts longest budget }
 {
     if halts { longest.max(budget) } else { budget }
 }
 
-/// Goes through the places in order, with room for a frame at each. A frame moves to the next
-/// place; it is copied only for a jump.
+/// Goes through the places in order, with room for a frame at each, and returns the measures, or
+/// the first fault with its place. A frame moves to the next place; it is copied only for a jump.
 pub(crate) fn pass(
     image: &Image,
     plan: &Plan,
     pending: Vec<Option<Frame>>,
-) -> Result<Measures, Stop>
+) -> Result<Measures, PlacedFault>
     requires plan { IsPlan image.now plan.now }
     requires some { 0 < length image.now.code }
     requires format { IsImage image.now }
@@ -74,7 +74,7 @@ pub(crate) fn pass(
     let mut depth = 0;
     while place < code.len() {
         let Some(here) = frame else {
-            return Err(Stop {
+            return Err(PlacedFault {
                 fault: VerifyFault::Unreachable,
                 place,
             });
@@ -86,7 +86,7 @@ pub(crate) fn pass(
         budget = raised(is_halt(instr), here.longest, budget);
         frame = match visit(image, plan, instr, next, here, &mut pending) {
             Ok(behind) => behind,
-            Err(fault) => return Err(Stop { fault, place }),
+            Err(fault) => return Err(PlacedFault { fault, place }),
         };
         place = next;
     }

@@ -1,4 +1,4 @@
-// What is looked up while the code is gone over.
+// What the pass over the code looks up.
 ghost use Rattle.std.specs.Prelude.{◌≡◌, ◌≤◌, ◌↔◌, IfOk, IsTrue, Some, slice_get, true, length};
 ghost use Rattle.il_image.specs.Images.{IsCode};
 ghost use Rattle.il_verify.specs.Frames.{IsPlan, MarksPlaces};
@@ -19,7 +19,7 @@ pub(crate) struct Plan {
     pub starts: Vec<bool>,
 }
 
-// The number of octets of an instruction of this opcode.
+// Returns the number of octets of an instruction with this opcode.
 fn size_of(opcode: Opcode) -> usize
     ensures value { result ≡ size_of_opcode opcode }
     ensures few { result ≤ 9 }
@@ -34,7 +34,7 @@ fn size_of(opcode: Opcode) -> usize
     }
 }
 
-// For each octet of the code, whether an instruction begins there.
+// Returns for each octet of the code whether an instruction begins there.
 fn starts_of(alloc: Global, code: &[u8]) -> Result<Vec<bool>, AllocError>
     requires { IsCode code.now }
     ensures marks { IfOk result (λ starts. MarksPlaces code.now starts.items) }
@@ -52,7 +52,7 @@ fn starts_of(alloc: Global, code: &[u8]) -> Result<Vec<bool>, AllocError>
     Ok(starts)
 }
 
-/// Whether an instruction begins at the place.
+/// Returns whether an instruction begins at the place.
 pub(crate) fn is_place(starts: &[bool], place: usize) -> bool
     ensures { IsTrue result ↔ (slice_get starts.now place ≡ Some true) }
 {

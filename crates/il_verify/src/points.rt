@@ -14,7 +14,7 @@ const MAX_SLOTS: usize = 512;
 // The most timers of an image.
 const MAX_TIMERS: usize = 64;
 
-// Whether an image's point is this point of the bay.
+// Returns whether an image's point is this point of the bay.
 fn is_point(point: &ImagePoint, other: &Point) -> bool
     ensures { result ≡ spec.is_point point.now other.now }
 {
@@ -23,21 +23,21 @@ fn is_point(point: &ImagePoint, other: &Point) -> bool
         && point.writable == other.writable
 }
 
-// Whether the point is one of the bay's.
+// Returns whether the point is one of the bay's.
 fn is_of_bay(bay: &[Point], point: &ImagePoint) -> bool
     ensures { result ≡ list_any (λ b. spec.is_point point.now b) bay.now }
 {
     bay.iter().any(|other| is_point(point, other))
 }
 
-// Whether one of the points has the name.
+// Returns whether one of the points has the name.
 fn has_name(points: &[ImagePoint], name: &str) -> bool
     ensures { result ≡ list_any (λ q. bytes_eq q.name name.now) points.now }
 {
     points.iter().any(|point| point.name.as_str() == name)
 }
 
-// Whether each point is one of the bay's, and none stands twice.
+// Returns whether each point is one of the bay's, and none occurs twice.
 fn are_points(bay: &[Point], points: &[ImagePoint]) -> bool
     ensures { result ≡ spec.are_points bay.now points.now }
 {
@@ -51,7 +51,7 @@ fn are_points(bay: &[Point], points: &[ImagePoint]) -> bool
     true
 }
 
-/// Whether the image's points are the bay's, and its slots and timers are not too many.
+/// Returns whether the image's points are the bay's, and its slots and timers are not too many.
 #[tactic(auto, unfolding(crate::specs::Binding::fits))]
 pub(crate) fn fits(bay: &[Point], image: &Image) -> bool
     ensures { result ≡ spec.fits bay.now image.now }

@@ -1,4 +1,4 @@
-// `verify`, and the verified image that it gives.
+// `verify`, and the verified image that it returns.
 ghost use Rattle.std.specs.Prelude.{◌≡◌, ◌≢◌, ◌<◌, IfErr, IfOk, length, true};
 ghost use Rattle.il_verify.specs.Binding.{fits};
 ghost use Rattle.il_verify.specs.Refusals.{IsRefusal, TakesMemory};
@@ -6,7 +6,7 @@ ghost use Rattle.il_verify.specs.Verdicts.{IsMeasured, IsSafe, IsVerified};
 
 use crate::fault::VerifyFault;
 use crate::frame::grow;
-use crate::pass::{Measures, Stop, pass};
+use crate::pass::{Measures, PlacedFault, pass};
 use crate::plan::plan_of;
 use crate::points::fits;
 use bay_base::point::Point;
@@ -64,8 +64,8 @@ impl Verified {
 }
 
 /// A refused image with its first fault and the fault's place: the octet of the code at which the
-/// instruction begins, counted from 0. The place is 0 if the image does not fit the bay, and for
-/// out of memory.
+/// instruction begins, counted from 0. The place is 0 if the image does not fit the bay or has no
+/// code, and for out of memory.
 #[derive(Drop)]
 pub struct Refused {
     pub image: Image,
@@ -73,8 +73,8 @@ pub struct Refused {
     pub place: usize,
 }
 
-// What `verify` does, on an image that stays where it is.
-fn check(alloc: Global, image: &Image, points: &[Point]) -> Result<Measures, Stop>
+// Does the work of `verify` on a borrowed image.
+fn check(alloc: Global, image: &Image, points: &[Point]) -> Result<Measures, PlacedFault>
     ensures fits { IfOk result (λ m. fits points.now image.now ≡ true) }
     ensures ok { IfOk result (λ m. IsMeasured image.now m.budget m.depth) }
     ensures err { IfErr result
@@ -83,13 +83,13 @@ fn check(alloc: Global, image: &Image, points: &[Point]) -> Result<Measures, Sto
         (λ s. s.fault ≡ VerifyFault.OutOfMemory → (s.place ≡ 0) × TakesMemory points.now image.now) }
 {
     if !fits(points, image) {
-        return Err(Stop {
+        return Err(PlacedFault {
             fault: VerifyFault::BadBinding,
             place: 0,
         });
     }
     if image.code().len() == 0 {
-        return Err(Stop {
+        return Err(PlacedFault {
             fault: VerifyFault::NoHalt,
             place: 0,
         });
@@ -97,7 +97,7 @@ fn check(alloc: Global, image: &Image, points: &[Point]) -> Result<Measures, Sto
     let plan = match plan_of(alloc, image) {
         Ok(plan) => plan,
         Err(AllocError) => {
-            return Err(Stop {
+            return Err(PlacedFault {
                 fault: VerifyFault::OutOfMemory,
                 place: 0,
             });
@@ -107,7 +107,7 @@ fn check(alloc: Global, image: &Image, points: &[Point]) -> Result<Measures, Sto
     match grow(&mut pending, image.code().len()) {
         Ok(()) => {}
         Err(AllocError) => {
-            return Err(Stop {
+            return Err(PlacedFault {
                 fault: VerifyFault::OutOfMemory,
                 place: 0,
             });
@@ -120,12 +120,12 @@ fn check(alloc: Global, image: &Image, points: &[Point]) -> Result<Measures, Sto
 }
 
 /// Accepts an image exactly if it fits the bay with these points, a table of kinds agrees with its
-/// code, and no instruction writes a read-only point, unless memory runs out. Otherwise refuses it
-/// with its first fault in the format's order: that it does not fit the bay, or else that there is
-/// no code, or else the first fault of the first place that has one. A refused image is returned
+/// code, and no instruction writes a read-only point, unless an allocation fails. Otherwise refuses
+/// it with its first fault in the format's order: that it does not fit the bay, or else that there
+/// is no code, or else the first fault of the first place that has one. A refused image is returned
 /// unchanged. Out of memory is possible only if the image fits the bay and has code. All memory is
-/// allocated before a place is checked: room for a frame for each octet of the code. The time is
-/// proportional to the length of the code.
+/// allocated before a place is checked: room for a frame for each octet of the code. The time of
+/// the pass is proportional to the length of the code.
 pub fn verify(alloc: Global, image: Image, points: &[Point]) -> Result<Verified, Refused>
     ensures same { IfOk result (λ v. v ≡ image) }
     ensures accepted { IfOk result (λ v. IsVerified points.now image) }

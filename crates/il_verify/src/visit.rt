@@ -1,5 +1,5 @@
-// One instruction at its place: what it does there, and what comes of it at the places to which it
-// leads.
+// One instruction at its place: its effect there, and what it brings to the places that it leads
+// to.
 ghost use Rattle.std.specs.Prelude.{◌≡◌, ◌<◌, ◌≤◌, ◌-◌, ◌^◌, ℕ, length, IfErr, IfOk, OnOk, option_map};
 ghost use Rattle.std.specs.Bool.{OnFalse, OnTrue};
 ghost use Rattle.il_image.specs.Tables.{IsPlace};
@@ -9,12 +9,12 @@ ghost use Rattle.il_verify.specs.Refusals.{JumpsTo};
 
 use crate::effect::transfer;
 use crate::fault::VerifyFault;
-use crate::frame::{Frame, fall, goes_on, jump};
+use crate::frame::{Frame, fall, falls_through, jump};
 use crate::plan::{Plan, is_place};
 use il_image::image::Image;
 use il_image::instr::Instr;
 
-// Whether an instruction jumps to a place, if it jumps.
+// Returns whether an instruction, if it is a jump, jumps to an instruction.
 fn jumps_right(code: &[u8], starts: &[bool], instr: Instr, next: usize) -> bool
     requires marks { MarksPlaces code.now starts.now }
     requires fits { next < 2 ^ 63 }
@@ -27,7 +27,7 @@ fn jumps_right(code: &[u8], starts: &[bool], instr: Instr, next: usize) -> bool
     }
 }
 
-// Whether an instruction leads to places alone.
+// Checks that an instruction leads only to instructions.
 fn check_targets(code: &[u8], starts: &[bool], instr: Instr, next: usize) -> Result<(), VerifyFault>
     requires marks { MarksPlaces code.now starts.now }
     requires fits { next < 2 ^ 63 }
@@ -37,14 +37,14 @@ fn check_targets(code: &[u8], starts: &[bool], instr: Instr, next: usize) -> Res
     if !jumps_right(code, starts, instr, next) {
         return Err(VerifyFault::BadTarget);
     }
-    if goes_on(instr) && next >= code.len() {
+    if falls_through(instr) && next >= code.len() {
         return Err(VerifyFault::NoHalt);
     }
     Ok(())
 }
 
-/// Applies the instruction at a place, and returns the frame of the next place if a path leads
-/// there.
+/// Applies the instruction at a place, and returns the frame of the next place, or `None` if no
+/// path leads there. Returns the first fault of the instruction, if it has one.
 pub(crate) fn visit(
     image: &Image,
     plan: &Plan,

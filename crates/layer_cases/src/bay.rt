@@ -1,5 +1,5 @@
-// What is read of a bay, line by line: its fields, the points of its program, and the rows of its
-// tree.
+// The bay that a file spells, line by line: its fields, the points of its program, and the rows of
+// its tree.
 use anyhow::Result;
 use bay_config::bay::Bay;
 use bay_config::read::read_bay;
@@ -36,7 +36,8 @@ fn put_rows(text: &mut String, bay: &Bay) -> Result<(), AllocError> {
     Ok(())
 }
 
-/// Returns the fields, points or rows of a bay file's bay, one per line, or why there is none.
+/// Returns the fields, the points or the rows of a bay file's bay, one per line, or the fault of
+/// the file.
 pub fn bay_text(alloc: Global, bay: &str, head: &str) -> Result<String> {
     let bay = match read_bay(alloc, bay) {
         Ok(bay) => bay,

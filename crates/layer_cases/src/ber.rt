@@ -1,4 +1,4 @@
-// Values of BER: what octets spell, and whether they are what is written of it.
+// Values of BER: what octets encode, and whether the writer encodes it with the same octets.
 ghost use Rattle.std.specs.Prelude.{◌<◌};
 
 use anyhow::Result;
@@ -8,7 +8,7 @@ use bay_ber::tlv::{Tlv, read_tlv};
 use bay_ber::writer::Writer;
 use std::alloc::{AllocError, Global};
 
-// Writes a value of a kind. Returns nothing for a content that is none of the kind.
+// Writes a value of a kind. Returns `None` if the content is none of this kind.
 fn written(alloc: Global, kind: &str, tlv: Tlv<'_>) -> Result<Option<Outgoing>, AllocError>
     requires { tlv.tag.number < 31 }
 {
@@ -28,9 +28,8 @@ fn written(alloc: Global, kind: &str, tlv: Tlv<'_>) -> Result<Option<Outgoing>, 
     Ok(writer.finish())
 }
 
-/// Returns what the value at the front of octets is: its tag, or the integer, the truth value or
-/// the bits that it spells; whether it is written so; and what follows it and its content in
-/// octets.
+/// Returns the first value of octets: its tag, or the integer, the truth value or the bits that it
+/// encodes; whether the writer encodes it so; and the octets after it, and those of its content.
 pub fn value(alloc: Global, kind: &str, octets: &[u8]) -> Result<String> {
     let tlv = match read_tlv(octets) {
         Ok(tlv) => tlv,

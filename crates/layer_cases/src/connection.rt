@@ -1,9 +1,9 @@
-// Octets of a connection and TSDUs of an association, and what they come to.
+// The results of the octets of a connection, and of the TSDUs of an association.
 ghost use Rattle.std.specs.Prelude.{◌≤◌, length, IfOk};
 
 use anyhow::{Result, bail};
 use bay_assoc::assoc::Assoc;
-use bay_assoc::hearing::Heard;
+use bay_assoc::receive::Heard;
 use bay_transport::fed::{Fed, Got};
 use bay_transport::transport::Transport;
 use cases::octets::octets_of;
@@ -14,8 +14,8 @@ fn put(alloc: Global, text: &mut String, word: &str, octets: &[u8]) -> Result<()
     write!(text, "{word}|{} ", hex::encode(alloc, octets)?)
 }
 
-// Feeds octets once and appends what they come to. Returns how many were taken, or none if the
-// connection is over.
+// Feeds octets once and appends the result. Returns how many were consumed, or 0 if the connection
+// has ended.
 fn feed(
     alloc: Global,
     transport: &mut Transport,
@@ -60,7 +60,7 @@ fn feed(
     Ok(0)
 }
 
-// Returns what octets in pieces of at most `size` come to, and one octet after them.
+// Returns the results of octets in pieces of at most `size`, and of one octet after them.
 fn stream_in(alloc: Global, number: u16, octets: &[u8], size: usize) -> Result<String, AllocError> {
     let mut transport = Transport::new(alloc, number);
     let mut text = String::new(alloc);
@@ -76,7 +76,8 @@ fn stream_in(alloc: Global, number: u16, octets: &[u8], size: usize) -> Result<S
     Ok(text)
 }
 
-/// Returns what the octets of a connection come to, which may not depend on how they are cut.
+/// Returns the results of the octets of a connection. Fails if they depend on how the octets are
+/// split into pieces.
 pub fn stream(alloc: Global, number: &str, octets: &[u8]) -> Result<String> {
     let number = number.parse::<u16>()?;
     let whole = stream_in(alloc, number, octets, 65_536)?;
@@ -89,7 +90,7 @@ pub fn stream(alloc: Global, number: &str, octets: &[u8]) -> Result<String> {
     Ok(whole)
 }
 
-/// Returns the frames of a TSDU behind a request.
+/// Returns the frames of a TSDU after a request.
 pub fn wrapped(alloc: Global, tsdu: &str, request: &[u8]) -> Result<String> {
     let tsdu = octets_of(alloc, tsdu)?;
     let mut transport = Transport::new(alloc, 1);
@@ -101,7 +102,7 @@ pub fn wrapped(alloc: Global, tsdu: &str, request: &[u8]) -> Result<String> {
     Ok(format!(in alloc; "|{}", hex::encode(alloc, frames.as_slice())?)?)
 }
 
-/// Returns what is heard of TSDUs in turn.
+/// Returns the results of TSDUs, one after the other.
 pub fn association(alloc: Global, tsdus: &str) -> Result<String> {
     let mut assoc = Assoc::new(alloc);
     let mut text = String::new(alloc);

@@ -1,13 +1,13 @@
 // A bay's controls, call by call.
 //
-// `MS A K select`, `MS A K select-with ASK`, `MS A K operate VIEW ASK` and `MS A K cancel` are
-// answered by `ok` or the cause; `MS advance` by the place of the switch whose execution ran out;
-// `contact K POSITION` by whether it ends the execution; `close A`, which ends the association's
-// selection, by `ok`; `selected` by the place of the selected switch.
+// `MS A K select`, `MS A K select-with ASK`, `MS A K operate VIEW ASK` and `MS A K cancel` have the
+// answer `ok` or the cause; `MS advance` the index of the switch whose execution expired; `contact
+// K POSITION` whether it ends the execution; `close A`, which ends the association's selection,
+// `ok`; `selected` the index of the selected switch.
 //
-// An ASK is `POSITION CATEGORY IDENTITY` with `on` or `off` and the identity's octets, and `test`
-// behind them for a test. A VIEW is the position, `fresh` or `stale` (`lost-fresh` or `lost-stale`
-// where the process is lost), and EnaOpn and EnaCls, as `01`.
+// An ASK is `POSITION CATEGORY IDENTITY` with `on` or `off` and the octets of the identity,
+// followed by `test` for a test. A VIEW is the position, `fresh` or `stale` (`lost-fresh` or
+// `lost-stale` if the process is lost), and EnaOpn and EnaCls, as `01`.
 use crate::tree::position_of;
 use anyhow::{Result, bail};
 use bay_config::read::read_bay;
@@ -15,12 +15,12 @@ use bay_control::control::ControlTable;
 use bay_control::controls::Controls;
 use bay_control::request::{Ask, Identity, Originator, View};
 use bay_nodes::switch::Operation;
+use cases::case_report::check_text;
 use cases::octets::octets_of;
-use cases::told::check_text;
 use cases::words::words_of;
 use std::alloc::Global;
 
-// Reads what is asked for. Of an identity at most 64 octets count.
+// Reads the parameters of a request. Only the first 64 octets of an identity are used.
 fn ask_of(alloc: Global, words: &[&str]) -> Result<Ask> {
     let [position, category, identity, test @ ..] = words else {
         bail!("nothing is asked for");
@@ -40,7 +40,7 @@ fn ask_of(alloc: Global, words: &[&str]) -> Result<Ask> {
     })
 }
 
-// Reads what is seen of a switch.
+// Reads the view of a switch.
 fn view_of(position: &str, age: &str, released: &str) -> View {
     View {
         pos: position_of(position),
@@ -69,15 +69,14 @@ impl ControlSession {
         })
     }
 
-    /// Takes a line that asks for nothing: `start` begins again, with nothing selected and no
-    /// execution.
+    /// Reads a line that is no case: `start` begins again, with nothing selected and no execution.
     pub fn take(&mut self, line: &str) -> Result<()> {
         check_text(line, "start")?;
         self.controls = Controls::new();
         Ok(())
     }
 
-    // Answers a request of an association for a switch.
+    // Returns the answer to a request of an association for a switch.
     fn request(
         &mut self,
         now: u64,
@@ -106,7 +105,7 @@ impl ControlSession {
         }?)
     }
 
-    /// Answers a line.
+    /// Returns the answer to a line.
     pub fn answer(&mut self, line: &str) -> Result<String> {
         let (alloc, words) = (self.alloc, words_of(self.alloc, line)?);
         Ok(match words.as_slice() {

@@ -1,41 +1,43 @@
-// Runs the cases of the layers below the device that come on standard input, and prints each that
-// comes out otherwise than it says, and how many do.
+// Runs the cases of the layers below the device on standard input, and prints each with another
+// result than it requires, and the number of these.
 //
 // The cases are sections, each with a head `== NAME`. Most lines are cases, `ASKED -> ANSWER`;
-// others are a part of the next ones, or a note behind `#`. Octets are in hexadecimal digits, `-`
-// for none; in what is asked, and behind the last `|` of an answer, `07*9` is nine times 07, and
-// `+` joins. A fault is its number and its message, and a value is printed by Rust's `{:?}`.
+// others are a part of the next cases, or a note after `#`. Octets are in hexadecimal digits, `-`
+// for none; before ` -> `, and after the last `|` of an answer, `07*9` is nine times 07, and `+`
+// joins. A fault is its number and its message, and a value is printed by `{:?}` of Rust.
 //
-// - `ber`: `front OCTETS` is the value at the front: its tag, whether it is written so, what is
-//   behind it, and its content. With `int`, `bool` and `bits` it is what the content spells in
+// - `ber`: `front OCTETS` is the first value of octets: its tag, whether the writer encodes it so,
+//   the octets after it, and its content. `int`, `bool` and `bits` have what the content encodes in
 //   place of the tag.
-// - `transport`: `stream OCTETS ASSOCIATION` is what the octets of a connection come to, in pieces
-//   of 1, 3, 100 and 65,536 octets, and one octet after them; `wrap OCTETS TSDU` is a TSDU in
-//   frames behind a request.
-// - `association`: `tsdus OCTETS ..` is what is heard of TSDUs in turn.
-// - `requests`: `request OCTETS` is what is asked, behind its invoke id. `operate OCTETS` and
-//   `cancel OCTETS` are what the first value of a write asks of a control.
-// - `tree`: `row NAME KIND VALUE` is a row, and `bay` are those of the bay; `tree` is whether they
-//   are a tree, which the next lines are about. `value NAME` and `type NAME` are a row's data and
-//   type, as trees and as they are written; `names COUNT NAME` is how many names stand in a page
-//   behind a name, or in the first without one, the first of them, the last, and whether there are
-//   more; `page ID SIZE NAME` is the same page for PDUs of a size, as it is written, with the name
-//   in octets.
-// - `texts`: `text`, `body`, `local` and `external` are a refusal's number and line, or `0 0` where
-//   the text is read: a whole text, the lines of a body, a declaration of either kind. `reads` is
-//   the declarations and the first instruction of a body, or the message of its refusal.
-// - `programs`: `= TEXT` is what the next ones declare; `check LINES` is the number, the line and
-//   the message of the fault that the checks find, or `0 0`; line 1 is PROGRAM's, and the
-//   declarations begin at line 2. `octets LINES` is a program's image in words and in octets, as
-//   `decoded OCTETS` is an image's. `report LINES` and `image OCTETS` are a program's and an
-//   image's instructions, depth and budget, or the number, the place and the message of its fault;
-//   it is scanned from then on. `scan MS INPUTS` are the steps and the outputs of a scan, with
-//   commas between the numbers of the inputs. `changed OCTETS` counts what an image is with each
-//   octet changed to each other value: an image, or refused with 80, 81, 82 or 83.
-// - `controls`: what a bay's controls are asked (`controls` says how), which `start` makes anew.
+// - `transport`: `stream OCTETS ASSOCIATION` is the results of the octets of a connection, in
+//   pieces of 1, 3, 100 and 65,536 octets, and of one octet after them; `wrap OCTETS TSDU` is a
+//   TSDU in frames after a request.
+// - `association`: `tsdus OCTETS ..` is the results of TSDUs, one after the other.
+// - `requests`: `request OCTETS` is the request, after its invoke id. `operate OCTETS` and `cancel
+//   OCTETS` are the first value of a write, as an operate or a cancel of a control.
+// - `tree`: `row NAME KIND VALUE` is a row, and `bay` denotes those of the bay; `tree` is whether
+//   they form a tree, which the next lines use. `value NAME` and `type NAME` are a row's data and
+//   type, as trees and in octets; `names COUNT NAME` is the number of names in the page after a
+//   name, or in the first page without a name, the first of them, the last, and whether there are
+//   more; `page ID SIZE NAME` is the same page for PDUs of a size, in octets, with the name in
+//   octets.
+// - `texts`: `text`, `body`, `local` and `external` are the number and the line of a refusal, or `0
+//   0` if the text is valid: a whole text, the lines of a body, a declaration of either kind.
+//   `reads` is the declarations and the first instruction of a body, or the message of its refusal.
+// - `programs`: `= TEXT` is the declarations of the next programs; `check LINES` is the number, the
+//   line and the message of the fault that the checks find, or `0 0`; line 1 is that of PROGRAM,
+//   and the declarations begin at line 2. `octets LINES` is the image of a program as text and in
+//   octets, `decoded OCTETS` that of an image. `report LINES` and `image OCTETS` are the
+//   instructions, the depth and the budget of a program and of an image, or the number, the place
+//   and the message of its fault; the next scans run it. `scan MS INPUTS` is the steps and the
+//   outputs of a scan, with commas between the numbers of the inputs. `changed OCTETS` counts the
+//   results for an image with each octet changed to each other value: an image, or refused with 80,
+//   81, 82 or 83.
+// - `controls`: calls of a bay's controls (the file `controls` has their forms), which `start`
+//   creates again.
 //
 // `bay` is a bay file, whose points the next programs name. In `fields`, `points` and `rows` the
-// body is what is read of it.
+// body is what this file spells.
 #![tactic(auto)]
 
 mod bay;
@@ -49,9 +51,9 @@ mod tree;
 
 use anyhow::{Context, Result, bail};
 use bay::bay_text;
+use cases::case_report::{CaseReport, check_lines, check_text};
 use cases::octets::octets_of;
 use cases::sections::{BETWEEN, head_and_body, sections_of};
-use cases::told::{Told, check_lines, check_text};
 use cases::words::{first_word, is_case};
 use controls::ControlSession;
 use programs::Programs;
@@ -59,7 +61,7 @@ use std::alloc::Global;
 use std::io::Read;
 use tree::Rows;
 
-// What answers the lines of a section.
+// The state of a section, which answers its lines.
 #[derive(Drop)]
 enum Section<'a> {
     Programs(Programs<'a>),
@@ -69,7 +71,7 @@ enum Section<'a> {
     Lines,
 }
 
-// Answers a line that does not depend on those before it.
+// Returns the answer to a line that does not depend on those before it.
 fn answer(alloc: Global, kind: &str, words: &str) -> Result<String> {
     match kind {
         "tsdus" => return connection::association(alloc, words),
@@ -89,7 +91,7 @@ fn answer(alloc: Global, kind: &str, words: &str) -> Result<String> {
     }
 }
 
-// Fails unless what is found is the wanted text, in which octets behind a last `|` may be repeated.
+// Fails unless the result is the expected text, in which octets after a last `|` may be repeated.
 fn check_found(alloc: Global, found: &str, wanted: &str) -> Result<()> {
     match wanted.rsplit_once("|") {
         Some((front, octets)) if octets.contains("*") => {
@@ -101,7 +103,7 @@ fn check_found(alloc: Global, found: &str, wanted: &str) -> Result<()> {
 }
 
 impl<'a> Section<'a> {
-    // Creates what answers the lines of a section with this head.
+    // Creates the state of a section with this head.
     fn new(alloc: Global, head: &str, bay: &str) -> Result<Section<'a>> {
         Ok(match head {
             "programs" => Section::Programs(Programs::new(alloc, bay)?),
@@ -111,7 +113,7 @@ impl<'a> Section<'a> {
         })
     }
 
-    // Runs a case, or takes a part of one.
+    // Runs a case, or reads a line that is a part of the next ones.
     fn check(&mut self, alloc: Global, bay: &str, line: &'a str) -> Result<()> {
         let Some((asked, wanted)) = line.split_once(" -> ") else {
             return match self {
@@ -133,7 +135,13 @@ impl<'a> Section<'a> {
 }
 
 // Runs the cases of a section, with the last bay file.
-fn tell_section(alloc: Global, told: &mut Told, bay: &str, head: &str, body: &str) -> Result<()> {
+fn tell_section(
+    alloc: Global,
+    told: &mut CaseReport,
+    bay: &str,
+    head: &str,
+    body: &str,
+) -> Result<()> {
     if let "fields" | "points" | "rows" = head {
         let found = bay_text(alloc, bay, head)?;
         return told.tell(head, check_lines(found.as_str(), body));
@@ -153,10 +161,10 @@ struct Before<'a> {
     bay: &'a str,
 }
 
-// Runs the cases of all sections, and returns what is reported of them.
+// Runs the cases of all sections, and returns the report on them.
 fn run(alloc: Global, text: &str) -> Result<String> {
     let mut before = Before { bay: "" };
-    let mut told = Told::new(alloc);
+    let mut told = CaseReport::new(alloc);
     for section in sections_of(text)?.split(BETWEEN) {
         let (head, body) = head_and_body(section);
         match head {

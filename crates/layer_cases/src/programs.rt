@@ -52,7 +52,7 @@ fn image_text(alloc: Global, image: &Image) -> Result<String, AllocError> {
     Ok(text)
 }
 
-// Returns the image of octets, or the number of their fault.
+// Returns the image that octets encode, or the number and the message of their fault.
 fn decoded(alloc: Global, octets: &[u8]) -> Result<String> {
     Ok(match decode(alloc, octets) {
         Ok(image) => image_text(alloc, &image),
@@ -60,7 +60,7 @@ fn decoded(alloc: Global, octets: &[u8]) -> Result<String> {
     }?)
 }
 
-// Counts what octets are with the one at an index changed to each other value: an image, or
+// Counts the results for octets with the one at an index changed to each other value: an image, or
 // refused with 80, 81, 82 or 83.
 fn count_at(alloc: Global, octets: &mut [u8], at: usize, counts: &mut [u32; 5])
     requires { at < length octets.old }
@@ -88,7 +88,7 @@ fn changed(alloc: Global, octets: &mut [u8]) -> Result<String, AllocError> {
     format!(in alloc; "{counts:?}")
 }
 
-// Returns the values of the read-only points from their numbers, with commas between them.
+// Returns the values of the read-only points that these numbers denote, with commas between them.
 fn inputs_of(alloc: Global, points: &[ImagePoint], numbers: &str) -> Result<Vec<Value>> {
     let mut inputs = Vec::new(alloc);
     let mut words = numbers.split(",");
@@ -101,7 +101,7 @@ fn inputs_of(alloc: Global, points: &[ImagePoint], numbers: &str) -> Result<Vec<
     Ok(inputs)
 }
 
-/// What the next programs declare, and the machine that is scanned.
+/// The declarations of the next programs, and the machine that runs the scans.
 #[derive(Drop)]
 pub struct Programs<'a> {
     alloc: Global,
@@ -111,7 +111,7 @@ pub struct Programs<'a> {
 }
 
 impl<'a> Programs<'a> {
-    /// Creates them for the points of a bay.
+    /// Creates the state for the points of a bay, with no declarations and no machine.
     pub fn new(alloc: Global, bay: &str) -> Result<Programs<'a>> {
         Ok(Programs {
             alloc,
@@ -121,14 +121,14 @@ impl<'a> Programs<'a> {
         })
     }
 
-    /// Takes a line that asks for nothing: what the next programs declare.
+    /// Reads a line that is no case: the declarations of the next programs.
     pub fn take(&mut self, line: &'a str) -> Result<()> {
         self.declared = line.strip_prefix("= ").context("no answer")?;
         Ok(())
     }
 
-    // Returns the report of an image, whose machine is scanned from then on, or the number of its
-    // fault and the place.
+    // Returns the report of an image, whose machine runs the next scans, or the number, the place
+    // and the message of its fault.
     fn verdict(&mut self, image: Image) -> Result<String, AllocError> {
         match verify(self.alloc, image, self.points.as_slice()) {
             Ok(verified) => {
@@ -144,8 +144,8 @@ impl<'a> Programs<'a> {
         }
     }
 
-    // Returns what becomes of a program: the number and the line of the fault that the checks find,
-    // or `0 0`; the octets of its image; or the image's report.
+    // Returns the result of a program: the number, the line and the message of the fault that the
+    // checks find, or `0 0`; the octets of its image; or the report of the image.
     fn program(&mut self, kind: &str, lines: &str) -> Result<String> {
         let (alloc, declared) = (self.alloc, self.declared);
         let spelled = format!(in alloc; "PROGRAM P\\n{declared}\\n{lines}\\nEND_PROGRAM\\n")?;
@@ -181,7 +181,7 @@ impl<'a> Programs<'a> {
         Ok(format!(in self.alloc; "{} {:?}", scan.steps, scan.outputs)?)
     }
 
-    /// Answers a line.
+    /// Returns the answer to a line.
     pub fn answer(&mut self, kind: &str, words: &str) -> Result<String> {
         let (alloc, (first, rest)) = (self.alloc, first_word(words));
         match kind {

@@ -1,10 +1,10 @@
-// Octets, and what they ask.
+// The requests that octets encode.
 use anyhow::Result;
 use bay_mms::control::{cancel_of, operate_of};
 use bay_mms::request::{Call, Request, read_request};
 use std::alloc::{AllocError, Global};
 
-// Returns what is asked for under an invoke id.
+// Returns the text of a request with its invoke id.
 fn call_text(alloc: Global, id: u32, call: &Call<'_>) -> Result<String, AllocError> {
     match call {
         Call::Identify => format!(in alloc; "{id} identify"),
@@ -19,7 +19,7 @@ fn call_text(alloc: Global, id: u32, call: &Call<'_>) -> Result<String, AllocErr
     }
 }
 
-// Returns what the first value of a write asks of a control, as an operate or as a cancel.
+// Returns the first value of a write, read as an operate or as a cancel of a control.
 fn control_text(alloc: Global, kind: &str, call: &Call<'_>) -> Result<String, AllocError> {
     let Call::Write { values, .. } = call else {
         return format!(in alloc; "no write");
@@ -36,7 +36,7 @@ fn control_text(alloc: Global, kind: &str, call: &Call<'_>) -> Result<String, Al
     format!(in alloc; "{} {error}", error.code())
 }
 
-/// Returns what octets ask: the request, or the operate or the cancel that is written.
+/// Returns the request that octets encode, or the operate or the cancel that it writes.
 pub fn request(alloc: Global, kind: &str, octets: &[u8]) -> Result<String> {
     Ok(match read_request(alloc, octets) {
         Ok(Request::Initiate(proposal)) => format!(in alloc; "{proposal:?}"),

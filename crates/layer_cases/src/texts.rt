@@ -1,5 +1,5 @@
-// Texts and what is read of them. In a case `\n` and ` / ` end a line, `\r` and `\t` stand for the
-// characters, and between two `\n` `N * LINE` is a line N times.
+// Texts, and the programs that they spell. In a case `\n` and ` / ` end a line, `\r` and `\t`
+// denote the characters, and between two `\n` `N * LINE` is a line N times.
 use anyhow::Result;
 use il_text::program::{Item, Program};
 use il_text::read::read_program;
@@ -20,7 +20,7 @@ pub fn text_of(alloc: Global, spelled: &str) -> Result<String> {
     Ok(returns.replace(alloc, "\\t", "\t")?)
 }
 
-// Returns what precedes and follows the text of a case: nothing if it is a whole text; a program,
+// Returns the text before and after the text of a case: nothing if it is a whole text; a program,
 // whose body begins on the second line; or a block of declarations, which begin on the third.
 fn around(kind: &str) -> (&str, &str) {
     match kind {
@@ -43,8 +43,8 @@ fn program_text(alloc: Global, program: &Program<'_>) -> Result<String, AllocErr
     Ok(text)
 }
 
-/// Returns the number and the line of a text's refusal, or `0 0` if it is read. With `reads` it is
-/// what is read, or the refusal in words.
+/// Returns the number and the line of the refusal of a text, or `0 0` if the text is valid. For
+/// `reads`, returns the program, or the message of the refusal.
 pub fn reading(alloc: Global, kind: &str, spelled: &str) -> Result<String> {
     let (before, after) = around(kind);
     let spelled = format!(in alloc; "{before}{spelled}{after}")?;

@@ -4,24 +4,24 @@ use bay_base::listing::Listing;
 use bay_base::text::Text;
 use bay_ber::writer::Writer;
 use bay_config::read::read_bay;
+use bay_mms::client_view::ClientView;
 use bay_mms::data::{data_of, type_spec_of};
 use bay_mms::names::NameTexts;
 use bay_mms::page::write_page;
-use bay_mms::seen::Seen;
 use bay_mms::value::{write_type, write_value};
 use bay_tree::leaf::{Dbpos, Leaf, Quality};
 use bay_tree::row::Row;
 use bay_tree::search::is_tree;
 use bay_tree::tree::Tree;
+use cases::case_report::check_text;
 use cases::octets::octets_of;
-use cases::told::check_text;
 use cases::words::{first_word, words_of};
 use std::alloc::Global;
 
 // The maximum number of octets of data and of types.
 const SIZE: u32 = 100_000;
 
-/// Returns a position by its name. A name that is no other's is the bad one's.
+/// Returns the position with this name; `Bad` for any name but those of the others.
 pub fn position_of(word: &str) -> Dbpos {
     match word {
         "intermediate" => Dbpos::Intermediate,
@@ -31,7 +31,7 @@ pub fn position_of(word: &str) -> Dbpos {
     }
 }
 
-// Returns a leaf by its kind and its value. A row of another kind is a structure.
+// Returns the leaf of this kind and value, or `None` for any other kind: such a row is a structure.
 fn leaf_of(alloc: Global, kind: &str, value: &str) -> Result<Option<Leaf>> {
     Ok(Some(match kind {
         "truth" => Leaf::Truth(value == "true"),
@@ -55,7 +55,7 @@ fn row_text(alloc: Global, tree: &Tree, kind: &str, name: &str) -> Result<String
     let handle = tree.find(name)?;
     let mut writer = Writer::new(alloc, SIZE)?;
     let text = if kind == "value" {
-        write_value(&mut writer, &Seen::new(tree, None), handle);
+        write_value(&mut writer, &ClientView::new(tree, None), handle);
         format!(in alloc; "{:?}", data_of(alloc, tree, handle)?)?
     } else {
         write_type(&mut writer, tree, handle);
@@ -65,8 +65,8 @@ fn row_text(alloc: Global, tree: &Tree, kind: &str, name: &str) -> Result<String
     Ok(format!(in alloc; "{text} |{}", hex::encode(alloc, octets.as_slice())?)?)
 }
 
-// Returns how many names follow a name, or are the first, at most `count`; the first and the last
-// of them; and whether there are more.
+// Returns the number of names after a name, or of the first names, at most `count`; the first and
+// the last of them; and whether there are more.
 fn names_text(alloc: Global, tree: &Tree, count: usize, after: Option<&str>) -> Result<String> {
     let page = tree.names_after(alloc, after, count)?;
     let (first, last) = match page.names.as_slice() {
@@ -109,7 +109,7 @@ pub struct Rows {
 }
 
 impl Rows {
-    /// Creates no rows.
+    /// Creates the state with no rows and no tree.
     pub fn new(alloc: Global) -> Rows {
         Rows {
             alloc,
@@ -118,8 +118,8 @@ impl Rows {
         }
     }
 
-    /// Takes a line that asks for nothing: the rows of the bay, or a row, with its name, its kind
-    /// and its value.
+    /// Reads a line that is no case: the rows of the bay, or a row, with its name, its kind and its
+    /// value.
     pub fn take(&mut self, bay: &str, line: &str) -> Result<()> {
         let Some(row) = line.strip_prefix("row ") else {
             check_text(line, "bay")?;
@@ -133,7 +133,7 @@ impl Rows {
         Ok(self.rows.push(Row { name, leaf })?)
     }
 
-    // Returns whether the rows are a tree, which the next lines are about if so.
+    // Returns whether the rows form a tree; if so, the next lines use it.
     fn build(&mut self) -> Result<String> {
         let rows = std::mem::replace(&mut self.rows, Vec::new(self.alloc));
         let is = is_tree(self.alloc, rows.as_slice())?;
@@ -143,7 +143,7 @@ impl Rows {
         Ok(format!(in self.alloc; "{is}")?)
     }
 
-    /// Answers a line.
+    /// Returns the answer to a line.
     pub fn answer(&mut self, kind: &str, words: &str) -> Result<String> {
         let alloc = self.alloc;
         if kind == "tree" {

@@ -41,8 +41,7 @@ END_VAR
     OR( TA1_OPEN
         ANDN TA1_CLOSED
     )
-    OR( in_service
-        AND QB7_CLOSED
+    OR( QB7_CLOSED
         AND transfer
     )
     ST QA1_ENA_OPN

@@ -1,5 +1,5 @@
 use Rattle.std.proofs.Common.{◌≡◌, drop}
-use Rattle.bay_ber.specs.Sheets.{sheet_with}
+use Rattle.bay_ber.specs.EncoderBuffers.{sheet_with}
 use Rattle.bay_assoc.specs.Texts.{results_text}
 use Rattle.bay_assoc.proofs.text.put_each.Given as goal
 

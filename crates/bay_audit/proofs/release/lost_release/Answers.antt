@@ -9,7 +9,8 @@ returns-in-Obeyed c =
     c.args.program.now
     c.args.switch c.args.operation c.args.bay.now c.in_ok-demand.demand c.in_ok-case.case
     c.in_ok-decision.decision c.in_ok-demand.ensures
-    (c.in_ok-case.ensures ∙ ap₂ lost_case (ap length c.as_slice.ensures) (ap length c.as_slice-2.ensures))
+    (c.in_ok-case.ensures ∙ ap₂ lost_case (ap length c.as_slice.ensures)
+    (ap length c.as_slice-2.ensures))
     c.in_ok-decision.ensures c.in-Obeyed.is
 
 pub returns-in-Missed : goal.returns-in-Missed
@@ -18,5 +19,6 @@ returns-in-Missed c =
     c.args.program.now
     c.args.switch c.args.operation c.args.bay.now c.in_ok-demand.demand c.in_ok-case.case
     c.in_ok-decision.decision c.in_ok-demand.ensures
-    (c.in_ok-case.ensures ∙ ap₂ lost_case (ap length c.as_slice.ensures) (ap length c.as_slice-2.ensures))
+    (c.in_ok-case.ensures ∙ ap₂ lost_case (ap length c.as_slice.ensures)
+    (ap length c.as_slice-2.ensures))
     c.in_ok-decision.ensures c.in-Missed.is

@@ -2,11 +2,11 @@ use Rattle.std.proofs.Common.{◌≡◌, ◌+◌, ◌++◌, ◌∷◌, [], List,
 use Rattle.std.specs.List.{All}
 use Rattle.std.proofs.lemmas.List.{append-nil}
 use Rattle.std.proofs.lemmas.List.Elements.{All-nil}
-use Rattle.bay_rules.specs.Process.{Process}
+use Rattle.bay_audit_rules.specs.Process.{Process}
 use Rattle.bay_audit.specs.declared.demand.Demand.{Demand}
 use Rattle.bay_audit.specs.Process.{IsProcess}
-use Rattle.bay_audit.specs.Rules.{AreTold, HasProcess, IsVerdict, case_count, told_count}
-use Rattle.bay_audit.specs.declared.answer.ToldCase.{ToldCase}
+use Rattle.bay_audit.specs.Rules.{AreReported, HasProcess, IsVerdict, case_count, told_count}
+use Rattle.bay_audit.specs.declared.answer.ReportedCase.{ReportedCase}
 use Rattle.bay_audit.specs.declared.case.TestAnswer.{TestAnswer}
 use Rattle.bay_audit.proofs.ReleaseLemmas.{one-split, one-told, told-full, told-more, verdict-told}
 use Rattle.bay_audit.proofs.SearchLemmas.{first-full, full-last, full-more}
@@ -18,11 +18,11 @@ loop-init c =
     let g = c.args.program.now in
     let none = sym c.new-cases.ensures.items in
     record {
-      told = subst (AreTold g c.args.switch c.args.operation) none tt;
-      full = subst (All (λ (d : ToldCase). HasProcess d.case)) none
-          (All-nil (λ (d : ToldCase). HasProcess d.case));
+      told = subst (AreReported g c.args.switch c.args.operation) none tt;
+      full = subst (All (λ (d : ReportedCase). HasProcess d.case)) none
+          (All-nil (λ (d : ReportedCase). HasProcess d.case));
       left = subst (All HasProcess) (sym c.in_ok-left.ensures) first-full;
-      one = λ p is. subst (λ (ds : List ToldCase). told_count ds p
+      one = λ p is. subst (λ (ds : List ReportedCase). told_count ds p
           + case_count c.in_ok-left.left.items p ≡ 1) none
           (let e = ap (λ (cs : List (List TestAnswer)). case_count cs p) c.in_ok-left.ensures in
           omega (arith, e));
@@ -36,7 +36,8 @@ loop-preserved c =
     let case = c.in-Some.case in
     let before : (p : Process) → IsProcess p → told_count c.loop.cases.items p
     + case_count (c.pop.new.self.items ++ case ∷ []) p ≡ 1 =
-    λ p is. subst (λ (cs : List (List TestAnswer)). told_count c.loop.cases.items p + case_count cs p ≡ 1)
+    λ p is. subst (λ (cs : List (List TestAnswer)). told_count c.loop.cases.items p
+    + case_count cs p ≡ 1)
     c.in-Some.ensures.items (c.loop.invariant.one p is) in
     let full = full-last c.pop.new.self.items case
     (subst (All HasProcess) c.in-Some.ensures.items c.loop.invariant.left) in
@@ -44,18 +45,18 @@ loop-preserved c =
       | in-Ok+in_ok-push-in-Ok w ↦
           let cases = ap (λ v. v.items) w.cases-is ∙ w.in_ok-push-in-Ok.ensures.items in
           record {
-            told = subst (AreTold g k operation) (sym cases)
+            told = subst (AreReported g k operation) (sym cases)
                 (told-more g k operation c.loop.cases.items
                 (record { case = case; told = w.in-Ok.told })
                 c.loop.invariant.told
                 (verdict-told g k operation case c.in_ok-verdict.field-0 w.in-Ok.told
                 (subst (λ (d : Demand). IsVerdict g d case c.in_ok-verdict.field-0)
                 c.in_ok-demand.ensures c.in_ok-verdict.ensures) w.in-Ok.ensures));
-            full = subst (All (λ (d : ToldCase). HasProcess d.case)) (sym cases)
+            full = subst (All (λ (d : ReportedCase). HasProcess d.case)) (sym cases)
                 (told-full c.loop.cases.items (record { case = case; told = w.in-Ok.told })
                 c.loop.invariant.full full.1);
             left = subst (All HasProcess) (sym (ap (λ v. v.items) w.left-is)) full.0;
-            one = λ p is. subst (λ (ds : List ToldCase). told_count ds p
+            one = λ p is. subst (λ (ds : List ReportedCase). told_count ds p
                 + case_count c.match-told_by.left.items p ≡ 1) (sym cases)
                 (subst (λ (cs : List (List TestAnswer)).
                 told_count (c.loop.cases.items ++ record { case = case; told = w.in-Ok.told } ∷ [])
@@ -67,13 +68,13 @@ loop-preserved c =
       | in-Err+in_ok-split-in-Err w ↦
           let cases = ap (λ v. v.items) w.cases-is in
           record {
-            told = subst (AreTold g k operation) (sym cases) c.loop.invariant.told;
-            full = subst (All (λ (d : ToldCase). HasProcess d.case)) (sym cases)
+            told = subst (AreReported g k operation) (sym cases) c.loop.invariant.told;
+            full = subst (All (λ (d : ReportedCase). HasProcess d.case)) (sym cases)
                 c.loop.invariant.full;
             left = subst (All HasProcess)
                 (sym (ap (λ v. v.items) w.left-is ∙ w.in_ok-split-in-Err.ensures))
                 (full-more c.pop.new.self.items case w.in-Err.test full.0);
-            one = λ p is. subst (λ (ds : List ToldCase). told_count ds p
+            one = λ p is. subst (λ (ds : List ReportedCase). told_count ds p
                 + case_count c.match-told_by.left.items p ≡ 1) (sym cases)
                 (subst (λ (cs : List (List TestAnswer)). told_count c.loop.cases.items p
                 + case_count cs p ≡ 1)

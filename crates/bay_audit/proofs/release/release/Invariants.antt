@@ -1,13 +1,13 @@
 use Rattle.std.proofs.Common.{◌≡◌, ◌+◌}
 use Rattle.std.specs.List.{All}
-use Rattle.bay_rules.specs.Process.{Process}
+use Rattle.bay_audit_rules.specs.Process.{Process}
 use Rattle.bay_audit.specs.Process.{IsProcess}
-use Rattle.bay_audit.specs.Rules.{AreTold, HasProcess, case_count, told_count}
+use Rattle.bay_audit.specs.Rules.{AreReported, HasProcess, case_count, told_count}
 use Rattle.bay_audit.proofs.release.release.Given as goal
 
 abbrev pub invariant-loop : goal.invariant-loop
 invariant-loop l = record {
-  told : AreTold l.program l.switch l.operation
+  told : AreReported l.program l.switch l.operation
       l.cases.items;
   full : All (λ c. HasProcess c.case) l.cases.items;
   left : All HasProcess l.left.items;

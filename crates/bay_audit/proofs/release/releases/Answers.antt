@@ -16,7 +16,8 @@ loop-switch-preserved c =
     record {
       right = subst (AreReleases c.args.bay.now g) (sym items)
           (releases-more c.args.bay.now g (before ++ a ∷ []) b
-          (releases-more c.args.bay.now g before a c.loop-switch.invariant.right c.in_ok-release.ensures.right)
+          (releases-more c.args.bay.now g before a c.loop-switch.invariant.right
+          c.in_ok-release.ensures.right)
           c.in_ok-release-2.ensures.right);
       all = ap (map way_of) items
           ∙ ways-more before a b c.loop-switch.switch c.loop-switch.invariant.all

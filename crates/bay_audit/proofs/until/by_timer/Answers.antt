@@ -6,9 +6,10 @@ use Rattle.bay_audit.proofs.until.by_timer.Goals as goal
 pub returns : goal.returns
 returns c given =
     let g = c.args.program.now in (
-      subst (IsMet g) c.in_ok-demand.ensures (c.in_ok-late.ensures (ap is_some c.in-Some.is)),
+      subst (IsMet g) c.in_ok-demand.ensures
+          (c.in_ok-late_demand.ensures (ap is_some c.in-Some.is)),
       subst (IsMet g)
           (c.in_ok-demand-2.ensures
           ∙ ap (λ condition. idle condition c.args.timer) c.as_slice.ensures)
-          (c.in_ok-idle.ensures (ap is_some c.in-Some-2.is)),
+          (c.in_ok-idle_demand.ensures (ap is_some c.in-Some-2.is)),
     )

@@ -17,7 +17,7 @@ returns c =
     (subst
     (λ (given : List Range). Foresees g c.as_slice.result.now given forecast.limits.items
     forecast.ranges.items)
-    (c.as_slice-2.ensures.value ∙ c.in_ok-given.ensures
+    (c.as_slice-2.ensures.value ∙ c.in_ok-input_ranges.ensures
     ∙ ap (map (range_of c.args.case.now)) c.reads.ensures)
     c.in_ok-forecast.ensures.foretells))
     c.args.asked c.in_ok-range.range c.requires c.in_ok-range.ensures c.decide.result

@@ -6,12 +6,12 @@ use Rattle.bay_process.proofs.NodeLemmas.{has-switches, have-meters, have-select
 use Rattle.bay_process.specs.Controls.{HaveSelected}
 use Rattle.bay_process.specs.Layout.{Layout, layout_of, meters_of, switches_of}
 use Rattle.bay_process.specs.declared.switch.BoundSwitch.{BoundSwitch}
-use Rattle.bay_services.specs.Bay.{rows_shown}
-use Rattle.bay_services.specs.Bay as services
-use Rattle.bay_services.specs.Places.{ArePlaced}
-use Rattle.bay_services.specs.Released.{AreTimed}
+use Rattle.bay_mms_services.specs.Bay.{rows_with_selection}
+use Rattle.bay_mms_services.specs.Bay as services
+use Rattle.bay_mms_services.specs.Places.{ArePlaced}
+use Rattle.bay_mms_services.specs.Released.{AreTimed}
 use Rattle.bay_tree.specs.declared.row.Row.{Row}
-use Rattle.bay_services.proofs.ShownLemmas.{shows-first}
+use Rattle.bay_mms_services.proofs.ShownLemmas.{shows-first}
 use Rattle.bay_device.proofs.LoadLemmas.{bound-to}
 use Rattle.bay_device.proofs.ScanLemmas.{interlocked}
 use Rattle.bay_device.proofs.load.bound_bay.Goals as goal
@@ -28,8 +28,8 @@ bound_rows-requires-clause-meters_there c =
     (have-meters c.args.bay.value c.in_ok-nodes.nodes.meters.items c.requires.sound
     (rw c.deref.ensures at c.in_ok-nodes.ensures.meters_named))
 
-pub shown_rows-requires : goal.shown_rows-requires
-shown_rows-requires c =
+pub control_rows_of_tree-requires : goal.control_rows_of_tree-requires
+control_rows_of_tree-requires c =
     let bay : Bay = c.args.bay.value in
     let did = c.in_ok-bound.ensures in
     let nodes = c.in_ok-nodes.nodes.switches.items in
@@ -111,9 +111,11 @@ returns c =
     c.args.writes.now _ c.in_ok-bound.bound.switches.items named sized taken did.of_switches in
     let count : c.len.result ≡ length bay.switches =
     omega (arith, c.len.ensures, c.in_ok-bound.bound.switches.ok, f.sized) in
-    let shows : c.shown_rows.new.tree ≡ rows_shown None (length bay.switches) bay.rows =
-    c.in_ok-control_rows.ensures.rows ∙ ap (λ n. rows_shown None n c.in_ok-bound.bound.tree) count
-    ∙ ap (rows_shown None (length bay.switches))
+    let shows : c.control_rows_of_tree.new.tree
+    ≡ rows_with_selection None (length bay.switches) bay.rows =
+    c.in_ok-control_rows.ensures.rows
+    ∙ ap (λ n. rows_with_selection None n c.in_ok-bound.bound.tree) count
+    ∙ ap (rows_with_selection None (length bay.switches))
     (did.tree ∙ rw c.deref_mut.ensures.value at c.take_items-rows.ensures.value) in
     let seen : Bay → services.Bay =
     λ b. record {
@@ -122,7 +124,7 @@ returns c =
       model = b.model;
       revision = b.revision;
       switches = switches_of c.new.result;
-      rows = c.shown_rows.new.tree;
+      rows = c.control_rows_of_tree.new.tree;
       controls = control.state_of c.new-control_table.result c.new-2.result;
     } in
     record {
@@ -135,7 +137,7 @@ returns c =
           record (seen bay) { switches = bay.switches; rows = rs } in b) shows
           ∙ ap (λ (cs : control.State). let b : services.Bay = record (seen bay) {
             switches = bay.switches;
-            rows = rows_shown None (length bay.switches) bay.rows;
+            rows = rows_with_selection None (length bay.switches) bay.rows;
             controls = cs;
           } in b) (ap (control.state_of c.new-control_table.result) c.new-2.ensures
           ∙ ap control.initial (rw c.deref-2.ensures at c.new-control_table.ensures));

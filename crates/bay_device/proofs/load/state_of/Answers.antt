@@ -9,7 +9,7 @@ use Rattle.bay_process.specs.declared.switch.BoundSwitch.{BoundSwitch}
 use Rattle.il_scan.specs.declared.span.Span.{Span}
 use Rattle.bay_device.proofs.HeldLemmas.{all-noted}
 use Rattle.bay_process.proofs.SourceLemmas.{IsTyped, bay-typed, points-fit, reads-typed}
-use Rattle.bay_services.specs.Views.{bay_view}
+use Rattle.bay_mms_services.specs.Views.{bay_view}
 use Rattle.il_image.specs.Images.{Each}
 use Rattle.il_scan.specs.Scans.{Held, read_only, type_of_point}
 use Rattle.bay_device.specs.StateView.{state_view}

@@ -1,10 +1,10 @@
 use Rattle.std.proofs.Common.{◌++◌, map, ap, ◌∙◌}
 use Rattle.bay_control.specs.Decisions.{state_of}
-use Rattle.bay_connection.specs.Talk.{Terms, sending, terms_of}
-use Rattle.bay_services.specs.Answers.{Answered, pdu_answer}
-use Rattle.bay_services.specs.Bay.{with_controls}
+use Rattle.bay_connection.specs.ConnectionStates.{Terms, sending, terms_of}
+use Rattle.bay_mms_services.specs.Answers.{Answered, pdu_answer}
+use Rattle.bay_mms_services.specs.Bay.{with_controls}
 use Rattle.bay_device.specs.Device.{State, bay_of}
-use Rattle.bay_device.specs.Hearing.{due_if, later_due, sent_on}
+use Rattle.bay_device.specs.Receiving.{due_if, later_due, sent_on}
 use Rattle.bay_device.specs.StateView.{state_view}
 use Rattle.bay_device.proofs.MessageLemmas.{all-ok, answered-done}
 use Rattle.bay_device.proofs.message.answer.Goals as goal

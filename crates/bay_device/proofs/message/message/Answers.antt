@@ -1,13 +1,13 @@
 use Rattle.std.proofs.Common.{◌≡◌, Bool, List, ℕ, length, take, ap, ap₂, ◌∙◌, arith}
-use Rattle.bay_assoc.specs.Hears.{association_terms}
-use Rattle.bay_connection.specs.Talk.{Terms, terms_of}
-use Rattle.bay_services.specs.Answers.{pdu_answer}
-use Rattle.bay_services.specs.declared.answer.Command.{Command}
-use Rattle.bay_services.specs.declared.answer.Decision.{Decision}
-use Rattle.bay_services.specs.declared.client.Client.{Client}
+use Rattle.bay_assoc.specs.Receives.{association_terms}
+use Rattle.bay_connection.specs.ConnectionStates.{Terms, terms_of}
+use Rattle.bay_mms_services.specs.Answers.{pdu_answer}
+use Rattle.bay_mms_services.specs.declared.answer.Command.{Command}
+use Rattle.bay_mms_services.specs.declared.answer.ControlDecision.{ControlDecision}
+use Rattle.bay_mms_services.specs.declared.client.ClientContext.{ClientContext}
 use Rattle.bay_device.specs.Device.{State, bay_of}
-use Rattle.bay_device.specs.Hearing.{Done, answered_with, size_of}
-use Rattle.bay_device.specs.HearingViews.{done_of}
+use Rattle.bay_device.specs.Receiving.{Done, answered_with, size_of}
+use Rattle.bay_device.specs.ReceivingViews.{done_of}
 use Rattle.bay_device.specs.declared.event.Sent.{Sent}
 use Rattle.bay_device.specs.StateView.{state_view}
 use Rattle.bay_device.proofs.MessageLemmas.{size-is}
@@ -25,7 +25,7 @@ returns-in-Ok-clause-ok c connections =
     ap (λ (t : State). done_of t made) (c.put_in.ensures connections)
     ∙ c.in-Ok.ensures.ok connections
     ∙ ap (λ (n : ℕ). answered_with a terms
-    (pdu_answer (let x : Client =
+    (pdu_answer (let x : ClientContext =
     record {
       association = a;
       size = n;
@@ -36,7 +36,7 @@ returns-in-Ok-clause-ok c connections =
     (bay_of s)) (done_of s c.args.made.now))
     (size-is (association_terms talk.phase) c.pdu_size.result c.requires c.pdu_size.ensures.size)
     ∙ ap (λ (f : Bool). answered_with a terms
-    (pdu_answer (let x : Client =
+    (pdu_answer (let x : ClientContext =
     record {
       association = a;
       size = size_of (association_terms talk.phase);
@@ -63,7 +63,7 @@ returns-in-Err-clause-err c connections =
     } in x)
     (c.truncate.ensures.items ∙ ap (λ n. take n c.answer.new.made.sent.items) sent
     ∙ c.answer.ensures.sent)
-    ∙ ap₂ (λ (xs : List Command) (ys : List Decision). let x : Done =
+    ∙ ap₂ (λ (xs : List Command) (ys : List ControlDecision). let x : Done =
     record { state = s; sent = made.sent.items; commands = xs; decisions = ys } in x)
     (c.truncate-in-Err.ensures.items ∙ ap (λ n. take n c.answer.new.made.commands.items) commands
     ∙ c.answer.ensures.commands)

@@ -1,8 +1,8 @@
 use Rattle.std.proofs.Common.{◌≡◌, ℕ, List, [], ◌∷◌, ◌++◌, length, map, refl, ap, rules, sym, ◌∙◌, arith, append-nil, append_assoc}
 use Rattle.std.proofs.lemmas.List.{nil_from_length}
 use Rattle.std.specs.Vec.Iter.{into_iter_items}
-use Rattle.bay_connection.specs.Talk.{Terms, sending, terms_of}
-use Rattle.bay_device.specs.Hearing.{sent_on}
+use Rattle.bay_connection.specs.ConnectionStates.{Terms, sending, terms_of}
+use Rattle.bay_device.specs.Receiving.{sent_on}
 use Rattle.bay_device.specs.declared.event.Sent.{Sent}
 use Rattle.bay_device.proofs.MessageLemmas.{front-kept, front-whole}
 use Rattle.bay_device.proofs.message.send_all.Goals as goal

@@ -1,7 +1,7 @@
 use Rattle.std.proofs.Common.{◌≡◌, ◌++◌, length, map, take}
 use Rattle.std.specs.Vec.Iter.{into_iter_items, into_iter_len}
-use Rattle.bay_connection.specs.Talk.{sending, terms_of}
-use Rattle.bay_device.specs.Hearing.{sent_on}
+use Rattle.bay_connection.specs.ConnectionStates.{sending, terms_of}
+use Rattle.bay_device.specs.Receiving.{sent_on}
 use Rattle.bay_device.proofs.message.send_all.Given as goal
 
 abbrev pub invariant-loop-pdu : goal.invariant-loop-pdu

@@ -1,10 +1,10 @@
 use Rattle.std.proofs.Common.{◌≡◌, ap, sym, ◌∙◌, get_or, length, not}
 use Rattle.bay_nodes.specs.Names.{SwitchNames, switch_names}
 use Rattle.bay_process.specs.Layout.{layout_of, switches_of}
-use Rattle.bay_process.specs.Values.{rows_after_contact, tells}
-use Rattle.bay_services.specs.Views.{bay_view}
-use Rattle.bay_services.proofs.ViewLemmas.{there}
-use Rattle.bay_services.proofs.PlaceLemmas.{names-kept, rows-kept}
+use Rattle.bay_process.specs.Values.{rows_after_contact, has_position}
+use Rattle.bay_mms_services.specs.Views.{bay_view}
+use Rattle.bay_mms_services.proofs.ViewLemmas.{there}
+use Rattle.bay_mms_services.proofs.PlaceLemmas.{names-kept, rows-kept}
 use Rattle.bay_device.proofs.ApartLemmas.{shows-contact}
 use Rattle.bay_device.proofs.ProcessLemmas.{named-there}
 use Rattle.bay_device.proofs.process.contact.Goals as goal
@@ -44,7 +44,7 @@ returns-clause-changed c s is =
     let bound = get_or c.as_slice.result.now c.args.switch c.index-as_slice-switch.result in
     let here = there d.switches _ c.args.switch _ c.as_slice.ensures c.requires in
     c.take_position.ensures.changed
-    ∙ ap (λ (n : SwitchNames). not (tells n.position c.args.position d.tree))
+    ∙ ap (λ (n : SwitchNames). not (has_position n.position c.args.position d.tree))
     (named-there (layout_of d.tree) d.switches c.args.switch bound s d.placed here is)
 
 pub returns-clause-after : goal.returns-clause-after

@@ -4,13 +4,13 @@ use Rattle.bay_process.specs.Layout.{layout_of, status_in, switches_of}
 use Rattle.bay_process.specs.Names.{field_names}
 use Rattle.bay_process.specs.Values.{rows_after_doubt, tells_doubt}
 use Rattle.bay_process.proofs.FieldLemmas.{field-leaf_typed, field-named}
-use Rattle.bay_services.specs.Views.{bay_view}
-use Rattle.bay_services.proofs.PlaceLemmas.{names-kept, rows-kept}
+use Rattle.bay_mms_services.specs.Views.{bay_view}
+use Rattle.bay_mms_services.proofs.PlaceLemmas.{names-kept, rows-kept}
 use Rattle.bay_device.proofs.ApartLemmas.{shows-doubt}
 use Rattle.bay_device.proofs.process.doubt.Goals as goal
 
-pub take_doubt-requires : goal.take_doubt-requires
-take_doubt-requires c =
+pub take_bad_measure-requires : goal.take_bad_measure-requires
+take_bad_measure-requires c =
     rw c.field.ensures (field-leaf_typed (layout_of c.args.bay.now.tree) c.args.rows c.args.field
     c.requires.leaf_typed)
 
@@ -21,8 +21,8 @@ invariant_of-bay c =
     let named =
     ap (status_in (layout_of d.tree)) c.field.ensures
     ∙ field-named (layout_of d.tree) c.args.rows f ∙ ap (field_names f) c.requires.named in
-    let did = c.take_doubt.ensures in
-    let written : c.take_doubt.new.tree
+    let did = c.take_bad_measure.ensures in
+    let written : c.take_bad_measure.new.tree
     ≡ rows_after_doubt (field_names f (meter_names c.args._meter)) c.args.now d.tree =
     did.rows ∙ ap (λ (n : StatusNames). rows_after_doubt n c.args.now d.tree) named in
     record {
@@ -42,7 +42,7 @@ returns-clause-changed c =
     let named =
     ap (status_in (layout_of d.tree)) c.field.ensures
     ∙ field-named (layout_of d.tree) c.args.rows f ∙ ap (field_names f) c.requires.named in
-    c.take_doubt.ensures.changed ∙ ap (λ (n : StatusNames). not (tells_doubt n d.tree)) named
+    c.take_bad_measure.ensures.changed ∙ ap (λ (n : StatusNames). not (tells_doubt n d.tree)) named
 
 pub returns-clause-after : goal.returns-clause-after
 returns-clause-after c =
@@ -52,5 +52,5 @@ returns-clause-after c =
     ap (status_in (layout_of d.tree)) c.field.ensures
     ∙ field-named (layout_of d.tree) c.args.rows f ∙ ap (field_names f) c.requires.named in
     ap (λ rs. record (bay_view d) { rows = rs })
-    (c.take_doubt.ensures.rows
+    (c.take_bad_measure.ensures.rows
     ∙ ap (λ (n : StatusNames). rows_after_doubt n c.args.now d.tree) named)

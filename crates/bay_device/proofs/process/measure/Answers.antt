@@ -5,8 +5,8 @@ use Rattle.bay_process.specs.Layout.{layout_of, status_in, switches_of}
 use Rattle.bay_process.specs.Names.{field_names}
 use Rattle.bay_process.specs.Values.{rows_after_measure, tells_measure}
 use Rattle.bay_process.proofs.FieldLemmas.{field-leaf_typed, field-named}
-use Rattle.bay_services.specs.Views.{bay_view}
-use Rattle.bay_services.proofs.PlaceLemmas.{names-kept, rows-kept}
+use Rattle.bay_mms_services.specs.Views.{bay_view}
+use Rattle.bay_mms_services.proofs.PlaceLemmas.{names-kept, rows-kept}
 use Rattle.bay_device.proofs.ApartLemmas.{shows-measure}
 use Rattle.bay_device.proofs.process.measure.Goals as goal
 

@@ -1,7 +1,7 @@
 use Rattle.std.proofs.Common.{◌≡◌, sym, length}
 use Rattle.bay_process.specs.Layout.{layout_of, switches_of}
 use Rattle.bay_process.specs.Scans.{outputs_put}
-use Rattle.bay_services.proofs.PlaceLemmas.{names-kept, rows-kept}
+use Rattle.bay_mms_services.proofs.PlaceLemmas.{names-kept, rows-kept}
 use Rattle.bay_device.proofs.ApartLemmas.{shows-scan}
 use Rattle.bay_device.proofs.process.write_scan.Goals as goal
 

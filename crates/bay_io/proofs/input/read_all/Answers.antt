@@ -7,7 +7,8 @@ pub returns-in-Ok-kept-clause-ok : goal.returns-in-Ok-kept-clause-ok
 returns-in-Ok-kept-clause-ok g c =
     let e = c.in-Ok-eq0.ensures in
     HasRead-end c.loop-turn.invariant.asked _ _ _ _ _ _ e.call e.failed e.bytes.0
-    c.in-Ok-eq0.field-0-test (e.bytes.1 c.in-Ok-eq0.field-0-test (omega arith)) (ap is_ok c.in-Ok-kept.is)
+    c.in-Ok-eq0.field-0-test (e.bytes.1 c.in-Ok-eq0.field-0-test (omega arith))
+    (ap is_ok c.in-Ok-kept.is)
 
 pub returns-in-Err-kept-clause-memory : goal.returns-in-Err-kept-clause-memory
 returns-in-Err-kept-clause-memory g c =
@@ -51,7 +52,8 @@ pub returns-in-Ok-kept-clause-asked : goal.returns-in-Ok-kept-clause-asked
 returns-in-Ok-kept-clause-asked g c =
     let e = c.in-Ok-eq0.ensures in
     ReadsAll-end c.loop-turn.invariant.asked _ _ _ _ _ _ e.call e.failed e.bytes.0
-    c.in-Ok-eq0.field-0-test _ c.args.limit _ (omega arith) (omega arith) refl (ap is_ok c.in-Ok-kept.is)
+    c.in-Ok-eq0.field-0-test _ c.args.limit _ (omega arith) (omega arith) refl
+    (ap is_ok c.in-Ok-kept.is)
 
 pub returns-in-Err-kept-clause-asked : goal.returns-in-Err-kept-clause-asked
 returns-in-Err-kept-clause-asked g c =

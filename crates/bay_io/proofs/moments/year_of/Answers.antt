@@ -5,7 +5,7 @@ use Rattle.bay_io.proofs.moments.year_of.Goals as goal
 
 pub loop-i-preserved : goal.loop-i-preserved
 loop-i-preserved c =
-    let more : 137 - c.loop-i.i ≡ suc (137 - (c.loop-i.i + 1)) = omega arith in
+    let more : 8029 - c.loop-i.i ≡ suc (8029 - (c.loop-i.i + 1)) = omega arith in
     let le : days_in_year c.loop-i.year ≤ c.loop-i.left =
     rw c.days_in_year-length.ensures at c.if-left-length.false in
     record {
@@ -19,10 +19,10 @@ loop-i-preserved c =
 
 pub returns-after-loop-i-clause-value : goal.returns-after-loop-i-clause-value
 returns-after-loop-i-clause-value c =
-    sym (year-ends (137 - c.loop-i.i) _ _ (omega arith)) ∙ c.loop-i.invariant.rest
+    sym (year-ends (8029 - c.loop-i.i) _ _ (omega arith)) ∙ c.loop-i.invariant.rest
 
 pub returns-then-left-length-clause-value : goal.returns-then-left-length-clause-value
 returns-then-left-length-clause-value c =
     let lt : c.loop-i.left < days_in_year c.loop-i.year =
     rw c.days_in_year-length.ensures at c.if-left-length.true in
-    sym (year-stops (137 - c.loop-i.i) _ _ lt) ∙ c.loop-i.invariant.rest
+    sym (year-stops (8029 - c.loop-i.i) _ _ lt) ∙ c.loop-i.invariant.rest

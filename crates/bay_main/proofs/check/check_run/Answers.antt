@@ -12,5 +12,5 @@ pub returns-in-Err : goal.returns-in-Err
 returns-in-Err g c = record {
   loaded = Err c.in-Err.fault;
   loads = c.in-Err.ensures.refused;
-  tells = c.tell_refusal.ensures;
+  tells = c.report_load_refusal.ensures;
 }

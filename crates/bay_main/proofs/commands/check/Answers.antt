@@ -16,5 +16,5 @@ pub returns-in-Err : goal.returns-in-Err
 returns-in-Err g c = record {
   read = Err (unread_view c.in-Err.unread);
   is_read = c.in-Err.ensures.err;
-  checks = c.tell_unread.ensures;
+  checks = c.report_unread.ensures;
 }

@@ -20,6 +20,6 @@ returns-in-Err g c =
       (
         Err (unread_view c.in-Err.unread),
         c.in-Err.ensures.err,
-        (c.tell_unread.ensures, refl),
+        (c.report_unread.ensures, refl),
       ),
     )

@@ -1,18 +1,16 @@
-use Rattle.std.proofs.Common.{inr, refl}
+use Rattle.std.proofs.Common.{◌∙◌, refl, sym}
+use Rattle.bay_main.proofs.CommandLemmas.{is_some-view}
 use Rattle.bay_main.proofs.commands.do_task.Goals as goal
 
 pub returns-in-Compile : goal.returns-in-Compile
 returns-in-Compile g c = rw c.in-Compile.is (c.compile.ensures, refl, refl)
 
-pub returns-in-Ok : goal.returns-in-Ok
-returns-in-Ok g c =
-    rw c.in-Serve.is
-    (inr (
-      rw (
-        c.in-Ok.ensures.quiet,
-        c.form_of-form-in-Serve.ensures.form,
-        c.form_of-form-in-Serve.ensures.name,
-      ) at c.serve.ensures,
-      c.in-Ok.ensures.none,
+pub returns-after-record_file : goal.returns-after-record_file
+returns-after-record_file g c =
+    let is = c.is_some.ensures ∙ sym (is_some-view c.in-Serve.record_file) in
+    rw c.in-Serve.is (
+      rw (is, c.form_of-form-in-Serve.ensures.form, c.form_of-form-in-Serve.ensures.name)
+          at c.serve.ensures.serves,
+      λ quiet. c.serve.ensures.files (is ∙ quiet),
       refl,
-    ))
+    )

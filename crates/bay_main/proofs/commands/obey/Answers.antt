@@ -1,5 +1,5 @@
 use Rattle.std.proofs.Common.{inl, refl}
-use Rattle.bay_words.specs.JobView.{asked_view}
+use Rattle.bay_cli.specs.JobView.{asked_view}
 use Rattle.bay_main.proofs.commands.obey.Goals as goal
 
 pub returns-in-Ok : goal.returns-in-Ok

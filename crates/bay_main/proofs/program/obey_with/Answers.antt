@@ -13,14 +13,14 @@ returns-then-matches g c = record {
   };
   ended = c.obey-ended.result;
   obeys = c.obey-ended.ensures;
-  output = c.drained-ended.new.output;
-  last = c.drained-ended.result;
-  drained = rw c.into_inner-output.ensures at c.drained-ended.ensures;
+  output = c.drain_output-ended.new.output;
+  last = c.drain_output-ended.result;
+  drained = rw c.into_inner-output.ensures at c.drain_output-ended.ensures;
   complains = λ _. (
     c.log_line.new.self,
-    subst (λ line. SystemDoes g.O.Write.contents g.E.Write.contents c.drained-ended.new.output
+    subst (λ line. SystemDoes g.O.Write.contents g.E.Write.contents c.drain_output-ended.new.output
         (Log line) c.log_line.new.self)
-        (append-nil _ ∙ c.as_bytes.ensures.value ∙ c.complaint.ensures) c.log_line.ensures.call,
+        (append-nil _ ∙ c.as_bytes.ensures.value ∙ c.error_message.ensures) c.log_line.ensures.call,
   );
   tells = search rules;
 }
@@ -35,9 +35,9 @@ returns g c = record {
   };
   ended = c.obey-ended.result;
   obeys = c.obey-ended.ensures;
-  output = c.drained-ended.new.output;
-  last = c.drained-ended.result;
-  drained = rw c.into_inner-output.ensures at c.drained-ended.ensures;
+  output = c.drain_output-ended.new.output;
+  last = c.drain_output-ended.result;
+  drained = rw c.into_inner-output.ensures at c.drain_output-ended.ensures;
   complains = λ e. search rules;
   tells = search rules;
 }

@@ -1,6 +1,6 @@
 use Rattle.bay_mms.proofs.AnswerLemmas.{answer-held}
 use Rattle.bay_mms.proofs.AskLemmas.{asked-read, asked-back, one-asked}
-use Rattle.bay_initiate.proofs.InitiateLemmas.{initiate-read, initiate-back}
+use Rattle.bay_mms_initiate.proofs.InitiateLemmas.{initiate-read, initiate-back}
 use Rattle.bay_mms.proofs.laws.one_request.Goals as goal
 
 pub returns-clause-asked : goal.returns-clause-asked

@@ -1,7 +1,7 @@
 use Rattle.std.proofs.Common.{arith, []}
 use Rattle.bay_ber.specs.Tags.{context, constructed}
 use Rattle.bay_ber.proofs.SizeLemmas.{length-element}
-use Rattle.bay_initiate.proofs.AgreedLemmas.{agreed_short}
+use Rattle.bay_mms_initiate.proofs.AgreedLemmas.{agreed_short}
 use Rattle.bay_mms.proofs.LawLemmas.{datum-spells, one-value}
 use Rattle.bay_mms.proofs.PlainLemmas.{plain-read}
 use Rattle.bay_mms.proofs.ShortLemmas.{error_short, reject_short}

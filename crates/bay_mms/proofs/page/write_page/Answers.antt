@@ -1,6 +1,6 @@
 use Rattle.std.proofs.Common.{◌≡◌, ℕ, ◌-◌, ltb, Some, is_none, ap, ◌∙◌}
 use Rattle.std.specs.Option.{option_copied}
-use Rattle.bay_ber.specs.Sheets.{message, sheet_with}
+use Rattle.bay_ber.specs.EncoderBuffers.{message, sheet_with}
 use Rattle.bay_ber.proofs.SheetLemmas.{short-message}
 use Rattle.bay_tree.specs.Page.{rows_after}
 use Rattle.bay_tree.specs.Rows.{names_of}
@@ -29,20 +29,23 @@ held c =
     (c.put_page.ensures ∙ ap (sheet_with c.in_ok-writer.writer) is)
     (first-page-short c.args.id c.args.size (names_of rows) c.requires.some)
 
-pub finish_held-requires : goal.finish_held-requires
-finish_held-requires c = ap is_none (held c)
+pub finish_untruncated-requires : goal.finish_untruncated-requires
+finish_untruncated-requires c = ap is_none (held c)
 
 pub returns-clause-page : goal.returns-clause-page
 returns-clause-page c =
     let page = first_page c.args.id c.args.size
     (names_of (rows_after c.args.tree.now (option_copied c.args.after))) in
-    let is : Some c.finish_held.result ≡ Some page = c.finish_held.ensures ∙ held c.before in
+    let is : Some c.finish_untruncated.result ≡ Some page =
+    c.finish_untruncated.ensures ∙ held c.before in
     cc
 
 pub returns-clause-short : goal.returns-clause-short
 returns-clause-short c =
     let rows = rows_after c.args.tree.now (option_copied c.args.after) in
-    let is : Some c.finish_held.result ≡ Some (first_page c.args.id c.args.size (names_of rows)) =
-    c.finish_held.ensures ∙ held c.before in
-    let same : c.finish_held.result ≡ first_page c.args.id c.args.size (names_of rows) = cc in
+    let is : Some c.finish_untruncated.result
+    ≡ Some (first_page c.args.id c.args.size (names_of rows)) =
+    c.finish_untruncated.ensures ∙ held c.before in
+    let same : c.finish_untruncated.result ≡ first_page c.args.id c.args.size (names_of rows) =
+    cc in
     rw same (first-page-short c.args.id c.args.size (names_of rows) c.requires.some)

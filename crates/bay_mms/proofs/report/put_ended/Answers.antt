@@ -1,5 +1,5 @@
 use Rattle.std.proofs.Common.{◌∙◌, List, ℕ, ap}
-use Rattle.bay_ber.specs.Sheets.{sheet_with}
+use Rattle.bay_ber.specs.EncoderBuffers.{sheet_with}
 use Rattle.bay_mms.specs.Reports.{variable_text, item_name, operate_text}
 use Rattle.bay_mms.proofs.ReportLemmas.{reported, ended-is}
 use Rattle.bay_mms.proofs.report.put_ended.Goals as goal

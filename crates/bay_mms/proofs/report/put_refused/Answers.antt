@@ -1,5 +1,5 @@
 use Rattle.std.proofs.Common.{◌∙◌, List, ℕ, ap}
-use Rattle.bay_ber.specs.Sheets.{sheet_with}
+use Rattle.bay_ber.specs.EncoderBuffers.{sheet_with}
 use Rattle.bay_mms.specs.Reports.{variable_text, failure_name, failure_data}
 use Rattle.bay_mms.proofs.ReportLemmas.{reported, refused-is}
 use Rattle.bay_mms.proofs.report.put_refused.Goals as goal

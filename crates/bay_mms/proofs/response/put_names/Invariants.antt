@@ -1,5 +1,5 @@
 use Rattle.std.proofs.Common.{◌≡◌, drop}
-use Rattle.bay_ber.specs.Sheets.{sheet_with}
+use Rattle.bay_ber.specs.EncoderBuffers.{sheet_with}
 use Rattle.bay_mms.specs.Responses.{names_text}
 use Rattle.bay_mms.proofs.response.put_names.Given as goal
 

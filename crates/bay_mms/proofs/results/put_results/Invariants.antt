@@ -1,6 +1,6 @@
 use Rattle.std.proofs.Common.{◌≡◌, ◌∷◌, take}
 use Rattle.std.specs.List.{flat_map}
-use Rattle.bay_ber.specs.Sheets.{sheet_with}
+use Rattle.bay_ber.specs.EncoderBuffers.{sheet_with}
 use Rattle.bay_mms.specs.Responses.{result_text}
 use Rattle.bay_mms.proofs.results.put_results.Given as goal
 

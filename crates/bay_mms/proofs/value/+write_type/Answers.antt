@@ -1,5 +1,5 @@
 use Rattle.std.proofs.Common.{◌∙◌, [], ◌∷◌, ◌++◌, refl, sym}
-use Rattle.bay_ber.specs.Sheets.{sheet_with}
+use Rattle.bay_ber.specs.EncoderBuffers.{sheet_with}
 use Rattle.bay_ber.specs.Writing.{element}
 use Rattle.bay_ber.proofs.SheetLemmas.{put-put, put-twice, open-value, long-value, is_open-put}
 use Rattle.bay_tree.specs.Names.{word_of}

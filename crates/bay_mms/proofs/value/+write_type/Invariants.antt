@@ -1,5 +1,5 @@
 use Rattle.std.proofs.Common.{◌-◌, [], ◌∷◌, length}
-use Rattle.bay_ber.specs.Sheets.{sheet_with}
+use Rattle.bay_ber.specs.EncoderBuffers.{sheet_with}
 use Rattle.bay_mms.proofs.NodeLemmas.{Written, nodes_types_text, left_of}
 use Rattle.bay_mms.proofs.value.+write_type.Given as goal
 

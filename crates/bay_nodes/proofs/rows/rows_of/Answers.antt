@@ -13,9 +13,11 @@ returns-clause-rows c =
     let controls = c.push_controls.new.rows.items in
     let interlocking = c.push_nodes.new.rows.items in
     c.new.ensures
-    ∙ all-joined p ss ms c.in_ok-rows.rows.items c.push_device.new.rows.items c.push_positions.new.rows.items
+    ∙ all-joined p ss ms c.in_ok-rows.rows.items c.push_device.new.rows.items
+    c.push_positions.new.rows.items
     c.push_positions-2.new.rows.items controls interlocking c.push_nodes-2.new.rows.items
-    c.in_ok-rows.ensures.items c.in_ok-push_device.ensures c.in_ok-push_positions.ensures c.in_ok-push_positions-2.ensures
+    c.in_ok-rows.ensures.items c.in_ok-push_device.ensures c.in_ok-push_positions.ensures
+    c.in_ok-push_positions-2.ensures
     c.in_ok-push_controls.ensures
     (c.in_ok-push_nodes.ensures
     ∙ ap (λ rows. controls ++ rows)

@@ -42,7 +42,8 @@ loop-place-preserved c =
     let opens : c.is_truth.result ≡ is_truth true (leaf_of (opening_of i).value rows) =
     c.is_truth.ensures.value
     ∙ ap (λ (n : StatusNames). is_truth true (leaf_of n.value rows)) named.opening in
-    let closes : c.is_truth-in-loop-place.result ≡ is_truth true (leaf_of (closing_of i).value rows) =
+    let closes : c.is_truth-in-loop-place.result
+    ≡ is_truth true (leaf_of (closing_of i).value rows) =
     c.is_truth-in-loop-place.ensures.value
     ∙ ap (λ (n : StatusNames). is_truth true (leaf_of n.value rows)) named.closing in
     let front : c.extend_from_slice.new.self.items ≡ (t ++ (32 ∷ [])) ++ b.switch.id =

@@ -1,7 +1,7 @@
 use Rattle.std.proofs.Common.{◌≡◌, ◌<◌, ◌^◌, inl, length, arith, rules, ap, sym, ◌∙◌}
 use Rattle.bay_nodes.specs.Names.{StatusNames, opening_of}
 use Rattle.bay_process.specs.Layout.{layout_of, status_in, switch_in}
-use Rattle.bay_process.specs.Told.{enabled_from}
+use Rattle.bay_process.specs.ReportedRows.{enabled_from}
 use Rattle.bay_process.specs.Values.{with_enabled}
 use Rattle.bay_process.proofs.KeptLemmas.{kept-written, output-same}
 use Rattle.bay_process.proofs.ReleaseLemmas.{places-sized}
@@ -36,7 +36,12 @@ returns-clause-kept c ss kept within =
     let few : c.args.kept.now.places.len < 2 ^ 63 = search rules in
     let so_many : length c.args.kept.now.places.items ≡ c.args.kept.now.places.len = search rules in
     kept-written rows c.write_output.new.tree ss k c.args.kept.now c.set.new.self e c.args.now kept
-    within (omega (arith, few, so_many, places-sized ss (enabled_from c.args.tree.now 0 ss) _ _ kept.shows))
+    within (omega (
+      arith,
+      few,
+      so_many,
+      places-sized ss (enabled_from c.args.tree.now 0 ss) _ _ kept.shows,
+    ))
     c.set.ensures.flag (c.write_output.ensures.told k named)
     (c.write_output.ensures.rows
     ∙ ap (λ (n : StatusNames). with_enabled

@@ -2,7 +2,7 @@ use Rattle.std.proofs.Common.{◌≡◌, subst, ap, ◌∙◌}
 use Rattle.bay_process.specs.Values.{with_enabled}
 use Rattle.bay_process.specs.Layout.{Layout, layout_of, status_in}
 use Rattle.bay_nodes.specs.Names.{StatusNames, closing_of}
-use Rattle.bay_process.specs.Told.{AreValued}
+use Rattle.bay_process.specs.ReportedRows.{AreValued}
 use Rattle.bay_process.proofs.ToldLemmas.{told-here}
 use Rattle.bay_process.proofs.scan.write_output.Goals as goal
 

@@ -18,7 +18,8 @@ pub returns-clause-kept : goal.returns-clause-kept
 returns-clause-kept c =
     let i = c.loop-place.invariant.kept in
     let bs = c.args.switches.now in
-    let many : length (switches_of bs) ≡ length bs = length-map bs (λ (b : BoundSwitch). b.switch) in
+    let many : length (switches_of bs) ≡ length bs =
+    length-map bs (λ (b : BoundSwitch). b.switch) in
     record {
       shows = i.shows;
       written = λ k e here by. i.written k e here

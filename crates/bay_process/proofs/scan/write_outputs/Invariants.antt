@@ -1,7 +1,7 @@
 use Rattle.std.proofs.Common.{◌≡◌, drop}
 use Rattle.bay_process.specs.Layout.{layout_of, switches_of}
 use Rattle.bay_process.specs.Scans.{outputs_put}
-use Rattle.bay_process.specs.Told.{AreKept}
+use Rattle.bay_process.specs.ReportedRows.{AreKept}
 use Rattle.bay_process.proofs.scan.write_outputs.Given as goal
 
 abbrev pub invariant-loop-place : goal.invariant-loop-place

@@ -4,7 +4,7 @@ use Rattle.bay_trace.proofs.trace.cut_long_number.Goals as goal
 
 pub returns : goal.returns
 returns c =
-    let word = c.cut_word.result.0.now in
+    let word = c.split_word.result.0.now in
     let first = number-first word c.in_ok-rest.field-0.now c.in_ok-number.number
     (sym c.decimal.ensures ∙ c.in_ok-number.was) in
-    grind (arith, first, c.cut_word.ensures, c.in_ok-rest.was)
+    grind (arith, first, c.split_word.ensures, c.in_ok-rest.was)

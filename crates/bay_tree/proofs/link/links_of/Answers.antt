@@ -1,7 +1,7 @@
 use Rattle.std.proofs.Common.{◌≡◌, ℕ, ◌-◌, ◌+◌, ◌<◌, ◌≤◌, None, Some, option_and_then, List, [], length, get_or, refl, ap, sym, subst, ◌∙◌, arith}
 use Rattle.std.proofs.Math.ListN.{set}
 use Rattle.std.proofs.lemmas.List.{get_or_default, get_or_read, length-set}
-use Rattle.bay_tree.specs.declared.link.Link.{Link}
+use Rattle.bay_tree.specs.declared.link.RowLink.{RowLink}
 use Rattle.bay_tree.specs.declared.row.Row.{Row}
 use Rattle.bay_tree.specs.Arena.{link_at}
 use Rattle.bay_tree.specs.Names.{IsWordAt, parent_of}
@@ -11,7 +11,8 @@ use Rattle.bay_tree.proofs.LinkLemmas.{IsLinkedFrom, IsWorded, linked-put, linke
 use Rattle.bay_tree.proofs.link.links_of.Goals as goal
 
 -- the links with the word of the row before a place
-worded : (rows : List Row) (links : List Link) (place : ℕ) (old link : Link) → place ≤ length rows
+worded : (rows : List Row) (links : List RowLink) (place : ℕ) (old link : RowLink)
+    → place ≤ length rows
     → 0 < place → old ≡ get_or links (place - 1) old → link.below ≡ old.below
     → link.beside ≡ old.beside → IsWordAt (name_at rows (place - 1)) link.word
     → IsLinkedFrom place rows links
@@ -21,8 +22,8 @@ worded rows links place old link within some read below beside word linked =
     let at : place ≡ i + 1 = omega arith in
     let same : old ≡ link_at links i =
     get_or_read links i old (omega (arith, linked.long)) read unlinked in
-    linked-word rows links i link (omega arith) (below ∙ ap (λ (l : Link). l.below) same)
-    (beside ∙ ap (λ (l : Link). l.beside) same) word
+    linked-word rows links i link (omega arith) (below ∙ ap (λ (l : RowLink). l.below) same)
+    (beside ∙ ap (λ (l : RowLink). l.beside) same) word
     (subst (λ n. IsLinkedFrom n rows links) at linked)
 
 pub loop-place-preserved : goal.loop-place-preserved
@@ -37,18 +38,18 @@ loop-place-preserved c =
     c.as_str.ensures ∙ ap (λ (r : Row). r.name) row in
     let above : option_and_then (place_of rows) (parent_of (name_at rows i)) ≡ None =
     ap (λ n. option_and_then (place_of rows) (parent_of n)) (sym named)
-    ∙ ap (option_and_then (place_of rows)) (sym c.part_name-parts.ensures.parent)
+    ∙ ap (option_and_then (place_of rows)) (sym c.split_name-parts.ensures.parent)
     ∙ sym c.in_default.ensures in
-    let link : Link =
+    let link : RowLink =
     record {
-      word = c.part_name-parts.result.word;
+      word = c.split_name-parts.result.word;
       below = c.index_mut.result.now.below;
       beside = c.index_mut.result.now.beside;
     } in
     let put : IsWorded i rows (set links i link) =
     worded rows links c.loop-place.place c.index_mut.result.now link (omega arith) (omega arith)
     c.index_mut.ensures.value refl refl
-    (subst (λ n. IsWordAt n c.part_name-parts.result.word) named c.part_name-parts.ensures.word)
+    (subst (λ n. IsWordAt n c.split_name-parts.result.word) named c.split_name-parts.ensures.word)
     c.loop-place.invariant.linked in
     record {
       linked = linked-skip rows (set links i link) i c.requires.tree lt above put;
@@ -65,20 +66,21 @@ loop-place-preserved-in-Some c =
     get_or_default rows i c.index-rows-place.result (record { name = []; leaf = None }) lt in
     let named : c.as_str.result.now ≡ name_at rows i =
     c.as_str.ensures ∙ ap (λ (r : Row). r.name) row in
-    let above : option_and_then (place_of rows) (parent_of (name_at rows i)) ≡ Some c.in-Some.above =
+    let above : option_and_then (place_of rows) (parent_of (name_at rows i))
+    ≡ Some c.in-Some.above =
     ap (λ n. option_and_then (place_of rows) (parent_of n)) (sym named)
-    ∙ ap (option_and_then (place_of rows)) (sym c.part_name-parts.ensures.parent)
+    ∙ ap (option_and_then (place_of rows)) (sym c.split_name-parts.ensures.parent)
     ∙ sym c.in-Some.ensures in
-    let link : Link =
+    let link : RowLink =
     record {
-      word = c.part_name-parts.result.word;
+      word = c.split_name-parts.result.word;
       below = c.index_mut.result.now.below;
       beside = c.index_mut.result.now.beside;
     } in
     let put : IsWorded i rows (set links i link) =
     worded rows links c.loop-place.place c.index_mut.result.now link (omega arith) (omega arith)
     c.index_mut.ensures.value refl refl
-    (subst (λ n. IsWordAt n c.part_name-parts.result.word) named c.part_name-parts.ensures.word)
+    (subst (λ n. IsWordAt n c.split_name-parts.result.word) named c.split_name-parts.ensures.word)
     c.loop-place.invariant.linked in
     let old = c.deref_mut.result.now in
     let new = c.put_below.new.links in

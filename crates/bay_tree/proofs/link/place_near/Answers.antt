@@ -21,5 +21,6 @@ returns-then-eq c =
     let place : place_of rows c.in_ok-name.name.now ≡ Some c.args.last =
     sym (ap (place_of rows) named) ∙ place_of-own rows c.args.last c.requires.tree c.requires.within
     in
-    let own : option_copied c.args.name ≡ Some c.in_ok-name.name.now = grind (arith, common_steps) in
+    let own : option_copied c.args.name ≡ Some c.in_ok-name.name.now =
+    grind (arith, common_steps) in
     rw own (sym place)

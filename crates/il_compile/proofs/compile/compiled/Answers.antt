@@ -8,8 +8,8 @@ use Rattle.il_compile.proofs.CompiledLemmas.{given, is-image, same-code, same-im
 use Rattle.il_compile.proofs.Spellable.{all-spellable}
 use Rattle.il_compile.proofs.compile.compiled.Goals as goal
 
-pub behind_all-requires : goal.behind_all-requires
-behind_all-requires c =
+pub compile_all-requires : goal.compile_all-requires
+compile_all-requires c =
     rw (c.externals.ensures, c.items.ensures.value)
     (all-spellable (checked_view c.args.program.now) c.items.ensures.sound.typed)
 

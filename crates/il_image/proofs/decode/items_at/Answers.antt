@@ -14,12 +14,14 @@ returns-in_err-item g c =
 
 pub items-preserved : goal.items-preserved
 items-preserved g c =
-    going-turn (g.T.ListItem.at c.args.version) c.args.octets.now c.in_ok-count.count c.items.counter
+    going-turn (g.T.ListItem.at c.args.version) c.args.octets.now c.in_ok-count.count
+    c.items.counter
     c.items.items.items c.push.new.self.items c.items.rest.now c.in_ok-item.behind.now
     c.in_ok-item.item c.items.invariant c.items-test.true c.in_ok-item.ensures
     c.in_ok-push.ensures.items
 
 pub returns : goal.returns
 returns g c =
-    rw c.new.ensures (going-end (g.T.ListItem.at c.args.version) c.args.octets.now c.in_ok-count.count
+    rw c.new.ensures (going-end (g.T.ListItem.at c.args.version) c.args.octets.now
+    c.in_ok-count.count
     c.items.counter c.items.items.items c.items.rest.now c.items.invariant c.items-test.false)

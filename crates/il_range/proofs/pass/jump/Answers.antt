@@ -43,7 +43,7 @@ returns-in_ok-top-in-IfFalse-clause-ok c =
     (on_ok_weaker c.branch-alloc-in-IfFalse.result
     (λ b. if-false-moves r c.args.distance c.args.next c.in_ok-top-in-IfFalse.ensures.top.0 come old
     new c.in_ok-top-in-IfFalse.ensures.top.1
-    (subst (λ (j : Range). Branches j c.args.distance c.args.next come old new) c.negated.ensures
-    (subst (λ (p : Plain). Branches c.negated.result c.args.distance c.args.next p old new)
+    (subst (λ (j : Range). Branches j c.args.distance c.args.next come old new) c.not.ensures
+    (subst (λ (p : Plain). Branches c.not.result c.args.distance c.args.next p old new)
     c.in_ok-top-in-IfFalse.ensures.same b)))
     c.branch-alloc-in-IfFalse.ensures.ok)

@@ -10,6 +10,6 @@ returns c =
     at c.checked_sub.ensures in
     let high = rw (to_z-of_z w64 c.args.b c.ranges.b, to_z-of_z w64 c.args.c c.ranges.c)
     at c.checked_sub-2.ensures in
-    c.wrapped.ensures
+    c.wrap_range.ensures
     ∙ wrapped-by c.args.width c.checked_sub.result c.checked_sub-2.result (c.args.a -ℤ c.args.d)
     (c.args.b -ℤ c.args.c) low high

@@ -10,6 +10,6 @@ returns c =
     at c.checked_add.ensures in
     let high = rw (to_z-of_z w64 c.args.b c.ranges.b, to_z-of_z w64 c.args.d c.ranges.d)
     at c.checked_add-2.ensures in
-    c.wrapped.ensures
+    c.wrap_range.ensures
     ∙ wrapped-by c.args.width c.checked_add.result c.checked_add-2.result (c.args.a +ℤ c.args.c)
     (c.args.b +ℤ c.args.d) low high

@@ -1,6 +1,6 @@
 use Rattle.std.proofs.Common.{◌<◌, List, ℕ, ℤ, length, ap, subst, sym, arith}
 use Rattle.il_image.specs.Octets.{AreOctets}
-use Rattle.il_scan.specs.Standing.{RunsTo, first_state}
+use Rattle.il_scan.specs.MachineStates.{RunsTo, first_state}
 use Rattle.il_scan.specs.Working.{words}
 use Rattle.il_scan.proofs.RunLemmas.{Comes, come-within, reach, run-ends, starts}
 use Rattle.il_scan.proofs.run.run.Goals as goal

@@ -1,5 +1,5 @@
 use Rattle.std.proofs.Common.{◌-◌, length}
-use Rattle.il_scan.specs.Standing.{first_state}
+use Rattle.il_scan.specs.MachineStates.{first_state}
 use Rattle.il_scan.specs.Working.{words}
 use Rattle.il_scan.proofs.RunLemmas.{Comes}
 use Rattle.il_scan.proofs.run.run.Given as goal

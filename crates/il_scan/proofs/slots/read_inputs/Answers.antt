@@ -55,7 +55,9 @@ returns g c =
       | then-span-count w ↦ inl (omega (arith, w.to-is, l))
       | else-span-count w ↦ inr (omega (arith, w.to-is, l))
     ] in
-    let all = all-put reads types values c.requires.rising (sized ∙ c.requires.sized) c.loop-k.slots c.loop-k.k
+    let all =
+    all-put reads types values c.requires.rising (sized ∙ c.requires.sized) c.loop-k.slots
+    c.loop-k.k
     c.args.span.to c.loop-k.invariant.put last in
     record {
       slots = sym (put-all reads values c.loop-k.slots (λ j. (all j).word))

@@ -7,18 +7,18 @@ use Rattle.il_verify.proofs.FrameLemmas.{begun-grows, clash-of, plain}
 use Rattle.il_verify.proofs.MapLemmas.{clash-at, falls-to, stays-so}
 use Rattle.il_verify.proofs.frame.fall.Goals as goal
 
-pub returns-then-not-goes_on-clause-ok : goal.returns-then-not-goes_on-clause-ok
-returns-then-not-goes_on-clause-ok c =
+pub returns-then-not-falls_through-clause-ok : goal.returns-then-not-falls_through-clause-ok
+returns-then-not-falls_through-clause-ok c =
     stays-so c.args.instr c.args.next (plain_frame c.args.frame) c.args.pending.now.items
     c.taken-old.new.pending.items c.taken-old.result
-    (sym c.goes_on.ensures ∙ c.if-not-goes_on.true) c.taken-old.ensures.value
+    (sym c.falls_through.ensures ∙ c.if-not-falls_through.true) c.taken-old.ensures.value
     c.taken-old.ensures.others
 
 pub returns-in-None-clause-ok : goal.returns-in-None-clause-ok
 returns-in-None-clause-ok c =
     falls-to c.args.instr c.args.next (plain_frame c.args.frame) c.args.pending.now.items
     c.taken-old.new.pending.items c.taken-old.result (plain_frame c.args.frame)
-    (sym c.goes_on.ensures ∙ c.if-not-goes_on.false) c.taken-old.ensures.value
+    (sym c.falls_through.ensures ∙ c.if-not-falls_through.false) c.taken-old.ensures.value
     c.taken-old.ensures.others
     (begun-grows c.taken-old.result c.args.frame.kinds.items c.args.frame.kinds.items
     c.args.frame.longest c.in-None.is refl)
@@ -32,7 +32,7 @@ returns-in-Ok-clause-ok c =
     c.as_slice.ensures.value c.in-Ok.ensures.ok in
     falls-to c.args.instr c.args.next come c.args.pending.now.items c.taken-old.new.pending.items
     c.taken-old.result (plain_frame c.join_frame.new.frame)
-    (sym c.goes_on.ensures ∙ c.if-not-goes_on.false) c.taken-old.ensures.value
+    (sym c.falls_through.ensures ∙ c.if-not-falls_through.false) c.taken-old.ensures.value
     c.taken-old.ensures.others
     (subst (λ (o : Option Frame). Grows come (option_map plain_frame o)
     (plain_frame c.join_frame.new.frame)) (sym c.in-Some.is) grows)
@@ -47,7 +47,7 @@ returns-in-Err-clause-err c =
     (reverse kinds)) c.as_slice.ensures.value clash in (
       h.0,
       (
-        sym c.goes_on.ensures ∙ c.if-not-goes_on.false,
+        sym c.falls_through.ensures ∙ c.if-not-falls_through.false,
         clash-at c.args.pending.now.items c.args.next c.taken-old.result
             (reverse c.args.frame.kinds.items) c.taken-old.ensures.value there,
       ),

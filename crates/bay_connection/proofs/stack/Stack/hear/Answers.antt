@@ -1,7 +1,7 @@
 use Rattle.std.proofs.Common.{◌≡◌, length, Ok, ap, arith}
 use Rattle.std.proofs.lemmas.List.{length-append}
 use Rattle.bay_transport.specs.Feeding.{size_agreed}
-use Rattle.bay_assoc.specs.Hearing.{mms, hearing}
+use Rattle.bay_assoc.specs.Receiving.{mms, tsdu_meaning}
 use Rattle.bay_connection.proofs.FeedingLemmas.{sized-joined}
 use Rattle.bay_connection.proofs.HearingLemmas.{hears-pdu, last-part}
 use Rattle.bay_connection.proofs.stack.Stack.hear.Goals as goal
@@ -31,7 +31,7 @@ pub returns-in-Ok-Mms-clause-told : goal.returns-in-Ok-Mms-clause-told
 returns-in-Ok-Mms-clause-told c =
     let tsdu = c.args.self.now.transport.shown in
     let pdu = c.in-Ok-Mms.pdu.now in
-    let h : hearing c.args.self.now.assoc tsdu ≡ Ok (mms pdu, c.on_tsdu.new.self) =
+    let h : tsdu_meaning c.args.self.now.assoc tsdu ≡ Ok (mms pdu, c.on_tsdu.new.self) =
     rw (c.in-Ok-Mms.field-0-is, c.shown-tsdu.ensures) at c.in-Ok-Mms.ensures.heard in
     let last = rw (c.in-Ok-Mms.field-0-is, c.shown-tsdu.ensures) at c.in-Ok-Mms.ensures.last in
     rw (last-part tsdu last.0 pdu last.1)

@@ -1,5 +1,5 @@
 use Rattle.std.proofs.Common.{None, ap, ◌∙◌, slice_get, slice_set, unwrap_or}
-use Rattle.bay_device.specs.Connections.{talk_in, talks}
+use Rattle.bay_device.specs.Connections.{talk_in, connection_states}
 use Rattle.bay_device.proofs.ConnectionLemmas.{are-eight, taken, talk-at, talks-set}
 use Rattle.bay_device.proofs.connections.Connections.take.Goals as goal
 
@@ -14,7 +14,7 @@ returns-clause-value c =
 
 pub returns-clause-rest : goal.returns-clause-rest
 returns-clause-rest c =
-    ap talks c.take_at.ensures.rest ∙ talks-set c.self.inside.places c.args.place None
+    ap connection_states c.take_at.ensures.rest ∙ talks-set c.self.inside.places c.args.place None
     ∙ ap (λ ts. slice_set ts c.args.place None) c.self.view_is
 
 pub returns-clause-going : goal.returns-clause-going

@@ -1,13 +1,13 @@
 use Rattle.std.proofs.Common.{◌≡◌, ℕ, List, Option, Some, None, slice_get, unwrap_or, refl, subst, ap, sym, ◌∙◌}
 use Rattle.std.specs.Result.{result_err}
-use Rattle.bay_connection.specs.Talk.{Talk, left_by}
+use Rattle.bay_connection.specs.ConnectionStates.{ConnectionState, connection_after}
 use Rattle.bay_device.specs.Connections.{talk_in}
 use Rattle.bay_device.specs.Device.{State}
-use Rattle.bay_device.specs.Hearing.{Done}
-use Rattle.bay_device.specs.HearingViews.{ComesTo, done_of}
+use Rattle.bay_device.specs.Receiving.{Done}
+use Rattle.bay_device.specs.ReceivingViews.{ComesTo, done_of}
 use Rattle.bay_device.specs.Outcomes.{closed_by, connection_at, nothing_done, place_of, recv_after}
 use Rattle.bay_device.specs.StateView.{state_view}
-use Rattle.bay_device.specs.Steps.{HearsFrom}
+use Rattle.bay_device.specs.Steps.{HandlesOctetsFrom}
 use Rattle.bay_device.specs.declared.event.Step.{Step}
 use Rattle.bay_device.specs.declared.event.Why.{Why}
 use Rattle.bay_device.proofs.RecvLemmas.{after-taken, ended-at, heard-from, left-if, same-talk}
@@ -22,9 +22,9 @@ returns c talk is_open =
     let inside = c.self.inside in
     let cs = inside.connections.value in
     let s : State = state_view cs inside.state.value in
-    let t : State = state_view cs c.drain.new.state in
+    let t : State = state_view cs c.handle_octets.new.state in
     let own = c.in-Some.connection.talk in
-    let why = result_err c.drain.result in
+    let why = result_err c.handle_octets.result in
     let begun : done_of s c.new-made.result ≡ nothing_done s =
     rw (c.new-made.ensures.sent, c.new-made.ensures.commands, c.new-made.ensures.decisions) refl in
     let here : connection_at (place_of a) s ≡ Some talk =
@@ -36,39 +36,52 @@ returns c talk is_open =
     (sym (ap talk_in c.in-Some.is) ∙ (rw c.deref_mut.ensures.value at c.take.ensures.value)
     ∙ sym at) here in
     let comes : ComesTo now a own octets (done_of s c.new-made.result) why
-    (done_of t c.drain.new.made) =
-    ended-at c.drain.result (λ (xs : List (Option Talk)) (w : Option Why). ComesTo now a own octets
+    (done_of t c.handle_octets.new.made) =
+    ended-at c.handle_octets.result
+    (λ (xs : List (Option ConnectionState)) (w : Option Why). ComesTo now a own octets
     (done_of (state_view xs inside.state.value) c.new-made.result) w
-    (done_of (state_view xs c.drain.new.state) c.drain.new.made))
-    (rw c.deref_mut-2.ensures.value at c.drain.ensures.ok)
-    (rw c.deref_mut-2.ensures.value at c.drain.ensures.err) cs in
-    let wanted : ComesTo now a talk octets (nothing_done s) why (done_of t c.drain.new.made) =
-    subst (λ (u : Talk). ComesTo now a u octets (nothing_done s) why (done_of t c.drain.new.made))
+    (done_of (state_view xs c.handle_octets.new.state) c.handle_octets.new.made))
+    (rw c.deref_mut-2.ensures.value at c.handle_octets.ensures.ok)
+    (rw c.deref_mut-2.ensures.value at c.handle_octets.ensures.err) cs in
+    let wanted : ComesTo now a talk octets (nothing_done s) why
+    (done_of t c.handle_octets.new.made) =
+    subst (λ (u : ConnectionState). ComesTo now a u octets (nothing_done s) why
+    (done_of t c.handle_octets.new.made))
     same
-    (subst (λ (d : Done). ComesTo now a own octets d why (done_of t c.drain.new.made)) begun comes)
+    (subst (λ (d : Done). ComesTo now a own octets d why (done_of t c.handle_octets.new.made)) begun
+    comes)
     in
-    let left : c.finish.new.self ≡ recv_after a (left_by talk octets) t why =
+    let left : c.finish.new.self ≡ recv_after a (connection_after talk octets) t why =
     c.finish.ensures
-    ∙ ap (λ (w : Option Why). recv_after a c.drain.new.connection.talk
-    (state_view c.take.new.self c.drain.new.state) w) c.err-why.ensures.value
-    ∙ ap (λ (xs : List (Option Talk)). recv_after a c.drain.new.connection.talk
-    (state_view xs c.drain.new.state) why) (rw c.deref_mut.ensures.value at c.take.ensures.rest)
-    ∙ after-taken a place t c.drain.new.connection.talk why c.requires.here
-    ∙ left-if c.drain.result a t c.drain.new.connection.talk (left_by own octets)
-    c.drain.ensures.left
-    ∙ ap (λ (u : Talk). recv_after a (left_by u octets) t why) same in
+    ∙ ap (λ (w : Option Why). recv_after a c.handle_octets.new.connection.talk
+    (state_view c.take.new.self c.handle_octets.new.state) w) c.err-why.ensures.value
+    ∙ ap (λ (xs : List (Option ConnectionState)). recv_after a c.handle_octets.new.connection.talk
+    (state_view xs c.handle_octets.new.state) why)
+    (rw c.deref_mut.ensures.value at c.take.ensures.rest)
+    ∙ after-taken a place t c.handle_octets.new.connection.talk why c.requires.here
+    ∙ left-if c.handle_octets.result a t c.handle_octets.new.connection.talk
+    (connection_after own octets)
+    c.handle_octets.ensures.left
+    ∙ ap (λ (u : ConnectionState). recv_after a (connection_after u octets) t why) same in
     let whole =
     heard-from now a octets c.args.ended s c.finish.new.self talk why
-    (done_of t c.drain.new.made) wanted left in
+    (done_of t c.handle_octets.new.made) wanted left in
     let step : Step =
     record {
       ended = c.args.ended;
-      sent = c.drain.new.made.sent.items;
-      commands = c.drain.new.made.commands.items;
-      decisions = c.drain.new.made.decisions.items;
+      sent = c.handle_octets.new.made.sent.items;
+      commands = c.handle_octets.new.made.commands.items;
+      decisions = c.handle_octets.new.made.decisions.items;
       closed = closed_by a why;
       scan = None;
     } in
-    rw (c.new.ensures, c.new-2.ensures, c.new-3.ensures, c.closed_by.ensures, c.err-why.ensures.value)
-    (subst (λ (u : State). HearsFrom now a octets c.args.ended u talk step c.finish.new.self)
+    rw (
+      c.new.ensures,
+      c.new-2.ensures,
+      c.new-3.ensures,
+      c.closed_by.ensures,
+      c.err-why.ensures.value,
+    )
+    (subst (λ (u : State). HandlesOctetsFrom now a octets c.args.ended u talk step
+    c.finish.new.self)
     c.self.view_is whole)

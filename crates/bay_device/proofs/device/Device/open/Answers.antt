@@ -1,8 +1,8 @@
 use Rattle.std.proofs.Common.{◌≡◌, ℕ, List, Option, Some, None, Ok, Result, slice_set, subst, ap, sym, ◌∙◌}
 use Rattle.bay_connection.specs.Feeding.{Client}
-use Rattle.bay_connection.specs.Talk.{Talk}
+use Rattle.bay_connection.specs.ConnectionStates.{ConnectionState}
 use Rattle.bay_device.specs.Device.{State, device_at}
-use Rattle.bay_device.specs.Outcomes.{Outcome, connection_at, first_talk, open_outcome, place_of, with_connection}
+use Rattle.bay_device.specs.Outcomes.{Outcome, connection_at, initial_connection, open_outcome, place_of, with_connection}
 use Rattle.bay_device.specs.StateView.{state_view}
 use Rattle.bay_device.specs.Steps.{IsOutcome, quiet_answer}
 use Rattle.bay_device.specs.declared.event.Sent.{Sent}
@@ -36,13 +36,14 @@ returns c =
           ∙ ap (λ (o : Option Sent). quiet_answer (Ok o))
           (rw c.deref_mut.ensures.value at c.advance-ended.ensures.sent cs)
           ∙ sym (ap (λ (o : Outcome). o.answer) whole);
-      left = ap (λ (xs : List (Option Talk)). state_view xs c.advance-ended.new.self)
+      left = ap (λ (xs : List (Option ConnectionState)). state_view xs c.advance-ended.new.self)
           ((rw c.deref_mut-2.ensures.value at c.put.ensures)
           ∙ ap (λ (x : Client). slice_set cs place (Some x.talk))
           c.new-connection.ensures)
-          ∙ ap (with_connection (Some place) (Some (first_talk a)))
+          ∙ ap (with_connection (Some place) (Some (initial_connection a)))
           (rw c.deref_mut.ensures.value at c.advance-ended.ensures.after cs)
-          ∙ sym (ap (λ (o : Option ℕ). with_connection o (Some (first_talk a)) (device_at now s))
+          ∙ sym (ap (λ (o : Option ℕ). with_connection o (Some (initial_connection a))
+          (device_at now s))
           here)
           ∙ sym (ap (λ (o : Outcome). o.after) whole);
     })

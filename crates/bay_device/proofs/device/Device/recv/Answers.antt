@@ -4,7 +4,7 @@ use Rattle.std.proofs.lemmas.Bool.Decides.{nat_tests}
 use Rattle.bay_device.specs.Device.{State, device_at, ended_at}
 use Rattle.bay_device.specs.Outcomes.{connection_at, place_of}
 use Rattle.bay_device.specs.StateView.{state_view}
-use Rattle.bay_device.specs.Steps.{HearsFrom, Receives, quiet_answer}
+use Rattle.bay_device.specs.Steps.{HandlesOctetsFrom, Receives, quiet_answer}
 use Rattle.bay_device.specs.declared.event.Sent.{Sent}
 use Rattle.bay_device.specs.declared.event.Step.{Step}
 use Rattle.bay_device.specs.declared.fault.StepFault.{StepFault}
@@ -60,11 +60,13 @@ returns c =
     ap (λ (o : Option ℕ). connection_at o (state_view cs c.advance-ended.new.self)) here
     ∙ talk.1 in
     let heard = c.hear.ensures talk.0 still in
-    let own : HearsFrom now a octets (ended_at now s) (device_at now s) talk.0 c.hear.result
+    let own : HandlesOctetsFrom now a octets (ended_at now s) (device_at now s) talk.0 c.hear.result
     c.hear.new.self =
-    subst (λ (o : Option Sent). HearsFrom now a octets o (device_at now s) talk.0 c.hear.result
+    subst (λ (o : Option Sent). HandlesOctetsFrom now a octets o (device_at now s) talk.0
+    c.hear.result
     c.hear.new.self) (rw c.deref_mut.ensures.value at c.advance-ended.ensures.sent cs)
-    (subst (λ (t : State). HearsFrom now a octets c.advance-ended.result t talk.0 c.hear.result
+    (subst (λ (t : State). HandlesOctetsFrom now a octets c.advance-ended.result t talk.0
+    c.hear.result
     c.hear.new.self) after heard) in
     subst (λ (t : State). Receives now a octets t (Ok c.hear.result) c.hear.new.self) c.self.view_is
     (received now a octets s c.hear.new.self talk.0 c.hear.result some lent own)

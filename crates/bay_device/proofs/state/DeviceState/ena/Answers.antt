@@ -2,7 +2,7 @@ use Rattle.std.proofs.Common.{◌≡◌, ◌<◌, Bool, cond, nat_lt, length, Op
 use Rattle.std.proofs.lemmas.Bool.Decides.{nat_tests}
 use Rattle.std.proofs.lemmas.List.{length-map}
 use Rattle.bay_process.specs.Layout.{switches_of}
-use Rattle.bay_process.specs.Told.{enabled_at, enabled_from}
+use Rattle.bay_process.specs.ReportedRows.{enabled_at, enabled_from}
 use Rattle.bay_process.specs.declared.switch.BoundSwitch.{BoundSwitch}
 use Rattle.bay_process.specs.declared.switch.Enabled.{Enabled}
 use Rattle.bay_process.proofs.KeptLemmas.{from-shown}
@@ -25,7 +25,8 @@ get-enabled-requires-clause-within c =
       c.if-switch-as_slice.false,
       lent,
       many,
-      places-sized (switches_of d.bay.switches) (enabled_from d.bay.tree 0 (switches_of d.bay.switches))
+      places-sized (switches_of d.bay.switches)
+          (enabled_from d.bay.tree 0 (switches_of d.bay.switches))
           d.releases.text.items d.releases.places.items d.released.shows,
     )
 

@@ -2,7 +2,7 @@ use Rattle.std.proofs.Common.{◌≡◌, ◌<◌, ◌≤◌, ◌+◌, List, [], 
 use Rattle.std.proofs.Math.ListN.{drop_of_length-le}
 use Rattle.std.proofs.lemmas.List.{length-map}
 use Rattle.bay_tree.specs.declared.leaf.Dbpos.TheVariants.{Bad}
-use Rattle.bay_connection.specs.Talk.{Talk}
+use Rattle.bay_connection.specs.ConnectionStates.{ConnectionState}
 use Rattle.bay_process.specs.Layout.{switches_of}
 use Rattle.bay_process.specs.declared.switch.BoundSwitch.{BoundSwitch}
 use Rattle.bay_device.specs.Device.{State, contact_taken, positions_lost}
@@ -29,7 +29,7 @@ loop-switch-preserved c =
     let here = switch-there d.bay.switches k within in
     let own : slice_get (switches_of c.loop-switch.self.bay.switches) k ≡ Some here.0 =
     ap (λ xs. slice_get xs k) c.loop-switch.invariant.switches ∙ here.1 in
-    let took : (connections : List (Option Talk))
+    let took : (connections : List (Option ConnectionState))
     → state_view connections c.take_contact.new.self
     ≡ contact_taken c.args.now k here.0 Bad (state_view connections c.loop-switch.self) =
     λ connections. c.take_contact.ensures.after connections here.0 own in

@@ -8,7 +8,7 @@ use Rattle.bay_process.specs.declared.meter.BoundMeter.{BoundMeter}
 use Rattle.bay_process.proofs.ListLemmas.{got-some}
 use Rattle.bay_process.proofs.KeptLemmas.{kept-stays}
 use Rattle.bay_process.proofs.ToldLemmas.{keeps-measure, field-away}
-use Rattle.bay_services.specs.Bay.{Bay}
+use Rattle.bay_mms_services.specs.Bay.{Bay}
 use Rattle.bay_device.specs.Device.{State, measure_taken, with_bay}
 use Rattle.bay_device.specs.Outcomes.{Outcome, measure_outcome}
 use Rattle.bay_device.specs.StateView.{state_view}

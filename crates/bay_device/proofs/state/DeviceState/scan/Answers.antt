@@ -1,7 +1,7 @@
 use Rattle.std.proofs.Common.{map, Some, false, refl, ap, sym, ◌∙◌}
 use Rattle.il_image.specs.Images.{Image}
 use Rattle.il_scan.specs.Scans.{outputs_of, read_only, type_of_point}
-use Rattle.bay_services.specs.Bay.{Bay}
+use Rattle.bay_mms_services.specs.Bay.{Bay}
 use Rattle.bay_device.specs.Device.{Ran, State, with_bay}
 use Rattle.bay_device.specs.StateView.{state_view}
 use Rattle.bay_process.specs.Layout.{layout_of}

@@ -3,7 +3,7 @@ use Rattle.bay_control.specs.Decisions.{is_done}
 use Rattle.bay_process.specs.Layout.{switches_of}
 use Rattle.bay_process.proofs.KeptLemmas.{kept-stays}
 use Rattle.bay_process.proofs.ToldLemmas.{keeps-contact}
-use Rattle.bay_services.specs.Bay.{Bay}
+use Rattle.bay_mms_services.specs.Bay.{Bay}
 use Rattle.bay_device.specs.Device.{reached_report}
 use Rattle.bay_device.specs.declared.event.Sent.{Sent}
 use Rattle.bay_device.proofs.HeldLemmas.{contact-held}
@@ -67,7 +67,7 @@ returns-then-contact-clause-sent c connections =
     let done : is_done c.args.switch c.args.position d.bay.controls.execution ≡ true =
     sym (ap (λ (b : Bay). is_done c.args.switch c.args.position b.controls.execution)
     (c.contact-changed.ensures.after s.0 s.1)) ∙ sym c.contact.ensures.ended ∙ c.if-contact.true in
-    c.reached.ensures.sent ∙ sym
+    c.report_reached.ensures.sent ∙ sym
     (ap (λ (b : Bool). let o : Option Sent = cond b (reached_report d.due) None in o) done)
 
 pub returns-else-contact-clause-sent : goal.returns-else-contact-clause-sent

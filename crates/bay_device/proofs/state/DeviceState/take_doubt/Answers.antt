@@ -5,7 +5,7 @@ use Rattle.bay_process.specs.Names.{field_names}
 use Rattle.bay_process.specs.declared.meter.BoundMeter.{BoundMeter}
 use Rattle.bay_process.proofs.KeptLemmas.{kept-stays}
 use Rattle.bay_process.proofs.ToldLemmas.{keeps-doubt, field-away}
-use Rattle.bay_services.specs.Bay.{Bay}
+use Rattle.bay_mms_services.specs.Bay.{Bay}
 use Rattle.bay_device.specs.Device.{State, doubt_taken, with_bay}
 use Rattle.bay_device.specs.StateView.{state_view}
 use Rattle.bay_device.proofs.HeldLemmas.{all-noted}

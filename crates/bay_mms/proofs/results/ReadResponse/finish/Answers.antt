@@ -13,7 +13,7 @@ wrap-requires-3-clause-room c =
       arith,
       c.wrap.ensures.few,
       c.wrap-2.ensures.few,
-      number-few c.wrap-2.new.self _ int_tag (pos c.args.id) c.front_id.ensures,
+      number-few c.wrap-2.new.self _ int_tag (pos c.args.id) c.prepend_id.ensures,
     )
 
 pub returns : goal.returns
@@ -23,7 +23,7 @@ returns c =
     (λ (m : Option (List ℕ)). Gives OutOfMemory (λ (octets : List ℕ). octets)
     c.finish.result (or_long m))
     (response-is c.args.id c.self.inside.results c.wrap.new.self c.wrap-2.new.self
-    c.front_id.new.writer c.wrap-3.new.self c.self.invariant c.wrap.ensures.limit
+    c.prepend_id.new.writer c.wrap-3.new.self c.self.invariant c.wrap.ensures.limit
     (rw c.context_constructed.ensures at c.wrap.ensures.message) c.wrap-2.ensures.limit
-    (rw c.context_constructed-2.ensures at c.wrap-2.ensures.message) c.front_id.ensures
+    (rw c.context_constructed-2.ensures at c.wrap-2.ensures.message) c.prepend_id.ensures
     (rw c.context_constructed-3.ensures at c.wrap-3.ensures.message)) c.finish.ensures)

@@ -56,4 +56,5 @@ returns c ss told s =
     (second ∙ ap (λ a. slice_index_or text (a + 1) 0) at ∙ t.3) in
     t.1 ∙ sym (ap (λ b. let e : Enabled =
     record { may_open = b; may_close = nat_eq c.index-2.result.now 49 } in Some e) opens
-    ∙ ap (λ b. let e : Enabled = record { may_open = t.0.may_open; may_close = b } in Some e) closes)
+    ∙ ap (λ b. let e : Enabled = record { may_open = t.0.may_open; may_close = b } in Some e)
+    closes)

@@ -1,6 +1,6 @@
 use Rattle.std.proofs.Common.{rules, ◌≡◌, ◌<◌, ◌/◌, ◌∙◌, length, length-take, take, ap, arith}
 use Rattle.bay_trace.specs.Digits.{octets_in}
-use Rattle.bay_trace.specs.Placing.{LineRoom}
+use Rattle.bay_trace.specs.Resolving.{LineRoom}
 use Rattle.bay_trace.proofs.DigitLemmas.{front-of, octets-half}
 use Rattle.bay_trace.proofs.octets.LineOctets.read.Goals as goal
 

@@ -1,5 +1,5 @@
 use Rattle.std.proofs.lemmas.Result.{err_from_is_err_and}
-use Rattle.bay_transport.specs.declared.frame.Front.TheVariants.{Begun, Whole}
+use Rattle.bay_transport.specs.declared.frame.FramePrefix.TheVariants.{Begun, Whole}
 use Rattle.bay_transport.proofs.AssemblyLemmas.{front-seen, takes-more, takes-whole, refuses-whole}
 use Rattle.bay_transport.proofs.assembly.Assembly.step.Goals as goal
 

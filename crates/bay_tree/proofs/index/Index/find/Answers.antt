@@ -25,10 +25,12 @@ next : (c : goal.After-at-in-Some-1)
 next c =
     let rows = c.args.rows.now in
     let place = c.in-Some.place in
-    let at = subst (IsSought rows c.args.self.now c.args.name.now) c.in-Some.is c.loop-at.invariant in
+    let at =
+    subst (IsSought rows c.args.self.now c.args.name.now) c.in-Some.is c.loop-at.invariant in
     let within : place < length rows = at.there.0 in
     let row =
-    get_or_default rows place c.index-rows-place.result (record { name = []; leaf = None }) within in
+    get_or_default rows place c.index-rows-place.result (record { name = []; leaf = None }) within
+    in
     let other : name_at rows place ≢ c.args.name.now = λ same.
     let passes = (bytes_eq-Decides c.as_bytes.result.now c.args.name.now).1
     (c.as_bytes.ensures.value ∙ c.as_str.ensures ∙ ap (λ (r : Row). r.name) row ∙ same) in

@@ -7,7 +7,8 @@ use Rattle.bay_tree.proofs.tree.Tree.find_octets.Goals as goal
 
 place : (c : goal.In-Some) → place_of c.args.self.now c.args.name.now ≡ Some c.in-Some.index
 place c =
-    ap (λ (rs : List Row). place_of rs c.args.name.now) (sym (c.deref.ensures.value ∙ c.self.view_is))
+    ap (λ (rs : List Row). place_of rs c.args.name.now)
+    (sym (c.deref.ensures.value ∙ c.self.view_is))
     ∙ sym c.in-Some.ensures
 
 pub returns-in-Some-clause-found : goal.returns-in-Some-clause-found

@@ -8,7 +8,7 @@ use Rattle.il_check.specs.Faults.{first_fault_of}
 use Rattle.il_check.specs.NamesView.{names_of}
 use Rattle.il_check.specs.Program.{Entry}
 use Rattle.il_check.specs.ProgramViews.{entry_view}
-use Rattle.il_check.specs.WellTyped.{closing_faults, entry_left, type_behind}
+use Rattle.il_check.specs.WellTyped.{closing_faults, entry_left, type_after_entry}
 use Rattle.il_check.proofs.NotedLemmas.{noted-after}
 use Rattle.il_check.proofs.WalkLemmas.{deep-found, looked-found, entries-more, entries-left}
 use Rattle.il_check.proofs.walk.Judge.+entries.Goals as goal
@@ -62,7 +62,7 @@ pub entry-returns-in-Instruction-clause-kind : goal.entry-returns-in-Instruction
 entry-returns-in-Instruction-clause-kind t c =
     subst
     (λ (e : text.Entry). IfOk c.operate.result
-    (λ l. l.kind ≡ type_behind (names_of c.args.names.now) e c.args.kind))
+    (λ l. l.kind ≡ type_after_entry (names_of c.args.names.now) e c.args.kind))
     (sym (ap entry_of c.in-Instruction.is
     ∙ view_instruction c.in-Instruction.line c.in-Instruction.instruction))
     c.operate.ensures.kind

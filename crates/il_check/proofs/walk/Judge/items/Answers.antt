@@ -2,7 +2,7 @@ use Rattle.std.proofs.Common.{arith, ap, refl, map, ◌++◌, ◌∙◌}
 use Rattle.il_text.specs.Views.{entry_of}
 use Rattle.il_check.specs.ProgramViews.{item_view}
 use Rattle.il_check.specs.NamesView.{names_of}
-use Rattle.il_check.specs.WellTyped.{first, items_left}
+use Rattle.il_check.specs.WellTyped.{first, progress_after_items}
 use Rattle.il_check.proofs.WalkLemmas.{items-more, items-left, items-found}
 use Rattle.il_check.proofs.walk.Judge.items.Goals as goal
 
@@ -23,7 +23,7 @@ loop-item-preserved c =
 pub loop-item-init : goal.loop-item-init
 loop-item-init c = record {
   left = λ none. ap (λ xs. map item_view xs
-      ++ items_left (names_of c.args.names.now) (map entry_of c.args.items.now)
+      ++ progress_after_items (names_of c.args.names.now) (map entry_of c.args.items.now)
       (first c.args.arrivals.items)) c.new.ensures.items;
   found = refl;
   few = omega arith;

@@ -5,7 +5,7 @@ use Rattle.il_image.specs.declared.image.ImagePoint.{ImagePoint}
 use Rattle.il_scan.specs.Places.{output_value}
 use Rattle.il_scan.specs.PointPlaces.{AllBelow}
 use Rattle.il_scan.specs.Scans.{Held, outputs_of}
-use Rattle.il_scan.specs.Standing.{AreWords}
+use Rattle.il_scan.specs.MachineStates.{AreWords}
 use Rattle.il_scan.proofs.PlaceLemmas.{outputs-placed, writes-below}
 use Rattle.il_scan.proofs.ScanLemmas.{points-words}
 use Rattle.il_scan.proofs.SlotLemmas.{held-points, outputs_are}

@@ -1,8 +1,0 @@
-use Rattle.bay_audit.proofs.ToldLemmas.{cases-told, examples-there}
-use Rattle.bay_audit.proofs.laws.cases_are_told.Goals as goal
-
-pub returns-clause-told : goal.returns-clause-told
-returns-clause-told c = cases-told
-
-pub returns-clause-examples : goal.returns-clause-examples
-returns-clause-examples c = examples-there

@@ -1,8 +1,0 @@
-use Rattle.std.proofs.Common.{ap}
-use Rattle.std.specs.Prelude.{is_some}
-use Rattle.bay_audit.proofs.until.borne.Goals as goal
-
-pub returns-in-Some : goal.returns-in-Some
-returns-in-Some c =
-    let both = c.in_ok-more.ensures (ap is_some c.in-Some.is) in
-    record { late_so = both.0; there_so = c.requires; idle_so = both.1 }

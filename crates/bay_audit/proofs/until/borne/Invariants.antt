@@ -1,4 +1,0 @@
-use Rattle.bay_audit.proofs.until.borne.Given as goal
-
-abbrev pub invariant-loop-timer : goal.invariant-loop-timer
-invariant-loop-timer l = Unit {0}

@@ -1,0 +1,175 @@
+-- How the code goes once through the tokens of a condition, from the left, with a stack of pending
+-- operators. The grammar defines their meaning; this defines how the code finds it.
+use Rattle.std.specs.Prelude.{ℕ, zero, suc, Bool, true, false, List, [], ◌∷◌, Option, None, Some, option_map}
+use Rattle.bay_audit_rules.specs.declared.draft.Pending.{Pending}
+use Rattle.bay_audit_rules.specs.declared.draft.Pending.TheVariants as waits
+use Rattle.bay_audit_rules.specs.declared.rule.ConditionItem.TheVariants as items
+use Rattle.bay_audit_rules.specs.declared.rule.Relation.{Relation}
+use Rattle.bay_audit_rules.specs.declared.token.Connector.TheVariants.{And, Or, End}
+use Rattle.bay_audit_rules.specs.declared.token.NamedObject.{NamedObject}
+use Rattle.bay_audit_rules.specs.declared.token.RuleToken.{RuleToken}
+use Rattle.bay_audit_rules.specs.declared.token.RuleToken.TheVariants as token
+use Rattle.bay_audit_rules.specs.declared.token.TestValue.{TestValue}
+use Rattle.bay_audit_rules.specs.declared.token.TestValue.TheVariants.{Truth, Number}
+use Rattle.bay_audit_rules.specs.Facts.{Items, ◌⊕◌, item, negation, value_items, relation_items}
+use Rattle.bay_audit_rules.specs.Grammar.{value_of}
+
+-- items, and the number of tokens that they were read from
+abbrev pub Taken : Type 0
+Taken = Items × ℕ
+
+-- a further value and those after it; none if the token is no value
+abbrev pub value_at : NamedObject → Option TestValue → Taken → Taken
+value_at named None more = (Some [], 0)
+value_at named (Some value) more =
+    (value_items named value ⊕ item items.Or ⊕ more.0, suc (suc more.1))
+
+-- the further values at the start of the tokens
+abbrev pub more_at : NamedObject → List RuleToken → Taken
+more_at named (token.Bar ∷ (t ∷ ts)) = value_at named (value_of t) (more_at named ts)
+more_at named other = (Some [], 0)
+
+-- the values at the start of the tokens, if there is one
+abbrev pub first_at : NamedObject → Bool → Option TestValue → List RuleToken → Option Taken
+first_at named negated None ts = None
+first_at named negated (Some value) ts =
+    let more = more_at named ts in
+    Some (value_items named value ⊕ more.0 ⊕ negation negated, suc more.1)
+
+abbrev pub values_at : NamedObject → Bool → List RuleToken → Option Taken
+values_at named negated [] = None
+values_at named negated (t ∷ ts) = first_at named negated (value_of t) ts
+
+-- the same with one more token
+abbrev pub behind : Option Taken → Option Taken
+behind = option_map (λ taken. (taken.0, suc taken.1))
+
+-- an input alone, unless values follow
+abbrev pub or_alone : NamedObject → Option Taken → Option Taken
+or_alone named (Some taken) = Some taken
+or_alone named None = Some (value_items named (Truth true), 0)
+
+-- the values after `is`, with an optional `not`
+abbrev pub is_at : NamedObject → List RuleToken → Option Taken
+is_at named (token.Not ∷ ts) = behind (values_at named true ts)
+is_at named ts = values_at named false ts
+
+-- the number after a relation
+abbrev pub number_at : NamedObject → Relation → List RuleToken → Option Taken
+number_at named relation (token.TestValue (Number n) ∷ ts) =
+    Some (relation_items named relation n, 1)
+number_at named relation ts = None
+
+-- the fact at the start of the tokens, after its name
+abbrev pub fact_at : NamedObject → List RuleToken → Option Taken
+fact_at named (token.Relation relation ∷ ts) = behind (number_at named relation ts)
+fact_at named (token.Is ∷ ts) = behind (is_at named ts)
+fact_at named (token.Not ∷ ts) = behind (values_at named true ts)
+fact_at named ts = or_alone named (values_at named false ts)
+
+-- the last pending operator or parenthesis, and those below it
+abbrev pub first_of : List Pending → Option Pending
+first_of [] = None
+first_of (wait ∷ pending) = Some wait
+
+abbrev pub rest_of : List Pending → List Pending
+rest_of [] = []
+rest_of (wait ∷ pending) = pending
+
+-- the pending operators and parentheses, the last first, and the items so far
+pub record State : Type 0 where
+  pub pending : List Pending
+  pub items : Items
+
+abbrev pub state : List Pending → Items → State
+state pending c = record { pending = pending; items = c }
+
+-- an operand is complete: the operators that are pending for it alone are appended
+abbrev pub settled : List Pending → Items → State
+settled (waits.Not ∷ pending) c = settled pending (c ⊕ item items.Not)
+settled (waits.And ∷ pending) c = settled pending (c ⊕ item items.And)
+settled pending c = state pending c
+
+-- operands joined by `and` are complete: the `or` that is pending for them is appended
+abbrev pub closed : State → State
+closed s = closing s.pending s.items
+  where
+    closing : List Pending → Items → State
+    closing (waits.Or ∷ pending) c = state pending (c ⊕ item items.Or)
+    closing pending c = state pending c
+
+-- the result of reading tokens: the items of a condition, and the tokens after it
+abbrev pub Found : Type 0
+Found = Option (Items × List RuleToken)
+
+-- a condition is complete if nothing is pending
+abbrev pub finished : State → List RuleToken → Found
+finished s rest = alone s.pending s.items
+  where
+    alone : List Pending → Items → Found
+    alone [] c = Some (c, rest)
+    alone (wait ∷ pending) c = None
+
+abbrev pub finish : State → List RuleToken → Found
+finish s rest = finished (closed s) rest
+
+-- the state of the reader: an operand is expected; or an operand is complete, and k of its tokens
+-- are still to be skipped; or the condition has ended
+pub data Phase : Type 0 where
+  expects : Phase
+  passes : ℕ → Phase
+  over : Found → Phase
+
+-- an operand is expected
+abbrev pub expecting : List Pending → Items → Phase × State
+expecting pending c = (expects, state pending c)
+
+-- after the fact at the start of the tokens
+abbrev pub took : State → Option Taken → Phase × State
+took s None = (over None, s)
+took s (Some taken) = (passes taken.1, settled s.pending (s.items ⊕ taken.0))
+
+-- a token where an operand is expected
+abbrev pub operand_at : State → RuleToken → List RuleToken → Phase × State
+operand_at s (token.Name named) ts = took s (fact_at named ts)
+operand_at s token.Not ts = expecting (waits.Not ∷ s.pending) s.items
+operand_at s token.Begin ts = expecting (waits.Begin ∷ s.pending) s.items
+operand_at s other ts = (over None, s)
+
+-- a `)` closes the last `(`
+abbrev pub ended : State → Phase × State
+ended s = last s.pending s.items
+  where
+    last : List Pending → Items → Phase × State
+    last (waits.Begin ∷ pending) c = (passes 0, settled pending c)
+    last pending c = (over None, s)
+
+-- a token after an operand
+abbrev pub behind_at : State → RuleToken → List RuleToken → Phase × State
+behind_at s (token.Connector And) ts = expecting (waits.And ∷ s.pending) s.items
+behind_at s (token.Connector Or) ts =
+    let last = closed s in expecting (waits.Or ∷ last.pending) last.items
+behind_at s (token.Connector End) ts = ended (closed s)
+behind_at s other ts = (over (finish s (other ∷ ts)), s)
+
+-- a token
+abbrev pub next : Phase → State → RuleToken → List RuleToken → Phase × State
+next expects s t ts = operand_at s t ts
+next (passes zero) s t ts = behind_at s t ts
+next (passes (suc k)) s t ts = (passes k, s)
+next (over found) s t ts = (over found, s)
+
+-- the end of the tokens
+abbrev pub at_end : Phase → State → Found
+at_end expects s = None
+at_end (passes k) s = finish s []
+at_end (over found) s = found
+
+-- all tokens
+abbrev pub run : Phase → State → List RuleToken → Found
+run phase s [] = at_end phase s
+run phase s (t ∷ ts) = let then = next phase s t ts in run then.0 then.1 ts
+
+-- the condition at the start of the tokens
+unfoldable pub condition_at : List RuleToken → Found
+condition_at ts = run expects (state [] (Some [])) ts

@@ -1,0 +1,96 @@
+-- How the code reads the tokens of a line from the left. The grammar defines their meaning; this
+-- defines how the code finds it.
+use Rattle.std.specs.Prelude.{Bool, true, false, List, [], ◌∷◌, drop, Option, None, Some, option_map, if◌then◌else◌}
+use Rattle.bay_base.specs.Options.{◌>>=◌}
+use Rattle.bay_audit_rules.specs.declared.rule.ConditionItem.TheVariants as items
+use Rattle.bay_audit_rules.specs.declared.rule.RuleKind.{RuleKind}
+use Rattle.bay_audit_rules.specs.declared.rule.RuleKind.TheVariants.{Never, Always}
+use Rattle.bay_audit_rules.specs.declared.statement.Since.{Since}
+use Rattle.bay_audit_rules.specs.declared.statement.RuleStatement.{RuleStatement}
+use Rattle.bay_audit_rules.specs.declared.statement.RuleStatement.TheVariants.{Silence, Looks, Rule}
+use Rattle.bay_audit_rules.specs.declared.statement.Directions.{Directions}
+use Rattle.bay_audit_rules.specs.declared.statement.Directions.TheVariants.{Opening, Closing, OpeningAndClosing, ClosingAndOpening}
+use Rattle.bay_audit_rules.specs.declared.token.NamedObject.{NamedObject}
+use Rattle.bay_audit_rules.specs.declared.token.RuleToken.{RuleToken}
+use Rattle.bay_audit_rules.specs.declared.token.RuleToken.TheVariants as token
+use Rattle.bay_audit_rules.specs.Facts.{Items, item}
+use Rattle.bay_audit_rules.specs.Running.{fact_at, condition_at}
+
+-- the directions at the start of the tokens, and the rest
+abbrev pub open_ways : List RuleToken → Directions × List RuleToken
+open_ways (token.Bar ∷ (token.Close ∷ ts)) = (OpeningAndClosing, ts)
+open_ways ts = (Opening, ts)
+
+abbrev pub close_ways : List RuleToken → Directions × List RuleToken
+close_ways (token.Bar ∷ (token.Open ∷ ts)) = (ClosingAndOpening, ts)
+close_ways ts = (Closing, ts)
+
+abbrev pub directions_at : List RuleToken → Option (Directions × List RuleToken)
+directions_at (token.Open ∷ ts) = Some (open_ways ts)
+directions_at (token.Close ∷ ts) = Some (close_ways ts)
+directions_at ts = None
+
+-- `for` and a time after a condition, and the rest
+abbrev pub time_behind : Items → List RuleToken → Option (Since × List RuleToken)
+time_behind c (token.For ∷ (token.Time time ∷ ts)) =
+    Some (record { condition = c; time = time }, ts)
+time_behind c ts = None
+
+abbrev pub since_at : List RuleToken → Option (Since × List RuleToken)
+since_at ts = condition_at ts >>= λ found. time_behind found.0 found.1
+
+-- two kinds are equal
+abbrev pub same_kind : RuleKind → RuleKind → Bool
+same_kind Never Never = true
+same_kind Always Always = true
+same_kind a b = false
+
+-- the time at the start of the tokens, if there is one, and the rest
+abbrev pub timed_at : RuleKind → List RuleToken → Option (Option Since × List RuleToken)
+timed_at kind (token.Since which ∷ ts) =
+    if same_kind kind which then option_map (λ one. (Some one.0, one.1)) (since_at ts) else None
+timed_at kind ts = Some (None, ts)
+
+-- the items, if no tokens follow
+abbrev pub alone : Items → List RuleToken → Option Items
+alone c [] = Some c
+alone c (t ∷ ts) = None
+
+-- the condition on the states that a rule covers
+abbrev pub when_at : List RuleToken → Option Items
+when_at [] = Some (item items.True)
+when_at (token.When ∷ ts) = condition_at ts >>= λ found. alone found.0 found.1
+when_at ts = None
+
+-- the values of a `look` line
+abbrev pub looks_at : NamedObject → List RuleToken → Option RuleStatement
+looks_at named ts =
+    option_map Looks (fact_at named ts >>= λ taken. alone taken.0 (drop taken.1 ts))
+
+-- a rule
+abbrev pub rule_at : RuleKind → NamedObject → List RuleToken → Option RuleStatement
+rule_at kind named ts =
+    directions_at ts >>= λ ways. timed_at kind ways.1 >>= λ timed. option_map
+    (λ when. Rule (record {
+      kind = kind;
+      named = named;
+      ways = ways.0;
+      timed = timed.0;
+      when = when;
+    })) (when_at timed.1)
+
+-- how the tokens after `look` are read, and those after `never` and `always`
+abbrev pub look_at : List RuleToken → Option RuleStatement
+look_at (token.Name named ∷ ts) = looks_at named ts
+look_at ts = None
+
+abbrev pub kind_at : RuleKind → List RuleToken → Option RuleStatement
+kind_at kind (token.Name named ∷ ts) = rule_at kind named ts
+kind_at kind ts = None
+
+-- how all tokens of a line are read
+abbrev pub statement_at : List RuleToken → Option RuleStatement
+statement_at [] = Some Silence
+statement_at (token.Look ∷ ts) = look_at ts
+statement_at (token.Kind kind ∷ ts) = kind_at kind ts
+statement_at ts = None

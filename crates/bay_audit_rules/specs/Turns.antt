@@ -1,0 +1,38 @@
+-- The results of the parts of the condition reader, in terms of `Running`.
+use Rattle.std.specs.Prelude.{◌≡◌, ℕ, Bool, true, false, List, ◌∷◌, drop, Option, None, Some}
+use Rattle.std.specs.Borrow.{Bor}
+use Rattle.bay_audit_rules.specs.declared.condition.Advance.{Advance}
+use Rattle.bay_audit_rules.specs.declared.condition.Advance.TheVariants.{On, Stop, Refuse}
+use Rattle.bay_audit_rules.specs.declared.token.RuleToken.{RuleToken}
+use Rattle.bay_audit_rules.specs.Facts.{Items, ◌⊕◌}
+use Rattle.bay_audit_rules.specs.Running.{Taken, State, Phase, expects, passes, over, Found, finish}
+
+-- the tokens at the start were consumed, and their items appended
+pub record Took (taken : Taken) (old new : Items) (ts left : List RuleToken) : Type 0 where
+  pub items : new ≡ old ⊕ taken.0
+  pub rest : left ≡ drop taken.1 ts
+
+-- the same, if there are such tokens
+abbrev pub TookIf : Option Taken → Items → Items → List RuleToken → Option (Bor (List RuleToken))
+    → Type 0
+TookIf None old new ts None = new ≡ old
+TookIf None old new ts (Some rest) = ⊥
+TookIf (Some taken) old new ts None = ⊥
+TookIf (Some taken) old new ts (Some rest) = Took taken old new ts rest.now
+
+-- the phase after an operand, or with an operand expected
+abbrev pub phase_of : Bool → Phase
+phase_of true = expects
+phase_of false = passes 0
+
+-- one token leads where the definition leads
+abbrev pub Goes : Advance → State → RuleToken → List RuleToken → Phase × State → Type 0
+Goes (On true rest) new t ts then = (then ≡ (expects, new)) × (rest.now ≡ ts)
+Goes (On false rest) new t ts then = (k : ℕ) × (then ≡ (passes k, new)) × (rest.now ≡ drop k ts)
+Goes Stop new t ts then = then ≡ (over (finish new (t ∷ ts)), new)
+Goes Refuse new t ts then = then.0 ≡ over None
+
+-- a condition was found, and its items are in the draft
+abbrev pub FoundIf : Found → Items → Option (Bor (List RuleToken)) → Type 0
+FoundIf found new None = found ≡ None
+FoundIf found new (Some rest) = found ≡ Some (new, rest.now)

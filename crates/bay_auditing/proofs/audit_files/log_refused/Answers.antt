@@ -1,7 +1,0 @@
-use Rattle.std.proofs.Common.{sym}
-use Rattle.bay_auditing.proofs.audit_files.log_refused.Goals as goal
-
-pub returns : goal.returns
-returns g c =
-    rw (c.in-Some.is, sym c.in-Some-code.ensures)
-    (rw (c.from.ensures, c.line.ensures, c.fault_words.ensures) at c.log.ensures)

@@ -1,9 +1,0 @@
-use Rattle.bay_auditing.proofs.BayNameLemmas.{bays-have-words}
-use Rattle.bay_auditing.proofs.NameLemmas.{names-are-words}
-use Rattle.bay_auditing.proofs.laws.names_are_words.Goals as goal
-
-pub returns-clause-program : goal.returns-clause-program
-returns-clause-program c = names-are-words
-
-pub returns-clause-bay : goal.returns-clause-bay
-returns-clause-bay c = bays-have-words

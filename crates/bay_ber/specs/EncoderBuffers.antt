@@ -1,0 +1,113 @@
+-- The buffer of a writer, as a value.
+use Rattle.std.specs.Prelude.{ℕ, ◌≡◌, ◌+◌, ◌-◌, ◌^◌, ◌<◌, ◌≤◌, Bool, true, false, List, [], ◌∷◌, ◌++◌, length, take, drop, get_or, nat_lt, if◌then◌else◌, Option, Some, None}
+use Rattle.bay_base.specs.Options.{◌>>=◌}
+use Rattle.bay_ber.specs.declared.tag.Tag.{Tag}
+use Rattle.bay_ber.specs.Writing.{length_octets, element}
+
+-- ---- own: the buffer of a writer
+
+-- A text of at most `limit` octets, or None if it got longer, and the headers before it, which do
+-- not count.
+pub record EncoderBuffer : Type 0 where
+  pub limit : ℕ
+  pub heads : List ℕ
+  pub text : Option (List ℕ)
+
+-- a buffer with an empty text and no headers
+abbrev pub empty : ℕ → EncoderBuffer
+empty limit = record { limit = limit; heads = []; text = Some [] }
+
+-- a text, or None if it is longer than the limit
+abbrev pub within : ℕ → List ℕ → Option (List ℕ)
+within limit text = if nat_lt limit (length text) then None else Some text
+
+-- a text with octets appended, or None if it gets longer than the limit
+abbrev pub text_with : ℕ → Option (List ℕ) → List ℕ → Option (List ℕ)
+text_with limit None octets = None
+text_with limit (Some text) octets =
+    if nat_lt (limit - length text) (length octets) then None else Some (text ++ octets)
+
+-- the buffer with octets appended to its text
+unfoldable pub sheet_with : EncoderBuffer → List ℕ → EncoderBuffer
+sheet_with sheet octets =
+    record {
+      limit = sheet.limit;
+      heads = sheet.heads;
+      text = text_with sheet.limit sheet.text octets;
+    }
+
+-- a value: a tag's octet, the shortest length, and the content
+unfoldable pub short_value : ℕ → List ℕ → List ℕ
+short_value octet content = octet ∷ (length_octets (length content) ++ content)
+
+-- the text with the octets after position `start + 2` as the content of the value whose tag octet
+-- is at `start`; None if that is longer than the limit
+abbrev pub rewritten : ℕ → Option (List ℕ) → ℕ → Option (List ℕ)
+rewritten limit None start = None
+rewritten limit (Some text) start =
+    within limit (take start text ++ short_value (get_or text start 0) (drop (start + 2) text))
+
+-- the buffer with the value at `start` closed: all octets after its tag and the placeholder of its
+-- length become its content
+unfoldable pub close_sheet : EncoderBuffer → ℕ → EncoderBuffer
+close_sheet sheet start =
+    record {
+      limit = sheet.limit;
+      heads = sheet.heads;
+      text = rewritten sheet.limit sheet.text start;
+    }
+
+-- the position is the length of the text, if there is one
+abbrev pub IsLength : ℕ → Option (List ℕ) → Type 0
+IsLength place None = Unit {0}
+IsLength place (Some text) = place ≡ length text
+
+-- the position is the end of the text, if there is one
+unfoldable pub IsEnd : ℕ → EncoderBuffer → Type 0
+IsEnd place sheet = IsLength place sheet.text
+
+-- the text, if there is one, has two octets at the position
+abbrev pub HasTwoAt : ℕ → Option (List ℕ) → Type 0
+HasTwoAt place None = Unit {0}
+HasTwoAt place (Some text) = place + 2 ≤ length text
+
+-- the text, if there is one, has room at the position for a tag and the placeholder of the length
+unfoldable pub IsOpen : ℕ → EncoderBuffer → Type 0
+IsOpen place sheet = HasTwoAt place sheet.text
+
+-- the text after the headers, if there is one
+abbrev pub behind : List ℕ → Option (List ℕ) → Option (List ℕ)
+behind heads None = None
+behind heads (Some text) = Some (heads ++ text)
+
+-- the message: the headers followed by the text, if there is one
+unfoldable pub message : EncoderBuffer → Option (List ℕ)
+message sheet = behind sheet.heads sheet.text
+
+-- a message as the content of a value, or None if that is longer than the limit
+abbrev pub value_around : Tag → ℕ → Option (List ℕ) → Option (List ℕ)
+value_around tag limit text = text >>= λ octets. within limit (element tag octets)
+
+-- the text, or None if it got too long
+abbrev pub held_text : Bool → List ℕ → Option (List ℕ)
+held_text true octets = None
+held_text false octets = Some octets
+
+-- the view of a writer: the headers are the octets from `first` up to 64, and the text those from
+-- 64 on
+abbrev pub encoder_buffer_of : ℕ → ℕ → Bool → List ℕ → EncoderBuffer
+encoder_buffer_of limit first over octets =
+    record {
+      limit = limit;
+      heads = drop first (take 64 octets);
+      text = held_text over (drop 64 octets);
+    }
+
+-- The invariant of a writer: 64 octets of headroom, whose octets before `first` are free, followed
+-- by a capacity of the limit.
+pub record IsSound (count capacity first limit : ℕ) : Type 0 where
+  pub heads : first ≤ 64
+  pub front : 64 ≤ count
+  pub within : count ≤ 64 + limit
+  pub room : 64 + limit ≤ capacity
+  pub short : limit < 2 ^ 32

@@ -1,0 +1,50 @@
+-- A task and a job as values, without the slices they borrow from.
+use Rattle.std.specs.Prelude.{option_map, List, ℕ}
+use Rattle.std.specs.Borrow.{Bor}
+use Rattle.bay_cli.specs.declared.task.ProgramFile.{ProgramFile}
+use Rattle.bay_cli.specs.declared.task.ProgramFile.TheVariants.{Logic, Image}
+use Rattle.bay_cli.specs.declared.task.Invoked.{Invoked}
+use Rattle.bay_cli.specs.declared.task.Task.{Task}
+use Rattle.bay_cli.specs.declared.task.Task.TheVariants.{Check, Replay, Serve, Compile, Audit}
+use Rattle.bay_cli.specs.declared.parse.Job.{Job}
+use Rattle.bay_cli.specs.Jobs.{JobData}
+
+-- a program and a task, with texts as values
+abbrev pub program_view : ProgramFile (Bor (List ℕ)) → ProgramFile (List ℕ)
+program_view (Logic name) = Logic name.now
+program_view (Image name) = Image name.now
+
+abbrev pub task_view : Task (Bor (List ℕ)) → Task (List ℕ)
+task_view (Check bay program) = Check bay.now (program_view program)
+task_view Replay = Replay
+task_view (Serve bay program port turns trace process tells limit key file most idle) =
+    Serve bay.now (program_view program) port turns (option_map (λ name. name.now) trace) process
+    tells limit (option_map (λ name. name.now) key) (option_map (λ name. name.now) file) most idle
+task_view (Compile bay logic out) = Compile bay.now logic.now out.now
+task_view (Audit bay program rules) = Audit bay.now (program_view program) rules.now
+
+-- the same, of a task with its log
+abbrev pub asked_view : Invoked (Bor (List ℕ)) → Invoked (List ℕ)
+asked_view asked = record { task = task_view asked.task; log = asked.log }
+
+-- the view of a job
+abbrev pub job_view : Job → JobData
+job_view job = record {
+  verb = job.verb;
+  bay = option_map (λ name. name.now) job.bay;
+  logic = option_map (λ name. name.now) job.logic;
+  image = option_map (λ name. name.now) job.image;
+  out = option_map (λ name. name.now) job.out;
+  trace = option_map (λ name. name.now) job.trace;
+  rules = option_map (λ name. name.now) job.rules;
+  port = job.port;
+  turns = job.turns;
+  process = job.process;
+  tell = option_map (λ name. name.now) job.tell;
+  supervise = job.supervise;
+  key = option_map (λ name. name.now) job.key;
+  record_file = option_map (λ name. name.now) job.record_file;
+  record_most = job.record_most;
+  idle = job.idle;
+  log = job.log;
+}

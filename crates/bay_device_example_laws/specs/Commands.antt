@@ -1,0 +1,52 @@
+-- A device that has just released switch 0 for opening, and steps with a command to it.
+use Rattle.std.specs.Prelude.{ℕ, ◌≡◌, ◌≢◌, Bool, true, false, List, [], ◌∷◌, ◌++◌, None, Some, codes}
+use Rattle.bay_tree.specs.declared.leaf.Leaf.TheVariants as leaf
+use Rattle.bay_nodes.specs.Names.{opening_of}
+use Rattle.bay_nodes.specs.declared.switch.Control.TheVariants.{Direct}
+use Rattle.bay_nodes.specs.declared.switch.Operation.TheVariants.{Open, Close}
+use Rattle.bay_mms_services.specs.declared.answer.Command.{Command}
+use Rattle.bay_device.specs.Device.{State}
+use Rattle.bay_device.specs.declared.event.Step.{Step}
+
+-- the command to open switch 0
+abbrev pub opens : Command
+opens = record { switch = 0; operation = Open }
+
+-- the command to close switch 0
+abbrev pub closes : Command
+closes = record { switch = 0; operation = Close }
+
+-- the step has this command and no other, and sends something
+pub record Tells (command : Command) (step : Step) : Type 0 where
+  pub commands : step.commands ≡ command ∷ []
+  pub sent : step.sent ≢ []
+
+-- a scan at time 5, whose maximum age is one second, has set EnaOpn of switch 0, and no switch
+-- operates
+abbrev pub released : State → State
+released s = record s {
+  scan_max_age_ms = 1000;
+  last_scan = Some 5;
+  is_stale = false;
+  is_lost = false;
+  rows = record { name = (opening_of 0).value; leaf = Some (leaf.Truth true) } ∷ [];
+  controls = record { controls = []; selection = None; execution = None };
+}
+
+-- the same, but switch 0 began at time 5 to open, which takes half a second
+abbrev pub operating : State → State
+operating s = record (released s) {
+  controls = record {
+    controls = record { model = Direct; sbo_timeout_ms = 0; travel_ms = 500 } ∷ [];
+    selection = None;
+    execution = Some (record { switch = 0; start = 5; operation = Open });
+  };
+}
+
+-- as `released`, but with these two values below this node CILO, by the names that PROTOCOL gives
+abbrev pub interlocked : List ℕ → Bool → Bool → State → State
+interlocked node opn cls s = record (released s) {
+  rows = record { name = node ++ codes "$ST$EnaOpn$stVal"; leaf = Some (leaf.Truth opn) }
+      ∷ record { name = node ++ codes "$ST$EnaCls$stVal"; leaf = Some (leaf.Truth cls) }
+      ∷ [];
+}

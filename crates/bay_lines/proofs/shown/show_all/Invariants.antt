@@ -1,9 +1,0 @@
-use Rattle.std.proofs.Common.{◌≡◌, ◌≤◌, ◌++◌, ◌*◌, drop, length}
-use Rattle.bay_lines.specs.Shown.{shown_octets}
-use Rattle.bay_lines.proofs.shown.show_all.Given as goal
-
-abbrev pub invariant-loop-octet : goal.invariant-loop-octet
-invariant-loop-octet l = record {
-  goes : l.text.items ++ shown_octets (drop l.octet-index l.octets) ≡ shown_octets l.octets;
-  few : length l.text.items ≤ 4 * l.octet-index;
-}

@@ -1,0 +1,179 @@
+-- The requests of a PDU on controls, by the names of its variables and its data, and which of them
+-- were accepted, by the octets of its answer (ISO 9506-2, Read and Write; IEC 61850-8-1). The
+-- definitions do not use the state of the controls.
+use Rattle.std.specs.Prelude.{ℕ, ◌≡◌, Bool, true, false, ◌&&◌, List, [], ◌∷◌, ◌++◌, Option, Some, None, is_some, if◌then◌else◌, unwrap_or, Result, Ok, Err}
+use Rattle.bay_base.specs.Options.{◌>>=◌}
+use Rattle.bay_ber.specs.Tags.{same_tag, context, constructed}
+use Rattle.bay_ber.specs.Values.{Part, under, value_in, values_in}
+use Rattle.bay_tree.specs.Rows.{names_of}
+use Rattle.bay_control.specs.Acts as act
+use Rattle.bay_control.specs.Acts.{Act, Entry}
+use Rattle.bay_control.specs.Happenings.{entries_of}
+use Rattle.bay_control.specs.Requests.{asked_choice}
+use Rattle.bay_mms.specs.Controls as asked
+use Rattle.bay_mms.specs.Controls.{Control, operate_in, cancel_in}
+use Rattle.bay_mms.specs.Data.{Datum}
+use Rattle.bay_mms.specs.Grammar.{answer_to}
+use Rattle.bay_mms.specs.Requests.{Naming, Asking, identify, names, attributes, read, write, Message, initiate, conclude, confirmed}
+use Rattle.bay_mms.specs.declared.fault.DataAccessError.{DataAccessError}
+use Rattle.bay_mms.specs.declared.fault.MmsFault.{MmsFault}
+use Rattle.bay_mms_services.specs.Bay.{Bay}
+use Rattle.bay_mms_services.specs.Controls.{ask_of}
+use Rattle.bay_mms_services.specs.Entries.{target_at}
+use Rattle.bay_mms_services.specs.Rows.{row_named}
+use Rattle.bay_mms_services.specs.declared.target.ControlPart.{ControlPart}
+use Rattle.bay_mms_services.specs.declared.target.ControlPart.TheVariants.{Select, SelectWith, Operate, Cancel}
+use Rattle.bay_mms_services.specs.declared.target.Target.{Target}
+
+-- The variables of two bays have the same names.
+pub record AreNamedAlike (b d : Bay) : Type 0 where
+  pub domain : d.domain ≡ b.domain
+  pub switches : d.switches ≡ b.switches
+  pub names : names_of d.rows ≡ names_of b.rows
+
+-- ---- requests
+
+-- a read of SBO selects
+abbrev pub read_act : ℕ → ℕ → ControlPart → Option Act
+read_act a k Select = Some (act.Select a k)
+read_act a k SelectWith = None
+read_act a k Operate = None
+read_act a k Cancel = None
+
+-- the act of a read, by the target of its variable
+abbrev pub act_of_read : ℕ → Option Target → Option Act
+act_of_read a None = None
+act_of_read a (Some t) = read_act a t.switch t.part
+
+-- a write to SBOw selects, if its data have the right type and range
+abbrev pub select_with_act : ℕ → ℕ → Result asked.Operate DataAccessError → Option Act
+select_with_act a k (Ok o) = Some (act.SelectWith a k (asked_choice (ask_of o)))
+select_with_act a k (Err fault) = None
+
+-- a write to Oper operates, if its data have the right type and range
+abbrev pub operate_act : ℕ → ℕ → Result asked.Operate DataAccessError → Option Act
+operate_act a k (Ok o) = Some (act.Operate a k (asked_choice (ask_of o)))
+operate_act a k (Err fault) = None
+
+-- a write to Cancel cancels a selection, if its data have the right type and range
+abbrev pub cancel_act : ℕ → ℕ → Result Control DataAccessError → Option Act
+cancel_act a k (Ok control) = Some (act.Cancel a k)
+cancel_act a k (Err fault) = None
+
+-- the act of a write to a part of a control
+abbrev pub write_act : ℕ → Datum → ℕ → ControlPart → Option Act
+write_act a given k Select = None
+write_act a given k SelectWith = select_with_act a k (operate_in given)
+write_act a given k Operate = operate_act a k (operate_in given)
+write_act a given k Cancel = cancel_act a k (cancel_in given)
+
+abbrev pub act_of_write : ℕ → Datum → Option Target → Option Act
+act_of_write a given None = None
+act_of_write a given (Some t) = write_act a given t.switch t.part
+
+-- ---- acceptance
+
+-- the text is not empty
+abbrev pub is_some_text : List ℕ → Bool
+is_some_text [] = false
+is_some_text (octet ∷ octets) = true
+
+-- a select by a read was accepted if its result is a text that is not empty
+abbrev pub is_granted : Part → Bool
+is_granted result = same_tag result.tag (context 10) && is_some_text result.content
+
+-- any other request was accepted if its result is a success
+abbrev pub is_success : Part → Bool
+is_success result = same_tag result.tag (context 1)
+
+-- ---- the results in a response
+
+-- the part after the invoke id
+abbrev pub behind_id : List Part → Option Part
+behind_id [] = None
+behind_id (id ∷ []) = None
+behind_id (id ∷ service ∷ []) = Some service
+behind_id (id ∷ service ∷ more ∷ parts) = None
+
+-- the contents of a service's tag in a confirmed response
+abbrev pub service_in : ℕ → List ℕ → Option (List ℕ)
+service_in number pdu =
+    value_in pdu >>= under (constructed 1) >>= values_in >>= behind_id
+    >>= under (constructed number)
+
+-- the results of a response to a read
+abbrev pub read_results : List ℕ → Option (List Part)
+read_results pdu = service_in 4 pdu >>= value_in >>= under (constructed 1) >>= values_in
+
+-- the results of a response to a write
+abbrev pub write_results : List ℕ → Option (List Part)
+write_results pdu = service_in 5 pdu >>= values_in
+
+-- ---- a PDU
+
+-- the entries of the variables, each with its result, in their order
+abbrev pub read_accepted : ℕ → ℕ → Bay → List Naming → List Part → List Entry
+read_accepted now a b [] results = []
+read_accepted now a b (name ∷ ns) [] = []
+read_accepted now a b (name ∷ ns) (result ∷ results) =
+    entries_of now (act_of_read a (target_at b (row_named b name))) (is_granted result)
+    ++ read_accepted now a b ns results
+
+abbrev pub write_accepted : ℕ → ℕ → Bay → List Naming → List Datum → List Part → List Entry
+write_accepted now a b [] values results = []
+write_accepted now a b (name ∷ ns) [] results = []
+write_accepted now a b (name ∷ ns) (given ∷ values) [] = []
+write_accepted now a b (name ∷ ns) (given ∷ values) (result ∷ results) =
+    entries_of now (act_of_write a given (target_at b (row_named b name))) (is_success result)
+    ++ write_accepted now a b ns values results
+
+-- an answer without results is an error, and then the request has no effect
+abbrev pub service_accepted : ℕ → ℕ → Bay → Asking → List ℕ → List Entry
+service_accepted now a b identify response = []
+service_accepted now a b (names class place after) response = []
+service_accepted now a b (attributes name) response = []
+service_accepted now a b (read ns) response =
+    read_accepted now a b ns (unwrap_or (read_results response) [])
+service_accepted now a b (write ns values) response =
+    write_accepted now a b ns values (unwrap_or (write_results response) [])
+
+-- the entries of a PDU, by its response
+abbrev pub message_accepted : ℕ → ℕ → Bay → Result Message MmsFault → List ℕ → List Entry
+message_accepted now a b (Ok (initiate proposal)) response = []
+message_accepted now a b (Ok conclude) response = []
+message_accepted now a b (Ok (confirmed id asking)) response =
+    service_accepted now a b asking response
+message_accepted now a b (Err fault) response = []
+
+-- The entries of a client's PDU at a time, on an association, for a bay with these names: its
+-- requests on the controls in their order, and which of them were accepted, by the octets of its
+-- response.
+abbrev pub accepted_in : ℕ → ℕ → List ℕ → Bay → List ℕ → List Entry
+accepted_in now a pdu b response = message_accepted now a b (answer_to pdu) response
+
+-- ---- an answer
+
+-- a report is an unconfirmed PDU
+abbrev pub is_report : List ℕ → Bool
+is_report pdu = is_some (value_in pdu >>= under (constructed 3))
+
+-- reports come only before the response to a write
+abbrev pub may_report : Asking → Bool
+may_report identify = false
+may_report (names class place after) = false
+may_report (attributes name) = false
+may_report (read ns) = false
+may_report (write ns values) = true
+
+-- reports may come before the response to a write PDU
+abbrev pub may_be_reported : Result Message MmsFault → Bool
+may_be_reported (Ok (initiate proposal)) = false
+may_be_reported (Ok conclude) = false
+may_be_reported (Ok (confirmed id asking)) = may_report asking
+may_be_reported (Err fault) = false
+
+-- the response among the PDUs of an answer and later ones, and the PDUs after it
+abbrev pub first_response : Bool → List (List ℕ) → (List ℕ) × List (List ℕ)
+first_response reports [] = ([], [])
+first_response reports (pdu ∷ pdus) =
+    if reports && is_report pdu then first_response reports pdus else (pdu, pdus)

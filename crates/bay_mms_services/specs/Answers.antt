@@ -1,0 +1,135 @@
+-- The answer to a PDU of a client, and its effect (ISO 9506-2).
+use Rattle.std.specs.Prelude.{ℕ, false, List, [], ◌∷◌, ◌++◌, length, nat_le, Option, Some, None, Result, Ok, Err, if◌then◌else◌}
+use Rattle.bay_ber.specs.Writing.{element, truth_octets}
+use Rattle.bay_mms.specs.Data.{Datum}
+use Rattle.bay_mms.specs.Grammar.{answer_to}
+use Rattle.bay_mms.specs.Nodes.{type_at}
+use Rattle.bay_mms.specs.Requests.{Naming, Asking, identify, names, attributes, read, write, Message, initiate, conclude, confirmed}
+use Rattle.bay_mms.specs.Responses as response
+use Rattle.bay_mms.specs.Responses.{concluded_text, error_text, identity_text, read_text, reject_text, write_text}
+use Rattle.bay_ber.specs.Tags.{context, constructed}
+use Rattle.bay_mms.specs.Types.{type_text}
+use Rattle.bay_mms.specs.declared.fault.MmsFault.{MmsFault}
+use Rattle.bay_mms.specs.declared.fault.MmsFault.TheVariants.{BadPdu, UnknownService, TooMany, OutOfMemory}
+use Rattle.bay_mms.specs.declared.response.ErrorClass.TheVariants.{NoSuchObject, Resource}
+use Rattle.bay_mms.specs.declared.response.RejectReason.{RejectReason}
+use Rattle.bay_mms.specs.declared.response.RejectReason.TheVariants.{UnrecognizedService, InvalidPdu}
+use Rattle.bay_mms_services.specs.Bay.{Bay, with_controls}
+use Rattle.bay_mms_services.specs.Names.{listing}
+use Rattle.bay_mms_services.specs.Reads.{Reading, nothing_read, read_all}
+use Rattle.bay_mms_services.specs.Rows.{row_named}
+use Rattle.bay_mms_services.specs.Writes.{Writing, nothing_written, write_all}
+use Rattle.bay_mms_services.specs.declared.answer.Command.{Command}
+use Rattle.bay_mms_services.specs.declared.answer.ControlDecision.{ControlDecision}
+use Rattle.bay_mms_services.specs.declared.answer.TerminationReports.{TerminationReports}
+use Rattle.bay_mms_services.specs.declared.client.ClientContext.{ClientContext}
+
+-- the answer to a PDU: the PDUs to send in their order, the commands, the decisions on controls,
+-- the reports for the end of an operate, and the bay after the PDU
+pub record Answered : Type 0 where
+  pub sent : List (List ℕ)
+  pub commands : List Command
+  pub decisions : List ControlDecision
+  pub ending : Option TerminationReports
+  pub after : Bay
+
+-- an answer of one PDU, with decisions and without commands
+abbrev pub told_answer : List ℕ → List ControlDecision → Bay → Answered
+told_answer pdu decisions b = record {
+  sent = pdu ∷ [];
+  commands = [];
+  decisions = decisions;
+  ending = None;
+  after = b;
+}
+
+-- an answer with no effect
+abbrev pub plain_answer : List ℕ → Bay → Answered
+plain_answer pdu b = told_answer pdu [] b
+
+-- If a response has more octets than agreed, the answer is an error of the class resource, with no
+-- effect.
+abbrev pub within : ClientContext → ℕ → Bay → List ℕ → Answered → Answered
+within c id b response answer =
+    if nat_le (length response) c.size then answer else plain_answer (error_text id Resource) b
+
+-- an answer with a response and no effect
+abbrev pub response_answer : ClientContext → ℕ → Bay → List ℕ → Answered
+response_answer c id b response = within c id b response (plain_answer response b)
+
+-- ---- the services
+
+abbrev pub identify_answer : ClientContext → ℕ → Bay → Answered
+identify_answer c id b =
+    response_answer c id b (response.confirmed_response id
+    (element (constructed 2) (identity_text b.vendor b.model b.revision)))
+
+-- the type of a variable; a client cannot delete the variable
+abbrev pub attributes_at : ClientContext → ℕ → Bay → Option ℕ → Answered
+attributes_at c id b None = plain_answer (error_text id NoSuchObject) b
+attributes_at c id b (Some place) =
+    response_answer c id b (response.confirmed_response id
+    (element (constructed 6)
+    (element (context 0) (truth_octets false)
+    ++ element (constructed 2) (type_text (type_at b.rows place)))))
+
+-- the answer to a read, if its response fits
+abbrev pub read_done : ClientContext → ℕ → Bay → Reading → Answered
+read_done c id b r =
+    within c id b (read_text id r.results)
+    (told_answer (read_text id r.results) r.decisions (with_controls r.controls b))
+
+abbrev pub read_asked : ClientContext → ℕ → Bay → List Naming → Answered
+read_asked c id b ns = read_done c id b (read_all c b ns (nothing_read b))
+
+-- the answer to a write, if its response fits; the reports of refusals come before the response
+abbrev pub write_done : ClientContext → ℕ → Bay → Writing → Answered
+write_done c id b w = within c id b (write_text id w.results)
+    (record {
+      sent = w.reports ++ write_text id w.results ∷ [];
+      commands = w.commands;
+      decisions = w.decisions;
+      ending = w.ending;
+      after = with_controls w.controls b;
+    })
+
+abbrev pub write_asked : ClientContext → ℕ → Bay → List Naming → List Datum → Answered
+write_asked c id b ns values =
+    write_done c id b (write_all c b ns values (nothing_written b))
+
+-- the answer to a confirmed request
+abbrev pub service_answer : ClientContext → ℕ → Bay → Asking → Answered
+service_answer c id b identify = identify_answer c id b
+service_answer c id b (names class place after) =
+    response_answer c id b (listing c id class place after b)
+service_answer c id b (attributes name) = attributes_at c id b (row_named b name)
+service_answer c id b (read ns) = read_asked c id b ns
+service_answer c id b (write ns values) = write_asked c id b ns values
+
+-- ---- the PDUs
+
+-- a reject, with the invoke id if it could be read
+abbrev pub reject_answer : Option ℕ → RejectReason → Bay → Answered
+reject_answer id reason b = plain_answer (reject_text id reason) b
+
+-- Associations are opened elsewhere: an initiate is not a valid PDU here, and has no invoke id.
+abbrev pub message_answer : ClientContext → Bay → Message → Answered
+message_answer c b (initiate proposal) = reject_answer None InvalidPdu b
+message_answer c b conclude = plain_answer concluded_text b
+message_answer c b (confirmed id asking) = service_answer c id b asking
+
+-- the answer to a PDU with a fault
+abbrev pub refusal_answer : MmsFault → Bay → Answered
+refusal_answer (BadPdu known) b = reject_answer known InvalidPdu b
+refusal_answer (UnknownService id) b = reject_answer (Some id) UnrecognizedService b
+refusal_answer (TooMany id) b = plain_answer (error_text id Resource) b
+refusal_answer OutOfMemory b = reject_answer None InvalidPdu b
+
+-- the answer to a parsed PDU, or to its fault
+abbrev pub answer_of : ClientContext → Bay → Result Message MmsFault → Answered
+answer_of c b (Ok message) = message_answer c b message
+answer_of c b (Err fault) = refusal_answer fault b
+
+-- The answer to the octets that a client sent as a PDU of MMS, and their effect.
+abbrev pub pdu_answer : ClientContext → List ℕ → Bay → Answered
+pdu_answer c pdu b = answer_of c b (answer_to pdu)

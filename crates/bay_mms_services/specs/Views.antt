@@ -1,0 +1,71 @@
+-- Maps the code's values to those of the definitions.
+use Rattle.std.specs.Prelude.{ℕ, ◌≡◌, List, Result, Ok, Err}
+use Rattle.bay_mms.specs.RequestViews.{message}
+use Rattle.bay_mms.specs.Requests.{Message}
+use Rattle.bay_mms.specs.declared.fault.MmsFault.{MmsFault}
+use Rattle.bay_mms.specs.declared.request.Request.{Request}
+use Rattle.bay_control.specs.Decisions.{State, state_of}
+use Rattle.bay_control.specs.declared.controls.Controls.{Controls}
+use Rattle.bay_process.specs.Layout.{switches_of}
+use Rattle.bay_mms_services.specs.Answers.{Answered}
+use Rattle.bay_mms_services.specs.Bay.{Bay, with_controls}
+use Rattle.bay_mms_services.specs.Reads.{Reading}
+use Rattle.bay_mms_services.specs.Writes.{Writing}
+use Rattle.bay_mms_services.specs.declared.answer.PduAnswer.{PduAnswer}
+use Rattle.bay_mms_services.specs.declared.answer.ControlDecision.{ControlDecision}
+use Rattle.bay_mms_services.specs.declared.bay.ServedBay.{ServedBay}
+use Rattle.bay_mms_services.specs.declared.invocation.Invocation.{Invocation}
+use Rattle.bay_mms_services.specs.declared.writing.Written.{Written}
+
+-- the state of the controls of a bay, with this selection and execution
+abbrev pub controls_left : ServedBay → Controls → State
+controls_left b controls = state_of b.control_table controls
+
+-- the bay of the definitions for a served bay
+abbrev pub bay_view : ServedBay → Bay
+bay_view b = record {
+  domain = b.domain;
+  vendor = b.vendor;
+  model = b.model;
+  revision = b.revision;
+  switches = switches_of b.switches;
+  rows = b.tree;
+  controls = controls_left b b.controls;
+}
+
+-- the bay that receives a request
+abbrev pub bay_of : Invocation → Bay
+bay_of i = bay_view i.bay.now
+
+-- a read and a write after some of their variables, with the controls after these
+abbrev pub reading : ServedBay → Controls → List ControlDecision → List ℕ → Reading
+reading b controls decisions results = record {
+  controls = controls_left b controls;
+  decisions = decisions;
+  results = results;
+}
+
+abbrev pub writing : ServedBay → Controls → Written → Writing
+writing b controls w =
+    record {
+      controls = controls_left b controls;
+      results = w.response;
+      reports = w.reports.items;
+      commands = w.commands.items;
+      decisions = w.decisions.items;
+      ending = w.ending;
+    }
+
+-- The answer of the code is that of the definition, and so is the bay once it has these controls.
+pub record AnswersAs (answer : PduAnswer) (controls : State) (before : Bay) (answered : Answered)
+    : Type 0 where
+  pub sent : answer.sent.items ≡ answered.sent
+  pub commands : answer.commands.items ≡ answered.commands
+  pub decisions : answer.decisions.items ≡ answered.decisions
+  pub ending : answer.ending ≡ answered.ending
+  pub left : with_controls controls before ≡ answered.after
+
+-- a parsed PDU, or its fault
+abbrev pub read_as : Result Request MmsFault → Result Message MmsFault
+read_as (Ok request) = Ok (message request)
+read_as (Err fault) = Err fault

@@ -1,0 +1,135 @@
+-- The results of a write, and its effect (ISO 9506-2, Write; IEC 61850-8-1: SBOw, Oper and Cancel).
+use Rattle.std.specs.Prelude.{ℕ, List, [], ◌∷◌, ◌++◌, length, Option, Some, None, Result, Ok, Err}
+use Rattle.bay_tree.specs.Rows.{name_at}
+use Rattle.bay_control.specs.Decisions.{Outcome, State, select_with_outcome, operate_outcome, cancel_outcome}
+use Rattle.bay_control.specs.declared.cause.AddCause.{AddCause}
+use Rattle.bay_mms.specs.Controls as asked
+use Rattle.bay_mms.specs.Controls.{Control, operate_in, cancel_in}
+use Rattle.bay_mms.specs.Data.{Datum}
+use Rattle.bay_mms.specs.Requests.{Naming}
+use Rattle.bay_mms.specs.Responses.{failure_result, success_result}
+use Rattle.bay_mms.specs.declared.fault.DataAccessError.{DataAccessError}
+use Rattle.bay_mms.specs.declared.fault.DataAccessError.TheVariants.{ObjectAccessDenied, ObjectNonExistent}
+use Rattle.bay_mms_services.specs.Bay.{Bay}
+use Rattle.bay_mms_services.specs.Controls.{ask_of, endings, operation_of, refusal_reports, view_of, written_decision}
+use Rattle.bay_mms_services.specs.Rows.{row_named}
+use Rattle.bay_mms_services.specs.Targets.{target_of}
+use Rattle.bay_mms_services.specs.declared.answer.Command.{Command}
+use Rattle.bay_mms_services.specs.declared.answer.ControlDecision.{ControlDecision}
+use Rattle.bay_mms_services.specs.declared.answer.TerminationReports.{TerminationReports}
+use Rattle.bay_mms_services.specs.declared.client.ClientContext.{ClientContext}
+use Rattle.bay_mms_services.specs.declared.target.ControlPart.{ControlPart}
+use Rattle.bay_mms_services.specs.declared.target.ControlPart.TheVariants.{Select, SelectWith, Operate, Cancel}
+use Rattle.bay_mms_services.specs.declared.target.Target.{Target}
+
+-- a write after some of its variables: the controls, the octets of the results, the reports of
+-- refusals, the commands, the decisions, and the reports for the end of an operate
+pub record Writing : Type 0 where
+  pub controls : State
+  pub results : List ℕ
+  pub reports : List (List ℕ)
+  pub commands : List Command
+  pub decisions : List ControlDecision
+  pub ending : Option TerminationReports
+
+-- before the first variable
+abbrev pub nothing_written : Bay → Writing
+nothing_written b = record {
+  controls = b.controls;
+  results = [];
+  reports = [];
+  commands = [];
+  decisions = [];
+  ending = None;
+}
+
+-- a write with an error as the result of a variable
+abbrev pub write_failed : DataAccessError → Writing → Writing
+write_failed error w = record w { results = w.results ++ failure_result error }
+
+-- the result of an accepted control is a success, that of a refused one object-access-denied
+abbrev pub decision_result : Result (Unit {0}) AddCause → List ℕ
+decision_result (Ok done) = success_result
+decision_result (Err why) = failure_result ObjectAccessDenied
+
+-- a write after a decision on a control: the controls after it, its result and, if it is refused,
+-- the report of that with the name of the control
+abbrev pub after_decision : ClientContext → Bay → ℕ → ControlPart → List ℕ → Control → Outcome
+    → Writing
+    → Writing
+after_decision c b k part item control o w = record w {
+  controls = o.after;
+  results = w.results ++ decision_result o.answer;
+  reports = w.reports ++ refusal_reports c k item control b o.answer;
+  decisions = w.decisions ++ written_decision c k part control o.answer ∷ [];
+}
+
+-- an accepted operate is one command
+abbrev pub commands_for : ℕ → asked.Operate → Result (Unit {0}) AddCause → List Command
+commands_for k o (Ok done) = record { switch = k; operation = operation_of o.control.ctl_val } ∷ []
+commands_for k o (Err why) = []
+
+-- the reports for the end of an operate; later ones replace earlier ones
+abbrev pub later_ending : Option TerminationReports → Option TerminationReports
+    → Option TerminationReports
+later_ending before None = before
+later_ending before (Some ending) = Some ending
+
+-- a write after the decision on an operate
+abbrev pub after_operate : ClientContext → Bay → ℕ → List ℕ → asked.Operate → Outcome → Writing
+    → Writing
+after_operate c b k item o outcome w =
+    record (after_decision c b k Operate item o.control outcome w) {
+      commands = w.commands ++ commands_for k o outcome.answer;
+      ending = later_ending w.ending (endings c k item o b outcome.answer);
+    }
+
+abbrev pub select_with_asked : ClientContext → Bay → ℕ → List ℕ → Writing
+    → Result asked.Operate DataAccessError → Writing
+select_with_asked c b k item w (Err error) = write_failed error w
+select_with_asked c b k item w (Ok o) =
+    after_decision c b k SelectWith item o.control
+    (select_with_outcome c.association k (ask_of o) c.now w.controls)
+    w
+
+abbrev pub operate_asked : ClientContext → Bay → ℕ → List ℕ → Writing
+    → Result asked.Operate DataAccessError → Writing
+operate_asked c b k item w (Err error) = write_failed error w
+operate_asked c b k item w (Ok o) =
+    after_operate c b k item o
+    (operate_outcome c.association k (ask_of o) (view_of c k b) c.now w.controls) w
+
+abbrev pub cancel_asked : ClientContext → Bay → ℕ → List ℕ → Writing
+    → Result Control DataAccessError
+    → Writing
+cancel_asked c b k item w (Err error) = write_failed error w
+cancel_asked c b k item w (Ok control) =
+    after_decision c b k Cancel item control (cancel_outcome c.association k c.now w.controls) w
+
+-- a write to a part of a control; SBO can only be read
+abbrev pub write_part : ClientContext → Bay → ℕ → List ℕ → Datum → Writing → ControlPart → Writing
+write_part c b k item given w Select = write_failed ObjectAccessDenied w
+write_part c b k item given w SelectWith = select_with_asked c b k item w (operate_in given)
+write_part c b k item given w Operate = operate_asked c b k item w (operate_in given)
+write_part c b k item given w Cancel = cancel_asked c b k item w (cancel_in given)
+
+abbrev pub write_target : ClientContext → Bay → List ℕ → Datum → Writing → Option Target → Writing
+write_target c b item given w None = write_failed ObjectAccessDenied w
+write_target c b item given w (Some t) = write_part c b t.switch item given w t.part
+
+abbrev pub write_row : ClientContext → Bay → Datum → Writing → Option ℕ → Writing
+write_row c b given w None = write_failed ObjectNonExistent w
+write_row c b given w (Some place) =
+    write_target c b (name_at b.rows place) given w
+    (target_of (length b.switches) (name_at b.rows place))
+
+-- one variable of a write
+abbrev pub write_one : ClientContext → Bay → Naming → Datum → Writing → Writing
+write_one c b name given w = write_row c b given w (row_named b name)
+
+-- the variables in their order; each sees the effects of those before it
+abbrev pub write_all : ClientContext → Bay → List Naming → List Datum → Writing → Writing
+write_all c b [] values w = w
+write_all c b (name ∷ names) [] w = w
+write_all c b (name ∷ names) (given ∷ values) w =
+    write_all c b names values (write_one c b name given w)

@@ -1,0 +1,51 @@
+// Which control a row belongs to.
+ghost use Rattle.std.specs.Prelude.{◌≡◌};
+ghost use Rattle.bay_mms_services.specs.Places.{part_by};
+ghost use Rattle.bay_mms_services.specs.Places as spec;
+
+use bay_process::controls::ControlRows;
+use bay_tree::tree::Handle;
+
+/// A part of a control (IEC 61850-8-1, the structures below CO).
+#[derive(Clone, Copy, Debug)]
+pub enum ControlPart {
+    /// SBO.
+    Select,
+    /// SBOw.
+    SelectWith,
+    /// Oper.
+    Operate,
+    Cancel,
+}
+
+/// A part of the control of a switch.
+#[derive(Clone, Copy)]
+pub struct Target {
+    /// The index of the switch in the bay file, from 0.
+    pub switch: usize,
+    pub part: ControlPart,
+}
+
+// Returns whether this optional row is the row at `handle`.
+fn is_place(row: Option<Handle>, handle: Handle) -> bool
+    ensures { result ≡ spec.is_place handle row }
+{
+    row.is_some_and(|r| r == handle)
+}
+
+/// Returns the part of a switch's control that a row is; `None` if it is none.
+pub(crate) fn part_at(rows: &ControlRows, handle: Handle) -> Option<ControlPart>
+    ensures { result ≡ part_by rows.now handle }
+{
+    if is_place(rows.select, handle) {
+        Some(ControlPart::Select)
+    } else if is_place(rows.select_with_value, handle) {
+        Some(ControlPart::SelectWith)
+    } else if is_place(rows.operate, handle) {
+        Some(ControlPart::Operate)
+    } else if is_place(rows.cancel, handle) {
+        Some(ControlPart::Cancel)
+    } else {
+        None
+    }
+}

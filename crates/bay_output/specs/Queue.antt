@@ -1,6 +1,0 @@
--- What a queue has room for.
-use Rattle.std.specs.Prelude.{ℕ, ◌+◌, nat_le, Bool, List, length}
-
--- a queue has room for these octets too
-abbrev pub has_room : List ℕ → List ℕ → Bool
-has_room queue octets = nat_le (length queue + length octets) 1048576

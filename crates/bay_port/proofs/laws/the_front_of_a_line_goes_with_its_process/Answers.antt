@@ -1,8 +1,0 @@
-use Rattle.bay_port.proofs.ExampleLemmas.{keeps-front, loses-front}
-use Rattle.bay_port.proofs.laws.the_front_of_a_line_goes_with_its_process.Goals as goal
-
-pub returns-clause-here : goal.returns-clause-here
-returns-clause-here l = keeps-front
-
-pub returns-clause-gone : goal.returns-clause-gone
-returns-clause-gone l = loses-front

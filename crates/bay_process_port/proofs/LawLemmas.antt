@@ -1,0 +1,352 @@
+-- Lemmas on what holds of the port of a process.
+use Rattle.std.proofs.Common.{◌≡◌, ℕ, ◌-◌, Bool, ◌||◌, true, false, nat_le, List, [], ◌∷◌, ◌++◌, take, drop, Option, None, Some, Result, Ok, Err, refl, sym, ap, ◌∙◌, append_assoc, append-nil, take-append-drop}
+use Rattle.std.specs.declared.net.socket_addr.SocketAddrV4.{SocketAddrV4}
+use Rattle.bay_device.specs.Device.{State}
+use Rattle.bay_lines.specs.FirstLines.{LineSearchData, Waiting, Overlong, Whole, first_line_of}
+use Rattle.bay_process_port.specs.Polling.{Attended, all_told, AttendedPart, Script, accepted_in, attendance, attended_as, attended_here, and_then, closed_or_kept, first_part, greet_part, offer_part, offered_of, on_read, read_by, taken_or_closed, exchange_part, with_report_queued, welcomed}
+use Rattle.bay_process_port.specs.Fit.{is_waiting}
+use Rattle.bay_process_port.specs.Laws.{IsReadable, IsSilent, TellsInOrder, hears_end, is_end, taken_of}
+use Rattle.bay_process_port.specs.Ports.{PortData, Taken, dismissed_of, emptied, judged_at, taken_as, taken_by}
+use Rattle.bay_process_port.specs.Releases.{told_after}
+use Rattle.bay_process_port.specs.ProcessOutput.{ReportedTurn, fits_in}
+use Rattle.bay_process_port.specs.Supervised.{answered}
+use Rattle.bay_process_port.specs.declared.connection_event.ConnectionEvent.TheVariants.{Closed, Opened}
+use Rattle.bay_process_port.specs.declared.connection_event.DisconnectReason.{DisconnectReason}
+use Rattle.bay_process_port.specs.declared.port.Presence.{Presence}
+use Rattle.bay_process_port.specs.declared.port.Presence.TheVariants.{Away, Leaving, Dismissed, Here}
+use Rattle.bay_process_port.specs.declared.supervision.TimedMessage.{TimedMessage}
+use Rattle.bay_server_turn.specs.Calls.{Call, Accepts, Reads, Writes, Closes, ReadOutcome, Octets, Silence, Over, Broken}
+use Rattle.bay_server_turn.specs.Served.{reported, event_in_line, understood}
+use Rattle.bay_process_port.proofs.AttendLemmas.{greet-calls}
+use Rattle.bay_process_port.proofs.FitLemmas.{judged-readable}
+use Rattle.bay_process_port.proofs.WatchLemmas.{line-judged}
+
+-- ---- lines that are read
+
+by-readable : (s : State) (now jump : ℕ) (p : PortData) (line : List ℕ)
+    (r : Result (Option TimedMessage) DisconnectReason) (f : LineSearchData)
+    → judged_at s now jump p ≡ r → first_line_of p.kept ≡ f
+    → (taken_by now r f p).line ≡ Some line
+    → understood (event_in_line s line) ≡ Ok (reported (taken_by now r f p).event)
+by-readable s now jump p line (Err why) f is there e = absurd cc
+by-readable s now jump p line (Ok None) f is there e = absurd cc
+by-readable s now jump p line (Ok (Some said)) Waiting is there e = absurd cc
+by-readable s now jump p line (Ok (Some said)) Overlong is there e = absurd cc
+by-readable s now jump p line (Ok (Some said)) (Whole text rest) is there e =
+    judged-readable p.watch s now text line said
+    (line-judged s now jump p text rest said there is) e
+
+taken-readable : (standing : Presence) (s : State) (now jump : ℕ) (p : PortData) (line : List ℕ)
+    → (taken_as standing s now jump p).line ≡ Some line
+    → understood (event_in_line s line) ≡ Ok (reported (taken_as standing s now jump p).event)
+taken-readable Away s now jump p line e = absurd cc
+taken-readable Leaving s now jump p line e = absurd cc
+taken-readable (Dismissed why) s now jump p line e = absurd cc
+taken-readable Here s now jump p line e =
+    by-readable s now jump p line (judged_at s now jump p) (first_line_of p.kept) refl refl e
+
+pub is-readable : (s : State) (now jump : ℕ) (p : PortData) → IsReadable s now jump p
+is-readable s now jump p line e = taken-readable p.standing s now jump p line e
+
+-- ---- a process that has gone
+
+closed-empty : (before : PortData) (r : Result PortData DisconnectReason) (calls : List Call)
+    (why : DisconnectReason) → (closed_or_kept before r calls).news ≡ Some (Closed why)
+    → (closed_or_kept before r calls).port ≡ emptied Leaving before
+closed-empty before (Ok p) calls why e = absurd cc
+closed-empty before (Err w) calls why e = refl
+
+-- one that has gone while it waited
+record Untaken (p : PortData) (a : Attended) : Type 0 where
+  news : a.news ≡ None
+  port : a.port ≡ emptied Away p
+
+-- a call that brought no end
+ends-none : (calls : List Call) (call : Call) → hears_end (call ∷ []) ≡ false
+    → hears_end (calls ++ call ∷ []) ≡ true → hears_end calls ≡ true
+ends-none [] call none ends = let no : true ≡ false = sym ends ∙ none in absurd cc
+ends-none (Accepts a taken ∷ calls) call none ends = ends-none calls call none ends
+ends-none (Reads a room heard ∷ calls) call none ends =
+    by-end (is_end heard) (ends-none calls call none) ends
+  where
+    by-end : (v : Bool) → (hears_end (calls ++ call ∷ []) ≡ true → hears_end calls ≡ true)
+        → (v || hears_end (calls ++ call ∷ [])) ≡ true → (v || hears_end calls) ≡ true
+    by-end true more e = refl
+    by-end false more e = more e
+ends-none (Writes a octets taken ∷ calls) call none ends = ends-none calls call none ends
+ends-none (Closes a ∷ calls) call none ends = ends-none calls call none ends
+
+-- a read that brought an end
+read-ended : (before : PortData) (heard : ReadOutcome) (p : PortData) (calls : List Call)
+    → hears_end calls ≡ false → hears_end (calls ++ (read_by heard p).calls) ≡ true
+    → Untaken before
+    (taken_or_closed before (read_by heard p).after (calls ++ (read_by heard p).calls))
+read-ended before heard p calls none = by-front (is_waiting (first_line_of p.kept)) refl
+  where
+    by-heard : (h : ReadOutcome)
+        → (let part = on_read h p (Reads 1 4096 h ∷ []) in
+        hears_end (calls ++ part.calls) ≡ true
+        → Untaken before (taken_or_closed before part.after (calls ++ part.calls)))
+    by-heard (Octets octets) ends =
+        let no : hears_end calls ≡ true =
+        ends-none calls (Reads 1 4096 (Octets octets)) refl ends in
+        absurd cc
+    by-heard Silence ends =
+        let no : hears_end calls ≡ true = ends-none calls (Reads 1 4096 Silence) refl ends in
+        absurd cc
+    by-heard Over ends = record { news = refl; port = refl }
+    by-heard Broken ends = record { news = refl; port = refl }
+
+    by-front : (v : Bool) → is_waiting (first_line_of p.kept) ≡ v
+        → hears_end (calls ++ (read_by heard p).calls) ≡ true
+        → Untaken before
+        (taken_or_closed before (read_by heard p).after (calls ++ (read_by heard p).calls))
+    by-front true e = rw e (by-heard heard)
+    by-front false e = rw e (λ ends.
+        let no : hears_end calls ≡ true = ap hears_end (sym (append-nil calls)) ∙ ends in
+        absurd cc)
+
+-- what was done before a read, and the read
+behind-ended : (before : PortData) (r : Result PortData DisconnectReason) (calls : List Call)
+    (heard : ReadOutcome)
+    → (hears_end calls ≡ true → Untaken before (taken_or_closed before r calls))
+    → (let part = and_then (record { after = r; calls = calls }) (read_by heard) in
+    hears_end part.calls ≡ true
+    → Untaken before (taken_or_closed before part.after part.calls))
+behind-ended before (Err why) calls heard first ends = record { news = refl; port = refl }
+behind-ended before (Ok p) calls heard first ends = by-calls (hears_end calls) refl
+  where
+    by-calls : (v : Bool) → hears_end calls ≡ v
+        → Untaken before
+        (taken_or_closed before (read_by heard p).after (calls ++ (read_by heard p).calls))
+    by-calls true e = let u = first e in absurd (opened u.news)
+      where
+        opened : Some Opened ≡ None → ⊥
+        opened is = cc
+    by-calls false e = read-ended before heard p calls e ends
+
+first-untaken : (now : ℕ) (s : State) (before : PortData) (heard : ReadOutcome × ReadOutcome)
+    → hears_end (first_part now s heard (emptied Here before)).calls ≡ true
+    → Untaken before (welcomed before (first_part now s heard (emptied Here before)))
+first-untaken now s before heard =
+    let g = greet_part now s (emptied Here before) in
+    let a = and_then g (read_by heard.0) in
+    behind-ended before a.after a.calls heard.1
+    (behind-ended before g.after g.calls heard.0
+    (λ ends. let no : false ≡ true =
+    ap hears_end (sym (greet-calls now s (emptied Here before))) ∙ ends in absurd cc))
+
+-- a closing ends nothing
+closes-nothing : (calls : List Call) → hears_end (calls ++ Closes 1 ∷ []) ≡ hears_end calls
+closes-nothing [] = refl
+closes-nothing (Accepts a taken ∷ calls) = closes-nothing calls
+closes-nothing (Reads a room heard ∷ calls) = ap (λ v. is_end heard || v) (closes-nothing calls)
+closes-nothing (Writes a octets taken ∷ calls) = closes-nothing calls
+closes-nothing (Closes a ∷ calls) = closes-nothing calls
+
+welcomed-ends : (before : PortData) (r : Result PortData DisconnectReason) (calls : List Call)
+    → hears_end (taken_or_closed before r calls).calls ≡ hears_end calls
+welcomed-ends before (Ok p) calls = refl
+welcomed-ends before (Err why) calls = closes-nothing calls
+
+accepted-untaken : (now : ℕ) (s : State) (taken : Option (Option SocketAddrV4))
+    (heard : ReadOutcome × ReadOutcome) (p : PortData)
+    → hears_end (accepted_in now s taken heard p).calls ≡ true
+    → Untaken p (accepted_in now s taken heard p)
+accepted-untaken now s None heard p ends = absurd cc
+accepted-untaken now s (Some None) heard p ends = absurd cc
+accepted-untaken now s (Some (Some from)) heard p ends =
+    let part = first_part now s heard (emptied Here p) in
+    let u = first-untaken now s p heard (sym (welcomed-ends p part.after part.calls) ∙ ends) in
+    record { news = u.news; port = u.port }
+
+dismissed-is : (s : State) (now jump : ℕ) (p : PortData) (why : DisconnectReason)
+    (r : Result (Option TimedMessage) DisconnectReason) (f : LineSearchData)
+    → p.standing ≡ Here → (taken_by now r f p).port.standing ≡ Dismissed why
+    → taken_by now r f p ≡ dismissed_of why p
+dismissed-is s now jump p why (Err w) f here e =
+    let both : Dismissed w ≡ Dismissed why = e in
+    let same : w ≡ why = cc in
+    ap (λ w. dismissed_of w p) same
+dismissed-is s now jump p why (Ok None) f here e =
+    let no : Here ≡ Dismissed why = sym here ∙ e in absurd cc
+dismissed-is s now jump p why (Ok (Some said)) Waiting here e =
+    let no : Here ≡ Dismissed why = sym here ∙ e in absurd cc
+dismissed-is s now jump p why (Ok (Some said)) Overlong here e =
+    let no : Here ≡ Dismissed why = sym here ∙ e in absurd cc
+dismissed-is s now jump p why (Ok (Some said)) (Whole line rest) here e =
+    let no : Here ≡ Dismissed why = sym here ∙ e in absurd cc
+
+pub is-silent : (t : ReportedTurn) (s : State) (now jump : ℕ) (script : Script) (p : PortData)
+    → IsSilent t s now jump script p
+is-silent t s now jump script p = record {
+  closed = λ why here e.
+      let part = exchange_part t s (script.taken, script.heard) p in
+      let is = ap (λ standing. attended_as standing t s script p) here in
+      ap (λ (a : Attended). a.port) is
+      ∙ closed-empty p part.after part.calls why (ap (λ (a : Attended). a.news) (sym is) ∙ e);
+  lost = λ leaving. ap (λ standing. taken_as standing s now jump p) leaving;
+  dismisses = λ why here e.
+      let is = ap (λ standing. taken_as standing s now jump p) here in
+      is ∙ dismissed-is s now jump p why (judged_at s now jump p) (first_line_of p.kept) here
+      (ap (λ (x : Taken). x.port.standing) (sym is) ∙ e);
+  parts = λ why leaving. ap (λ standing. attended_as standing t s script p) leaving;
+  calls = λ leaving. ap (λ standing. (attended_as standing t s script p).calls) leaving;
+  untaken = λ away ends.
+      let is = ap (λ standing. attended_as standing t s script p) away in
+      let u = accepted-untaken t.now s script.accepted (script.heard, script.again) p
+      (ap (λ (a : Attended). hears_end a.calls) (sym is) ∙ ends) in
+      (ap (λ (a : Attended). a.news) is ∙ u.news, ap (λ (a : Attended). a.port) is ∙ u.port);
+}
+
+-- ---- what is told
+
+taken-append : (xs ys : List Call) → taken_of (xs ++ ys) ≡ taken_of xs ++ taken_of ys
+taken-append [] ys = refl
+taken-append (Accepts a taken ∷ xs) ys = taken-append xs ys
+taken-append (Reads a room heard ∷ xs) ys = taken-append xs ys
+taken-append (Writes a octets None ∷ xs) ys = taken-append xs ys
+taken-append (Writes a octets (Some n) ∷ xs) ys =
+    ap (λ l. take n octets ++ l) (taken-append xs ys)
+    ∙ sym (append_assoc (take n octets) (taken_of xs) (taken_of ys))
+taken-append (Closes a ∷ xs) ys = taken-append xs ys
+
+-- a part took a front of what was to be told, and the rest still waits, unless it led to a closing
+record Tells (all : List ℕ) (part : AttendedPart) : Type 0 where
+  rest : List ℕ
+  whole : all ≡ taken_of part.calls ++ rest
+  waits : (p : PortData) → part.after ≡ Ok p → p.queue ≡ rest
+
+tells-behind : (all : List ℕ) (r : Result PortData DisconnectReason) (calls : List Call)
+    (f : PortData → AttendedPart) → Tells all (record { after = r; calls = calls })
+    → ((p : PortData) → Tells p.queue (f p))
+    → Tells all (and_then (record { after = r; calls = calls }) f)
+tells-behind all (Err why) calls f t next =
+    record { rest = t.rest; whole = t.whole; waits = λ p e. absurd cc }
+tells-behind all (Ok p) calls f t next =
+    let n = next p in
+    record {
+      rest = n.rest;
+      whole = t.whole
+          ∙ ap (λ l. taken_of calls ++ l) (sym (t.waits p refl) ∙ n.whole)
+          ∙ sym (append_assoc (taken_of calls) (taken_of (f p).calls) n.rest)
+          ∙ ap (λ l. l ++ n.rest) (sym (taken-append calls (f p).calls));
+      waits = n.waits;
+    }
+
+tells-told : (t : ReportedTurn) (s : State) (p : PortData)
+    → Tells (p.queue ++ all_told t s p) (with_report_queued t s p)
+tells-told t s p = by-room (fits_in p.queue all) refl
+  where
+    all : List ℕ
+    all = all_told t s p
+
+    by-room : (v : Bool) → fits_in p.queue all ≡ v
+        → Tells (p.queue ++ all) (with_report_queued t s p)
+    by-room true e = rw e (record {
+      rest = p.queue ++ all;
+      whole = refl;
+      waits = λ q is.
+          let same : record p {
+            queue = p.queue ++ all;
+            told = told_after s p.told;
+            watch = answered p.watch;
+          }
+          ≡ q = cc in
+          ap (λ (d : PortData). d.queue) (sym same);
+    })
+    by-room false e =
+        rw e (record { rest = p.queue ++ all; whole = refl; waits = λ q is. absurd cc })
+
+tells-taken : (queue : List ℕ) (taken : Option ℕ) (p : PortData) → p.queue ≡ queue
+    → Tells queue (offered_of queue taken p)
+tells-taken [] taken p is =
+    record {
+      rest = [];
+      whole = refl;
+      waits = λ q e. let same : p ≡ q = cc in ap (λ (d : PortData). d.queue) (sym same) ∙ is;
+    }
+tells-taken (b ∷ bs) None p is =
+    record { rest = b ∷ bs; whole = refl; waits = λ q e. absurd cc }
+tells-taken (b ∷ bs) (Some n) p is =
+    record {
+      rest = drop n (b ∷ bs);
+      whole = sym (take-append-drop n (b ∷ bs))
+          ∙ ap (λ l. l ++ drop n (b ∷ bs)) (sym (append-nil (take n (b ∷ bs))));
+      waits = λ q e. let same : record p { queue = drop n p.queue } ≡ q = cc in
+          ap (λ (d : PortData). d.queue) (sym same) ∙ ap (drop n) is;
+    }
+
+tells-read : (heard : ReadOutcome) (p : PortData) → Tells p.queue (read_by heard p)
+tells-read heard p = by-front (is_waiting (first_line_of p.kept)) refl
+  where
+    by-heard : (h : ReadOutcome) → Tells p.queue (on_read h p (Reads 1 4096 h ∷ []))
+    by-heard (Octets octets) = record {
+      rest = p.queue;
+      whole = refl;
+      waits = λ q e. let same : record p { kept = p.kept ++ octets } ≡ q = cc in
+          ap (λ (d : PortData). d.queue) (sym same);
+    }
+    by-heard Silence = record {
+      rest = p.queue;
+      whole = refl;
+      waits = λ q e. let same : p ≡ q = cc in ap (λ (d : PortData). d.queue) (sym same);
+    }
+    by-heard Over = record { rest = p.queue; whole = refl; waits = λ q e. absurd cc }
+    by-heard Broken = record { rest = p.queue; whole = refl; waits = λ q e. absurd cc }
+
+    by-front : (v : Bool) → is_waiting (first_line_of p.kept) ≡ v → Tells p.queue (read_by heard p)
+    by-front true e = rw e (by-heard heard)
+    by-front false e = rw e (record {
+      rest = p.queue;
+      whole = refl;
+      waits = λ q e. let same : p ≡ q = cc in ap (λ (d : PortData). d.queue) (sym same);
+    })
+
+tells-talked : (t : ReportedTurn) (s : State) (answers : Option ℕ × ReadOutcome) (p : PortData)
+    → Tells (p.queue ++ all_told t s p) (exchange_part t s answers p)
+tells-talked t s answers p =
+    let all = p.queue ++ all_told t s p in
+    let a = with_report_queued t s p in
+    let ta = tells-behind all a.after a.calls (offer_part answers.0)
+    (record {
+      rest = (tells-told t s p).rest;
+      whole = (tells-told t s p).whole;
+      waits = (tells-told t s p).waits;
+    })
+    (λ q. tells-taken q.queue answers.0 q refl) in
+    let b = and_then a (offer_part answers.0) in
+    tells-behind all b.after b.calls (read_by answers.1)
+    (record { rest = ta.rest; whole = ta.whole; waits = ta.waits })
+    (λ q. tells-read answers.1 q)
+
+closed-tells : (all : List ℕ) (before : PortData) (r : Result PortData DisconnectReason)
+    (calls : List Call) (rest : List ℕ) → all ≡ taken_of calls ++ rest
+    → all ≡ taken_of (closed_or_kept before r calls).calls ++ rest
+closed-tells all before (Ok p) calls rest e = e
+closed-tells all before (Err why) calls rest e =
+    e ∙ ap (λ l. l ++ rest)
+    (sym (append-nil (taken_of calls)) ∙ sym (taken-append calls (Closes 1 ∷ [])))
+
+kept-waits : (before : PortData) (r : Result PortData DisconnectReason) (calls : List Call)
+    (rest : List ℕ) → ((p : PortData) → r ≡ Ok p → p.queue ≡ rest)
+    → (closed_or_kept before r calls).news ≡ None
+    → (closed_or_kept before r calls).port.queue ≡ rest
+kept-waits before (Ok p) calls rest waits e = waits p refl
+kept-waits before (Err why) calls rest waits e = absurd cc
+
+pub tells-in-order : (t : ReportedTurn) (s : State) (script : Script) (p : PortData)
+    → p.standing ≡ Here → TellsInOrder t s script p
+tells-in-order t s script p here =
+    let part = exchange_part t s (script.taken, script.heard) p in
+    let told = tells-talked t s (script.taken, script.heard) p in
+    let is : attendance t s script p ≡ attended_here p part =
+    ap (λ standing. attended_as standing t s script p) here in
+    record {
+      rest = told.rest;
+      whole = closed-tells (p.queue ++ all_told t s p) p part.after part.calls told.rest told.whole
+          ∙ ap (λ (a : Attended). taken_of a.calls ++ told.rest) (sym is);
+      waits = λ none. ap (λ (a : Attended). a.port.queue) is
+          ∙ kept-waits p part.after part.calls told.rest told.waits
+          (ap (λ (a : Attended). a.news) (sym is) ∙ none);
+    }

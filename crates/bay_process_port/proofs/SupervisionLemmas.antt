@@ -1,0 +1,341 @@
+-- Lemmas on what holds of a supervised process.
+use Rattle.std.proofs.Common.{◌≡◌, ℕ, ◌-◌, min, Bool, true, false, nat_le, nat_lt, List, [], ◌∷◌, ◌++◌, Option, None, Some, Result, Ok, Err, refl, sym, ap, ◌∙◌, subst, arith}
+use Rattle.std.proofs.lemmas.Bool.{and_parts}
+use Rattle.std.proofs.lemmas.Bool.Decides.{nat_tests}
+use Rattle.bay_device.specs.Device.{State}
+use Rattle.bay_lines.specs.Cuttings.{AreLines, Cutting, LosesNothing, cutting_of}
+use Rattle.bay_lines.specs.FirstLines.{LineSearchData, Waiting, Overlong, Whole, first_line_of}
+use Rattle.bay_lines.proofs.FrontLemmas.{nothing-is-lost}
+use Rattle.bay_process_port.specs.Introduction.{introduced_at}
+use Rattle.bay_server_turn.specs.Supervised.{timed_line_of}
+use Rattle.bay_server_turn.specs.declared.process_input.ProcessEvent.{ProcessEvent}
+use Rattle.bay_server_turn.specs.declared.supervised.TimedLine.{TimedLine}
+use Rattle.bay_process_port.specs.Ports.{PortData, Taken, bare, judged_at, taken_as, taken_by, taken_line}
+use Rattle.bay_process_port.specs.Supervision.{AreOf, IsOfThisBay, IsOnTime}
+use Rattle.bay_process_port.specs.Uses.{StaysHere, Use, Takes, Attends, after_uses, octets_given, port_after}
+use Rattle.bay_process_port.proofs.UseLemmas.{attends-keep, comes-keep, cut-is, cut_by, moves_of, starts-follow}
+use Rattle.bay_process_port.proofs.FitLemmas.{report-is, timely-event, timely-is, word-event}
+use Rattle.bay_process_port.proofs.WatchLemmas.{accepted-same, attended-same, known-duties, line-judged}
+use Rattle.bay_process_port.specs.Supervised.{SupervisionSettings, Watched, event_in, introduction, is_timely, judged, known_as, known_behind, known_by, report, timely, unheard, word_of}
+use Rattle.bay_process_port.specs.declared.connection_event.DisconnectReason.{DisconnectReason}
+use Rattle.bay_process_port.specs.declared.port.Presence.{Presence}
+use Rattle.bay_process_port.specs.declared.port.Presence.TheVariants.{Away, Leaving, Dismissed, Here}
+use Rattle.bay_process_port.specs.declared.supervision.ProcessMessage.{ProcessMessage}
+use Rattle.bay_process_port.specs.declared.supervision.ProcessMessage.TheVariants.{Blank, Reports, Introduces, Lives}
+use Rattle.bay_process_port.specs.declared.supervision.TimedMessage.{TimedMessage}
+
+-- ---- no old word
+
+-- a line that reports what happened
+record ReportsOf (s : State) (now : ℕ) (w : Watched) (line : List ℕ) (event : ProcessEvent)
+    : Type 0 where
+  introduced : w.introduced ≡ true
+  timed : TimedLine
+  reads : timed_line_of s line ≡ Some timed
+  event_is : timed.event ≡ Some event
+  near : is_timely w.duties.limit now timed.moment ≡ true
+  in_order : nat_lt timed.moment w.last ≡ false
+
+report-of : (s : State) (now : ℕ) (w : Watched) (line : List ℕ) (said : TimedMessage)
+    (event : ProcessEvent) → w.introduced ≡ true
+    → report line w now (timed_line_of s line) ≡ Ok said
+    → event_in said.word ≡ Some event → ReportsOf s now w line event
+report-of s now w line said event known e is = by-line (timed_line_of s line) refl e
+  where
+    by-line : (o : Option TimedLine) → timed_line_of s line ≡ o
+        → report line w now o ≡ Ok said → ReportsOf s now w line event
+    by-line None read r = absurd cc
+    by-line (Some timed) read r =
+        let word = word_of timed.event in
+        let k = report-is line w now timed said r in
+        let t = k.timely in
+        record {
+          introduced = known;
+          timed = timed;
+          reads = read;
+          event_is =
+              sym (word-event timed.event)
+              ∙ timely-event w.duties.limit now timed.moment word said t ∙ is;
+          near = t.near;
+          in_order = k.in_order;
+        }
+
+introduction-none : (duties : SupervisionSettings) (now : ℕ) (o : Option ℕ) (said : TimedMessage)
+    (event : ProcessEvent) → introduction duties now o ≡ Ok said
+    → event_in said.word ≡ Some event → ⊥
+introduction-none duties now None said event e is = absurd cc
+introduction-none duties now (Some moment) said event e is =
+    let none : None ≡ Some event =
+    timely-event duties.limit now moment Introduces said
+    (timely-is duties.limit now moment Introduces said e) ∙ is in cc
+
+judged-of : (s : State) (now : ℕ) (w : Watched) (line : List ℕ) (said : TimedMessage)
+    (event : ProcessEvent) → judged (Some w) s now line ≡ Ok said
+    → event_in said.word ≡ Some event → ReportsOf s now w line event
+judged-of s now w line said event e is = by-known w.introduced refl
+  where
+    by-known : (v : Bool) → w.introduced ≡ v → ReportsOf s now w line event
+    by-known true known = report-of s now w line said event known (rw known at e) is
+    by-known false known =
+        absurd (introduction-none w.duties now
+        (introduced_at w.duties.key s.domain s.revision line) said event (rw known at e) is)
+
+by-on-time : (s : State) (now jump : ℕ) (p : PortData) (w : Watched) (event : ProcessEvent)
+    (r : Result (Option TimedMessage) DisconnectReason) (f : LineSearchData)
+    → judged_at s now jump p ≡ r → first_line_of p.kept ≡ f → p.watch ≡ Some w
+    → (taken_by now r f p).event ≡ Some event → IsOnTime s now p w event
+by-on-time s now jump p w event (Err why) f is there watched e = absurd cc
+by-on-time s now jump p w event (Ok None) f is there watched e = absurd cc
+by-on-time s now jump p w event (Ok (Some said)) Waiting is there watched e = absurd cc
+by-on-time s now jump p w event (Ok (Some said)) Overlong is there watched e = absurd cc
+by-on-time s now jump p w event (Ok (Some said)) (Whole line rest) is there watched e =
+    let judges : judged (Some w) s now line ≡ Ok said =
+    ap (λ o. judged o s now line) (sym watched) ∙ line-judged s now jump p line rest said there is
+    in
+    let r = judged-of s now w line said event judges e in
+    let both = and_parts (nat_le (now - r.timed.moment) w.duties.limit)
+    (nat_le (r.timed.moment - now) w.duties.limit) r.near in
+    let old = both.0 in
+    let early = both.1 in
+    let order = r.in_order in
+    record {
+      introduced = r.introduced;
+      line = line;
+      rest = rest;
+      there = there;
+      timed = r.timed;
+      reads = r.reads;
+      event_is = r.event_is;
+      not_old = grind (arith, nat_tests);
+      not_early = grind (arith, nat_tests);
+      in_order = grind (arith, nat_tests);
+    }
+
+as-on-time : (standing : Presence) (s : State) (now jump : ℕ) (p : PortData) (w : Watched)
+    (event : ProcessEvent) → p.watch ≡ Some w
+    → (taken_as standing s now jump p).event ≡ Some event → IsOnTime s now p w event
+as-on-time Away s now jump p w event watched e = absurd cc
+as-on-time Leaving s now jump p w event watched e = absurd cc
+as-on-time (Dismissed why) s now jump p w event watched e = absurd cc
+as-on-time Here s now jump p w event watched e =
+    by-on-time s now jump p w event (judged_at s now jump p) (first_line_of p.kept) refl refl
+    watched e
+
+pub is-on-time : (s : State) (now jump : ℕ) (p : PortData) (w : Watched) (event : ProcessEvent)
+    → p.watch ≡ Some w → (taken_line s now jump p).event ≡ Some event → IsOnTime s now p w event
+is-on-time s now jump p w event watched e =
+    as-on-time p.standing s now jump p w event watched e
+
+-- ---- whose process it is
+
+-- the first of lines says whose process it is
+record Starts (key domain revision : List ℕ) (lines : List (List ℕ)) : Type 0 where
+  first : List ℕ
+  rest : List (List ℕ)
+  is : lines ≡ first ∷ rest
+  moment : ℕ
+  introduces : introduced_at key domain revision first ≡ Some moment
+
+-- it is watched, and where it has said whose it is the lines begin with that
+record Begins (duties : SupervisionSettings) (domain revision : List ℕ) (lines : List (List ℕ))
+    (watch : Option Watched) : Type 0 where
+  later : Watched
+  is : watch ≡ Some later
+  owes : later.duties ≡ duties
+  starts : later.introduced ≡ true → Starts duties.key domain revision lines
+
+-- what is watched stays so
+record StaysWatched (duties : SupervisionSettings) (watch : Option Watched) : Type 0 where
+  later : Watched
+  is : watch ≡ Some later
+  owes : later.duties ≡ duties
+
+by-watched : (w : Watched) (now : ℕ) (r : Result (Option TimedMessage) DisconnectReason)
+    (f : LineSearchData) (p : PortData) → p.watch ≡ Some w
+    → (taken_by now r f p).port.standing ≡ Here
+    → StaysWatched w.duties (taken_by now r f p).port.watch
+by-watched w now (Err why) f p is still = absurd cc
+by-watched w now (Ok None) f p is still = record { later = w; is = is; owes = refl }
+by-watched w now (Ok (Some said)) Waiting p is still = record { later = w; is = is; owes = refl }
+by-watched w now (Ok (Some said)) Overlong p is still = record { later = w; is = is; owes = refl }
+by-watched w now (Ok (Some said)) (Whole line rest) p is still = record {
+  later = known_by now said w;
+  is = ap (known_behind now said) is;
+  owes = known-duties said.word (record w { heard = min now said.moment; last = said.moment });
+}
+
+use-watched : (w : Watched) (u : Use) (p : PortData) → p.standing ≡ Here → p.watch ≡ Some w
+    → (port_after u p).standing ≡ Here → StaysWatched w.duties (port_after u p).watch
+use-watched w (Takes s now jump) p here is still =
+    let whole = ap (λ standing. taken_as standing s now jump p) here in
+    subst (λ (t : Taken). StaysWatched w.duties t.port.watch) (sym whole)
+    (by-watched w now (judged_at s now jump p) (first_line_of p.kept) p is
+    (ap (λ (t : Taken). t.port.standing) (sym whole) ∙ still))
+use-watched w (Attends t s script) p here is still =
+    let h = attended-same w t s script p here is still in
+    record { later = h.later; is = h.is; owes = h.duties }
+
+uses-watched : (w : Watched) (us : List Use) (p : PortData) → p.standing ≡ Here
+    → p.watch ≡ Some w → StaysHere us p → StaysWatched w.duties (after_uses us p).watch
+uses-watched w [] p here is stays = record { later = w; is = is; owes = refl }
+uses-watched w (u ∷ us) p here is stays =
+    let h = use-watched w u p here is stays.0 in
+    let more = uses-watched h.later us (port_after u p) stays.0 h.is stays.1 in
+    record { later = more.later; is = more.is; owes = more.owes ∙ h.owes }
+
+introduction-starts : (duties : SupervisionSettings) (s : State) (now : ℕ)
+    (domain revision line : List ℕ)
+    (lines : List (List ℕ)) (said : TimedMessage) (o : Option ℕ)
+    → introduced_at duties.key domain revision line ≡ o
+    → introduction duties now o ≡ Ok said → Starts duties.key domain revision (line ∷ lines)
+introduction-starts duties s now domain revision line lines said None read e = absurd cc
+introduction-starts duties s now domain revision line lines said (Some moment) read e =
+    record { first = line; rest = lines; is = refl; moment = moment; introduces = read }
+
+judged-starts : (w : Watched) (s : State) (now : ℕ) (domain revision line : List ℕ)
+    (lines : List (List ℕ)) (said : TimedMessage) → w.introduced ≡ false → s.domain ≡ domain
+    → s.revision ≡ revision → judged (Some w) s now line ≡ Ok said
+    → Starts w.duties.key domain revision (line ∷ lines)
+judged-starts w s now domain revision line lines said new d r e =
+    let o = introduced_at w.duties.key s.domain s.revision line in
+    let is : introduction w.duties now o ≡ Ok said = rw new at e in
+    subst (λ x. Starts w.duties.key domain x (line ∷ lines)) r
+    (subst (λ x. Starts w.duties.key x s.revision (line ∷ lines)) d
+    (introduction-starts w.duties s now s.domain s.revision line lines said o refl is))
+
+module _ (w : Watched) (domain revision : List ℕ) (new : w.introduced ≡ false) where
+  abbrev UsesBegin : List Use → PortData → List (List ℕ) → Type 0
+  UsesBegin us p lines = Begins w.duties domain revision lines (after_uses us p).watch
+
+  -- a turn took what the port had, and then came the other uses
+  taken-begin : (s : State) (now jump : ℕ) (us : List Use) (p : PortData)
+      (r : Result (Option TimedMessage) DisconnectReason) (f : LineSearchData)
+      → judged_at s now jump p ≡ r → first_line_of p.kept ≡ f → p.standing ≡ Here
+      → p.watch ≡ Some w → s.domain ≡ domain → s.revision ≡ revision
+      → (taken_by now r f p).port.standing ≡ Here → StaysHere us (taken_by now r f p).port
+      → (StaysHere us p → UsesBegin us p (cutting_of (moves_of us p) p.kept).lines)
+      → (let q = (taken_by now r f p).port in
+      UsesBegin us q (cut_by r f p.kept (moves_of us q)).lines)
+  taken-begin s now jump us p (Err why) f e there here is d v still stays more = absurd cc
+  taken-begin s now jump us p (Ok None) f e there here is d v still stays more = more stays
+  taken-begin s now jump us p (Ok (Some said)) Waiting e there here is d v still stays more =
+      more stays
+  taken-begin s now jump us p (Ok (Some said)) Overlong e there here is d v still stays more =
+      more stays
+  taken-begin s now jump us p (Ok (Some said)) (Whole line rest) e there here is d v still stays
+      more =
+      let q = record p { kept = rest; watch = known_behind now said p.watch } in
+      let k = uses-watched (known_by now said w) us q here (ap (known_behind now said) is) stays in
+      let judges : judged (Some w) s now line ≡ Ok said =
+      ap (λ o. judged o s now line) (sym is) ∙ line-judged s now jump p line rest said there e in
+      record {
+        later = k.later;
+        is = k.is;
+        owes = k.owes
+            ∙ known-duties said.word
+            (record w { heard = min now said.moment; last = said.moment });
+        starts = λ i.
+            judged-starts w s now domain revision line (cutting_of (moves_of us q) rest).lines said
+            new d v judges;
+      }
+
+-- turns and what is done behind them lead on from a process that has not said whose it is
+begins-uses : (w : Watched) (domain revision : List ℕ) (us : List Use) (p : PortData)
+    → w.introduced ≡ false → p.standing ≡ Here → p.watch ≡ Some w → StaysHere us p
+    → AreOf domain revision us
+    → Begins w.duties domain revision (cutting_of (moves_of us p) p.kept).lines
+    (after_uses us p).watch
+unfolding moves_of
+begins-uses w domain revision [] p new here is stays of = record {
+  later = w;
+  is = is;
+  owes = refl;
+  starts = λ e. absurd (let no : false ≡ true = sym new ∙ e in cc);
+}
+begins-uses w domain revision (Takes s now jump ∷ us) p new here is stays of =
+    let r = judged_at s now jump p in
+    let f = first_line_of p.kept in
+    let whole : taken_line s now jump p ≡ taken_by now r f p =
+    ap (λ standing. taken_as standing s now jump p) here in
+    let begun = taken-begin w domain revision new s now jump us p r f refl refl here is of.0 of.1
+    (ap (λ (t : Taken). t.port.standing) (sym whole) ∙ stays.0)
+    (subst (λ (t : Taken). StaysHere us t.port) whole stays.1)
+    (λ again. begins-uses w domain revision us p new here is again of.2) in
+    subst (λ (c : Cutting). Begins w.duties domain revision c.lines
+    (after_uses us (taken_line s now jump p).port).watch)
+    (sym (cut-is r f p.kept (moves_of us (taken_line s now jump p).port) refl))
+    (subst (λ (t : Taken). Begins w.duties domain revision
+    (cut_by r f p.kept (moves_of us t.port)).lines (after_uses us t.port).watch)
+    (sym whole) begun)
+begins-uses w domain revision (Attends t s script ∷ us) p new here is stays of =
+    let u = Attends t s script in
+    let q = port_after u p in
+    let h = attended-same w t s script p here is stays.0 in
+    let more = begins-uses h.later domain revision us q (h.introduced ∙ new) stays.0 h.is stays.1
+    of in
+    let kept = attends-keep t s script p here stays.0 in
+    let at : Begins h.later.duties domain revision
+    (cutting_of (moves_of us q) (p.kept ++ octets_given u p)).lines (after_uses us q).watch =
+    subst (λ k. Begins h.later.duties domain revision (cutting_of (moves_of us q) k).lines
+    (after_uses us q).watch) kept more in
+    subst (λ d. Begins d domain revision
+    (cutting_of (moves_of us q) (p.kept ++ octets_given u p)).lines (after_uses us q).watch)
+    h.duties at
+
+-- from the acceptance on
+begins-away : (tells : Bool) (duties : SupervisionSettings) (domain revision : List ℕ)
+    (us : List Use)
+    → StaysHere us (bare tells (Some duties) Away) → AreOf domain revision us
+    → Begins duties domain revision
+    (cutting_of (moves_of us (bare tells (Some duties) Away)) []).lines
+    (after_uses us (bare tells (Some duties) Away)).watch
+unfolding moves_of
+begins-away tells duties domain revision [] stays of = record {
+  later = unheard duties;
+  is = refl;
+  owes = refl;
+  starts = λ e. absurd cc;
+}
+begins-away tells duties domain revision (Takes s now jump ∷ us) stays of = absurd cc
+begins-away tells duties domain revision (Attends t s script ∷ us) stays of =
+    let u = Attends t s script in
+    let p0 = bare tells (Some duties) Away in
+    let q = port_after u p0 in
+    let w = unheard duties in
+    let h = accepted-same w t.now s script.accepted (script.heard, script.again) p0 refl refl
+    stays.0 in
+    let more = begins-uses h.later domain revision us q h.introduced stays.0 h.is stays.1 of in
+    let kept =
+    comes-keep tells (Some duties) t.now s script.accepted (script.heard, script.again) stays.0 in
+    let at : Begins h.later.duties domain revision
+    (cutting_of (moves_of us q) (octets_given u p0)).lines (after_uses us q).watch =
+    subst (λ k. Begins h.later.duties domain revision (cutting_of (moves_of us q) k).lines
+    (after_uses us q).watch) kept more in
+    subst (λ d. Begins d domain revision
+    (cutting_of (moves_of us q) (octets_given u p0)).lines (after_uses us q).watch) h.duties at
+
+pub is-of-this-bay : (tells : Bool) (duties : SupervisionSettings) (domain revision : List ℕ)
+    (us : List Use)
+    (s : State) (now jump : ℕ) (event : ProcessEvent)
+    → StaysHere us (bare tells (Some duties) Away)
+    → AreOf domain revision us
+    → (taken_line s now jump (after_uses us (bare tells (Some duties) Away))).event ≡ Some event
+    → IsOfThisBay tells duties domain revision us
+is-of-this-bay tells duties domain revision us s now jump event stays of e =
+    let p0 = bare tells (Some duties) Away in
+    let p = after_uses us p0 in
+    let b = begins-away tells duties domain revision us stays of in
+    let on = is-on-time s now jump p b.later event b.is e in
+    let starts = b.starts on.introduced in
+    let f = starts-follow tells (Some duties) us stays in
+    let cut : LosesNothing (moves_of us p0) = nothing-is-lost (moves_of us p0) in
+    record {
+      first = starts.first;
+      lines = starts.rest;
+      text = cut.text;
+      rest = p.kept;
+      are = subst (λ ls. AreLines ls cut.text) starts.is cut.lines;
+      given = sym f.all_is ∙ cut.whole ∙ ap (λ l. cut.text ++ l) f.keeps;
+      moment = starts.moment;
+      introduces = starts.introduces;
+    }

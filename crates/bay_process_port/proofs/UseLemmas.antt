@@ -1,0 +1,340 @@
+-- The lines that turns have of a process are those that its octets are cut into.
+use Rattle.std.proofs.Common.{◌≡◌, ℕ, ◌-◌, nat_le, Bool, true, false, List, [], ◌∷◌, ◌++◌, filter, drop, Option, Some, None, Result, Ok, Err, refl, sym, ap, ◌∙◌, subst, append_assoc, append-nil}
+use Rattle.std.specs.Option.{option_to_list}
+use Rattle.std.specs.declared.net.socket_addr.SocketAddrV4.{SocketAddrV4}
+use Rattle.bay_device.specs.Device.{State}
+use Rattle.bay_lines.specs.Cuttings.{Comes, Cutting, LosesNothing, Move, all_of, cutting_of, took, with_line}
+use Rattle.bay_lines.specs.Cuttings as cuttings
+use Rattle.bay_lines.specs.FirstLines.{LineSearchData, Overlong, Waiting, Whole, first_line_of}
+use Rattle.bay_lines.proofs.FrontLemmas.{nothing-is-lost}
+use Rattle.bay_server_turn.specs.Calls.{Call, Accepts, Reads, Writes, Closes, ReadOutcome, Octets, Silence, Over, Broken}
+use Rattle.bay_process_port.specs.Polling.{Attended, all_told, AttendedPart, Script, accepted_in, attendance, attended_as, attended_here, and_then, closed_or_kept, first_part, greet_part, offer_part, offered_of, on_read, read_by, taken_or_closed, exchange_part, with_report_queued}
+use Rattle.bay_process_port.specs.Fit.{is_told, is_waiting, line_or_none}
+use Rattle.bay_process_port.specs.Ports.{PortData, Taken, emptied, bare, judged_at, taken_as, taken_by, taken_line}
+use Rattle.bay_process_port.specs.Releases.{told_after}
+use Rattle.bay_process_port.specs.ProcessOutput.{ReportedTurn, fits_in, greeting}
+use Rattle.bay_process_port.specs.Uses.{LosesNoLine, StaysHere, Use, Takes, Attends, after_uses, all_given, all_had, given_of, octets_given, octets_in, port_after}
+use Rattle.bay_process_port.specs.declared.connection_event.DisconnectReason.{DisconnectReason}
+use Rattle.bay_process_port.specs.Supervised.{SupervisionSettings, answered, heard_at, known_behind}
+use Rattle.bay_process_port.specs.declared.connection_event.DisconnectReason.TheVariants.{Ended, QueueFull, LinkFailed}
+use Rattle.bay_process_port.specs.declared.supervision.TimedMessage.{TimedMessage}
+use Rattle.bay_process_port.proofs.FitLemmas.{judged-line}
+use Rattle.bay_process_port.proofs.WatchLemmas.{line-judged}
+use Rattle.bay_process_port.specs.declared.port.Presence.TheVariants.{Away, Here}
+
+-- ---- what is read is kept
+
+given-append : (xs ys : List Call) → given_of (xs ++ ys) ≡ given_of xs ++ given_of ys
+given-append [] ys = refl
+given-append (Accepts a taken ∷ xs) ys = given-append xs ys
+given-append (Reads a room heard ∷ xs) ys =
+    ap (λ l. octets_in heard ++ l) (given-append xs ys)
+    ∙ sym (append_assoc (octets_in heard) (given_of xs) (given_of ys))
+given-append (Writes a octets taken ∷ xs) ys = given-append xs ys
+given-append (Closes a ∷ xs) ys = given-append xs ys
+
+-- unless a part led to a closing, what was kept before and then what the link gave is kept
+abbrev Keeps : List ℕ → Result PortData DisconnectReason → List Call → Type 0
+Keeps kept after calls = (q : PortData) → after ≡ Ok q → q.kept ≡ kept ++ given_of calls
+
+-- the port is as it was, but for what does not matter here
+keeps-port : (p : PortData) (kept : List ℕ) (calls : List Call) → p.kept ≡ kept
+    → given_of calls ≡ [] → Keeps kept (Ok p) calls
+keeps-port p kept calls same none q e =
+    let is : p ≡ q = cc in
+    ap (λ (d : PortData). d.kept) (sym is) ∙ same ∙ sym (append-nil kept)
+    ∙ ap (λ l. kept ++ l) (sym none)
+
+keeps-closed : (why : DisconnectReason) (kept : List ℕ) (calls : List Call)
+    → Keeps kept (Err why) calls
+keeps-closed why kept calls q e = absurd cc
+
+keeps-behind : (kept : List ℕ) (r : Result PortData DisconnectReason) (calls : List Call)
+    (f : PortData → AttendedPart) → Keeps kept r calls
+    → ((p : PortData) → Keeps p.kept (f p).after (f p).calls)
+    → (let b : AttendedPart = and_then (record { after = r; calls = calls }) f in
+    Keeps kept b.after b.calls)
+keeps-behind kept (Err why) calls f k next = keeps-closed why kept calls
+keeps-behind kept (Ok p) calls f k next = λ q e.
+    next p q e ∙ ap (λ l. l ++ given_of (f p).calls) (k p refl)
+    ∙ append_assoc kept (given_of calls) (given_of (f p).calls)
+    ∙ ap (λ l. kept ++ l) (sym (given-append calls (f p).calls))
+
+keeps-told : (t : ReportedTurn) (s : State) (p : PortData)
+    → Keeps p.kept (with_report_queued t s p).after (with_report_queued t s p).calls
+keeps-told t s p = by-room (fits_in p.queue all) refl
+  where
+    all : List ℕ
+    all = all_told t s p
+
+    by-room : (v : Bool) → fits_in p.queue all ≡ v
+        → Keeps p.kept (with_report_queued t s p).after (with_report_queued t s p).calls
+    by-room true e =
+        rw e (keeps-port
+        (record p { queue = p.queue ++ all; told = told_after s p.told; watch = answered p.watch })
+        p.kept
+        [] refl refl)
+    by-room false e = rw e (keeps-closed QueueFull p.kept [])
+
+keeps-offered : (queue : List ℕ) (taken : Option ℕ) (p : PortData)
+    → Keeps p.kept (offered_of queue taken p).after (offered_of queue taken p).calls
+keeps-offered [] taken p = keeps-port p p.kept [] refl refl
+keeps-offered (b ∷ bs) None p = keeps-closed LinkFailed p.kept (Writes 1 (b ∷ bs) None ∷ [])
+keeps-offered (b ∷ bs) (Some n) p =
+    keeps-port (record p { queue = drop n p.queue }) p.kept (Writes 1 (b ∷ bs) (Some n) ∷ []) refl
+    refl
+
+keeps-heard : (heard : ReadOutcome) (p : PortData)
+    → Keeps p.kept (on_read heard p (Reads 1 4096 heard ∷ [])).after
+    (on_read heard p (Reads 1 4096 heard ∷ [])).calls
+keeps-heard (Octets octets) p = λ q e.
+    let is : record p { kept = p.kept ++ octets } ≡ q = cc in
+    ap (λ (d : PortData). d.kept) (sym is) ∙ ap (λ l. p.kept ++ l) (sym (append-nil octets))
+keeps-heard Silence p = keeps-port p p.kept (Reads 1 4096 Silence ∷ []) refl refl
+keeps-heard Over p = keeps-closed Ended p.kept (Reads 1 4096 Over ∷ [])
+keeps-heard Broken p = keeps-closed LinkFailed p.kept (Reads 1 4096 Broken ∷ [])
+
+keeps-read : (heard : ReadOutcome) (p : PortData)
+    → Keeps p.kept (read_by heard p).after (read_by heard p).calls
+keeps-read heard p = by-front (is_waiting (first_line_of p.kept)) refl
+  where
+    by-front : (v : Bool) → is_waiting (first_line_of p.kept) ≡ v
+        → Keeps p.kept (read_by heard p).after (read_by heard p).calls
+    by-front true e = rw e (keeps-heard heard p)
+    by-front false e = rw e (keeps-port p p.kept [] refl refl)
+
+keeps-greeted : (now : ℕ) (s : State) (p : PortData)
+    → Keeps p.kept (greet_part now s p).after (greet_part now s p).calls
+keeps-greeted now s p = by-room (fits_in p.queue (greeting now s p.watch)) refl
+  where
+    by-room : (v : Bool) → fits_in p.queue (greeting now s p.watch) ≡ v
+        → Keeps p.kept (greet_part now s p).after (greet_part now s p).calls
+    by-room true e =
+        rw e (keeps-port
+        (record p { queue = p.queue ++ greeting now s p.watch; watch = heard_at now p.watch })
+        p.kept [] refl refl)
+    by-room false e = rw e (keeps-closed QueueFull p.kept [])
+
+keeps-talked : (t : ReportedTurn) (s : State) (answers : Option ℕ × ReadOutcome) (p : PortData)
+    → Keeps p.kept (exchange_part t s answers p).after (exchange_part t s answers p).calls
+keeps-talked t s answers p =
+    let a = with_report_queued t s p in
+    let ka = keeps-behind p.kept a.after a.calls (offer_part answers.0) (keeps-told t s p)
+    (λ q. keeps-offered q.queue answers.0 q) in
+    let b = and_then a (offer_part answers.0) in
+    keeps-behind p.kept b.after b.calls (read_by answers.1) ka (keeps-read answers.1)
+
+-- where the process is still there, it was read into what is kept
+kept-here : (before : PortData) (r : Result PortData DisconnectReason) (calls : List Call)
+    (kept : List ℕ) → Keeps kept r calls
+    → (closed_or_kept before r calls).port.standing ≡ Here
+    → (closed_or_kept before r calls).port.kept
+    ≡ kept ++ given_of (closed_or_kept before r calls).calls
+kept-here before (Ok q) calls kept k here = k q refl
+kept-here before (Err why) calls kept k here = absurd cc
+
+pub attends-keep : (t : ReportedTurn) (s : State) (script : Script) (p : PortData)
+    → p.standing ≡ Here
+    → (attendance t s script p).port.standing ≡ Here
+    → (attendance t s script p).port.kept
+    ≡ p.kept ++ given_of (attendance t s script p).calls
+attends-keep t s script p here still =
+    let part = exchange_part t s (script.taken, script.heard) p in
+    let is : attendance t s script p ≡ attended_here p part =
+    ap (λ standing. attended_as standing t s script p) here in
+    subst (λ (a : Attended). a.port.standing ≡ Here → a.port.kept ≡ p.kept ++ given_of a.calls)
+    (sym is)
+    (kept-here p part.after part.calls p.kept (keeps-talked t s (script.taken, script.heard) p))
+    still
+
+-- what a process that is taken has sent meanwhile is kept
+taken-keep : (before : PortData) (r : Result PortData DisconnectReason) (calls : List Call)
+    (kept : List ℕ) → Keeps kept r calls
+    → (taken_or_closed before r calls).port.standing ≡ Here
+    → (taken_or_closed before r calls).port.kept
+    ≡ kept ++ given_of (taken_or_closed before r calls).calls
+taken-keep before (Ok q) calls kept k here = k q refl
+taken-keep before (Err why) calls kept k here = absurd cc
+
+pub comes-keep : (tells : Bool) (duties : Option SupervisionSettings) (now : ℕ) (s : State)
+    (accepted : Option (Option SocketAddrV4)) (heard : ReadOutcome × ReadOutcome)
+    → (accepted_in now s accepted heard (bare tells duties Away)).port.standing ≡ Here
+    → (accepted_in now s accepted heard (bare tells duties Away)).port.kept
+    ≡ given_of (accepted_in now s accepted heard (bare tells duties Away)).calls
+comes-keep tells duties now s None heard here = absurd cc
+comes-keep tells duties now s (Some None) heard here = absurd cc
+comes-keep tells duties now s (Some (Some from)) heard here =
+    let p = emptied Here (bare tells duties Away) in
+    let g = greet_part now s p in
+    let a = and_then g (read_by heard.0) in
+    let part = first_part now s heard p in
+    taken-keep (bare tells duties Away) part.after part.calls []
+    (keeps-behind [] a.after a.calls (read_by heard.1)
+    (keeps-behind [] g.after g.calls (read_by heard.0) (keeps-greeted now s p) (keeps-read heard.0))
+    (keeps-read heard.1))
+    here
+
+-- ---- uses are moves
+
+abbrev pub line_moves : LineSearchData → List Move → List Move
+line_moves Waiting moves = moves
+line_moves Overlong moves = moves
+line_moves (Whole line rest) moves = cuttings.Takes ∷ moves
+
+-- what was judged takes a line, or none
+abbrev pub moves_by : Result (Option TimedMessage) DisconnectReason → LineSearchData → List Move
+    → List Move
+moves_by (Err why) f moves = moves
+moves_by (Ok None) f moves = moves
+moves_by (Ok (Some said)) f moves = line_moves f moves
+
+abbrev pub line_cut : LineSearchData → List ℕ → List Move → Cutting
+line_cut Waiting kept moves = cutting_of moves kept
+line_cut Overlong kept moves = cutting_of moves kept
+line_cut (Whole line rest) kept moves = with_line line (cutting_of moves rest)
+
+abbrev pub cut_by : Result (Option TimedMessage) DisconnectReason → LineSearchData → List ℕ
+    → List Move → Cutting
+cut_by (Err why) f kept moves = cutting_of moves kept
+cut_by (Ok None) f kept moves = cutting_of moves kept
+cut_by (Ok (Some said)) f kept moves = line_cut f kept moves
+
+pub cut-is : (r : Result (Option TimedMessage) DisconnectReason) (f : LineSearchData)
+    (kept : List ℕ) (moves : List Move) → first_line_of kept ≡ f
+    → cutting_of (moves_by r f moves) kept ≡ cut_by r f kept moves
+cut-is (Err why) f kept moves is = refl
+cut-is (Ok None) f kept moves is = refl
+cut-is (Ok (Some said)) Waiting kept moves is = refl
+cut-is (Ok (Some said)) Overlong kept moves is = refl
+cut-is (Ok (Some said)) (Whole line rest) kept moves is =
+    ap (λ f. took f kept (cutting_of moves)) is
+
+unfoldable pub moves_of : List Use → PortData → List Move
+moves_of [] p = []
+moves_of (Takes s now jump ∷ us) p =
+    moves_by (judged_at s now jump p) (first_line_of p.kept)
+    (moves_of us (port_after (Takes s now jump) p))
+moves_of (Attends t s script ∷ us) p =
+    Comes (octets_given (Attends t s script) p)
+    ∷ moves_of us (port_after (Attends t s script) p)
+
+-- What is kept, the lines that turns had, and what came are those of a cutting.
+pub record Follows (moves : List Move) (c : Cutting) (kept all : List ℕ) (had : List (List ℕ))
+    : Type 0 where
+  pub keeps : c.kept ≡ kept
+  pub had_is : had ≡ filter is_told c.lines
+  pub all_is : all_of moves ≡ all
+
+abbrev pub UseFollows : List Use → PortData → Type 0
+UseFollows us p =
+    Follows (moves_of us p) (cutting_of (moves_of us p) p.kept) (after_uses us p).kept
+    (all_given us p) (all_had us p)
+
+-- a line is had where it tells something
+had-told : (line : List ℕ) (had lines : List (List ℕ)) → had ≡ filter is_told lines
+    → option_to_list (line_or_none line) ++ had ≡ filter is_told (line ∷ lines)
+had-told line had lines e = by-told (is_told line) refl
+  where
+    by-told : (v : Bool) → is_told line ≡ v
+        → option_to_list (line_or_none line) ++ had ≡ filter is_told (line ∷ lines)
+    by-told true is = rw is (ap (λ l. line ∷ l) e)
+    by-told false is = rw is e
+
+-- what a turn takes, and the uses behind it
+record TakeFollows (c : Cutting) (moves : List Move) (us : List Use) (t : Taken) : Type 0 where
+  keeps : c.kept ≡ (after_uses us t.port).kept
+  had_is : option_to_list t.line ++ all_had us t.port ≡ filter is_told c.lines
+  all_is : all_of moves ≡ all_given us t.port
+
+takes-follow : (s : State) (now jump : ℕ) (us : List Use) (p : PortData)
+    (r : Result (Option TimedMessage) DisconnectReason) (f : LineSearchData)
+    → judged_at s now jump p ≡ r → first_line_of p.kept ≡ f
+    → (taken_by now r f p).port.standing ≡ Here → UseFollows us (taken_by now r f p).port
+    → (let moves = moves_of us (taken_by now r f p).port in
+    TakeFollows (cut_by r f p.kept moves) (moves_by r f moves) us (taken_by now r f p))
+takes-follow s now jump us p (Err why) f is there here h = absurd cc
+takes-follow s now jump us p (Ok None) f is there here h =
+    record { keeps = h.keeps; had_is = h.had_is; all_is = h.all_is }
+takes-follow s now jump us p (Ok (Some said)) Waiting is there here h =
+    record { keeps = h.keeps; had_is = h.had_is; all_is = h.all_is }
+takes-follow s now jump us p (Ok (Some said)) Overlong is there here h =
+    record { keeps = h.keeps; had_is = h.had_is; all_is = h.all_is }
+takes-follow s now jump us p (Ok (Some said)) (Whole line rest) is there here h =
+    let q : PortData = record p { kept = rest; watch = known_behind now said p.watch } in
+    record {
+      keeps = h.keeps;
+      had_is =
+          ap (λ o. option_to_list o ++ all_had us q)
+          (judged-line p.watch s now line said (line-judged s now jump p line rest said there is))
+          ∙ had-told line (all_had us q) (cutting_of (moves_of us q) rest).lines h.had_is;
+      all_is = h.all_is;
+    }
+
+uses-follow : (us : List Use) (p : PortData) → p.standing ≡ Here → StaysHere us p → UseFollows us p
+unfolding moves_of
+uses-follow [] p here stays = record { keeps = refl; had_is = refl; all_is = refl }
+uses-follow (Takes s now jump ∷ us) p here stays =
+    let r = judged_at s now jump p in
+    let f = first_line_of p.kept in
+    let is : taken_line s now jump p ≡ taken_by now r f p =
+    ap (λ standing. taken_as standing s now jump p) here in
+    let later : UseFollows us (taken_line s now jump p).port =
+    uses-follow us (taken_line s now jump p).port stays.0 stays.1 in
+    let moves = moves_of us (taken_line s now jump p).port in
+    let t : TakeFollows (cut_by r f p.kept moves) (moves_by r f moves) us
+    (taken_line s now jump p) =
+    subst (λ (t : Taken). (let moves = moves_of us t.port in
+    TakeFollows (cut_by r f p.kept moves) (moves_by r f moves) us t))
+    (sym is)
+    (takes-follow s now jump us p r f refl refl
+    (ap (λ (t : Taken). t.port.standing) (sym is) ∙ stays.0)
+    (subst (λ (t : Taken). UseFollows us t.port) is later)) in
+    let cut = cut-is r f p.kept moves refl in
+    record {
+      keeps = ap (λ (c : Cutting). c.kept) cut ∙ t.keeps;
+      had_is = t.had_is ∙ ap (λ (c : Cutting). filter is_told c.lines) (sym cut);
+      all_is = t.all_is;
+    }
+uses-follow (Attends t s script ∷ us) p here stays =
+    let u = Attends t s script in
+    let q = port_after u p in
+    let later : UseFollows us q = uses-follow us q stays.0 stays.1 in
+    let same = attends-keep t s script p here stays.0 in
+    record {
+      keeps = ap (λ k. (cutting_of (moves_of us q) k).kept) (sym same) ∙ later.keeps;
+      had_is = later.had_is ∙ ap (λ k. filter is_told (cutting_of (moves_of us q) k).lines) same;
+      all_is = ap (λ l. octets_given u p ++ l) later.all_is;
+    }
+
+-- from the acceptance on
+pub starts-follow : (tells : Bool) (duties : Option SupervisionSettings) (us : List Use)
+    → StaysHere us (bare tells duties Away) → UseFollows us (bare tells duties Away)
+unfolding moves_of
+starts-follow tells duties [] stays = record { keeps = refl; had_is = refl; all_is = refl }
+starts-follow tells duties (Takes s now jump ∷ us) stays = absurd cc
+starts-follow tells duties (Attends t s script ∷ us) stays =
+    let u = Attends t s script in
+    let p0 = bare tells duties Away in
+    let q = port_after u p0 in
+    let later : UseFollows us q = uses-follow us q stays.0 stays.1 in
+    let same =
+    comes-keep tells duties t.now s script.accepted (script.heard, script.again) stays.0 in
+    record {
+      keeps = ap (λ k. (cutting_of (moves_of us q) k).kept) (sym same) ∙ later.keeps;
+      had_is = later.had_is ∙ ap (λ k. filter is_told (cutting_of (moves_of us q) k).lines) same;
+      all_is = ap (λ l. octets_given u p0 ++ l) later.all_is;
+    }
+
+pub loses-no-line : (tells : Bool) (duties : Option SupervisionSettings) (us : List Use)
+    → StaysHere us (bare tells duties Away) → LosesNoLine tells duties us
+loses-no-line tells duties us stays =
+    let p = bare tells duties Away in
+    let f : UseFollows us p = starts-follow tells duties us stays in
+    let cut : LosesNothing (moves_of us p) = nothing-is-lost (moves_of us p) in
+    record {
+      lines = (cutting_of (moves_of us p) []).lines;
+      text = cut.text;
+      are = cut.lines;
+      given = sym f.all_is ∙ cut.whole ∙ ap (λ l. cut.text ++ l) f.keeps;
+      had = f.had_is;
+    }

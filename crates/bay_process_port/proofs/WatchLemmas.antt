@@ -1,0 +1,600 @@
+-- Lemmas on what is known of a supervised process while it is there, and for how long it is silent.
+use Rattle.std.proofs.Common.{◌≡◌, ℕ, ◌-◌, ◌≤◌, min, Bool, true, false, nat_le, nat_lt, drop, if◌then◌else◌, List, [], ◌∷◌, ◌++◌, Option, None, Some, option_map, Result, Ok, Err, refl, sym, ap, ◌∙◌, subst, arith, ◌⊎◌, inl, inr}
+use Rattle.std.proofs.lemmas.Bool.{and_parts}
+use Rattle.std.proofs.lemmas.Bool.Decides.{nat_tests}
+use Rattle.std.specs.declared.net.socket_addr.SocketAddrV4.{SocketAddrV4}
+use Rattle.bay_device.specs.Device.{State}
+use Rattle.bay_lines.specs.FirstLines.{LineSearchData, Waiting, Overlong, Whole, first_line_of}
+use Rattle.bay_server_turn.specs.Calls.{Call, ReadOutcome, Octets, Silence, Over, Broken}
+use Rattle.bay_process_port.specs.Introduction.{introduced_at}
+use Rattle.bay_server_turn.specs.Supervised.{timed_line_of}
+use Rattle.bay_server_turn.specs.declared.supervised.TimedLine.{TimedLine}
+use Rattle.bay_process_port.specs.Polling.{Attended, AttendedPart, Script, accepted_in, all_told, attendance, attended_as, attended_here, and_then, closed_or_kept, first_part, greet_part, offer_part, offered_of, on_read, read_by, taken_or_closed, exchange_part, with_report_queued}
+use Rattle.bay_process_port.specs.Fit.{is_waiting}
+use Rattle.bay_process_port.specs.Ports.{PortData, Taken, emptied, has_jumped, judged_at, judged_front, line_taken, message_of, nothing_of, silence, taken_as, taken_by, taken_here, taken_line}
+use Rattle.bay_process_port.proofs.FitLemmas.{IsTimely, report-is, timely-is}
+use Rattle.bay_process_port.specs.Releases.{told_after}
+use Rattle.bay_process_port.specs.Supervision.{IsBelieved, IsHeard}
+use Rattle.bay_process_port.specs.ProcessOutput.{ReportedTurn, fits_in, greeting}
+use Rattle.bay_process_port.specs.Supervised.{SupervisionSettings, Watched, answered, settings_in, heard_at, introduction, is_timely, judged, known_as, known_behind, known_by, overlong, report, unheard, word_of}
+use Rattle.bay_process_port.specs.declared.connection_event.DisconnectReason.{DisconnectReason}
+use Rattle.bay_process_port.specs.declared.connection_event.DisconnectReason.TheVariants.{Ended, QueueFull, LinkFailed, Silent, Jumped}
+use Rattle.bay_process_port.specs.declared.port.Presence.{Presence}
+use Rattle.bay_process_port.specs.declared.port.Presence.TheVariants.{Away, Leaving, Dismissed, Here}
+use Rattle.bay_process_port.specs.declared.supervision.ProcessMessage.{ProcessMessage}
+use Rattle.bay_process_port.specs.declared.supervision.ProcessMessage.TheVariants.{Blank, Reports, Introduces, Lives}
+use Rattle.bay_process_port.specs.declared.supervision.TimedMessage.{TimedMessage}
+
+-- ---- what is known of a process while it is there
+
+-- what is known stays, but for when it was heard and whether it said that it lives
+pub record SameWatch (w : Watched) (watch : Option Watched) : Type 0 where
+  pub later : Watched
+  pub is : watch ≡ Some later
+  pub introduced : later.introduced ≡ w.introduced
+  pub duties : later.duties ≡ w.duties
+
+same-watch : (w : Watched) (watch : Option Watched) → watch ≡ Some w → SameWatch w watch
+same-watch w watch is = record { later = w; is = is; introduced = refl; duties = refl }
+
+heard-watch : (moment : ℕ) (w : Watched) (watch : Option Watched) → SameWatch w watch
+    → SameWatch w (heard_at moment watch)
+heard-watch moment w watch h = record {
+  later = record h.later { heard = moment };
+  is = ap (heard_at moment) h.is;
+  introduced = h.introduced;
+  duties = h.duties;
+}
+
+-- it is there, and what is known stays
+record SamePort (w : Watched) (p : PortData) : Type 0 where
+  here : p.standing ≡ Here
+  watch : SameWatch w p.watch
+
+-- unless a part led to a closing
+abbrev Steady : Watched → Result PortData DisconnectReason → Type 0
+Steady w r = (q : PortData) → r ≡ Ok q → SamePort w q
+
+steady-port : (w : Watched) (p : PortData) → SamePort w p → Steady w (Ok p)
+steady-port w p h q e = let is : p ≡ q = cc in subst (SamePort w) is h
+
+steady-closed : (w : Watched) (why : DisconnectReason) → Steady w (Err why)
+steady-closed w why q e = absurd cc
+
+steady-behind : (w : Watched) (r : Result PortData DisconnectReason) (calls : List Call)
+    (f : PortData → AttendedPart) → Steady w r
+    → ((p : PortData) → SamePort w p → Steady w (f p).after)
+    → (let b : AttendedPart = and_then (record { after = r; calls = calls }) f in Steady w b.after)
+steady-behind w (Err why) calls f h next = steady-closed w why
+steady-behind w (Ok p) calls f h next = next p (h p refl)
+
+steady-told : (w : Watched) (t : ReportedTurn) (s : State) (p : PortData) → SamePort w p
+    → Steady w (with_report_queued t s p).after
+steady-told w t s p h = by-room (fits_in p.queue (all_told t s p)) refl
+  where
+    told : PortData
+    told = record p {
+      queue = p.queue ++ all_told t s p;
+      told = told_after s p.told;
+      watch = answered p.watch;
+    }
+
+    by-room : (v : Bool) → fits_in p.queue (all_told t s p) ≡ v
+        → Steady w (with_report_queued t s p).after
+    by-room true e = rw e (steady-port w told (record {
+      here = h.here;
+      watch = record {
+        later = record h.watch.later { lives = false };
+        is = ap answered h.watch.is;
+        introduced = h.watch.introduced;
+        duties = h.watch.duties;
+      };
+    }))
+    by-room false e = rw e (steady-closed w QueueFull)
+
+steady-offered : (w : Watched) (queue : List ℕ) (taken : Option ℕ) (p : PortData)
+    → SamePort w p → Steady w (offered_of queue taken p).after
+steady-offered w [] taken p h = steady-port w p h
+steady-offered w (b ∷ bs) None p h = steady-closed w LinkFailed
+steady-offered w (b ∷ bs) (Some n) p h =
+    steady-port w (record p { queue = drop n p.queue }) (record { here = h.here; watch = h.watch })
+
+steady-read : (w : Watched) (heard : ReadOutcome) (p : PortData) → SamePort w p
+    → Steady w (read_by heard p).after
+steady-read w heard p h = by-front (is_waiting (first_line_of p.kept)) refl
+  where
+    by-heard : (o : ReadOutcome) (calls : List Call) → Steady w (on_read o p calls).after
+    by-heard (Octets octets) calls =
+        steady-port w (record p { kept = p.kept ++ octets })
+        (record { here = h.here; watch = h.watch })
+    by-heard Silence calls = steady-port w p h
+    by-heard Over calls = steady-closed w Ended
+    by-heard Broken calls = steady-closed w LinkFailed
+
+    by-front : (v : Bool) → is_waiting (first_line_of p.kept) ≡ v → Steady w (read_by heard p).after
+    by-front true e = rw e (by-heard heard _)
+    by-front false e = rw e (steady-port w p h)
+
+steady-greeted : (w : Watched) (now : ℕ) (s : State) (p : PortData) → SamePort w p
+    → Steady w (greet_part now s p).after
+steady-greeted w now s p h = by-room (fits_in p.queue (greeting now s p.watch)) refl
+  where
+    greeted : PortData
+    greeted =
+        record p { queue = p.queue ++ greeting now s p.watch; watch = heard_at now p.watch }
+
+    by-room : (v : Bool) → fits_in p.queue (greeting now s p.watch) ≡ v
+        → Steady w (greet_part now s p).after
+    by-room true e = rw e (steady-port w greeted
+        (record { here = h.here; watch = heard-watch now w p.watch h.watch }))
+    by-room false e = rw e (steady-closed w QueueFull)
+
+steady-talked : (w : Watched) (t : ReportedTurn) (s : State) (answers : Option ℕ × ReadOutcome)
+    (p : PortData) → SamePort w p → Steady w (exchange_part t s answers p).after
+steady-talked w t s answers p h =
+    let a = with_report_queued t s p in
+    let b = and_then a (offer_part answers.0) in
+    steady-behind w b.after b.calls (read_by answers.1)
+    (steady-behind w a.after a.calls (offer_part answers.0) (steady-told w t s p h)
+    (λ q k. steady-offered w q.queue answers.0 q k))
+    (λ q k. steady-read w answers.1 q k)
+
+steady-begun : (w : Watched) (now : ℕ) (s : State) (answers : ReadOutcome × ReadOutcome)
+    (p : PortData) → SamePort w p → Steady w (first_part now s answers p).after
+steady-begun w now s answers p h =
+    let a = greet_part now s p in
+    let b = and_then a (read_by answers.0) in
+    steady-behind w b.after b.calls (read_by answers.1)
+    (steady-behind w a.after a.calls (read_by answers.0) (steady-greeted w now s p h)
+    (λ q k. steady-read w answers.0 q k))
+    (λ q k. steady-read w answers.1 q k)
+
+here-same : (w : Watched) (before : PortData) (r : Result PortData DisconnectReason)
+    (calls : List Call)
+    → Steady w r → (closed_or_kept before r calls).port.standing ≡ Here
+    → SameWatch w (closed_or_kept before r calls).port.watch
+here-same w before (Ok q) calls h here = (h q refl).watch
+here-same w before (Err why) calls h here = absurd cc
+
+come-same : (w : Watched) (before : PortData) (r : Result PortData DisconnectReason)
+    (calls : List Call)
+    → Steady w r → (taken_or_closed before r calls).port.standing ≡ Here
+    → SameWatch w (taken_or_closed before r calls).port.watch
+come-same w before (Ok q) calls h here = (h q refl).watch
+come-same w before (Err why) calls h here = absurd cc
+
+-- behind a turn, while it is there
+pub attended-same : (w : Watched) (t : ReportedTurn) (s : State) (script : Script) (p : PortData)
+    → p.standing ≡ Here → p.watch ≡ Some w → (attendance t s script p).port.standing ≡ Here
+    → SameWatch w (attendance t s script p).port.watch
+attended-same w t s script p here is still =
+    let part = exchange_part t s (script.taken, script.heard) p in
+    let whole : attendance t s script p ≡ attended_here p part =
+    ap (λ standing. attended_as standing t s script p) here in
+    subst (λ (a : Attended). a.port.standing ≡ Here → SameWatch w a.port.watch) (sym whole)
+    (here-same w p part.after part.calls
+    (steady-talked w t s (script.taken, script.heard) p
+    (record { here = here; watch = same-watch w p.watch is }))) still
+
+pub accepted-same : (w : Watched) (now : ℕ) (s : State) (taken : Option (Option SocketAddrV4))
+    (heard : ReadOutcome × ReadOutcome) (p : PortData) → p.standing ≡ Away
+    → (emptied Here p).watch ≡ Some w → (accepted_in now s taken heard p).port.standing ≡ Here
+    → SameWatch w (accepted_in now s taken heard p).port.watch
+accepted-same w now s None heard p away is here =
+    let no : Away ≡ Here = sym away ∙ here in absurd cc
+accepted-same w now s (Some None) heard p away is here =
+    let no : Away ≡ Here = sym away ∙ here in absurd cc
+accepted-same w now s (Some (Some from)) heard p away is here =
+    let part = first_part now s heard (emptied Here p) in
+    come-same w p part.after part.calls
+    (steady-begun w now s heard (emptied Here p)
+    (record { here = refl; watch = same-watch w (emptied Here p).watch is })) here
+
+-- ---- what a turn takes was said in time
+
+said-near : (limit now moment : ℕ) (word : ProcessMessage) (said : TimedMessage)
+    → IsTimely limit now moment word said → now - min now said.moment ≤ limit
+said-near limit now moment word said t =
+    let old = (and_parts (nat_le (now - moment) limit) (nat_le (moment - now) limit) t.near).0 in
+    let le : now - moment ≤ limit = grind (arith, nat_tests) in
+    let few : now - min now moment ≤ limit = omega (arith, le) in
+    subst (λ (x : TimedMessage). now - min now x.moment ≤ limit) t.is few
+
+report-near : (line : List ℕ) (w : Watched) (now : ℕ) (o : Option TimedLine)
+    (said : TimedMessage) → report line w now o ≡ Ok said
+    → now - min now said.moment ≤ w.duties.limit
+report-near line w now None said e = absurd cc
+report-near line w now (Some timed) said e =
+    said-near w.duties.limit now timed.moment (word_of timed.event) said
+    (report-is line w now timed said e).timely
+
+introduction-near : (duties : SupervisionSettings) (now : ℕ) (o : Option ℕ) (said : TimedMessage)
+    → introduction duties now o ≡ Ok said → now - min now said.moment ≤ duties.limit
+introduction-near duties now None said e = absurd cc
+introduction-near duties now (Some moment) said e =
+    said-near duties.limit now moment Introduces said
+    (timely-is duties.limit now moment Introduces said e)
+
+judged-near : (s : State) (now : ℕ) (w : Watched) (line : List ℕ) (said : TimedMessage)
+    → judged (Some w) s now line ≡ Ok said → now - min now said.moment ≤ w.duties.limit
+judged-near s now w line said e = by-known w.introduced refl
+  where
+    by-known : (v : Bool) → w.introduced ≡ v → now - min now said.moment ≤ w.duties.limit
+    by-known true known = report-near line w now (timed_line_of s line) said (rw known at e)
+    by-known false known =
+        introduction-near w.duties now (introduced_at w.duties.key s.domain s.revision line) said
+        (rw known at e)
+
+-- what was judged of a process that is believed: the clock has not jumped, and the first line, if
+-- it is whole, can be taken
+pub record Judged (s : State) (now jump : ℕ) (p : PortData) (f : LineSearchData)
+    (m : Option TimedMessage) : Type 0 where
+  pub no_jump : has_jumped jump p.watch ≡ false
+  pub front : judged_front s now p f ≡ Ok m
+
+pub judged-is : (s : State) (now jump : ℕ) (p : PortData) (f : LineSearchData)
+    (m : Option TimedMessage) → first_line_of p.kept ≡ f → judged_at s now jump p ≡ Ok m
+    → Judged s now jump p f m
+judged-is s now jump p f m there e = by-jump (has_jumped jump p.watch) refl
+  where
+    by-jump : (v : Bool) → has_jumped jump p.watch ≡ v → Judged s now jump p f m
+    by-jump true far = let none : Err Jumped ≡ Ok m = rw far at e in absurd cc
+    by-jump false near = record {
+      no_jump = near;
+      front = ap (λ f. judged_front s now p f) (sym there) ∙ (rw near at e);
+    }
+
+message-is : (r : Result TimedMessage DisconnectReason) (said : TimedMessage)
+    → message_of r ≡ Ok (Some said) → r ≡ Ok said
+message-is (Err why) said e = absurd cc
+message-is (Ok x) said e = cc
+
+-- the message of a whole line
+pub line-judged : (s : State) (now jump : ℕ) (p : PortData) (line rest : List ℕ)
+    (said : TimedMessage) → first_line_of p.kept ≡ Whole line rest
+    → judged_at s now jump p ≡ Ok (Some said) → judged p.watch s now line ≡ Ok said
+line-judged s now jump p line rest said there e =
+    message-is (judged p.watch s now line) said
+    (judged-is s now jump p (Whole line rest) (Some said) there e).front
+
+no-message : (r : Result TimedMessage DisconnectReason) → message_of r ≡ Ok None → ⊥
+no-message (Err why) e = cc
+no-message (Ok x) e = cc
+
+jump-near : (jump : ℕ) (w : Watched) (watch : Option Watched) → watch ≡ Some w
+    → has_jumped jump watch ≡ false → jump ≤ w.duties.limit
+jump-near jump w None is near = absurd cc
+jump-near jump w (Some v) is near =
+    let same : v ≡ w = cc in
+    let le : jump ≤ v.duties.limit = grind (arith, nat_tests) in
+    subst (λ (x : Watched). jump ≤ x.duties.limit) same le
+
+silence-near : (now : ℕ) (w : Watched) (watch : Option Watched) → watch ≡ Some w
+    → silence now watch ≡ Ok None → now - w.heard ≤ w.duties.limit
+silence-near now w None is e = absurd cc
+silence-near now w (Some v) is e = by-span (nat_le (now - v.heard) v.duties.limit) refl
+  where
+    by-span : (b : Bool) → nat_le (now - v.heard) v.duties.limit ≡ b
+        → now - w.heard ≤ w.duties.limit
+    by-span true few =
+        let same : v ≡ w = cc in
+        let le : now - v.heard ≤ v.duties.limit = grind (arith, nat_tests) in
+        subst (λ (x : Watched). now - x.heard ≤ x.duties.limit) same le
+    by-span false few =
+        let none : Err (Silent v.duties.limit) ≡ Ok None = rw few at e in absurd cc
+
+front-near : (s : State) (now : ℕ) (w : Watched) (p : PortData) (f : LineSearchData)
+    → p.watch ≡ Some w → judged_front s now p f ≡ Ok None → now - w.heard ≤ w.duties.limit
+front-near s now w p Waiting is e = silence-near now w p.watch is e
+front-near s now w p Overlong is e = absurd cc
+front-near s now w p (Whole line rest) is e =
+    absurd (no-message (judged p.watch s now line) e)
+
+-- ---- what is known after a line
+
+pub known-duties : (word : ProcessMessage) (w : Watched) → (known_as word w).duties ≡ w.duties
+known-duties Blank w = refl
+known-duties (Reports event) w = refl
+known-duties Introduces w = refl
+known-duties Lives w = refl
+
+known-heard : (word : ProcessMessage) (w : Watched) → (known_as word w).heard ≡ w.heard
+known-heard Blank w = refl
+known-heard (Reports event) w = refl
+known-heard Introduces w = refl
+known-heard Lives w = refl
+
+stays-introduced : (word : ProcessMessage) (w : Watched) → w.introduced ≡ true
+    → (known_as word w).introduced ≡ true
+stays-introduced Blank w known = known
+stays-introduced (Reports event) w known = known
+stays-introduced Introduces w known = refl
+stays-introduced Lives w known = known
+
+known-first : (w : Watched) (now : ℕ) (o : Option ℕ) (said : TimedMessage)
+    → introduction w.duties now o ≡ Ok said → (known_by now said w).introduced ≡ true
+known-first w now None said e = absurd cc
+known-first w now (Some moment) said e =
+    sym (ap (λ (x : TimedMessage). (known_by now x w).introduced)
+    (timely-is w.duties.limit now moment Introduces said e).is)
+
+known-later : (s : State) (now : ℕ) (w : Watched) (line : List ℕ) (said : TimedMessage)
+    → judged (Some w) s now line ≡ Ok said → (known_by now said w).introduced ≡ true
+known-later s now w line said e = by-known w.introduced refl
+  where
+    by-known : (v : Bool) → w.introduced ≡ v → (known_by now said w).introduced ≡ true
+    by-known true known =
+        stays-introduced said.word (record w { heard = min now said.moment; last = said.moment })
+        known
+    by-known false known =
+        known-first w now (introduced_at w.duties.key s.domain s.revision line) said (rw known at e)
+
+-- ---- what a turn takes of a connected process
+
+-- It is lost, and nothing happened.
+pub record TookLoss (taken : Taken) : Type 0 where
+  pub lost : taken.is_lost ≡ true
+  pub event : taken.event ≡ None
+
+-- Or it is still believed: it has introduced itself, or it had not and nothing happened; its last
+-- line is not too old, and the clock has not jumped.
+pub record Took (now jump : ℕ) (w : Watched) (taken : Taken) : Type 0 where
+  pub not_lost : taken.is_lost ≡ false
+  pub here : taken.port.standing ≡ Here
+  pub later : Watched
+  pub watched : taken.port.watch ≡ Some later
+  pub known : (later.introduced ≡ true) ⊎ ((w.introduced ≡ false) × (taken.event ≡ None))
+  pub recent : now - later.heard ≤ later.duties.limit
+  pub no_jump : jump ≤ later.duties.limit
+
+took-none : (s : State) (now jump : ℕ) (p : PortData) (w : Watched) (f : LineSearchData)
+    → p.standing ≡ Here → p.watch ≡ Some w → Judged s now jump p f None
+    → Took now jump w (nothing_of p)
+took-none s now jump p w f here watched j = record {
+  not_lost = refl;
+  here = here;
+  later = w;
+  watched = watched;
+  known = by-known w.introduced refl;
+  recent = front-near s now w p f watched j.front;
+  no_jump = jump-near jump w p.watch watched j.no_jump;
+}
+  where
+    by-known : (v : Bool) → w.introduced ≡ v
+        → (w.introduced ≡ true) ⊎ ((w.introduced ≡ false) × ((nothing_of p).event ≡ None))
+    by-known true e = inl e
+    by-known false e = inr (e, refl)
+
+not-silent : (now : ℕ) (watch : Option Watched) (said : TimedMessage)
+    → silence now watch ≡ Ok (Some said) → ⊥
+not-silent now None said e = cc
+not-silent now (Some v) said e = by-span (nat_le (now - v.heard) v.duties.limit) refl
+  where
+    by-span : (b : Bool) → nat_le (now - v.heard) v.duties.limit ≡ b → ⊥
+    by-span true few = let none : Ok None ≡ Ok (Some said) = rw few at e in cc
+    by-span false few =
+        let none : Err (Silent v.duties.limit) ≡ Ok (Some said) = rw few at e in cc
+
+took-some : (s : State) (now jump : ℕ) (p : PortData) (w : Watched) (f : LineSearchData)
+    (said : TimedMessage) → p.standing ≡ Here → p.watch ≡ Some w
+    → Judged s now jump p f (Some said) → Took now jump w (line_taken now said f p)
+took-some s now jump p w Waiting said here watched j =
+    absurd (not-silent now p.watch said j.front)
+took-some s now jump p w Overlong said here watched j =
+    let none : Err (overlong p.watch p.kept) ≡ Ok (Some said) = j.front in absurd cc
+took-some s now jump p w (Whole line rest) said here watched j =
+    let e : judged (Some w) s now line ≡ Ok said =
+    ap (λ o. judged o s now line) (sym watched)
+    ∙ message-is (judged p.watch s now line) said j.front in
+    let before : Watched = record w { heard = min now said.moment; last = said.moment } in
+    let near : now - min now said.moment ≤ w.duties.limit = judged-near s now w line said e in
+    record {
+      not_lost = refl;
+      here = here;
+      later = known_by now said w;
+      watched = ap (known_behind now said) watched;
+      known = inl (known-later s now w line said e);
+      recent =
+          subst (λ h. now - h ≤ (known_by now said w).duties.limit)
+          (sym (known-heard said.word before))
+          (subst (λ (d : SupervisionSettings). now - min now said.moment ≤ d.limit)
+          (sym (known-duties said.word before)) near);
+      no_jump =
+          subst (λ (d : SupervisionSettings). jump ≤ d.limit) (sym (known-duties said.word before))
+          (jump-near jump w p.watch watched j.no_jump);
+    }
+
+took-by : (s : State) (now jump : ℕ) (p : PortData) (w : Watched)
+    (r : Result (Option TimedMessage) DisconnectReason) → p.standing ≡ Here → p.watch ≡ Some w
+    → judged_at s now jump p ≡ r
+    → TookLoss (taken_by now r (first_line_of p.kept) p)
+    ⊎ Took now jump w (taken_by now r (first_line_of p.kept) p)
+took-by s now jump p w (Err why) here watched e = inl (record { lost = refl; event = refl })
+took-by s now jump p w (Ok None) here watched e =
+    inr (took-none s now jump p w (first_line_of p.kept) here watched
+    (judged-is s now jump p (first_line_of p.kept) None refl e))
+took-by s now jump p w (Ok (Some said)) here watched e =
+    inr (took-some s now jump p w (first_line_of p.kept) said here watched
+    (judged-is s now jump p (first_line_of p.kept) (Some said) refl e))
+
+-- what a turn takes of a connected process
+pub took : (s : State) (now jump : ℕ) (p : PortData) (w : Watched) → p.standing ≡ Here
+    → p.watch ≡ Some w
+    → TookLoss (taken_line s now jump p) ⊎ Took now jump w (taken_line s now jump p)
+took s now jump p w here watched =
+    subst (λ (t : Taken). TookLoss t ⊎ Took now jump w t)
+    (sym (ap (λ standing. taken_as standing s now jump p) here))
+    (took-by s now jump p w (judged_at s now jump p) here watched refl)
+
+-- one that is not supervised is not watched after it
+unwatched : (now : ℕ) (r : Result (Option TimedMessage) DisconnectReason) (f : LineSearchData)
+    (p : PortData) → p.watch ≡ None → (taken_by now r f p).port.watch ≡ None
+unwatched now (Err why) f p is = ap (λ watch. option_map unheard (settings_in watch)) is
+unwatched now (Ok None) f p is = is
+unwatched now (Ok (Some said)) Waiting p is = is
+unwatched now (Ok (Some said)) Overlong p is = is
+unwatched now (Ok (Some said)) (Whole line rest) p is = ap (known_behind now said) is
+
+-- a connected process that is supervised is lost, or believed
+pub is-heard : (s : State) (now jump : ℕ) (p : PortData) → IsHeard s now jump p
+is-heard s now jump p w here watched = by-watch p.watch refl
+  where
+    by-watch : (watch : Option Watched) → p.watch ≡ watch
+        → ((taken_line s now jump p).is_lost ≡ true)
+        ⊎ (((taken_line s now jump p).port.standing ≡ Here) × IsBelieved s now jump p w)
+    by-watch None none =
+        let is : taken_line s now jump p ≡ taken_here s now jump p =
+        ap (λ standing. taken_as standing s now jump p) here in
+        let no : None ≡ Some w =
+        sym (ap (λ (t : Taken). t.port.watch) is
+        ∙ unwatched now (judged_at s now jump p) (first_line_of p.kept) p none) ∙ watched in
+        absurd cc
+    by-watch (Some v) some = elim (took s now jump p v here some) [
+      | inl loss ↦ inl loss.lost
+      | inr k ↦
+          (let both : Some k.later ≡ Some w = sym k.watched ∙ watched in
+          let same : k.later ≡ w = cc in
+          inr (
+            k.here,
+            record {
+              not_lost = k.not_lost;
+              recent = subst (λ (x : Watched). now - x.heard ≤ x.duties.limit) same k.recent;
+              no_jump = subst (λ (x : Watched). jump ≤ x.duties.limit) same k.no_jump;
+            },
+          ))
+    ]
+
+-- ---- after a turn
+
+-- behind a turn a process that was there is still there, or is lost in the next
+here-or-lost : (w : Watched) (before : PortData) (r : Result PortData DisconnectReason)
+    (calls : List Call)
+    → Steady w r → ((closed_or_kept before r calls).port.standing ≡ Leaving)
+    ⊎ ((closed_or_kept before r calls).port.standing ≡ Here)
+here-or-lost w before (Ok q) calls h = inr (h q refl).here
+here-or-lost w before (Err why) calls h = inl refl
+
+pub attended-here : (w : Watched) (t : ReportedTurn) (s : State) (script : Script) (p : PortData)
+    → p.standing ≡ Here → p.watch ≡ Some w
+    → ((attendance t s script p).port.standing ≡ Leaving)
+    ⊎ ((attendance t s script p).port.standing ≡ Here)
+attended-here w t s script p here is =
+    let part = exchange_part t s (script.taken, script.heard) p in
+    let whole : attendance t s script p ≡ attended_here p part =
+    ap (λ standing. attended_as standing t s script p) here in
+    subst (λ (a : Attended). (a.port.standing ≡ Leaving) ⊎ (a.port.standing ≡ Here)) (sym whole)
+    (here-or-lost w p part.after part.calls
+    (steady-talked w t s (script.taken, script.heard) p
+    (record { here = here; watch = same-watch w p.watch is })))
+
+-- It is connected and has introduced itself.
+pub record IsKnown (p : PortData) : Type 0 where
+  pub here : p.standing ≡ Here
+  pub watch : Watched
+  pub watched : p.watch ≡ Some watch
+  pub introduced : watch.introduced ≡ true
+
+-- a process that is so is so after a turn, or lost in the next one
+pub stays-known : (t : ReportedTurn) (s : State) (script : Script) (p : PortData) (w : Watched)
+    → p.standing ≡ Here → p.watch ≡ Some w → w.introduced ≡ true
+    → ((attendance t s script p).port.standing ≡ Leaving)
+    ⊎ IsKnown (attendance t s script p).port
+stays-known t s script p w here watched known = elim (attended-here w t s script p here watched) [
+  | inl gone ↦ inl gone
+  | inr still ↦
+      (let h : SameWatch w (attendance t s script p).port.watch =
+      attended-same w t s script p here watched still in
+      inr (record {
+        here = still;
+        watch = h.later;
+        watched = h.is;
+        introduced = h.introduced ∙ known;
+      }))
+]
+
+-- ---- what it owes stays
+
+owes-emptied : (standing : Presence) (p : PortData)
+    → settings_in (emptied standing p).watch ≡ settings_in p.watch
+owes-emptied standing p = by-watch p.watch
+  where
+    by-watch : (watch : Option Watched)
+        → settings_in (option_map unheard (settings_in watch)) ≡ settings_in watch
+    by-watch None = refl
+    by-watch (Some w) = refl
+
+pub took-owes : (s : State) (now jump : ℕ) (p : PortData)
+    → settings_in (taken_line s now jump p).port.watch ≡ settings_in p.watch
+took-owes s now jump p = by-standing p.standing
+  where
+    by-word : (said : TimedMessage) (watch : Option Watched)
+        → settings_in (known_behind now said watch) ≡ settings_in watch
+    by-word said None = refl
+    by-word said (Some w) =
+        ap (λ (d : SupervisionSettings). let o : Option SupervisionSettings = Some d in o)
+        (known-duties said.word (record w { heard = min now said.moment; last = said.moment }))
+
+    by-judged : (r : Result (Option TimedMessage) DisconnectReason) (f : LineSearchData)
+        → settings_in (taken_by now r f p).port.watch ≡ settings_in p.watch
+    by-judged (Err why) f = owes-emptied (Dismissed why) p
+    by-judged (Ok None) f = refl
+    by-judged (Ok (Some said)) Waiting = refl
+    by-judged (Ok (Some said)) Overlong = refl
+    by-judged (Ok (Some said)) (Whole line rest) = by-word said p.watch
+
+    by-standing : (standing : Presence)
+        → settings_in (taken_as standing s now jump p).port.watch ≡ settings_in p.watch
+    by-standing Away = refl
+    by-standing Leaving = owes-emptied Away p
+    by-standing (Dismissed why) = refl
+    by-standing Here = by-judged (judged_at s now jump p) (first_line_of p.kept)
+
+kept-owes : (w : Watched) (before : PortData) (r : Result PortData DisconnectReason)
+    (calls : List Call)
+    → before.watch ≡ Some w → Steady w r
+    → settings_in (closed_or_kept before r calls).port.watch ≡ Some w.duties
+kept-owes w before (Ok q) calls is h =
+    let same : SameWatch w q.watch = (h q refl).watch in
+    ap settings_in same.is ∙ ap (λ d. let o : Option SupervisionSettings = Some d in o) same.duties
+kept-owes w before (Err why) calls is h = owes-emptied Leaving before ∙ ap settings_in is
+
+come-owes : (w : Watched) (before : PortData) (r : Result PortData DisconnectReason)
+    (calls : List Call)
+    → before.watch ≡ Some w → Steady (unheard w.duties) r
+    → settings_in (taken_or_closed before r calls).port.watch ≡ Some w.duties
+come-owes w before (Ok q) calls is h =
+    let same : SameWatch (unheard w.duties) q.watch = (h q refl).watch in
+    ap settings_in same.is ∙ ap (λ d. let o : Option SupervisionSettings = Some d in o) same.duties
+come-owes w before (Err why) calls is h = owes-emptied Away before ∙ ap settings_in is
+
+-- behind a turn
+pub attended-owes : (t : ReportedTurn) (s : State) (script : Script) (p : PortData) (w : Watched)
+    → p.watch ≡ Some w → settings_in (attendance t s script p).port.watch ≡ Some w.duties
+attended-owes t s script p w is = by-standing p.standing refl
+  where
+    by-accepted : (taken : Option (Option SocketAddrV4))
+        → settings_in (accepted_in t.now s taken (script.heard, script.again) p).port.watch
+        ≡ Some w.duties
+    by-accepted None = ap settings_in is
+    by-accepted (Some None) = ap settings_in is
+    by-accepted (Some (Some from)) =
+        let heard : ReadOutcome × ReadOutcome = (script.heard, script.again) in
+        let part = first_part t.now s heard (emptied Here p) in
+        come-owes w p part.after part.calls is
+        (steady-begun (unheard w.duties) t.now s heard (emptied Here p)
+        (record {
+          here = refl;
+          watch = same-watch (unheard w.duties) (emptied Here p).watch
+              (ap (λ watch. option_map unheard (settings_in watch)) is);
+        }))
+
+    by-standing : (standing : Presence) → p.standing ≡ standing
+        → settings_in (attended_as standing t s script p).port.watch ≡ Some w.duties
+    by-standing Away at = by-accepted script.accepted
+    by-standing Leaving at = ap settings_in is
+    by-standing (Dismissed why) at = owes-emptied Away p ∙ ap settings_in is
+    by-standing Here at =
+        let part = exchange_part t s (script.taken, script.heard) p in
+        kept-owes w p part.after part.calls is
+        (steady-talked w t s (script.taken, script.heard) p
+        (record { here = at; watch = same-watch w p.watch is }))

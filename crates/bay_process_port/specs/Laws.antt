@@ -1,0 +1,70 @@
+-- Laws of the port of a process, turn after turn.
+use Rattle.std.specs.Prelude.{◌≡◌, ℕ, Bool, ◌||◌, true, false, List, [], ◌∷◌, ◌++◌, take, None, Some, Ok}
+use Rattle.bay_device.specs.Device.{State}
+use Rattle.bay_process_port.specs.Polling.{Script, all_told, attendance, dismissed}
+use Rattle.bay_process_port.specs.Ports.{PortData, dismissed_of, emptied, lost_of, taken_line}
+use Rattle.bay_process_port.specs.ProcessOutput.{ReportedTurn}
+use Rattle.bay_process_port.specs.declared.connection_event.ConnectionEvent.TheVariants.{Closed}
+use Rattle.bay_process_port.specs.declared.connection_event.DisconnectReason.{DisconnectReason}
+use Rattle.bay_process_port.specs.declared.port.Presence.TheVariants.{Away, Leaving, Dismissed, Here}
+use Rattle.bay_server_turn.specs.Calls.{Call, Accepts, Reads, Writes, Closes, ReadOutcome, Octets, Silence, Over, Broken}
+use Rattle.bay_server_turn.specs.Served.{reported, event_in_line, understood}
+
+-- the end of what a process sends, or a failure
+abbrev pub is_end : ReadOutcome → Bool
+is_end (Octets octets) = false
+is_end Silence = false
+is_end Over = true
+is_end Broken = true
+
+-- one of the calls is a read with this result
+abbrev pub hears_end : List Call → Bool
+hears_end [] = false
+hears_end (Accepts a taken ∷ calls) = hears_end calls
+hears_end (Reads a room heard ∷ calls) = is_end heard || hears_end calls
+hears_end (Writes a octets taken ∷ calls) = hears_end calls
+hears_end (Closes a ∷ calls) = hears_end calls
+
+-- Of a connected process that is closed after a turn nothing is kept, and nothing counts as
+-- reported to it. The next turn takes from the port that the process is lost, and no line; the link
+-- is not called before. A process that a turn dismisses is lost in this turn, which takes no line of
+-- it; after the turn its connection is closed for the same reason. Of a process that has gone while
+-- it waited nothing is kept or reported.
+pub record IsSilent (t : ReportedTurn) (s : State) (now jump : ℕ) (script : Script) (p : PortData)
+    : Type 0 where
+  pub closed : (why : DisconnectReason) → p.standing ≡ Here
+      → (attendance t s script p).news ≡ Some (Closed why)
+      → (attendance t s script p).port ≡ emptied Leaving p
+  pub lost : p.standing ≡ Leaving → taken_line s now jump p ≡ lost_of p
+  pub dismisses : (why : DisconnectReason) → p.standing ≡ Here
+      → (taken_line s now jump p).port.standing ≡ Dismissed why
+      → taken_line s now jump p ≡ dismissed_of why p
+  pub parts : (why : DisconnectReason) → p.standing ≡ Dismissed why
+      → attendance t s script p ≡ dismissed why p
+  pub calls : p.standing ≡ Leaving → (attendance t s script p).calls ≡ []
+  pub untaken : p.standing ≡ Away → hears_end (attendance t s script p).calls ≡ true
+      → ((attendance t s script p).news ≡ None)
+      × ((attendance t s script p).port ≡ emptied Away p)
+
+-- a line that the port has can be read, and tells of what the turn is given
+abbrev pub IsReadable : State → ℕ → ℕ → PortData → Type 0
+IsReadable s now jump p = (line : List ℕ) → (taken_line s now jump p).line ≡ Some line
+    → understood (event_in_line s line) ≡ Ok (reported (taken_line s now jump p).event)
+
+-- the octets that the link took
+abbrev pub taken_of : List Call → List ℕ
+taken_of [] = []
+taken_of (Accepts a taken ∷ calls) = taken_of calls
+taken_of (Reads a room heard ∷ calls) = taken_of calls
+taken_of (Writes a octets None ∷ calls) = taken_of calls
+taken_of (Writes a octets (Some n) ∷ calls) = take n octets ++ taken_of calls
+taken_of (Closes a ∷ calls) = taken_of calls
+
+-- For a connected process the link takes the queue, then the report of the turn, in order; what it
+-- does not take stays queued, or is lost if the connection is closed.
+pub record TellsInOrder (t : ReportedTurn) (s : State) (script : Script) (p : PortData)
+    : Type 0 where
+  pub rest : List ℕ
+  pub whole : p.queue ++ all_told t s p ≡ taken_of (attendance t s script p).calls ++ rest
+  pub waits : (attendance t s script p).news ≡ None
+      → (attendance t s script p).port.queue ≡ rest

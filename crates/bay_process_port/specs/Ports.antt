@@ -1,0 +1,164 @@
+-- The state of the port of a process, and the input of a turn from it.
+use Rattle.std.specs.Prelude.{◌≡◌, ℕ, ◌-◌, nat_le, nat_lt, Bool, true, false, List, [], Option, None, Some, is_some, option_map, unwrap_or, Result, Ok, Err, if◌then◌else◌}
+use Rattle.bay_device.specs.Device.{State}
+use Rattle.bay_lines.specs.FirstLines.{LineSearchData, Waiting, Overlong, Whole, first_line_of}
+use Rattle.bay_lines.specs.Escaped.{shown_text}
+use Rattle.bay_process_port.specs.Releases.{Release, nothing_told}
+use Rattle.bay_process_port.specs.Supervised.{SupervisionSettings, Watched, settings_in, event_in, judged, known_behind, line_in, overlong, unheard}
+use Rattle.bay_process_port.specs.declared.connection_event.DisconnectReason.{DisconnectReason}
+use Rattle.bay_process_port.specs.declared.connection_event.DisconnectReason.TheVariants.{Jumped, Silent}
+use Rattle.bay_process_port.specs.declared.port.Presence.{Presence}
+use Rattle.bay_process_port.specs.declared.port.Presence.TheVariants.{Away, Leaving, Dismissed, Here}
+use Rattle.bay_process_port.specs.declared.supervision.TimedMessage.{TimedMessage}
+use Rattle.bay_server_turn.specs.declared.process_input.ProcessEvent.{ProcessEvent}
+
+-- the state of the process, the octets that it has sent and no turn has taken, its queue, the
+-- releases that it was sent last, if it receives them, and its supervision, if it is supervised
+pub record PortData : Type 0 where
+  pub standing : Presence
+  pub kept : List ℕ
+  pub queue : List ℕ
+  pub told : Option (List (Option Release))
+  pub watch : Option Watched
+
+-- an empty port, by whether a process receives releases, and by the supervision settings
+abbrev pub bare : Bool → Option SupervisionSettings → Presence → PortData
+bare tells duties standing = record {
+  standing = standing;
+  kept = [];
+  queue = [];
+  told = if tells then Some nothing_told else None;
+  watch = option_map unheard duties;
+}
+
+-- the same port, emptied
+abbrev pub emptied : Presence → PortData → PortData
+emptied standing p = bare (is_some p.told) (settings_in p.watch) standing
+
+-- whether a process receives releases, and its supervision settings, are unchanged
+pub record StaysBound (old new : PortData) : Type 0 where
+  pub told : is_some new.told ≡ is_some old.told
+  pub duties : settings_in new.watch ≡ settings_in old.watch
+
+-- The initial state of a process: a supervised one counts as lost until it is connected.
+abbrev pub first_standing : Option SupervisionSettings → Presence
+first_standing None = Away
+first_standing (Some duties) = Leaving
+
+abbrev pub begun : Bool → Option SupervisionSettings → PortData
+begun tells duties = bare tells duties (first_standing duties)
+
+-- why a turn has dismissed the process, if one has
+abbrev pub reason_in : Presence → Option DisconnectReason
+reason_in Away = None
+reason_in Leaving = None
+reason_in (Dismissed why) = Some why
+reason_in Here = None
+
+-- the port after the connection of a dismissed process was closed
+abbrev pub settled : Presence → PortData → PortData
+settled Away p = p
+settled Leaving p = p
+settled (Dismissed why) p = emptied Away p
+settled Here p = p
+
+-- what a turn takes: whether the process is lost; an event, if there is one, and the line that
+-- reports it; and the port after it
+pub record Taken : Type 0 where
+  pub is_lost : Bool
+  pub event : Option ProcessEvent
+  pub line : Option (List ℕ)
+  pub port : PortData
+
+abbrev pub nothing_of : PortData → Taken
+nothing_of p = record { is_lost = false; event = None; line = None; port = p }
+
+-- a process that is believed no more is lost, and its connection is closed after the turn
+abbrev pub dismissed_of : DisconnectReason → PortData → Taken
+dismissed_of why p = record {
+  is_lost = true;
+  event = None;
+  line = None;
+  port = emptied (Dismissed why) p;
+}
+
+-- ---- whether a connected process is believed at a moment
+
+-- the system's clock has gone on further beyond the steady one than a supervised process may be
+-- silent
+abbrev pub has_jumped : ℕ → Option Watched → Bool
+has_jumped jump None = false
+has_jumped jump (Some w) = nat_lt w.duties.limit jump
+
+-- if no whole line was sent, a supervised process may be silent for this long
+abbrev pub silence : ℕ → Option Watched → Result (Option TimedMessage) DisconnectReason
+silence now None = Ok None
+silence now (Some w) =
+    if nat_le (now - w.heard) w.duties.limit then Ok None else Err (Silent w.duties.limit)
+
+abbrev pub message_of : Result TimedMessage DisconnectReason
+    → Result (Option TimedMessage) DisconnectReason
+message_of (Err why) = Err why
+message_of (Ok said) = Ok (Some said)
+
+-- the first line is judged, if it is whole
+abbrev pub judged_front : State → ℕ → PortData → LineSearchData
+    → Result (Option TimedMessage) DisconnectReason
+judged_front s now p Waiting = silence now p.watch
+judged_front s now p Overlong = Err (overlong p.watch p.kept)
+judged_front s now p (Whole line rest) = message_of (judged p.watch s now line)
+
+-- What the process reports at a moment, if anything, or why it is believed no more.
+abbrev pub judged_at : State → ℕ → ℕ → PortData → Result (Option TimedMessage) DisconnectReason
+judged_at s now jump p =
+    if has_jumped jump p.watch then Err Jumped
+    else judged_front s now p (first_line_of p.kept)
+
+-- ---- what a turn takes
+
+-- a line that was judged is taken
+abbrev pub line_taken : ℕ → TimedMessage → LineSearchData → PortData → Taken
+line_taken now said Waiting p = nothing_of p
+line_taken now said Overlong p = nothing_of p
+line_taken now said (Whole line rest) p = record {
+  is_lost = false;
+  event = event_in said.word;
+  line = line_in said.word line;
+  port = record p { kept = rest; watch = known_behind now said p.watch };
+}
+
+abbrev pub taken_by : ℕ → Result (Option TimedMessage) DisconnectReason → LineSearchData → PortData
+    → Taken
+taken_by now (Err why) f p = dismissed_of why p
+taken_by now (Ok None) f p = nothing_of p
+taken_by now (Ok (Some said)) f p = line_taken now said f p
+
+abbrev pub taken_here : State → ℕ → ℕ → PortData → Taken
+taken_here s now jump p = taken_by now (judged_at s now jump p) (first_line_of p.kept) p
+
+-- the loss of a process that has disconnected
+abbrev pub lost_of : PortData → Taken
+lost_of p = record { is_lost = true; event = None; line = None; port = emptied Away p }
+
+abbrev pub taken_as : Presence → State → ℕ → ℕ → PortData → Taken
+taken_as Away s now jump p = nothing_of p
+taken_as Leaving s now jump p = lost_of p
+taken_as (Dismissed why) s now jump p = nothing_of p
+taken_as Here s now jump p = taken_here s now jump p
+
+-- What a turn takes of the port at a moment, if the system's clock has gone on this far beyond the
+-- steady one since the turn before: of a process that is connected and still believed the next line
+-- that it has sent; of one that has gone, or is believed no more, once, that it is lost.
+abbrev pub taken_line : State → ℕ → ℕ → PortData → Taken
+taken_line s now jump p = taken_as p.standing s now jump p
+
+-- A turn that has a line of a trace takes only that the process is lost.
+abbrev pub loss_in : Taken → PortData → Taken
+loss_in taken p = if taken.is_lost then taken else nothing_of p
+
+abbrev pub taken_loss : State → ℕ → ℕ → PortData → Taken
+taken_loss s now jump p = loss_in (taken_line s now jump p) p
+
+-- the line, escaped
+abbrev pub shown_line : Option (List ℕ) → List ℕ
+shown_line line = shown_text (unwrap_or line [])

@@ -1,0 +1,71 @@
+-- What a process receives after a turn.
+use Rattle.std.specs.Prelude.{ℕ, ◌+◌, nat_le, Bool, false, List, [], ◌++◌, codes, length, slice_get, Option, None, Some, if◌then◌else◌}
+use Rattle.std.specs.Fmt.{decimal}
+use Rattle.bay_device.specs.Device.{State}
+use Rattle.bay_lines.specs.Puts as puts
+use Rattle.bay_nodes.specs.declared.switch.Switch.{Switch}
+use Rattle.bay_process_port.specs.Supervised.{Watched}
+use Rattle.bay_report.specs.Lines.{commands_text, refusal_line}
+use Rattle.bay_server_turn.specs.declared.turn_report.Turn.{Turn}
+
+-- the refusal of the event of the process, if there was one
+abbrev pub refusal_text : ℕ → Option ℕ → List ℕ
+refusal_text now None = []
+refusal_text now (Some code) = refusal_line now code
+
+-- the refusal and the commands, as they are printed, by the device after the turn
+abbrev pub process_turn_text : ℕ → Turn → State → List ℕ
+process_turn_text now turn s = refusal_text now turn.refused ++ commands_text now s turn.commands
+
+-- ---- what only a supervised process receives
+
+-- a turn: its moment, the text of its report, and the switch whose operate expired in it
+pub record ReportedTurn : Type 0 where
+  pub now : ℕ
+  pub text : List ℕ
+  pub over : Option ℕ
+
+abbrev pub reported_turn : ℕ → Turn → State → ReportedTurn
+reported_turn now turn s =
+    record { now = now; text = process_turn_text now turn s; over = turn.over }
+
+-- the operate of the switch with this id has expired
+abbrev pub over_line : ℕ → List ℕ → List ℕ
+over_line now id = decimal now ++ codes " over " ++ id ++ codes "\n"
+
+abbrev pub over_part : ℕ → Option Switch → List ℕ
+over_part now None = []
+over_part now (Some switch) = over_line now switch.id
+
+abbrev pub over_text : ℕ → State → Option ℕ → List ℕ
+over_text now s None = []
+over_text now s (Some k) = over_part now (slice_get s.switches k)
+
+abbrev pub over_for : Option Watched → Option ℕ → Option ℕ
+over_for None over = None
+over_for (Some w) over = over
+
+-- the server is alive, if the turn took a line by which the process is
+abbrev pub lives_in : Option Watched → Bool
+lives_in None = false
+lives_in (Some w) = w.lives
+
+abbrev pub alive_text : ℕ → Bool → List ℕ
+alive_text now lives = if lives then decimal now ++ codes " alive\n" else []
+
+-- the greeting: the longest silence, and the bay of the server
+abbrev pub greeting : ℕ → State → Option Watched → List ℕ
+greeting now s None = []
+greeting now s (Some w) =
+    decimal now ++ codes " process " ++ decimal w.duties.limit ++ codes " " ++ s.domain ++ codes " "
+    ++ s.revision ++ codes "\n"
+
+-- ---- the queue
+
+-- a queue of at most 65,536 octets has room for a text too
+abbrev pub fits_in : List ℕ → List ℕ → Bool
+fits_in queue text = nat_le (length queue + length text) 65536
+
+-- whether a queue has room for this text; if it has, the text was appended
+abbrev pub PutsWhole : List ℕ → List ℕ → List ℕ → Bool → Type 0
+PutsWhole = puts.PutsWhole 65536

@@ -1,0 +1,64 @@
+-- The releases of switches that a process receives (IEC 61850-7-4, CILO: EnaOpn and EnaCls).
+use Rattle.std.specs.Prelude.{ℕ, ◌+◌, ◌==◌, Bool, ◌&&◌, false, List, [], ◌∷◌, ◌++◌, codes, length, map, replicate, slice_get, Option, None, Some, option_map, if◌then◌else◌}
+use Rattle.std.specs.Bool.{beq}
+use Rattle.std.specs.List.{range_with_len}
+use Rattle.bay_nodes.specs.declared.switch.Switch.{Switch}
+use Rattle.bay_device.specs.Device.{State}
+use Rattle.bay_device.specs.LookUps.{enabled_of}
+use Rattle.bay_process.specs.Releases.{digit_of}
+
+-- whether a switch may be opened, and closed
+abbrev pub Release : Type 0
+Release = Bool × Bool
+
+-- it is the one that was sent last
+abbrev pub is_same : Option Release → Release → Bool
+is_same None release = false
+is_same (Some last) release = beq last.0 release.0 && beq last.1 release.1
+
+-- what is sent for the switch at an index: its release, if it is not the one that was sent last
+abbrev pub said_at : ℕ → Option Release → Option Release → List (ℕ × Release)
+said_at k last None = []
+said_at k last (Some release) = if is_same last release then [] else (k, release) ∷ []
+
+-- what is sent for the switches from index k on, by what was sent for each last
+abbrev pub said_from : State → ℕ → List (Option Release) → List (ℕ × Release)
+said_from s k [] = []
+said_from s k (last ∷ told) = said_at k last (enabled_of s k) ++ said_from s (k + 1) told
+
+-- what is sent to a process, if it receives releases
+abbrev pub said_in : State → Option (List (Option Release)) → List (ℕ × Release)
+said_in s None = []
+said_in s (Some told) = said_from s 0 told
+
+-- what was sent last after that: the release of each switch
+abbrev pub told_after : State → Option (List (Option Release)) → Option (List (Option Release))
+told_after s = option_map (λ told. map (enabled_of s) (range_with_len 0 (length told)))
+
+-- nothing was sent for any of 32 switches
+unfoldable pub nothing_told : List (Option Release)
+nothing_told = replicate 32 None
+
+-- ---- as text
+
+-- the line of a release
+abbrev pub release_line : List ℕ → Release → List ℕ
+release_line id release =
+    id ++ codes "=" ++ digit_of release.0 ++ digit_of release.1 ++ codes "\n"
+
+abbrev pub release_part : Release → Option Switch → List ℕ
+release_part release None = []
+release_part release (Some switch) = release_line switch.id release
+
+-- a line for each release that is sent
+abbrev pub releases_text : State → List (ℕ × Release) → List ℕ
+releases_text s [] = []
+releases_text s (said ∷ more) =
+    release_part said.1 (slice_get s.switches said.0) ++ releases_text s more
+
+-- ---- what a process knows of it
+
+-- the last release that was sent for the switch at an index
+abbrev pub last_said : ℕ → Option Release → List (ℕ × Release) → Option Release
+last_said k last [] = last
+last_said k last (said ∷ more) = last_said k (if said.0 == k then Some said.1 else last) more

@@ -1,0 +1,127 @@
+-- What a supervised process owes, what is known of it, and what a line of a process comes to.
+use Rattle.std.specs.Prelude.{ℕ, ◌-◌, Bool, true, false, ◌&&◌, min, nat_le, nat_lt, List, [], ◌∷◌, Option, None, Some, option_map, Result, Ok, Err, if◌then◌else◌}
+use Rattle.bay_device.specs.Device.{State}
+use Rattle.bay_lines.specs.Escaped.{shown_text}
+use Rattle.bay_process_port.specs.declared.connection_event.DisconnectReason.{DisconnectReason}
+use Rattle.bay_process_port.specs.declared.connection_event.DisconnectReason.TheVariants.{BadLine, Foreign, OutOfOrder, Untimely}
+use Rattle.bay_process_port.specs.declared.supervision.ProcessMessage.{ProcessMessage}
+use Rattle.bay_process_port.specs.declared.supervision.ProcessMessage.TheVariants.{Blank, Reports, Introduces, Lives}
+use Rattle.bay_process_port.specs.declared.supervision.TimedMessage.{TimedMessage}
+use Rattle.bay_server_turn.specs.Served.{event_in_line}
+use Rattle.bay_process_port.specs.Introduction.{introduced_at}
+use Rattle.bay_server_turn.specs.Supervised.{timed_line_of}
+use Rattle.bay_server_turn.specs.declared.process_input.ProcessEvent.{ProcessEvent}
+use Rattle.bay_server_turn.specs.declared.supervised.TimedLine.{TimedLine}
+
+-- the supervision settings: the longest silence, in milliseconds, by which its times may also
+-- differ from the server's; and its key
+pub record SupervisionSettings : Type 0 where
+  pub limit : ℕ
+  pub key : List ℕ
+
+-- and what is known of it: whether it has introduced itself; the moment of the last line that was
+-- taken, but no later one than that of its turn, or before the first line the moment at which the
+-- connection was accepted; the moment that this line names; and whether the last turn took a line
+-- which reports that the process lives
+pub record Watched : Type 0 where
+  pub duties : SupervisionSettings
+  pub introduced : Bool
+  pub heard : ℕ
+  pub last : ℕ
+  pub lives : Bool
+
+-- nothing is known of the process yet
+abbrev pub unheard : SupervisionSettings → Watched
+unheard duties =
+    record { duties = duties; introduced = false; heard = 0; last = 0; lives = false }
+
+abbrev pub settings_in : Option Watched → Option SupervisionSettings
+settings_in watch = option_map (λ (w : Watched). w.duties) watch
+
+-- its connection was accepted at a moment
+abbrev pub heard_at : ℕ → Option Watched → Option Watched
+heard_at moment watch = option_map (λ (w : Watched). record w { heard = moment }) watch
+
+-- ---- the message of a line
+
+-- a moment of a process differs from the server's by at most the limit, to either side
+abbrev pub is_timely : ℕ → ℕ → ℕ → Bool
+is_timely limit now moment = nat_le (now - moment) limit && nat_le (moment - now) limit
+
+-- or the connection ends
+abbrev pub timely : ℕ → ℕ → ℕ → ProcessMessage → Result TimedMessage DisconnectReason
+timely limit now moment word =
+    if is_timely limit now moment then Ok (record { moment = moment; word = word })
+    else Err Untimely
+
+-- the first line has the name and the key of this bay
+abbrev pub introduction : SupervisionSettings → ℕ → Option ℕ → Result TimedMessage DisconnectReason
+introduction duties now None = Err Foreign
+introduction duties now (Some moment) = timely duties.limit now moment Introduces
+
+-- a later line reports an event, or that the process is alive
+abbrev pub word_of : Option ProcessEvent → ProcessMessage
+word_of None = Lives
+word_of (Some event) = Reports event
+
+-- but the moments of a process do not go back: a line whose moment is before that of the last line
+-- that was taken ends the connection
+abbrev pub report : List ℕ → Watched → ℕ → Option TimedLine → Result TimedMessage DisconnectReason
+report line w now None = Err (BadLine (shown_text line))
+report line w now (Some timed) =
+    if nat_lt timed.moment w.last then Err OutOfOrder
+    else timely w.duties.limit now timed.moment (word_of timed.event)
+
+-- a line of a process that is not supervised reports an event of this moment, or is empty
+abbrev pub plain : ℕ → List ℕ → Option ProcessEvent → Result TimedMessage DisconnectReason
+plain now [] event = Ok (record { moment = now; word = Blank })
+plain now (b ∷ bs) None = Err (BadLine (shown_text (b ∷ bs)))
+plain now (b ∷ bs) (Some event) = Ok (record { moment = now; word = Reports event })
+
+-- The message of a line at a moment, with the moment from which it counts, or why the connection
+-- must be closed.
+abbrev pub judged : Option Watched → State → ℕ → List ℕ → Result TimedMessage DisconnectReason
+judged None s now line = plain now line (event_in_line s line)
+judged (Some w) s now line =
+    if w.introduced then report line w now (timed_line_of s line)
+    else introduction w.duties now (introduced_at w.duties.key s.domain s.revision line)
+
+-- why the connection must be closed if there are more octets than a line may have, without an end
+abbrev pub overlong : Option Watched → List ℕ → DisconnectReason
+overlong None kept = BadLine (shown_text kept)
+overlong (Some w) kept = if w.introduced then BadLine (shown_text kept) else Foreign
+
+-- ---- what a turn takes of it
+
+-- the event of a message
+abbrev pub event_in : ProcessMessage → Option ProcessEvent
+event_in Blank = None
+event_in (Reports event) = Some event
+event_in Introduces = None
+event_in Lives = None
+
+-- the line, if its message reports an event
+abbrev pub line_in : ProcessMessage → List ℕ → Option (List ℕ)
+line_in Blank line = None
+line_in (Reports event) line = Some line
+line_in Introduces line = None
+line_in Lives line = None
+
+-- what is known of the process after it
+abbrev pub known_as : ProcessMessage → Watched → Watched
+known_as Blank w = w
+known_as (Reports event) w = w
+known_as Introduces w = record w { introduced = true }
+known_as Lives w = record w { lives = true }
+
+-- a line counts from the moment that it names, but from no later one than that of its turn
+abbrev pub known_by : ℕ → TimedMessage → Watched → Watched
+known_by now said w =
+    known_as said.word (record w { heard = min now said.moment; last = said.moment })
+
+abbrev pub known_behind : ℕ → TimedMessage → Option Watched → Option Watched
+known_behind now said watch = option_map (known_by now said) watch
+
+-- the process was answered that the server is alive
+abbrev pub answered : Option Watched → Option Watched
+answered watch = option_map (λ (w : Watched). record w { lives = false }) watch

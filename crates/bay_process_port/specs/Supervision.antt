@@ -1,0 +1,81 @@
+-- What holds of a supervised process: whose it is, when its words were so, and how long it may be
+-- silent.
+use Rattle.std.specs.Prelude.{◌≡◌, ◌⊎◌, ℕ, ◌-◌, ◌≤◌, Bool, false, true, List, [], ◌∷◌, ◌++◌, Some}
+use Rattle.bay_device.specs.Device.{State}
+use Rattle.bay_lines.specs.Cuttings.{AreLines}
+use Rattle.bay_lines.specs.FirstLines.{Whole, first_line_of}
+use Rattle.bay_process_port.specs.Ports.{PortData, bare, taken_line}
+use Rattle.bay_process_port.specs.Uses.{Attends, Takes, Use, all_given}
+use Rattle.bay_process_port.specs.Supervised.{SupervisionSettings, Watched}
+use Rattle.bay_process_port.specs.declared.port.Presence.TheVariants.{Away, Here}
+use Rattle.bay_process_port.specs.Introduction.{introduced_at}
+use Rattle.bay_server_turn.specs.Supervised.{timed_line_of}
+use Rattle.bay_server_turn.specs.declared.process_input.ProcessEvent.{ProcessEvent}
+use Rattle.bay_server_turn.specs.declared.supervised.TimedLine.{TimedLine}
+
+-- ---- no old message
+
+-- The event that a turn takes at a moment is that of a line which names the moment of the event: at
+-- most the supervision's milliseconds before the turn or after it, and not before the moment of the
+-- last line that was taken. The process has introduced itself.
+pub record IsOnTime (s : State) (now : ℕ) (p : PortData) (w : Watched) (event : ProcessEvent)
+    : Type 0 where
+  pub introduced : w.introduced ≡ true
+  pub line : List ℕ
+  pub rest : List ℕ
+  pub there : first_line_of p.kept ≡ Whole line rest
+  pub timed : TimedLine
+  pub reads : timed_line_of s line ≡ Some timed
+  pub event_is : timed.event ≡ Some event
+  pub not_old : now - timed.moment ≤ w.duties.limit
+  pub not_early : timed.moment - now ≤ w.duties.limit
+  pub in_order : w.last ≤ timed.moment
+
+-- ---- the bay of the process
+
+-- turns take lines of a device with this domain and revision
+abbrev pub AreOf : List ℕ → List ℕ → List Use → Type 0
+AreOf domain revision [] = Unit {0}
+AreOf domain revision (Takes s now jump ∷ us) =
+    (s.domain ≡ domain) × (s.revision ≡ revision) × AreOf domain revision us
+AreOf domain revision (Attends t s script ∷ us) = AreOf domain revision us
+
+-- The octets that the link read since the process was accepted begin with a line with this bay and
+-- this key.
+pub record IsOfThisBay (tells : Bool) (duties : SupervisionSettings) (domain revision : List ℕ)
+    (uses : List Use) : Type 0 where
+  pub first : List ℕ
+  pub lines : List (List ℕ)
+  pub text : List ℕ
+  pub rest : List ℕ
+  pub are : AreLines (first ∷ lines) text
+  pub given : all_given uses (bare tells (Some duties) Away) ≡ text ++ rest
+  pub moment : ℕ
+  pub introduces : introduced_at duties.key domain revision first ≡ Some moment
+
+-- ---- silence
+
+-- The process is connected, it has introduced itself, and its last line counts from a moment that is
+-- at most the supervision's milliseconds before this one.
+pub record IsLive (now : ℕ) (p : PortData) : Type 0 where
+  pub here : p.standing ≡ Here
+  pub watch : Watched
+  pub watched : p.watch ≡ Some watch
+  pub introduced : watch.introduced ≡ true
+  pub recent : now - watch.heard ≤ watch.duties.limit
+
+-- A connected process is still so after a turn at this moment has taken what the port has: then the
+-- turn does not begin with its loss, its last line, or before the first line its acceptance, counts
+-- from a moment at most the supervision's milliseconds before the turn, and the system's clock has
+-- gone on by no more than these milliseconds beyond the steady one.
+pub record IsBelieved (s : State) (now jump : ℕ) (p : PortData) (w : Watched) : Type 0 where
+  pub not_lost : (taken_line s now jump p).is_lost ≡ false
+  pub recent : now - w.heard ≤ w.duties.limit
+  pub no_jump : jump ≤ w.duties.limit
+
+-- Otherwise the turn begins with the loss, and takes no line.
+abbrev pub IsHeard : State → ℕ → ℕ → PortData → Type 0
+IsHeard s now jump p = (w : Watched) → p.standing ≡ Here
+    → (taken_line s now jump p).port.watch ≡ Some w
+    → ((taken_line s now jump p).is_lost ≡ true)
+    ⊎ (((taken_line s now jump p).port.standing ≡ Here) × IsBelieved s now jump p w)

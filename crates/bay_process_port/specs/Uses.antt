@@ -1,0 +1,108 @@
+-- The lines that turns take from a process since it is accepted, over all uses of its port.
+use Rattle.std.specs.Prelude.{◌≡◌, ℕ, ◌<◌, Bool, true, List, [], ◌∷◌, ◌++◌, length, filter, None, Some, Option}
+use Rattle.std.specs.Option.{option_to_list}
+use Rattle.bay_device.specs.Device.{State}
+use Rattle.bay_device.specs.LookUps.{may_open, may_close}
+use Rattle.bay_lines.specs.Cuttings.{AreLines}
+use Rattle.bay_server_turn.specs.Calls.{Call, Accepts, Reads, Writes, Closes, ReadOutcome, Octets, Silence, Over, Broken}
+use Rattle.bay_process_port.specs.Polling.{Script, attendance}
+use Rattle.bay_process_port.specs.Fit.{is_told}
+use Rattle.bay_process_port.specs.Ports.{PortData, bare, taken_line}
+use Rattle.bay_process_port.specs.Releases.{Release, last_said, said_in}
+use Rattle.bay_process_port.specs.ProcessOutput.{ReportedTurn}
+use Rattle.bay_process_port.specs.Supervised.{SupervisionSettings}
+use Rattle.bay_process_port.specs.declared.port.Presence.{Presence}
+use Rattle.bay_process_port.specs.declared.port.Presence.TheVariants.{Away, Leaving, Dismissed, Here}
+
+-- The port is used: a turn takes its line at a moment, and the clocks say how far the system's has
+-- gone on beyond the steady one; or its connection is attended to after a turn with this report.
+pub data Use : Type 0 where
+  Takes : State → ℕ → ℕ → Use
+  Attends : ReportedTurn → State → Script → Use
+
+-- ---- one use
+
+-- the port after a use
+abbrev pub port_after : Use → PortData → PortData
+port_after (Takes s now jump) p = (taken_line s now jump p).port
+port_after (Attends t s script) p = (attendance t s script p).port
+
+-- the line that the turn takes
+abbrev pub line_had : Use → PortData → List (List ℕ)
+line_had (Takes s now jump) p = option_to_list (taken_line s now jump p).line
+line_had (Attends t s script) p = []
+
+abbrev pub octets_in : ReadOutcome → List ℕ
+octets_in (Octets octets) = octets
+octets_in Silence = []
+octets_in Over = []
+octets_in Broken = []
+
+-- the octets that the link read
+abbrev pub given_of : List Call → List ℕ
+given_of [] = []
+given_of (Accepts a taken ∷ calls) = given_of calls
+given_of (Reads a room heard ∷ calls) = octets_in heard ++ given_of calls
+given_of (Writes a octets taken ∷ calls) = given_of calls
+given_of (Closes a ∷ calls) = given_of calls
+
+abbrev pub octets_given : Use → PortData → List ℕ
+octets_given (Takes s now jump) p = []
+octets_given (Attends t s script) p = given_of (attendance t s script p).calls
+
+-- ---- one use after the other
+
+abbrev pub after_uses : List Use → PortData → PortData
+after_uses [] p = p
+after_uses (u ∷ us) p = after_uses us (port_after u p)
+
+abbrev pub all_had : List Use → PortData → List (List ℕ)
+all_had [] p = []
+all_had (u ∷ us) p = line_had u p ++ all_had us (port_after u p)
+
+abbrev pub all_given : List Use → PortData → List ℕ
+all_given [] p = []
+all_given (u ∷ us) p = octets_given u p ++ all_given us (port_after u p)
+
+-- the process is connected after each of them
+abbrev pub StaysHere : List Use → PortData → Type 0
+StaysHere [] p = Unit {0}
+StaysHere (u ∷ us) p = ((port_after u p).standing ≡ Here) × StaysHere us (port_after u p)
+
+-- The octets read since the process was accepted are complete lines followed by the buffered rest.
+-- The turns got these lines in order, except those without an event, such as an empty line.
+pub record LosesNoLine (tells : Bool) (duties : Option SupervisionSettings) (uses : List Use)
+    : Type 0 where
+  pub lines : List (List ℕ)
+  pub text : List ℕ
+  pub are : AreLines lines text
+  pub given : all_given uses (bare tells duties Away)
+      ≡ text ++ (after_uses uses (bare tells duties Away)).kept
+  pub had : all_had uses (bare tells duties Away) ≡ filter is_told lines
+
+-- ---- releases
+
+-- the releases that are sent in a use: after a turn, to a connected process
+abbrev pub said_as : Presence → State → PortData → List (ℕ × Release)
+said_as Away s p = []
+said_as Leaving s p = []
+said_as (Dismissed why) s p = []
+said_as Here s p = said_in s p.told
+
+abbrev pub said_of : Use → PortData → List (ℕ × Release)
+said_of (Takes s now jump) p = []
+said_of (Attends t s script) p = said_as p.standing s p
+
+abbrev pub all_said : List Use → PortData → List (ℕ × Release)
+all_said [] p = []
+all_said (u ∷ us) p = said_of u p ++ all_said us (port_after u p)
+
+-- For a process that was connected before a turn, and receives releases, the release that was sent
+-- last for each switch is its release.
+abbrev pub IsUpToDate : Option SupervisionSettings → List Use → ReportedTurn → State → Script
+    → Type 0
+IsUpToDate duties uses t s script = (after_uses uses (bare true duties Away)).standing ≡ Here
+    → (attendance t s script (after_uses uses (bare true duties Away))).news ≡ None
+    → (k : ℕ) → k < 32 → k < length s.switches
+    → last_said k None (all_said (uses ++ Attends t s script ∷ []) (bare true duties Away))
+    ≡ Some (may_open s k, may_close s k)

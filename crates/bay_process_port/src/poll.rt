@@ -1,0 +1,125 @@
+// Serves the connection of the process after a turn.
+ghost use Rattle.std.specs.Prelude.{◌≡◌};
+ghost use Rattle.bay_server_turn.specs.Calls.{Called};
+ghost use Rattle.bay_process_port.specs.Polling.{Attends, ClosesDismissed, Does, accepted_in, attendance, first_part, exchange_part, welcomed};
+ghost use Rattle.bay_process_port.specs.Ports.{StaysBound, emptied};
+ghost use Rattle.bay_process_port.specs.ProcessOutput.{reported_turn};
+
+use crate::connection_event::{ConnectionEvent, DisconnectReason};
+use crate::port::{PROCESS, Port, Presence};
+use bay_device::device::Device;
+use bay_server_turn::link::Link;
+use bay_server_turn::turn_report::Turn;
+
+// Talks to a connected process: queues what the turn reported and which releases have changed,
+// offers what is waiting, and reads it. An error means that its connection is to be closed.
+fn exchange<L: Link>(
+    port: &mut Port,
+    link: &mut L,
+    device: &Device,
+    moment: u64,
+    turn: &Turn,
+) -> Result<(), DisconnectReason>
+    ensures does { Does (Called L.does L.failures)
+        (exchange_part (reported_turn moment turn.now device.now) device.now)
+        link.old link.new port.old port.new result }
+    ensures bound { StaysBound port.old port.new }
+{
+    port.queue_report(device, moment, turn)?;
+    port.offer(link)?;
+    port.read(link)
+}
+
+// Starts the connection of a process that was accepted; closes it again if it has ended or failed.
+fn start_connection<L: Link>(
+    port: &mut Port,
+    link: &mut L,
+    device: &Device,
+    moment: u64,
+) -> Option<ConnectionEvent>
+    ensures { Attends (Called L.does L.failures)
+        (λ script. welcomed port.old (first_part moment device.now
+        (script.heard, script.again) (emptied Presence.Here port.old)))
+        link.old link.new port.new result }
+{
+    port.set_presence(Presence::Here);
+    match port.begin(link, device, moment) {
+        Ok(()) => Some(ConnectionEvent::Opened),
+        Err(_) => {
+            link.close(PROCESS);
+            port.set_presence(Presence::Away);
+            None
+        }
+    }
+}
+
+// Accepts a waiting connection, if there is one.
+fn accept<L: Link>(
+    port: &mut Port,
+    link: &mut L,
+    device: &Device,
+    moment: u64,
+) -> Option<ConnectionEvent>
+    ensures { Attends (Called L.does L.failures)
+        (λ script. accepted_in moment device.now script.accepted (script.heard, script.again)
+        port.old)
+        link.old link.new port.new result }
+{
+    match link.accept(PROCESS) {
+        Ok(Some(_)) => start_connection(port, link, device, moment),
+        Ok(None) => None,
+        Err(_) => None,
+    }
+}
+
+// Closes the connection of a process that a turn has dismissed, and returns why.
+fn close_dismissed<L: Link>(port: &mut Port, link: &mut L) -> Option<ConnectionEvent>
+    ensures { ClosesDismissed (Called L.does L.failures) port.old.standing link.old link.new port.old
+        port.new result }
+{
+    match port.take_dismissal() {
+        Some(why) => {
+            link.close(PROCESS);
+            Some(ConnectionEvent::Closed(why))
+        }
+        None => None,
+    }
+}
+
+/// Serves the connection of the process after a turn at a moment (milliseconds since 1970), given
+/// the device after the turn. Returns the event of the connection; `None` if there is none.
+///
+/// The connection of a process that the turn has dismissed is closed.
+///
+/// A waiting connection is accepted, greeted if it is supervised, and read; one that has gone
+/// itself, and left no whole line, is closed again and not reported. A connected process is told
+/// the turn's refusal and commands, each line as it is printed, and the releases that have changed,
+/// if it is told of them; what is waiting is offered once; and it is read once if no whole line is
+/// kept. A supervised one is told first that an operate is over, and last that the server lives, if
+/// it said so itself. The connection is closed at its end, for a full queue, and if a read or a
+/// write fails. After that, none is accepted before a turn is told that the process is lost.
+pub fn poll<L: Link>(
+    port: &mut Port,
+    link: &mut L,
+    device: &Device,
+    moment: u64,
+    turn: &Turn,
+) -> Option<ConnectionEvent>
+    ensures { Attends (Called L.does L.failures)
+        (λ script. attendance (reported_turn moment turn.now device.now) device.now script port.old)
+        link.old link.new port.new result }
+{
+    match port.presence() {
+        Presence::Away => accept(port, link, device, moment),
+        Presence::Leaving => None,
+        Presence::Dismissed(_) => close_dismissed(port, link),
+        Presence::Here => match exchange(port, link, device, moment, turn) {
+            Ok(()) => None,
+            Err(why) => {
+                link.close(PROCESS);
+                port.set_presence(Presence::Leaving);
+                Some(ConnectionEvent::Closed(why))
+            }
+        },
+    }
+}

@@ -1,0 +1,444 @@
+// The state of the port of a process.
+ghost use Rattle.std.specs.Prelude.{◌≡◌, false, None, IfOk, option_map};
+ghost use Rattle.bay_server_turn.specs.Calls.{Called};
+ghost use Rattle.bay_process_port.specs.Polling.{Does, Leads, first_part, greet_part, offer_part, read_by, with_report_queued};
+ghost use Rattle.bay_process_port.specs.Ports.{StaysBound, begun, emptied, judged_at, line_taken, reason_in, settled, shown_line, taken_here, taken_line, taken_loss};
+ghost use Rattle.bay_process_port.specs.Ports as spec;
+ghost use Rattle.bay_lines.specs.FirstLines.{first_line_of};
+ghost use Rattle.bay_process_port.specs.ProcessOutput.{lives_in, reported_turn};
+ghost use Rattle.bay_process_port.specs.Supervised.{answered, event_in, heard_at, line_in, unheard};
+
+use crate::connection_event::DisconnectReason;
+use crate::process_output::{ProcessQueue, put_alive, put_greeting, put_over, put_turn_report};
+use crate::releases::{ReportedReleases, nothing_reported, put_releases};
+use crate::supervision::{
+    ProcessMessage, SupervisedProcess, SupervisionSettings, TimedMessage, check_line,
+    check_silence, has_jumped, overlong_reason,
+};
+use bay_device::device::Device;
+use bay_lines::bounded_buffer::BoundedBuffer;
+use bay_lines::escaped::EscapedText;
+use bay_lines::first_line::{LineSearch, first_line};
+use bay_server_turn::link::{Link, ReadResult};
+use bay_server_turn::process_input::ProcessEvent;
+use bay_server_turn::turn_report::Turn;
+use std::alloc::{AllocError, Global};
+use std::marker::Model;
+use std::mem;
+
+// The maximum number of octets read at once.
+const PIECE: usize = 4096;
+
+// The maximum number of octets that are buffered: a line that is not whole yet, and one read.
+const ROOM: usize = 4352;
+
+/// The number of the process in its link.
+pub const PROCESS: u16 = 1;
+
+/// The state of the process.
+#[derive(Drop)]
+pub enum Presence {
+    /// It is not connected, and may connect.
+    Away,
+    /// It has disconnected, or is supervised and has not connected yet, and no turn has handled its
+    /// loss.
+    Leaving,
+    /// A turn was told that it is lost, since it is believed no more for this reason. Its connection
+    /// is still to be closed.
+    Dismissed(DisconnectReason),
+    /// It is connected.
+    Here,
+}
+
+/// The input of a turn from the port: whether the process is lost, an event, if there is one, and
+/// the line that it was read from, escaped.
+#[derive(Drop)]
+pub struct PortInput {
+    pub is_lost: bool,
+    pub event: Option<ProcessEvent>,
+    pub shown: EscapedText,
+}
+
+impl PortInput {
+    // Creates an input with no event, or with the loss of the process.
+    fn none(is_lost: bool) -> PortInput
+        ensures lost { result.is_lost ≡ is_lost }
+        ensures event { result.event ≡ None }
+        ensures shown { result.shown ≡ shown_line None }
+    {
+        PortInput {
+            is_lost,
+            event: None,
+            shown: EscapedText::new(b""),
+        }
+    }
+
+    // Creates an input with the event of a line, if it has one.
+    fn of(word: ProcessMessage, line: &[u8]) -> PortInput
+        ensures lost { result.is_lost ≡ false }
+        ensures event { result.event ≡ event_in word }
+        ensures shown { result.shown ≡ shown_line (line_in word line.now) }
+    {
+        let event = word.event();
+        let shown = if event.is_some() {
+            EscapedText::new(line)
+        } else {
+            EscapedText::new(b"")
+        };
+        PortInput {
+            is_lost: false,
+            event,
+            shown,
+        }
+    }
+}
+
+/// The port of a process: its state, the octets that it has sent and no turn has taken, its queue,
+/// the releases that it was sent last, and its supervision, if it is supervised. The end of a line
+/// is searched once.
+#[derive(Drop)]
+pub struct Port {
+    presence: Presence,
+    kept: BoundedBuffer<ROOM>,
+    found: LineSearch,
+    queue: ProcessQueue,
+    told: Option<ReportedReleases>,
+    watch: Option<SupervisedProcess>,
+}
+
+impl Model for Port {
+    ghost use Rattle.bay_process_port.specs.Ports.{PortData};
+
+    ghost Value = { PortData };
+
+    ghost view = { λ p. record
+        { standing = p.presence; kept = p.kept; queue = p.queue; told = p.told; watch = p.watch } };
+
+    ghost use Rattle.bay_process_port.specs.Fit.{IsInFront};
+
+    ghost invariant = { λ p. IsInFront p.kept p.found };
+}
+
+// Returns the initial state of a process: a supervised one counts as lost.
+fn initial_presence(duties: &Option<SupervisionSettings>) -> Presence
+    ensures { result ≡ spec.first_standing duties.now }
+{
+    match duties {
+        Some(_) => Presence::Leaving,
+        None => Presence::Away,
+    }
+}
+
+// Returns the supervision of a process that has not connected yet, if it is supervised.
+fn supervision_for(duties: Option<SupervisionSettings>) -> Option<SupervisedProcess>
+    ensures { result ≡ option_map unheard duties }
+{
+    match duties {
+        Some(duties) => Some(SupervisedProcess::new(duties)),
+        None => None,
+    }
+}
+
+impl Port {
+    /// Creates a port to which a process may connect, which receives releases if `tells_releases`
+    /// is true, and is supervised if there are settings for it. Allocates its buffer and its queue;
+    /// fails only if that fails.
+    pub fn new(
+        alloc: Global,
+        tells_releases: bool,
+        duties: Option<SupervisionSettings>,
+    ) -> Result<Self, AllocError>
+        ensures { IfOk result (λ port. port ≡ begun tells_releases duties) }
+    {
+        let kept = BoundedBuffer::new(alloc)?;
+        let queue = BoundedBuffer::new(alloc)?;
+        let presence = initial_presence(&duties);
+        Ok(Port {
+            presence,
+            kept,
+            found: LineSearch::Waiting,
+            queue,
+            told: nothing_reported(tells_releases),
+            watch: supervision_for(duties),
+        })
+    }
+
+    /// Returns the state of the process.
+    pub fn presence(&self) -> &Presence
+        ensures { result.now ≡ self.now.standing }
+    {
+        &self.presence
+    }
+
+    /// Returns how many octets are buffered, and how many are queued.
+    pub fn sizes(&self) -> (usize, usize) {
+        (self.kept.as_slice().len(), self.queue.as_slice().len())
+    }
+
+    /// Sets the state of the process. Drops all octets that are buffered or queued, and forgets
+    /// which releases were sent and what is known of the process.
+    pub(crate) fn set_presence(&mut self, presence: Presence)
+        ensures { self.new ≡ emptied presence self.old }
+    {
+        self.presence = presence;
+        self.kept.clear();
+        self.found = LineSearch::Waiting;
+        self.queue.clear();
+        self.told = nothing_reported(self.told.is_some());
+        if let Some(watch) = &mut self.watch {
+            watch.forget();
+        }
+    }
+
+    // Returns what the process reports at a moment, if anything, or why it is believed no more.
+    fn check(
+        &self,
+        device: &Device,
+        now: u64,
+        jump: u64,
+    ) -> Result<Option<TimedMessage>, DisconnectReason>
+        ensures { result ≡ judged_at device.now now jump self.now }
+    {
+        if has_jumped(&self.watch, jump) {
+            return Err(DisconnectReason::Jumped);
+        }
+        match self.found {
+            LineSearch::Waiting => check_silence(&self.watch, now),
+            LineSearch::Overlong => Err(overlong_reason(&self.watch, self.kept.as_slice())),
+            LineSearch::Whole { line, .. } => {
+                match check_line(&self.watch, device, now, &self.kept.as_slice()[..line]) {
+                    Ok(said) => Ok(Some(said)),
+                    Err(why) => Err(why),
+                }
+            }
+        }
+    }
+
+    // Takes the first line, which was judged to be this message, if there is a whole one.
+    fn accept_line(&mut self, now: u64, said: TimedMessage) -> PortInput
+        ensures lost { result.is_lost
+            ≡ (line_taken now said (first_line_of self.old.kept) self.old).is_lost }
+        ensures event { result.event
+            ≡ (line_taken now said (first_line_of self.old.kept) self.old).event }
+        ensures shown { result.shown
+            ≡ shown_line (line_taken now said (first_line_of self.old.kept) self.old).line }
+        ensures port { self.new ≡ (line_taken now said (first_line_of self.old.kept) self.old).port }
+    {
+        match self.found {
+            LineSearch::Waiting => PortInput::none(false),
+            LineSearch::Overlong => PortInput::none(false),
+            LineSearch::Whole { line, end } => {
+                let given = PortInput::of(said.word, &self.kept.as_slice()[..line]);
+                self.kept.drop_front(end);
+                self.found = first_line(self.kept.as_slice());
+                if let Some(watch) = &mut self.watch {
+                    watch.accept_message(now, said);
+                }
+                given
+            }
+        }
+    }
+
+    // Takes the next line of a connected process, or that it is believed no more.
+    fn take_here(&mut self, device: &Device, now: u64, jump: u64) -> PortInput
+        ensures lost { result.is_lost ≡ (taken_here device.now now jump self.old).is_lost }
+        ensures event { result.event ≡ (taken_here device.now now jump self.old).event }
+        ensures shown { result.shown ≡ shown_line (taken_here device.now now jump self.old).line }
+        ensures port { self.new ≡ (taken_here device.now now jump self.old).port }
+    {
+        match self.check(device, now, jump) {
+            Ok(None) => PortInput::none(false),
+            Ok(Some(said)) => self.accept_line(now, said),
+            Err(why) => {
+                self.set_presence(Presence::Dismissed(why));
+                PortInput::none(true)
+            }
+        }
+    }
+
+    /// Takes what the port has for a turn at a moment, in milliseconds since 1970: the next line of
+    /// a connected process, or that the process is lost. `jump` is how far the system's clock has
+    /// gone on beyond the steady one since the turn before, in milliseconds. The process is lost if
+    /// it has gone, or if it is believed no more: its line ends the connection, or it is supervised
+    /// and silent for longer than it may be, or the system's clock has jumped by more than that.
+    pub fn take_line(&mut self, device: &Device, now: u64, jump: u64) -> PortInput
+        ensures lost { result.is_lost ≡ (taken_line device.now now jump self.old).is_lost }
+        ensures event { result.event ≡ (taken_line device.now now jump self.old).event }
+        ensures shown { result.shown ≡ shown_line (taken_line device.now now jump self.old).line }
+        ensures port { self.new ≡ (taken_line device.now now jump self.old).port }
+    {
+        match self.presence {
+            Presence::Away => PortInput::none(false),
+            Presence::Leaving => {
+                self.set_presence(Presence::Away);
+                PortInput::none(true)
+            }
+            Presence::Dismissed(_) => PortInput::none(false),
+            Presence::Here => self.take_here(device, now, jump),
+        }
+    }
+
+    /// Takes only that the process is lost, for a turn that has a line of a trace, and leaves the
+    /// lines of the process where they are. Returns whether the process is lost.
+    pub fn take_loss(&mut self, device: &Device, now: u64, jump: u64) -> bool
+        ensures lost { result ≡ (taken_loss device.now now jump self.old).is_lost }
+        ensures port { self.new ≡ (taken_loss device.now now jump self.old).port }
+    {
+        match self.presence {
+            Presence::Away => false,
+            Presence::Leaving => {
+                self.set_presence(Presence::Away);
+                true
+            }
+            Presence::Dismissed(_) => false,
+            Presence::Here => match self.check(device, now, jump) {
+                Ok(_) => false,
+                Err(why) => {
+                    self.set_presence(Presence::Dismissed(why));
+                    true
+                }
+            },
+        }
+    }
+
+    /// Returns why a turn has dismissed the process, if one has, and forgets that.
+    pub(crate) fn take_dismissal(&mut self) -> Option<DisconnectReason>
+        ensures reason { result ≡ reason_in self.old.standing }
+        ensures port { self.new ≡ settled self.old.standing self.old }
+    {
+        if !matches!(self.presence, Presence::Dismissed(_)) {
+            return None;
+        }
+        let before = mem::replace(&mut self.presence, Presence::Away);
+        self.set_presence(Presence::Away);
+        match before {
+            Presence::Dismissed(why) => Some(why),
+            _ => None,
+        }
+    }
+
+    // Returns whether the process must be answered that the server is alive, and forgets that.
+    fn answer(&mut self) -> bool
+        ensures lives { result ≡ lives_in self.old.watch }
+        ensures after { self.new ≡ record self.old { watch = answered self.old.watch } }
+        ensures bound { StaysBound self.old self.new }
+    {
+        match &mut self.watch {
+            Some(watch) => watch.answer(),
+            None => false,
+        }
+    }
+
+    /// Queues the report of a turn, all of it or none; fails with `QueueFull` if there is not room
+    /// for all.
+    pub(crate) fn queue_report(
+        &mut self,
+        device: &Device,
+        moment: u64,
+        turn: &Turn,
+    ) -> Result<(), DisconnectReason>
+        ensures leads { Leads (with_report_queued (reported_turn moment turn.now device.now) device.now
+            self.old).after
+            self.new result }
+        ensures bound { StaysBound self.old self.new }
+    {
+        let over = if self.watch.is_some() {
+            turn.over
+        } else {
+            None
+        };
+        let lives = self.answer();
+        if put_over(&mut self.queue, device, moment, over)
+            && put_turn_report(&mut self.queue, device, moment, turn)
+            && put_releases(&mut self.queue, device, &mut self.told)
+            && put_alive(&mut self.queue, moment, lives)
+        {
+            Ok(())
+        } else {
+            Err(DisconnectReason::QueueFull)
+        }
+    }
+
+    /// Queues the greeting of a process that was accepted, if it is supervised; fails with
+    /// `QueueFull` if there is not room for it.
+    pub(crate) fn greet(&mut self, device: &Device, moment: u64) -> Result<(), DisconnectReason>
+        ensures leads { Leads (greet_part moment device.now self.old).after self.new result }
+        ensures bound { StaysBound self.old self.new }
+    {
+        if put_greeting(&mut self.queue, device, moment, &self.watch) {
+            self.mark_active(moment);
+            Ok(())
+        } else {
+            Err(DisconnectReason::QueueFull)
+        }
+    }
+
+    // Records that the process was active at a moment, if it was not active later.
+    fn mark_active(&mut self, moment: u64)
+        ensures after { self.new ≡ record self.old { watch = heard_at moment self.old.watch } }
+        ensures bound { StaysBound self.old self.new }
+    {
+        if let Some(watch) = &mut self.watch {
+            watch.mark_active(moment);
+        }
+    }
+
+    /// Writes the queue once, as much as the link takes, if there is anything in it. Fails with
+    /// `LinkFailed`.
+    pub(crate) fn offer<L: Link>(&mut self, link: &mut L) -> Result<(), DisconnectReason>
+        ensures does { Does (Called L.does L.failures) offer_part link.old link.new self.old
+            self.new result }
+        ensures bound { StaysBound self.old self.new }
+    {
+        if self.queue.as_slice().is_empty() {
+            return Ok(());
+        }
+        match link.write(PROCESS, self.queue.as_slice()) {
+            Ok(count) => {
+                self.queue.drop_front(count);
+                Ok(())
+            }
+            Err(_) => Err(DisconnectReason::LinkFailed),
+        }
+    }
+
+    /// Reads once, if no whole line is buffered. Fails with `Ended` if the process sends no more,
+    /// and with `LinkFailed`.
+    pub(crate) fn read<L: Link>(&mut self, link: &mut L) -> Result<(), DisconnectReason>
+        ensures does { Does (Called L.does L.failures) read_by link.old link.new self.old self.new
+            result }
+        ensures bound { StaysBound self.old self.new }
+    {
+        if self.found != LineSearch::Waiting {
+            return Ok(());
+        }
+        let mut room = [0; PIECE];
+        match link.read(PROCESS, &mut room) {
+            Ok(ReadResult::Bytes(count)) => {
+                self.kept.put(&room[..count]);
+                self.found = first_line(self.kept.as_slice());
+                Ok(())
+            }
+            Ok(ReadResult::Nothing) => Ok(()),
+            Ok(ReadResult::End) => Err(DisconnectReason::Ended),
+            Err(_) => Err(DisconnectReason::LinkFailed),
+        }
+    }
+
+    /// Greets a process that was just accepted, and reads twice: a process that closed while it
+    /// waited to be accepted has left its last octets, then the end of the stream.
+    pub(crate) fn begin<L: Link>(
+        &mut self,
+        link: &mut L,
+        device: &Device,
+        moment: u64,
+    ) -> Result<(), DisconnectReason>
+        ensures does { Does (Called L.does L.failures) (first_part moment device.now) link.old
+            link.new self.old self.new result }
+        ensures bound { StaysBound self.old self.new }
+    {
+        self.greet(device, moment)?;
+        self.read(link)?;
+        self.read(link)
+    }
+}

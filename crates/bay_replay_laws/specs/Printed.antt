@@ -1,0 +1,150 @@
+-- How a report is read: line by line, a line as words with one space between them, and a word as
+-- its parts around `=`. Nothing here uses how it is printed.
+use Rattle.std.specs.Prelude.{ℕ, ◌==◌, ◌&&◌, Bool, true, false, nat_lt, List, [], ◌∷◌, ◌++◌, length, codes, Option, None, Some, option_and_then, option_map, if◌then◌else◌}
+use Rattle.std.specs.List.{slice_split}
+use Rattle.std.specs.Str.{all_ascii_digits, bytes_eq}
+use Rattle.std.specs.Str.Parse.{digits_value}
+use Rattle.bay_nodes.specs.declared.switch.Operation.{Operation}
+use Rattle.bay_nodes.specs.declared.switch.Operation.TheVariants as operations
+
+-- the lines of a text, each of which ends in LF; after the last LF there is an empty one
+abbrev pub lines_in : List ℕ → List (List ℕ)
+lines_in text = slice_split (λ b. b == 10) text
+
+-- lines, each with its end
+abbrev pub ended : List (List ℕ) → List ℕ
+ended [] = []
+ended (line ∷ lines) = line ++ 10 ∷ ended lines
+
+-- the words of a line, and the parts of a word
+abbrev pub words_in : List ℕ → List (List ℕ)
+words_in line = slice_split (λ b. b == 32) line
+
+abbrev pub parts_in : List ℕ → List (List ℕ)
+parts_in word = slice_split (λ b. b == 61) word
+
+-- ---- how words are read
+
+-- the number that decimal digits spell
+abbrev pub number_of : List ℕ → Option ℕ
+number_of digits =
+    if all_ascii_digits digits && nat_lt 0 (length digits) then Some (digits_value 10 digits)
+    else None
+
+-- the number after a name
+abbrev pub number_named : List ℕ → List (List ℕ) → Option ℕ
+number_named name [] = None
+number_named name (part ∷ []) = None
+number_named name (part ∷ digits ∷ []) = if bytes_eq part name then number_of digits else None
+number_named name (part ∷ digits ∷ next ∷ more) = None
+
+-- 1 is TRUE, and 0 FALSE
+abbrev pub truth_of : ℕ → Option Bool
+truth_of b = if b == 49 then Some true else if b == 48 then Some false else None
+
+-- ---- the line of a load
+
+abbrev pub budget_in : List (List ℕ) → Option ℕ
+budget_in (instructions ∷ depth ∷ budget ∷ []) =
+    number_named (codes "budget") (parts_in budget)
+budget_in _ = None
+
+-- the budget in the line of a load
+abbrev pub printed_budget : List ℕ → Option ℕ
+printed_budget line = budget_in (words_in line)
+
+-- ---- the line of a scan
+
+-- a switch, and whether it may be opened and closed
+pub record PrintedSwitch : Type 0 where
+  pub id : List ℕ
+  pub opens : Bool
+  pub closes : Bool
+
+abbrev pub switch_of : List ℕ → Option Bool → Option Bool → Option PrintedSwitch
+switch_of id (Some opens) (Some closes) =
+    Some (record { id = id; opens = opens; closes = closes })
+switch_of id _ _ = None
+
+-- two digits
+abbrev pub switch_told : List ℕ → List ℕ → Option PrintedSwitch
+switch_told id (x ∷ y ∷ []) = switch_of id (truth_of x) (truth_of y)
+switch_told id _ = None
+
+abbrev pub switch_in : List (List ℕ) → Option PrintedSwitch
+switch_in (id ∷ digits ∷ []) = switch_told id digits
+switch_in _ = None
+
+abbrev pub switches_in : List (List ℕ) → Option (List PrintedSwitch)
+switches_in [] = Some []
+switches_in (word ∷ words) =
+    option_and_then (λ switch. option_map (λ more. switch ∷ more) (switches_in words))
+    (switch_in (parts_in word))
+
+pub record PrintedScan : Type 0 where
+  pub moment : ℕ
+  pub steps : ℕ
+  pub switches : List PrintedSwitch
+
+abbrev pub scan_of : Option ℕ → Option ℕ → Option (List PrintedSwitch) → Option PrintedScan
+scan_of (Some moment) (Some steps) (Some switches) =
+    Some (record { moment = moment; steps = steps; switches = switches })
+scan_of _ _ _ = None
+
+abbrev pub scan_in : List (List ℕ) → Option PrintedScan
+scan_in (moment ∷ verb ∷ steps ∷ switches) =
+    if bytes_eq verb (codes "scan")
+    then scan_of (number_of moment) (number_named (codes "steps") (parts_in steps))
+    (switches_in switches)
+    else None
+scan_in _ = None
+
+-- the line of a scan, as it is read
+abbrev pub printed_scan : List ℕ → Option PrintedScan
+printed_scan line = scan_in (words_in line)
+
+-- ---- the line of a command
+
+pub record PrintedCommand : Type 0 where
+  pub moment : ℕ
+  pub id : List ℕ
+  pub operation : Operation
+
+abbrev pub order_of : List ℕ → Option Operation
+order_of word =
+    if bytes_eq word (codes "on") then Some operations.Close
+    else if bytes_eq word (codes "off") then Some operations.Open
+    else None
+
+abbrev pub command_of : Option ℕ → List ℕ → Option Operation → Option PrintedCommand
+command_of (Some moment) id (Some operation) =
+    Some (record { moment = moment; id = id; operation = operation })
+command_of _ id _ = None
+
+abbrev pub command_in : List (List ℕ) → Option PrintedCommand
+command_in (moment ∷ verb ∷ id ∷ order ∷ []) =
+    if bytes_eq verb (codes "command") then command_of (number_of moment) id (order_of order)
+    else None
+command_in _ = None
+
+-- the line of a command, as it is read
+abbrev pub printed_command : List ℕ → Option PrintedCommand
+printed_command line = command_in (words_in line)
+
+-- ---- the line of sent octets
+
+-- the association and the octets, by their digits
+pub record PrintedSend : Type 0 where
+  pub association : List ℕ
+  pub octets : List ℕ
+
+abbrev pub send_in : List (List ℕ) → Option PrintedSend
+send_in (moment ∷ verb ∷ association ∷ octets ∷ []) =
+    if bytes_eq verb (codes "send")
+    then Some (record { association = association; octets = octets })
+    else None
+send_in _ = None
+
+-- the line of sent octets, as it is read
+abbrev pub printed_send : List ℕ → Option PrintedSend
+printed_send line = send_in (words_in line)

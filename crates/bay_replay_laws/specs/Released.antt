@@ -1,0 +1,75 @@
+-- The scan before a command's line in the text of a report.
+use Rattle.std.specs.Prelude.{Bool, ℕ, ◌≡◌, ◌+◌, ◌≤◌, true, All, List, ◌∷◌, ◌++◌, None, Some, IfOk}
+use Rattle.std.specs.List.{Contains}
+use Rattle.bay_nodes.specs.declared.switch.Operation.{Operation}
+use Rattle.bay_nodes.specs.declared.switch.Operation.TheVariants as operations
+use Rattle.bay_device.specs.Device.{State}
+use Rattle.bay_device.specs.Fresh.{IsSameProcess, Past}
+use Rattle.bay_device.specs.declared.event.Event.TheVariants.{Scan}
+use Rattle.bay_report.specs.Lines.{step_text}
+use Rattle.bay_report.specs.Report.{report_text}
+use Rattle.cmd_replay.specs.Scenario.{ScenarioParts}
+use Rattle.bay_replay_laws.specs.Printed.{PrintedCommand, PrintedScan, PrintedSwitch, ended, lines_in, printed_command, printed_scan}
+use Rattle.bay_replay_laws.specs.Reports.{OfEach}
+use Rattle.cmd_replay.specs.Runs.{IsRun, printed_of}
+
+-- A line that follows these lines of a text, which begins with `begin`, is one of the lines for an
+-- event, which follows these events.
+pub record IsPrintedFor (begin : List ℕ) (p : Past) (earlier : List Past)
+    (before : List (List ℕ)) (line : List ℕ) : Type 0 where
+  pub part : List ℕ
+  pub rest : List ℕ
+  pub own : step_text p.now p.answer p.after ≡ part ++ (line ++ 10 ∷ rest)
+  pub behind : ended before ≡ begin ++ (printed_of earlier ++ part)
+
+-- a scan's line releases an operation of a switch
+abbrev pub lets : Operation → PrintedSwitch → Bool
+lets operations.Open switch = switch.opens
+lets operations.Close switch = switch.closes
+
+-- A scan's line releases a command: it has `id=x1` of the switch for on, `id=1y` for off.
+pub record Releases (scan : PrintedScan) (command : PrintedCommand) : Type 0 where
+  pub switch : PrintedSwitch
+  pub told : Contains scan.switches switch
+  pub same : switch.id ≡ command.id
+  pub released : lets command.operation switch ≡ true
+
+-- Among the lines before a command's line is that of the last scan before it, which releases it, at
+-- most `age` milliseconds before; both are lines for events of this history. Of the events between
+-- the two, none is a scan that was accepted, and none has changed the process; and no line between
+-- the two is read as that of a scan.
+pub record IsReleasedBy (age : ℕ) (begin : List ℕ) (past : List Past) (before : List (List ℕ))
+    (line : List ℕ) (command : PrintedCommand) : Type 0 where
+  pub later : List Past
+  pub order : Past
+  pub since : List Past
+  pub scan : Past
+  pub earlier : List Past
+  pub split : past ≡ later ++ order ∷ (since ++ scan ∷ earlier)
+  pub ordered : IsPrintedFor begin order (since ++ scan ∷ earlier) before line
+  pub scanned : scan.event ≡ Scan
+  pub front : List (List ℕ)
+  pub told : List ℕ
+  pub back : List (List ℕ)
+  pub lines : before ≡ front ++ told ∷ back
+  pub printed : IsPrintedFor begin scan earlier front told
+  pub read : PrintedScan
+  pub is : printed_scan told ≡ Some read
+  pub releases : Releases read command
+  pub recent : command.moment ≤ read.moment + age
+  pub last : All (λ (p : Past). IfOk p.answer (λ step. step.scan ≡ None)) since
+  pub last_line : All (λ between. printed_scan between ≡ None) back
+  pub unchanged : All (λ (p : Past). IsSameProcess scan.after p.after) since
+
+-- Each line of a command in the text of a run is released so.
+abbrev pub AreReleased : (parts : ScenarioParts) (first : State) (text : List ℕ) (status : ℕ)
+    → IsRun parts first text status → Type 0
+AreReleased parts first text status run =
+    (before after : List (List ℕ)) (line : List ℕ) (command : PrintedCommand)
+    → lines_in text ≡ before ++ line ∷ after → printed_command line ≡ Some command
+    → IsReleasedBy run.loaded.bay.scan_max_age_ms (report_text run.printed.report) run.past before
+    line command
+
+-- A report has no line of a command, or is the text of a run in which each is released.
+abbrev pub CommandsAreReleased : Type 0
+CommandsAreReleased = OfEach printed_command AreReleased

@@ -1,5 +1,0 @@
-use Rattle.bay_report_laws.proofs.AnswerLemmas.{commands-are-answered}
-use Rattle.bay_report_laws.proofs.laws.printed_commands_are_answered.Goals as goal
-
-pub returns : goal.returns
-returns c = commands-are-answered

@@ -1,5 +1,0 @@
-use Rattle.bay_report_laws.proofs.ReleaseLemmas.{commands-are-released}
-use Rattle.bay_report_laws.proofs.laws.printed_commands_are_released.Goals as goal
-
-pub returns : goal.returns
-returns c = commands-are-released

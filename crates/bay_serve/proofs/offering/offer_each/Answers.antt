@@ -1,9 +1,0 @@
-use Rattle.std.proofs.Common.{arith}
-use Rattle.bay_serve.proofs.TalkLemmas.{GoesEach-more}
-use Rattle.bay_serve.proofs.offering.offer_each.Goals as goal
-
-pub loop-place-preserved : goal.loop-place-preserved
-loop-place-preserved g c = record {
-  within = omega arith;
-  each = GoesEach-more _ _ _ _ _ _ _ _ _ _ c.loop-place.invariant.each c.offer_one.ensures;
-}

@@ -1,5 +1,0 @@
-use Rattle.bay_serve_laws.proofs.CauseFlows.{has-its-cause}
-use Rattle.bay_serve_laws.proofs.laws.each_closing_has_its_cause.Goals as goal
-
-pub returns : goal.returns
-returns c = has-its-cause

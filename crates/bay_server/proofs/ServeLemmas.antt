@@ -1,0 +1,504 @@
+-- Lemmas on serving, turn by turn.
+use Rattle.bay_io.specs.Calls.{WriteCall}
+use Rattle.std.proofs.Common.{◌≡◌, ◌⊎◌, ℕ, suc, ◌+◌, ◌==◌, Bool, true, false, IsErr, MatchBool, List, ◌∷◌, length, Option, None, Some, Result, Ok, Err, inl, inr, refl, sym, ap, subst, ◌∙◌, arith, []}
+use Rattle.std.proofs.lemmas.Bool.Decides.{nat_tests}
+use Rattle.bay_device.specs.Device.{State}
+use Rattle.bay_io.specs.Sent.{Logs}
+use Rattle.bay_io.specs.Watched.{Writing}
+use Rattle.bay_io.specs.declared.outbox.WriteFault.{WriteFault}
+use Rattle.bay_report.proofs.ReportLemmas.{nil-from-length}
+use Rattle.bay_server.specs.Clock.{ClockData, after_reading, jump_of, moment_read, shift_of}
+use Rattle.bay_server.specs.Host.{HostCall, Pauses, Tells}
+use Rattle.bay_report.specs.Report.{IsLast, Prints}
+use Rattle.bay_report.specs.TextLines.{CutsLine, lines_of}
+use Rattle.bay_server.specs.ServeReport.{AfterTurn, Chosen, PollOutcome, Hears, MayPause, Serving, ServesTurns, ReportsAndPolls, ReportsConnectionEvent, ReportsTurn, ReportsUnserved, TurnFails, TurnGoes, choice_of, chosen, moment_of, told_lines}
+use Rattle.bay_process_port.specs.declared.connection_event.ConnectionEvent.{ConnectionEvent}
+use Rattle.bay_server.specs.Serving.{TriesTurn}
+use Rattle.bay_server.specs.ChangeLines.{bay_seen}
+use Rattle.bay_server.specs.LogLines.{shift_log, used_up_log}
+use Rattle.bay_server.specs.Logging.{LogsAll}
+use Rattle.bay_server.specs.RecordLine.{record_log}
+use Rattle.bay_server.specs.TurnLines.{is_quiet, turn_text}
+use Rattle.bay_server.specs.declared.serving.TurnAttempt.{TurnAttempt}
+use Rattle.bay_server.specs.declared.serving.TurnAttempt.TheVariants as tried
+use Rattle.bay_report.proofs.PieceLemmas.{lines-cut}
+use Rattle.bay_server_turn.specs.Calls.{Call, Called, MakesCalls}
+use Rattle.bay_server_turn.specs.Served.{Serves, reported_in, turn_refusal}
+use Rattle.bay_server_turn.specs.Turns.{ServerData, moment_at}
+use Rattle.bay_server_turn.specs.declared.turn_report.Turn.{Turn}
+use Rattle.bay_server_turn.specs.declared.process_input.ProcessReport.{ProcessReport}
+use Rattle.bay_server_turn.specs.declared.fault.ServeFault.{ServeFault}
+use Rattle.bay_server_turn.specs.declared.record.RecordEnd.{RecordEnd}
+use Rattle.bay_server.specs.declared.change_lines.BayView.{BayView}
+use Rattle.bay_server.specs.declared.clock.Clocks.{Clocks}
+use Rattle.bay_server.specs.declared.clock.ClockShift.{ClockShift}
+use Rattle.bay_server.specs.declared.process.NextInput.{NextInput}
+
+-- ---- the lines of a trace that are not empty
+
+told-some : (k : ℕ) (line : List ℕ) (lines : List (List ℕ)) → (length line == 0) ≡ false
+    → told_lines k (line ∷ lines) ≡ (k, line) ∷ told_lines (k + 1) lines
+told-some k [] lines e = absurd cc
+told-some k (b ∷ bs) lines e = refl
+
+told-none : (k : ℕ) (line : List ℕ) (lines : List (List ℕ)) → (length line == 0) ≡ true
+    → told_lines k (line ∷ lines) ≡ told_lines (k + 1) lines
+told-none k line lines e =
+    ap (λ l. told_lines k (l ∷ lines)) (nil-from-length line (grind (arith, nat_tests)))
+
+module _ (k : ℕ) (text : List ℕ) (all : List (ℕ × List ℕ)) (is : told_lines k (lines_of text) ≡ all)
+  where
+    -- the next line is not empty
+    pub told-line : (line rest : List ℕ) → CutsLine text line rest → (length line == 0) ≡ false
+        → all ≡ (k, line) ∷ told_lines (k + 1) (lines_of rest)
+    told-line line rest cuts e =
+        sym is ∙ (ap (told_lines k) (lines-cut text line rest cuts)
+        ∙ told-some k line (lines_of rest) e)
+
+    -- it is empty
+    pub told-blank : (line rest : List ℕ) → CutsLine text line rest → (length line == 0) ≡ true
+        → told_lines (k + 1) (lines_of rest) ≡ all
+    told-blank line rest cuts e =
+        sym (ap (told_lines k) (lines-cut text line rest cuts) ∙ told-none k line (lines_of rest) e)
+        ∙ is
+
+    -- there is none
+    pub told-end : (length text == 0) ≡ true → all ≡ []
+    told-end e =
+        sym is ∙ ap (λ t. told_lines k (lines_of t))
+        (nil-from-length text (grind (arith, nat_tests)))
+
+-- ---- a link that has another below it, to which each call goes
+
+module _ {L B : Type 0} (below : B → L) (does : L → Call → L → Type 0) (failures : L → ℕ) where
+  talks-below : (calls : List Call) (old new : B)
+      → MakesCalls (Called (λ o call n. does (below o) call (below n)) (λ b. failures (below b)))
+      old
+      calls new
+      → MakesCalls (Called does failures) (below old) calls (below new)
+  talks-below [] old new talks = ap below talks
+  talks-below (call ∷ calls) old new talks = (
+    below talks.0,
+    record { done = talks.1.done; counted = talks.1.counted },
+    talks-below calls talks.0 new talks.2,
+  )
+
+  pub serves-below : (old new : B) (now : ℕ) (given : ProcessReport) (before after : ServerData)
+      (turn : Turn)
+      → Serves (Called (λ o call n. does (below o) call (below n)) (λ b. failures (below b))) old
+      new now given before after turn
+      → Serves (Called does failures) (below old) (below new) now given before after turn
+  serves-below old new now given before after turn s = record {
+    script = s.script;
+    all_read = s.all_read;
+    all_offered = s.all_offered;
+    talks = talks-below _ old new s.talks;
+    server = s.server;
+    opened = s.opened;
+    refused = s.refused;
+    commands = s.commands;
+    decisions = s.decisions;
+    closed = s.closed;
+    memory = s.memory;
+    over = s.over;
+  }
+
+-- ---- one turn
+
+module _ {L B H W : Type 0} (below : B → L) (does : L → Call → L → Type 0) (failures : L → ℕ)
+    (acts : H → HostCall L → H → Type 0) (contents : W → Option (List ℕ))
+    (asks : W → WriteCall → W → Type 0) where
+  -- a turn was done over the link that has another below it, what it tells was printed, and the
+  -- process was attended to
+  pub turn-goes : (link-before link-after : B) (held-before held-after : ServerData)
+      (clock-before clock-after : ClockData) (host-before host-after : H)
+      (process-before process-chosen process-after : Option (PollOutcome L))
+      (lines-before lines-after : List (ℕ × List ℕ)) (clocks : Clocks) (clock now : ℕ)
+      (next : NextInput)
+      (shift : Option ClockShift) (device : State) (before : BayView)
+      (old begun told-to new : Writing W) (end : Option RecordEnd) (turn : Turn) (s : State)
+      (jump : ℕ) (answer : Result ℕ WriteFault)
+      → clock-after ≡ after_reading clocks clock-before → clock ≡ clock-after.moment
+      → now ≡ moment_at clock held-before
+      → shift ≡ shift_of clock-before.side clock-after.moment clocks.system
+      → device ≡ held-before.device → jump ≡ jump_of clocks clock-before
+      → next ≡ (chosen device now jump lines-before process-before).next
+      → process-chosen ≡ (chosen device now jump lines-before process-before).process
+      → lines-after ≡ (chosen device now jump lines-before process-before).lines
+      → s ≡ held-after.device
+      → acts host-before (Tells clocks.system clocks.steady) host-after
+      → LogsAll contents asks old (shift_log now shift) begun
+      → turn_refusal clock next.given held-before ≡ None
+      → Serves (Called (λ o call n. does (below o) call (below n)) (λ b. failures (below b)))
+      link-before link-after (moment_at clock held-before) (reported_in next.given) held-before
+      held-after turn
+      → before ≡ bay_seen held-before.device
+      → ReportsAndPolls (Called does failures) contents asks now next before turn s process-chosen
+      process-after begun told-to answer
+      → LogsAll contents asks told-to (record_log now end) new
+      → TurnGoes (Called does failures) acts contents asks
+      (record {
+        link = below link-before;
+        held = held-before;
+        clock = clock-before;
+        host = host-before;
+        process = process-before;
+        lines = lines-before;
+      }) old
+      (record {
+        link = below link-after;
+        held = held-after;
+        clock = clock-after;
+        host = host-after;
+        process = process-after;
+        lines = lines-after;
+      }) new answer
+  turn-goes link-before link-after held-before held-after clock-before clock-after host-before
+      host-after process-before process-chosen process-after lines-before lines-after clocks
+      clock now next shift device before old begun told-to new end turn s jump answer read
+      is-clock now-is shift-is by-device jump-is is-next is-process is-lines is-s told logged
+      at-clock at-clock-serves is-before reports ended =
+      let k : ℕ = moment_read clocks clock-before in
+      let same : clock ≡ k = is-clock ∙ ap (λ (x : ClockData). x.moment) read in
+      let is-now : now ≡ moment_at k held-before =
+      subst (λ m. now ≡ moment_at m held-before) same now-is in
+      let is-shift : shift ≡ shift_of clock-before.side k clocks.system =
+      subst (λ m. shift ≡ shift_of clock-before.side m clocks.system)
+      (ap (λ (x : ClockData). x.moment) read) shift-is in
+      let right : turn_refusal k next.given held-before ≡ None =
+      subst (λ m. turn_refusal m next.given held-before ≡ None) same at-clock in
+      let serves = subst (λ m. Serves (Called (λ o call n. does (below o) call (below n))
+      (λ b. failures (below b))) link-before link-after (moment_at m held-before)
+      (reported_in next.given) held-before held-after turn) same at-clock-serves in
+      let here : Chosen L =
+      chosen held-before.device (moment_at k held-before) (jump_of clocks clock-before) lines-before
+      process-before in
+      let here-is : chosen device now jump lines-before process-before ≡ here =
+      ap (λ d. chosen d now jump lines-before process-before) by-device
+      ∙ ap (λ m. chosen held-before.device m jump lines-before process-before) is-now
+      ∙ ap (λ j. chosen held-before.device (moment_at k held-before) j lines-before process-before)
+      jump-is in
+      let next-is : next ≡ here.next = is-next ∙ ap (λ (x : Chosen L). x.next) here-is in
+      let process-is : process-chosen ≡ here.process =
+      is-process ∙ ap (λ (x : Chosen L). x.process) here-is in
+      let serves-turn = serves-below below does failures link-before link-after
+      (moment_at (moment_read clocks clock-before) held-before) (reported_in next.given) held-before
+      held-after turn serves in
+      record {
+        clocks = clocks;
+        begun = begun;
+        asked = record {
+          told = told;
+          logged =
+              subst (λ m. LogsAll contents asks old (shift_log m (shift_of clock-before.side
+              (moment_read clocks clock-before) clocks.system)) begun) is-now
+              (subst (λ x. LogsAll contents asks old (shift_log now x) begun) is-shift logged);
+        };
+        clock = read;
+        lines = is-lines ∙ ap (λ (x : Chosen L). x.lines) here-is;
+        turn = turn;
+        right =
+            subst (λ (n : NextInput). turn_refusal (moment_read clocks clock-before) n.given
+            held-before
+            ≡ None) next-is right;
+        serves =
+            subst (λ (n : NextInput). Serves (Called does failures) (below link-before)
+            (below link-after) (moment_at (moment_read clocks clock-before) held-before)
+            (reported_in n.given) held-before held-after turn) next-is serves-turn;
+        told = told-to;
+        reports =
+            subst (λ m. ReportsAndPolls (Called does failures) contents asks m here.next
+            (bay_seen held-before.device) turn held-after.device here.process process-after begun
+            told-to answer) is-now
+            (subst (λ d. ReportsAndPolls (Called does failures) contents asks now here.next
+            (bay_seen held-before.device) turn d here.process process-after begun told-to answer)
+            is-s
+            (subst (λ p. ReportsAndPolls (Called does failures) contents asks now here.next
+            (bay_seen held-before.device) turn s p process-after begun told-to answer) process-is
+            (subst (λ (n : NextInput). ReportsAndPolls (Called does failures) contents asks now n
+            (bay_seen held-before.device) turn s process-chosen process-after begun told-to answer)
+            next-is
+            (subst (λ (b : BayView). ReportsAndPolls (Called does failures) contents asks now next b
+            turn s process-chosen process-after begun told-to answer) is-before reports))));
+        end = end;
+        ended = subst (λ m. LogsAll contents asks told-to (record_log m end) new) is-now ended;
+      }
+
+module _ {L H W : Type 0} (step : L → Call → L → Type 0) (acts : H → HostCall L → H → Type 0)
+    (contents : W → Option (List ℕ)) (asks : W → WriteCall → W → Type 0) where
+  -- it was not done, and why not is told
+  pub turn-fails : (link : L) (held : ServerData) (clock-before : ClockData)
+      (host-before host-after : H)
+      (process-before : Option (PollOutcome L)) (lines-before : List (ℕ × List ℕ)) (clocks : Clocks)
+      (clock now : ℕ) (next : NextInput) (shift : Option ClockShift) (device : State) (jump : ℕ)
+      (old begun new : Writing W) (fault : ServeFault) (answer : Result ℕ WriteFault)
+      → clock ≡ moment_read clocks clock-before → now ≡ moment_at clock held
+      → shift ≡ shift_of clock-before.side (moment_read clocks clock-before) clocks.system
+      → device ≡ held.device → jump ≡ jump_of clocks clock-before
+      → next ≡ (chosen device now jump lines-before process-before).next
+      → acts host-before (Tells clocks.system clocks.steady) host-after
+      → LogsAll contents asks old (shift_log now shift) begun
+      → turn_refusal clock next.given held ≡ Some fault
+      → ReportsUnserved contents asks fault next.number next.shown begun new answer
+      → TurnFails step acts contents asks
+      (record {
+        link = link;
+        held = held;
+        clock = clock-before;
+        host = host-before;
+        process = process-before;
+        lines = lines-before;
+      }) old host-after new answer
+  turn-fails link held clock-before host-before host-after process-before lines-before clocks
+      clock now next shift device jump old begun new fault answer same now-is is-shift is-device
+      jump-is is-next told logged at-clock tells =
+      let is-now : now ≡ moment_at (moment_read clocks clock-before) held =
+      subst (λ m. now ≡ moment_at m held) same now-is in
+      let is : turn_refusal (moment_read clocks clock-before) next.given held ≡ Some fault =
+      subst (λ m. turn_refusal m next.given held ≡ Some fault) same at-clock in
+      let k : ℕ = moment_read clocks clock-before in
+      let here : Chosen L =
+      chosen held.device (moment_at k held) (jump_of clocks clock-before) lines-before
+      process-before in
+      let here-is : chosen device now jump lines-before process-before ≡ here =
+      ap (λ d. chosen d now jump lines-before process-before) is-device
+      ∙ ap (λ m. chosen held.device m jump lines-before process-before) is-now
+      ∙ ap (λ j. chosen held.device (moment_at k held) j lines-before process-before) jump-is in
+      let next-is : next ≡ here.next = is-next ∙ ap (λ (x : Chosen L). x.next) here-is in
+      record {
+        clocks = clocks;
+        begun = begun;
+        asked = record {
+          told = told;
+          logged =
+              subst (λ m. LogsAll contents asks old (shift_log m (shift_of clock-before.side
+              (moment_read clocks clock-before) clocks.system)) begun) is-now
+              (subst (λ x. LogsAll contents asks old (shift_log now x) begun) is-shift logged);
+        };
+        fault = fault;
+        is =
+            subst (λ (n : NextInput). turn_refusal (moment_read clocks clock-before) n.given held
+            ≡ Some fault) next-is is;
+        printed =
+            subst (λ (n : NextInput). ReportsUnserved contents asks fault n.number n.shown begun new
+            answer) next-is tells;
+      }
+
+  -- which fault it is makes no difference
+  tells-cut : (now : ℕ) (next : NextInput) (before : BayView) (turn : Turn) (s : State)
+      (old new : Writing W) (one other : WriteFault)
+      → ReportsTurn contents asks now next before turn s old new (Err one)
+      → ReportsTurn contents asks now next before turn s old new (Err other)
+  tells-cut now next before turn s old new one other tells = record {
+    mid = tells.mid;
+    logged = tells.logged;
+    printed = by-quiet (is_quiet turn) tells.printed;
+  }
+    where
+      by-quiet : (b : Bool) → MatchBool b
+          ((new ≡ tells.mid) × (◌≡◌ {A = Result ℕ WriteFault} (Err one) (Ok 0)))
+          (Prints contents asks (IsLast (turn_text now turn s) 0) tells.mid new (Err one))
+          → MatchBool b ((new ≡ tells.mid) × (◌≡◌ {A = Result ℕ WriteFault} (Err other) (Ok 0)))
+          (Prints contents asks (IsLast (turn_text now turn s) 0) tells.mid new (Err other))
+      by-quiet true stays = let e = stays.1 in absurd cc
+      by-quiet false prints = prints
+
+  news-cut : (now : ℕ) (news : Option ConnectionEvent) (old new : Writing W)
+      (one other : WriteFault)
+      → ReportsConnectionEvent contents asks now news old new (Err one)
+      → ReportsConnectionEvent contents asks now news old new (Err other)
+  news-cut now None old new one other stays = let e = stays.1 in absurd cc
+  news-cut now (Some news) old new one other prints = prints
+
+  hears-cut : (now : ℕ) (turn : Turn) (s : State) (before after : Option (PollOutcome L))
+      (old new : Writing W) (one other : WriteFault)
+      → Hears step contents asks now turn s before after old new (Err one)
+      → Hears step contents asks now turn s before after old new (Err other)
+  hears-cut now turn s None None old new one other stays = let e = stays.1 in absurd cc
+  hears-cut now turn s None (Some after) old new one other h = absurd h
+  hears-cut now turn s (Some before) None old new one other h = absurd h
+  hears-cut now turn s (Some before) (Some after) old new one other h = record {
+    news = h.news;
+    attends = h.attends;
+    printed = news-cut now h.news old new one other h.printed;
+  }
+
+  reports-cut : (now : ℕ) (next : NextInput) (seen : BayView) (turn : Turn) (s : State)
+      (before after : Option (PollOutcome L)) (old new : Writing W) (one other : WriteFault)
+      → ReportsAndPolls step contents asks now next seen turn s before after old new (Err one)
+      → ReportsAndPolls step contents asks now next seen turn s before after old new (Err other)
+  reports-cut now next seen turn s before after old new one other goes =
+      by-outcome goes.outcome goes.printed goes.hears
+    where
+      by-outcome : (r : Result ℕ WriteFault)
+          → ReportsTurn contents asks now next seen turn s old goes.between r
+          → AfterTurn r
+          ((after ≡ before) × (new ≡ goes.between)
+          × (◌≡◌ {A = Result ℕ WriteFault} (Err one) r))
+          (Hears step contents asks now turn s before after goes.between new (Err one))
+          → ReportsAndPolls step contents asks now next seen turn s before after old new (Err other)
+      by-outcome (Ok status) printed hears = record {
+        between = goes.between;
+        outcome = Ok status;
+        printed = printed;
+        hears = hears-cut now turn s before after goes.between new one other hears;
+      }
+      by-outcome (Err fault) printed hears = record {
+        between = goes.between;
+        outcome = Err other;
+        printed = tells-cut now next seen turn s old goes.between fault other printed;
+        hears = (hears.0, hears.1, refl);
+      }
+
+  -- its lines could not be printed, so the process was not attended to
+  pub report-cut : (now : ℕ) (next : NextInput) (seen : BayView) (turn : Turn) (s : State)
+      (process : Option (PollOutcome L)) (old new : Writing W) (fault : WriteFault)
+      (r : Result ℕ WriteFault) → IsErr r
+      → ReportsTurn contents asks now next seen turn s old new (Err fault)
+      → ReportsAndPolls step contents asks now next seen turn s process process old new r
+  report-cut now next seen turn s process old new fault (Ok n) e tells = absurd cc
+  report-cut now next seen turn s process old new fault (Err other) e tells = record {
+    between = new;
+    outcome = Err other;
+    printed = tells-cut now next seen turn s old new fault other tells;
+    hears = (refl, refl, refl);
+  }
+
+  goes-cut : (before : Serving L H) (old : Writing W)
+      (after : Serving L H) (new : Writing W) (one other : WriteFault)
+      → TurnGoes step acts contents asks before old after new (Err one)
+      → TurnGoes step acts contents asks before old after new (Err other)
+  goes-cut before old after new one other goes = record {
+    clocks = goes.clocks;
+    begun = goes.begun;
+    asked = goes.asked;
+    clock = goes.clock;
+    lines = goes.lines;
+    turn = goes.turn;
+    right = goes.right;
+    serves = goes.serves;
+    told = goes.told;
+    reports =
+        reports-cut (moment_of goes.clocks before) (choice_of goes.clocks before).next
+        (bay_seen before.held.device) goes.turn after.held.device
+        (choice_of goes.clocks before).process after.process goes.begun goes.told one other
+        goes.reports;
+    end = goes.end;
+    ended = goes.ended;
+  }
+
+  -- its lines could not be written
+  pub tried-cut : (before : Serving L H) (old : Writing W) (after : Serving L H) (new : Writing W)
+      (fault : WriteFault) (r : Result TurnAttempt WriteFault) → IsErr r
+      → TurnGoes step acts contents asks before old after new (Err fault)
+      → TriesTurn step acts contents asks before old after new r
+  tried-cut before old after new fault (Ok x) e goes = absurd cc
+  tried-cut before old after new fault (Err f) e goes =
+      inl (goes-cut before old after new fault f goes)
+
+  fails-cut : (before : Serving L H) (old : Writing W) (host : H) (new : Writing W)
+      (one other : WriteFault) → TurnFails step acts contents asks before old host new (Err one)
+      → TurnFails step acts contents asks before old host new (Err other)
+  fails-cut before old host new one other fails = record {
+    clocks = fails.clocks;
+    begun = fails.begun;
+    asked = fails.asked;
+    fault = fails.fault;
+    is = fails.is;
+    printed = fails.printed;
+  }
+
+  -- why it was not done could not be written
+  pub failed-cut : (before : Serving L H) (old : Writing W) (after : Serving L H) (new : Writing W)
+      (fault : WriteFault) (r : Result TurnAttempt WriteFault) → IsErr r
+      → TurnFails step acts contents asks before old after.host new (Err fault)
+      → TriesTurn step acts contents asks before old after new r
+  failed-cut before old after new fault (Ok x) e fails = absurd cc
+  failed-cut before old after new fault (Err f) e fails =
+      inr (fails-cut before old after.host new fault f fails)
+
+  -- there was a pause behind it, or none
+  pub may-pause : (before : Serving L H) (after : H)
+      → (after ≡ before.host) ⊎ acts before.host Pauses after
+      → MayPause acts before (record before { host = after })
+  may-pause before after (inl same) =
+      inl (ap (λ (h : H). record before { host = h }) same)
+  may-pause before after (inr paused) = inr (paused, refl)
+
+-- ---- how far serving has come
+
+module _ {L H W : Type 0} (step : L → Call → L → Type 0) (acts : H → HostCall L → H → Type 0)
+    (contents : W → Option (List ℕ)) (asks : W → WriteCall → W → Type 0) where
+  -- what is left to be served goes on to all of it
+  pub record Reached (turns : ℕ) (before : Serving L H) (old : Writing W) (left : ℕ)
+      (here : Serving L H) (mid : Writing W) : Type 0 where
+    pub goes : (host : H) (new : Writing W) (answer : Result ℕ WriteFault)
+        → ServesTurns step acts contents asks left here mid host new answer
+        → ServesTurns step acts contents asks turns before old host new answer
+
+  pub Reached-start : (turns : ℕ) (before : Serving L H) (old : Writing W)
+      → Reached turns before old turns before old
+  Reached-start turns before old = record { goes = λ host new answer s. s }
+
+  module _ (turns : ℕ) (before : Serving L H) (old : Writing W) (left more : ℕ)
+      (here : Serving L H) (mid : Writing W)
+      (reached : Reached turns before old left here mid) (e : left ≡ suc more) where
+    -- the next is not done
+    Reached-stop : (host : H) (new : Writing W) (answer : Result ℕ WriteFault)
+        → TurnFails step acts contents asks here mid host new answer
+        → ServesTurns step acts contents asks turns before old host new answer
+    Reached-stop host new answer fails = reached.goes host new answer (rw e (inl fails))
+
+    -- one turn was tried, and done
+    pub Reached-done : (after next : Serving L H) (new : Writing W) (t : TurnAttempt)
+        (was_idle : Bool)
+        → t ≡ tried.Done was_idle
+        → TriesTurn step acts contents asks here mid after new (Ok t)
+        → MayPause acts after next
+        → Reached turns before old more next new
+    Reached-done after next new (tried.Done w) was_idle is goes pause = record {
+      goes = λ host last answer s. reached.goes host last answer
+          (rw e (inr (after, new, Ok goes.0, goes.1, (next, pause, s))));
+    }
+    Reached-done after next new (tried.Ends s) was_idle is fails pause = absurd cc
+
+    -- it was not done
+    pub Reached-ends : (after : Serving L H) (new : Writing W) (t : TurnAttempt) (status : ℕ)
+        → t ≡ tried.Ends status → TriesTurn step acts contents asks here mid after new (Ok t)
+        → ServesTurns step acts contents asks turns before old after.host new (Ok status)
+    Reached-ends after new (tried.Done w) status is goes = absurd cc
+    Reached-ends after new (tried.Ends s) status is fails =
+        subst (λ n. ServesTurns step acts contents asks turns before old after.host new (Ok n))
+        (ap status-of is) (Reached-stop after.host new (Ok s) fails)
+      where
+        status-of : TurnAttempt → ℕ
+        status-of (tried.Done w) = 0
+        status-of (tried.Ends n) = n
+
+    -- what is to be printed for it could not be written
+    pub Reached-fails : (after : Serving L H) (new : Writing W) (fault : WriteFault)
+        (r : Result ℕ WriteFault) → IsErr r
+        → TriesTurn step acts contents asks here mid after new (Err fault)
+        → ServesTurns step acts contents asks turns before old after.host new r
+    Reached-fails after new fault (Ok x) is tries = absurd cc
+    Reached-fails after new fault (Err f) is (inl goes) =
+        reached.goes after.host new (Err f)
+        (rw e (inr (
+          after,
+          new,
+          Err f,
+          goes-cut step acts contents asks here mid after new fault f goes,
+          (refl, refl, refl),
+        )))
+    Reached-fails after new fault (Err f) is (inr fails) =
+        Reached-stop after.host new (Err f)
+        (fails-cut step acts contents asks here mid after.host new fault f fails)
+
+  -- there is none left
+  pub Reached-end : (turns : ℕ) (before : Serving L H) (old : Writing W) (left : ℕ)
+      (here : Serving L H) (mid new : Writing W)
+      → Reached turns before old left here mid → left ≡ 0
+      → Logs contents asks mid (used_up_log here.held.device.moment) new
+      → ServesTurns step acts contents asks turns before old here.host new (Ok 0)
+  Reached-end turns before old left here mid new reached e logged =
+      reached.goes here.host new (Ok 0) (rw e (refl, logged, refl))

@@ -1,0 +1,8 @@
+use Rattle.std.proofs.Common.{◌≡◌, ℕ, ◌<◌, None, length, get_or}
+use Rattle.bay_server.specs.ChangeLines.{seen_at}
+use Rattle.bay_server.proofs.change_lines.view_bay.Given as goal
+
+abbrev pub invariant-loop-place : goal.invariant-loop-place
+invariant-loop-place l = (length l.switches ≡ 32)
+    × ((k : ℕ) → k < l.place
+    → get_or l.switches k (record { position = None; release = None }) ≡ seen_at l.device k)

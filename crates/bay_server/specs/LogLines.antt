@@ -1,0 +1,255 @@
+-- The log lines of a server.
+use Rattle.std.specs.Prelude.{Bool, false, true, ℕ, ℤ, ◌==◌, List, [], ◌∷◌, ◌++◌, codes, map, slice_get, slice_index, Option, None, Some, option_map, unwrap_or, Result, Ok, Err, unsigned_abs, if◌then◌else◌}
+use Rattle.std.specs.Int.{is_negative}
+use Rattle.std.specs.Fmt.{decimal}
+use Rattle.std.specs.Net.Addr.{ipv4_octets}
+use Rattle.std.specs.Net.Socket.{v4_ip, v4_port}
+use Rattle.std.specs.declared.net.socket_addr.SocketAddrV4.{SocketAddrV4}
+use Rattle.bay_io.specs.Moments.{utc_text}
+use Rattle.bay_control.specs.declared.cause.AddCause.{AddCause}
+use Rattle.bay_control.specs.declared.cause.AddCause.TheVariants.{NotSupported, SelectFailed, PositionReached, BlockedByMode, BlockedByProcess, BlockedByInterlocking, CommandAlreadyInExecution, OneOfNControl, TimeLimitOver, ObjectNotSelected}
+use Rattle.bay_device.specs.Device.{State}
+use Rattle.bay_lines.specs.Escaped.{shown_text}
+use Rattle.bay_nodes.specs.declared.switch.Operation.{Operation}
+use Rattle.bay_nodes.specs.declared.switch.Operation.TheVariants as operations
+use Rattle.bay_nodes.specs.declared.switch.Switch.{Switch}
+use Rattle.bay_process_port.specs.declared.connection_event.ConnectionEvent.{ConnectionEvent}
+use Rattle.bay_process_port.specs.declared.connection_event.ConnectionEvent.TheVariants.{Opened, Closed}
+use Rattle.bay_process_port.specs.declared.connection_event.DisconnectReason.{DisconnectReason}
+use Rattle.bay_process_port.specs.declared.connection_event.DisconnectReason.TheVariants as parting
+use Rattle.bay_server_turn.specs.Code.{code_of}
+use Rattle.bay_mms_services.specs.declared.answer.ControlRequest.{ControlRequest}
+use Rattle.bay_mms_services.specs.declared.answer.ControlDecision.{ControlDecision}
+use Rattle.bay_mms_services.specs.declared.target.ControlPart.{ControlPart}
+use Rattle.bay_mms_services.specs.declared.target.ControlPart.TheVariants.{Select, SelectWith, Operate, Cancel}
+use Rattle.bay_server_turn.specs.declared.fault.ServeFault.{ServeFault}
+use Rattle.bay_server_turn.specs.declared.fault.ServeFault.TheVariants.{BadLine, MomentTooLarge}
+use Rattle.bay_server_turn.specs.declared.turn_report.CloseReason.{CloseReason}
+use Rattle.bay_server_turn.specs.declared.turn_report.CloseReason.TheVariants as closing
+use Rattle.bay_server.specs.declared.clock.ClockShift.{ClockShift}
+use Rattle.bay_server.specs.declared.clock.ClockSide.{ClockSide}
+use Rattle.bay_server.specs.declared.clock.ClockSide.TheVariants.{Near, Ahead, Behind}
+use Rattle.bay_server.specs.declared.host.BindFault.{BindFault}
+use Rattle.bay_server.specs.declared.host.BindFault.TheVariants.{InUse, Denied, NoDescriptor, Failed}
+
+-- these texts, one after the other
+abbrev pub joined : List (List ℕ) → List ℕ
+joined [] = []
+joined (text ∷ texts) = text ++ joined texts
+
+-- ---- ports
+
+-- why a port can't be opened
+abbrev pub reason_of : BindFault → List ℕ
+reason_of InUse = codes "another program uses it"
+reason_of Denied = codes "permission denied"
+reason_of NoDescriptor = codes "too many open files"
+reason_of Failed = codes "the system does not open it"
+
+abbrev pub unbound_log : ℕ → BindFault → List ℕ
+unbound_log port fault =
+    joined (codes "bayctl: fault 121: port " ∷ decimal port ∷ codes ": " ∷ reason_of fault
+    ∷ codes "\n" ∷ [])
+
+-- the ports that are listened on: that of the clients, and that of the process, if there is one
+abbrev pub ports_log : ℕ → ℕ → Option ℕ → List ℕ
+ports_log now port None =
+    joined (utc_text now ∷ codes " clients on 127.0.0.1:" ∷ decimal port ∷ codes "\n" ∷ [])
+ports_log now port (Some process) =
+    joined (utc_text now ∷ codes " clients on 127.0.0.1:" ∷ decimal port
+    ∷ codes ", process on 127.0.0.1:" ∷ decimal process ∷ codes "\n" ∷ [])
+
+-- ---- the clock
+
+-- a change of the side of the system's time, relative to the server's clock
+abbrev pub side_line : ℕ → ℕ → ClockSide → List ℕ
+side_line now distance Near =
+    joined (utc_text now ∷ codes " the system's clock agrees again\n" ∷ [])
+side_line now distance Ahead =
+    joined (utc_text now ∷ codes " the system's clock is " ∷ decimal distance
+    ∷ codes " ms ahead\n" ∷ [])
+side_line now distance Behind =
+    joined (utc_text now ∷ codes " the system's clock is " ∷ decimal distance
+    ∷ codes " ms behind\n" ∷ [])
+
+abbrev pub shift_log : ℕ → Option ClockShift → List (List ℕ)
+shift_log now None = []
+shift_log now (Some shift) = side_line now shift.distance shift.side ∷ []
+
+-- ---- associations
+
+-- the meaning of a fault of the device, by its number
+abbrev pub fault_words : ℕ → List ℕ
+fault_words code =
+    if code == 10 then codes "no TPKT"
+    else if code == 11 then codes "a TPDU that is malformed, unknown or out of place"
+    else if code == 12 then codes "a transport class other than 0"
+    else if code == 13 then codes "a TSDU of more than 70,000 octets"
+    else if code == 20 then codes "no SPDU"
+    else if code == 21 then codes "a malformed PPDU"
+    else if code == 22 then codes "a presentation context that was not offered or accepted"
+    else if code == 23 then codes "an APDU that can't be read"
+    else if code == 24 then codes "an SPDU out of place"
+    else if code == 25 then codes "a PDU size below 256"
+    else codes "octets that can't be read"
+
+abbrev pub closing_words : CloseReason → List ℕ
+closing_words closing.Ended = codes "its client ended it"
+closing_words (closing.Fault code) = fault_words code
+closing_words closing.QueueFull = codes "a reply does not fit its queue"
+closing_words closing.LinkFailed = codes "its connection failed, or it sent nothing for 10 seconds"
+
+-- one of the four octets of an address
+abbrev pub octet_text : SocketAddrV4 → ℕ → List ℕ
+octet_text from k = decimal (slice_index (ipv4_octets (v4_ip from)) k)
+
+-- an association was opened from an address
+abbrev pub opened_line : ℕ → ℕ × SocketAddrV4 → List ℕ
+opened_line now opened =
+    joined (utc_text now ∷ codes " association " ∷ decimal opened.0 ∷ codes " open from "
+    ∷ octet_text opened.1 0 ∷ codes "." ∷ octet_text opened.1 1 ∷ codes "." ∷ octet_text opened.1 2
+    ∷ codes "." ∷ octet_text opened.1 3 ∷ codes ":" ∷ decimal (v4_port opened.1) ∷ codes "\n" ∷ [])
+
+abbrev pub opened_log : ℕ → Option (ℕ × SocketAddrV4) → List (List ℕ)
+opened_log now None = []
+opened_log now (Some opened) = opened_line now opened ∷ []
+
+-- an association was closed
+abbrev pub closed_line : ℕ → ℕ × CloseReason → List ℕ
+closed_line now closed =
+    joined (utc_text now ∷ codes " association " ∷ decimal closed.0 ∷ codes " closed "
+    ∷ decimal (code_of closed.1) ∷ codes ": " ∷ closing_words closed.1 ∷ codes "\n" ∷ [])
+
+-- an association was closed because memory ran out
+abbrev pub memory_line : ℕ → ℕ → List ℕ
+memory_line now a =
+    joined (utc_text now ∷ codes " association " ∷ decimal a ∷ codes " closed memory\n" ∷ [])
+
+-- ---- controls
+
+-- the service that is requested of a control
+abbrev pub service_words : ControlPart → List ℕ
+service_words Select = codes " select "
+service_words SelectWith = codes " select "
+service_words Operate = codes " operate "
+service_words Cancel = codes " cancel "
+
+-- the decision, with the number of the cause and its text
+abbrev pub verdict_words : Result (Unit {0}) AddCause → List ℕ
+verdict_words (Ok done) = codes ": done\n"
+verdict_words (Err NotSupported) =
+    codes ": refused 1: the switch has no control of this kind\n"
+verdict_words (Err SelectFailed) =
+    codes ": refused 3: another association has selected the switch\n"
+verdict_words (Err PositionReached) =
+    codes ": refused 5: the switch is where it is asked to go\n"
+verdict_words (Err BlockedByMode) = codes ": refused 8: the request is a test request\n"
+verdict_words (Err BlockedByProcess) = codes ": refused 9: the process is lost\n"
+verdict_words (Err BlockedByInterlocking) =
+    codes ": refused 10: the interlocking does not release the operation\n"
+verdict_words (Err CommandAlreadyInExecution) = codes ": refused 12: the switch is operating\n"
+verdict_words (Err OneOfNControl) =
+    codes ": refused 14: another switch is selected or operating\n"
+verdict_words (Err TimeLimitOver) =
+    codes ": refused 16: the switch did not reach its position in time\n"
+verdict_words (Err ObjectNotSelected) =
+    codes ": refused 18: the association has not selected the switch for this\n"
+
+-- an operation closes
+abbrev pub is_close : Operation → Bool
+is_close operations.Open = false
+is_close operations.Close = true
+
+-- the position that is requested
+abbrev pub position_words : Operation → List ℕ
+position_words operation =
+    if is_close operation then codes " close orCat=" else codes " open orCat="
+
+abbrev pub sign_text : ℤ → List ℕ
+sign_text number = if is_negative number then codes "-" else []
+
+-- the id of the switch at an index, as the bay file has it
+abbrev pub id_of : State → ℕ → List ℕ
+id_of s k = unwrap_or (option_map (λ (switch : Switch). switch.id) (slice_get s.switches k)) []
+
+-- what was written to a control, with its orIdent escaped, and the decision
+abbrev pub written_line : ℕ → List ℕ → List ℕ → ControlDecision → ControlRequest → List ℕ
+written_line now id ident decision asked =
+    joined (utc_text now ∷ codes " association " ∷ decimal decision.association
+    ∷ service_words decision.part ∷ id ∷ position_words asked.operation ∷ sign_text asked.origin.cat
+    ∷ decimal (unsigned_abs asked.origin.cat) ∷ codes " orIdent="
+    ∷ ident ∷ codes " ctlNum=" ∷ decimal asked.ctl_num
+    ∷ verdict_words decision.answer ∷ [])
+
+-- a select by a read
+abbrev pub selected_line : ℕ → List ℕ → ControlDecision → List ℕ
+selected_line now id decision =
+    joined (utc_text now ∷ codes " association " ∷ decimal decision.association
+    ∷ service_words decision.part ∷ id ∷ verdict_words decision.answer ∷ [])
+
+abbrev pub line_of : ℕ → List ℕ → ControlDecision → Option ControlRequest → List ℕ
+line_of now id decision None = selected_line now id decision
+line_of now id decision (Some asked) =
+    written_line now id (shown_text asked.origin.ident) decision asked
+
+abbrev pub decision_line : ℕ → State → ControlDecision → List ℕ
+decision_line now s decision = line_of now (id_of s decision.switch) decision decision.asked
+
+-- the decisions on what an association requested, if the device handled octets of it
+abbrev pub asked_log : ℕ → State → Option (List ControlDecision) → List (List ℕ)
+asked_log now s None = []
+asked_log now s (Some decisions) = map (decision_line now s) decisions
+
+-- ---- turns
+
+-- the device refused the event of a line
+abbrev pub refused_line : ℕ → ℕ → List ℕ → List ℕ
+refused_line now code shown =
+    joined (utc_text now ∷ codes " refused " ∷ decimal code ∷ codes ": " ∷ shown ∷ codes "\n" ∷ [])
+
+abbrev pub refused_log : ℕ → Option ℕ → List ℕ → List (List ℕ)
+refused_log now None shown = []
+refused_log now (Some code) shown = refused_line now code shown ∷ []
+
+-- a turn was refused, with a line of the trace, by its number and escaped
+abbrev pub unserved_log : ServeFault → ℕ → List ℕ → List ℕ
+unserved_log BadLine k shown =
+    joined (codes "bayctl: fault 120 line " ∷ decimal k ∷ codes ": " ∷ shown ∷ codes "\n" ∷ [])
+unserved_log MomentTooLarge k shown = codes "bayctl: fault 114: the clock is past the last moment\n"
+
+-- all turns were served
+abbrev pub used_up_log : ℕ → List ℕ
+used_up_log now = joined (utc_text now ∷ codes " all turns are served\n" ∷ [])
+
+-- ---- the process
+
+-- its connection was closed, by the number of the reason and in words
+abbrev pub parted_line : ℕ → ℕ → List ℕ → List ℕ
+parted_line now code words =
+    joined (utc_text now ∷ codes " process closed " ∷ decimal code ∷ codes ": " ∷ words
+    ∷ codes "\n" ∷ [])
+
+abbrev pub silent_line : ℕ → ℕ → List ℕ
+silent_line now limit =
+    joined (utc_text now ∷ codes " process closed 134: no line for " ∷ decimal limit
+    ∷ codes " ms\n" ∷ [])
+
+abbrev pub disconnect_line : ℕ → DisconnectReason → List ℕ
+disconnect_line now parting.Ended = parted_line now 0 (codes "it ended its connection")
+disconnect_line now (parting.BadLine line) = parted_line now 120 line
+disconnect_line now parting.QueueFull =
+    parted_line now 130 (codes "what it is told does not fit its queue")
+disconnect_line now parting.LinkFailed =
+    parted_line now 131 (codes "its connection failed, or it sent nothing for 10 seconds")
+disconnect_line now parting.Foreign =
+    parted_line now 132 (codes "it is not the process of this bay, or has another key")
+disconnect_line now parting.Untimely =
+    parted_line now 133 (codes "its time is too far from the server's")
+disconnect_line now parting.OutOfOrder =
+    parted_line now 133 (codes "its time is before that of the line before")
+disconnect_line now (parting.Silent limit) = silent_line now limit
+disconnect_line now parting.Jumped = parted_line now 134 (codes "the clock has jumped")
+
+abbrev pub connection_event_log : ℕ → ConnectionEvent → List ℕ
+connection_event_log now Opened = joined (utc_text now ∷ codes " process open\n" ∷ [])
+connection_event_log now (Closed why) = disconnect_line now why

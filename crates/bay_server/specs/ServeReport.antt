@@ -1,0 +1,276 @@
+-- Serving, turn by turn: what each turn does, and what is printed for it.
+use Rattle.bay_io.specs.Calls.{WriteCall}
+use Rattle.std.specs.Prelude.{◌≡◌, ℕ, zero, suc, ◌+◌, List, ◌∷◌, drop, slice_get, Option, None, Some, Result, Ok, Err, ◌⊎◌, MatchBool, Bool, false, ◌||◌, []}
+use Rattle.std.specs.Borrow.{Bor}
+use Rattle.bay_device.specs.Device.{State}
+use Rattle.bay_io.specs.Sent.{Logs}
+use Rattle.bay_io.specs.Watched.{Writing}
+use Rattle.bay_io.specs.declared.outbox.WriteFault.{WriteFault}
+use Rattle.bay_server.specs.Clock.{ClockData, after_reading, jump_of, moment_read, shift_of}
+use Rattle.bay_server.specs.Host.{HostCall, Tells, Pauses}
+use Rattle.bay_report.specs.Report.{IsLast, Prints}
+use Rattle.bay_server.specs.TurnLines.{is_quiet, connection_event_text, turn_text, unserved_text}
+use Rattle.bay_server.specs.Logging.{LogsAll}
+use Rattle.bay_server.specs.ChangeLines.{bay_seen, turn_log}
+use Rattle.bay_server.specs.LogLines.{connection_event_log, shift_log, unserved_log, used_up_log}
+use Rattle.bay_server.specs.RecordLine.{record_log}
+use Rattle.bay_process_port.specs.Polling.{Attends, attendance}
+use Rattle.bay_lines.specs.Escaped.{shown_text}
+use Rattle.bay_process_port.specs.Ports.{PortData, shown_line, taken_line, taken_loss}
+use Rattle.bay_process_port.specs.ProcessOutput.{reported_turn}
+use Rattle.bay_process_port.specs.declared.connection_event.ConnectionEvent.{ConnectionEvent}
+use Rattle.bay_server_turn.specs.Calls.{Call}
+use Rattle.bay_server_turn.specs.Served.{TurnInput, Serves, turn_input_of_line, reported, reported_in, turn_refusal}
+use Rattle.bay_server_turn.specs.Turns.{ServerData, moment_at}
+use Rattle.bay_server_turn.specs.declared.fault.ServeFault.{ServeFault}
+use Rattle.bay_server_turn.specs.declared.record.RecordEnd.{RecordEnd}
+use Rattle.bay_server_turn.specs.declared.turn_report.Turn.{Turn}
+use Rattle.bay_server.specs.declared.change_lines.BayView.{BayView}
+use Rattle.bay_server.specs.declared.clock.Clocks.{Clocks}
+use Rattle.bay_server.specs.declared.process.NextInput.{NextInput}
+
+-- the lines of a trace that are not empty, each with its number among all
+abbrev pub told_lines : ℕ → List (List ℕ) → List (ℕ × List ℕ)
+told_lines k [] = []
+told_lines k ([] ∷ lines) = told_lines (k + 1) lines
+told_lines k ((b ∷ bs) ∷ lines) = (k, b ∷ bs) ∷ told_lines (k + 1) lines
+
+-- a line that the code returns as a slice
+abbrev pub line_view : Option (ℕ × Bor (List ℕ)) → Option (ℕ × List ℕ)
+line_view None = None
+line_view (Some line) = Some (line.0, line.1.now)
+
+-- a writer is not used
+abbrev pub Stays : {W : Type 0} → Writing W → Writing W → Result ℕ WriteFault → Type 0
+Stays old new answer = (new ≡ old) × (answer ≡ Ok 0)
+
+-- the lines of a turn are printed and flushed; if there are none, the writer is not used
+abbrev pub PrintsTurn : {W : Type 0} → (W → Option (List ℕ)) → (W → WriteCall → W → Type 0) → ℕ
+    → Turn → State → Writing W
+    → Writing W → Result ℕ WriteFault → Type 0
+PrintsTurn contents asks now turn s old new answer =
+    MatchBool (is_quiet turn) (Stays old new answer)
+    (Prints contents asks (IsLast (turn_text now turn s) 0) old new answer)
+
+-- a turn is logged, and then its lines are printed
+pub record ReportsTurn {W : Type 0} (contents : W → Option (List ℕ))
+    (asks : W → WriteCall → W → Type 0)
+    (now : ℕ) (next : NextInput) (before : BayView) (turn : Turn) (s : State) (old new : Writing W)
+    (answer : Result ℕ WriteFault) : Type 0 where
+  pub mid : Writing W
+  pub logged : LogsAll contents asks old (turn_log now next before s turn) mid
+  pub printed : PrintsTurn contents asks now turn s mid new answer
+
+-- why a turn is refused is logged, printed and flushed
+pub record ReportsUnserved {W : Type 0} (contents : W → Option (List ℕ))
+    (asks : W → WriteCall → W → Type 0) (fault : ServeFault) (number : ℕ) (shown : List ℕ)
+    (old new : Writing W) (answer : Result ℕ WriteFault) : Type 0 where
+  pub mid : Writing W
+  pub logged : Logs contents asks old (unserved_log fault number shown) mid
+  pub printed : Prints contents asks (IsLast (unserved_text fault number) 3) mid new answer
+
+-- the first, after a turn whose lines could not be written; otherwise the second
+abbrev pub AfterTurn : Result ℕ WriteFault → Type 0 → Type 0 → Type 0
+AfterTurn (Err fault) ends goes = ends
+AfterTurn (Ok status) ends goes = goes
+
+-- the process: its link and its port
+pub record PollOutcome (L : Type 0) : Type 0 where
+  pub link : L
+  pub port : PortData
+
+-- the state of a service, before or after a turn: the link, the server, its clock, the host, the
+-- process, if there is one, and the lines of the trace that are left
+pub record Serving (L H : Type 0) : Type 0 where
+  pub link : L
+  pub held : ServerData
+  pub clock : ClockData
+  pub host : H
+  pub process : Option (PollOutcome L)
+  pub lines : List (ℕ × List ℕ)
+
+-- ---- the input of a turn
+
+-- the input of a turn, the lines of the trace after it, and the process then
+pub record Chosen (L : Type 0) : Type 0 where
+  pub next : NextInput
+  pub lines : List (ℕ × List ℕ)
+  pub process : Option (PollOutcome L)
+
+-- a process has gone, or is believed no more, and is lost now; and the process after that
+abbrev pub loss_of : {L : Type 0} → State → ℕ → ℕ → Option (PollOutcome L) → Bool
+loss_of s now jump None = false
+loss_of s now jump (Some p) = (taken_loss s now jump p.port).is_lost
+
+abbrev pub behind_loss : {L : Type 0} → State → ℕ → ℕ → Option (PollOutcome L)
+    → Option (PollOutcome L)
+behind_loss s now jump None = None
+behind_loss s now jump (Some p) =
+    Some (record { link = p.link; port = (taken_loss s now jump p.port).port })
+
+-- the input of a turn with a line, with the loss of the process
+abbrev pub with_loss : Bool → TurnInput → TurnInput
+with_loss is_lost (Err fault) = Err fault
+with_loss is_lost (Ok given) =
+    Ok (record { is_lost = is_lost || given.is_lost; event = given.event })
+
+-- a line of the trace
+abbrev pub next_by : State → Bool → ℕ × List ℕ → NextInput
+next_by s is_lost line = record {
+  number = line.0;
+  shown = shown_text line.1;
+  given = with_loss is_lost (turn_input_of_line s line.1);
+}
+
+-- what the port of the process has, if one is heard; it has no number
+abbrev pub from_port : {L : Type 0} → State → ℕ → ℕ → List (ℕ × List ℕ) → Option (PollOutcome L)
+    → Chosen L
+from_port s now jump lines None = record {
+  next = record { number = 0; shown = []; given = Ok (reported None) };
+  lines = lines;
+  process = None;
+}
+from_port s now jump lines (Some p) =
+    let taken = taken_line s now jump p.port in
+    record {
+      next = record {
+        number = 0;
+        shown = shown_line taken.line;
+        given = Ok (record { is_lost = taken.is_lost; event = taken.event });
+      };
+      lines = lines;
+      process = Some (record { link = p.link; port = taken.port });
+    }
+
+-- The next line of the trace, and beside it that the process is lost; or where there is no line
+-- what the process has.
+abbrev pub from_trace : {L : Type 0} → Option (ℕ × List ℕ) → State → ℕ → ℕ → List (ℕ × List ℕ)
+    → Option (PollOutcome L) → Chosen L
+from_trace None s now jump lines process = from_port s now jump lines process
+from_trace (Some line) s now jump lines process = record {
+  next = next_by s (loss_of s now jump process) line;
+  lines = drop 1 lines;
+  process = behind_loss s now jump process;
+}
+
+abbrev pub chosen : {L : Type 0} → State → ℕ → ℕ → List (ℕ × List ℕ) → Option (PollOutcome L)
+    → Chosen L
+chosen s now jump lines process = from_trace (slice_get lines 0) s now jump lines process
+
+-- ---- a turn
+
+-- the moment of a turn, if the host's clocks have these times
+abbrev pub moment_of : {L H : Type 0} → Clocks → Serving L H → ℕ
+moment_of clocks b = moment_at (moment_read clocks b.clock) b.held
+
+-- the input of this turn
+abbrev pub choice_of : {L H : Type 0} → Clocks → Serving L H → Chosen L
+choice_of clocks b =
+    chosen b.held.device (moment_of clocks b) (jump_of clocks b.clock) b.lines b.process
+
+-- The host's clocks were read. If the side of the system's time changed, that was logged.
+pub record AsksClocks {L H W : Type 0} (acts : H → HostCall L → H → Type 0)
+    (contents : W → Option (List ℕ)) (asks : W → WriteCall → W → Type 0) (clocks : Clocks)
+    (before : Serving L H) (host : H) (old new : Writing W) : Type 0 where
+  pub told : acts before.host (Tells clocks.system clocks.steady) host
+  pub logged : LogsAll contents asks old (shift_log (moment_of clocks before)
+      (shift_of before.clock.side (moment_read clocks before.clock) clocks.system)) new
+
+-- a pause was made, or none
+abbrev pub MayPause : {L H : Type 0} → (H → HostCall L → H → Type 0) → Serving L H → Serving L H
+    → Type 0
+MayPause acts before after = (after ≡ before)
+    ⊎ (acts before.host Pauses after.host × (after ≡ record before { host = after.host }))
+
+-- an event of the process's connection is logged, printed and flushed
+abbrev pub ReportsConnectionEvent : {W : Type 0} → (W → Option (List ℕ))
+    → (W → WriteCall → W → Type 0) → ℕ
+    → Option ConnectionEvent → Writing W
+    → Writing W → Result ℕ WriteFault → Type 0
+ReportsConnectionEvent contents asks now None old new answer = Stays old new answer
+ReportsConnectionEvent {W} contents asks now (Some news) old new answer =
+    (mid : Writing W) × Logs contents asks old (connection_event_log now news) mid
+    × Prints contents asks (IsLast (connection_event_text now news) 0) mid new answer
+
+module _ {L W : Type 0} (step : L → Call → L → Type 0) (contents : W → Option (List ℕ))
+    (asks : W → WriteCall → W → Type 0) where
+  -- the process's connection is served, if there is one, and its event is reported
+  pub record AttendsTo (now : ℕ) (turn : Turn) (s : State) (before after : PollOutcome L)
+      (old new : Writing W) (answer : Result ℕ WriteFault) : Type 0 where
+    pub news : Option ConnectionEvent
+    pub attends : Attends step
+        (λ script. attendance (reported_turn now turn s) s script before.port)
+        before.link after.link after.port news
+    pub printed : ReportsConnectionEvent contents asks now news old new answer
+
+  abbrev pub Hears : ℕ → Turn → State → Option (PollOutcome L) → Option (PollOutcome L) → Writing W
+      → Writing W → Result ℕ WriteFault → Type 0
+  Hears now turn s None None old new answer = Stays old new answer
+  Hears now turn s None (Some after) old new answer = ⊥
+  Hears now turn s (Some before) None old new answer = ⊥
+  Hears now turn s (Some before) (Some after) old new answer =
+      AttendsTo now turn s before after old new answer
+
+  -- What a turn reports is logged and printed, and then the process is attended to; or the lines
+  -- could not be printed.
+  pub record ReportsAndPolls (now : ℕ) (next : NextInput) (seen : BayView) (turn : Turn) (s : State)
+      (before after : Option (PollOutcome L)) (old new : Writing W) (answer : Result ℕ WriteFault)
+      : Type 0 where
+    pub between : Writing W
+    pub outcome : Result ℕ WriteFault
+    pub printed : ReportsTurn contents asks now next seen turn s old between outcome
+    pub hears : AfterTurn outcome
+        ((after ≡ before) × (new ≡ between) × (answer ≡ outcome))
+        (Hears now turn s before after between new answer)
+
+module _ {L H W : Type 0} (step : L → Call → L → Type 0) (acts : H → HostCall L → H → Type 0)
+    (contents : W → Option (List ℕ)) (asks : W → WriteCall → W → Type 0) where
+  -- The clock was read for the moment of a turn, and the input of the turn was chosen. The turn was
+  -- refused: the reason is reported, and nothing has changed.
+  pub record TurnFails (before : Serving L H) (old : Writing W) (host : H) (new : Writing W)
+      (answer : Result ℕ WriteFault) : Type 0 where
+    pub clocks : Clocks
+    pub begun : Writing W
+    pub asked : AsksClocks acts contents asks clocks before host old begun
+    pub fault : ServeFault
+    pub is : turn_refusal (moment_read clocks before.clock) (choice_of clocks before).next.given
+        before.held ≡ Some fault
+    pub printed : ReportsUnserved contents asks fault (choice_of clocks before).next.number
+        (choice_of clocks before).next.shown begun new answer
+
+  -- The clock was read, the input of the turn was chosen, the turn was done, its report was printed,
+  -- and the process was attended to; or it could not be printed. Then the record was written: if it
+  -- has ended, that was logged.
+  pub record TurnGoes (before : Serving L H) (old : Writing W) (after : Serving L H)
+      (new : Writing W) (answer : Result ℕ WriteFault) : Type 0 where
+    pub clocks : Clocks
+    pub begun : Writing W
+    pub asked : AsksClocks acts contents asks clocks before after.host old begun
+    pub clock : after.clock ≡ after_reading clocks before.clock
+    pub lines : after.lines ≡ (choice_of clocks before).lines
+    pub turn : Turn
+    pub right : turn_refusal (moment_read clocks before.clock) (choice_of clocks before).next.given
+        before.held ≡ None
+    pub serves : Serves step before.link after.link (moment_of clocks before)
+        (reported_in (choice_of clocks before).next.given) before.held after.held turn
+    pub told : Writing W
+    pub reports : ReportsAndPolls step contents asks (moment_of clocks before)
+        (choice_of clocks before).next (bay_seen before.held.device) turn after.held.device
+        (choice_of clocks before).process after.process begun told answer
+    pub end : Option RecordEnd
+    pub ended : LogsAll contents asks told (record_log (moment_of clocks before) end) new
+
+  -- `turns` turns are served: all of them, which is logged; up to one that is refused; or up to one
+  -- whose lines could not be written.
+  abbrev pub ServesTurns : ℕ → Serving L H → Writing W → H → Writing W → Result ℕ WriteFault
+      → Type 0
+  ServesTurns zero before old host new answer =
+      (host ≡ before.host) × Logs contents asks old (used_up_log before.held.device.moment) new
+      × (answer ≡ Ok 0)
+  ServesTurns (suc turns) before old host new answer =
+      TurnFails before old host new answer
+      ⊎ ((after : Serving L H) × (mid : Writing W) × (told : Result ℕ WriteFault)
+      × TurnGoes before old after mid told
+      × AfterTurn told ((host ≡ after.host) × (new ≡ mid) × (answer ≡ told))
+      ((next : Serving L H) × MayPause acts after next
+      × ServesTurns turns next mid host new answer))

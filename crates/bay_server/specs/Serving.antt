@@ -1,0 +1,36 @@
+-- The result of trying one turn.
+use Rattle.bay_io.specs.Calls.{WriteCall}
+use Rattle.std.specs.Prelude.{ℕ, List, Option, Result, Ok, Err, ◌⊎◌}
+use Rattle.bay_io.specs.Watched.{Writing}
+use Rattle.bay_io.specs.declared.outbox.WriteFault.{WriteFault}
+use Rattle.bay_server.specs.Host.{HostCall}
+use Rattle.bay_server.specs.ServeReport.{Serving, TurnFails, TurnGoes}
+use Rattle.bay_server.specs.declared.serving.Served.{Served}
+use Rattle.bay_server.specs.declared.serving.TurnAttempt.{TurnAttempt}
+use Rattle.bay_server.specs.declared.serving.TurnAttempt.TheVariants as tried
+use Rattle.bay_server_turn.specs.Calls.{Call}
+
+-- the state of a service, with the host and the lines of the trace
+abbrev pub with_host : {L H : Type 0} → Served L → H → List (ℕ × List ℕ) → Serving L H
+with_host served host lines = record {
+  link = served.link.link;
+  held = served.server;
+  clock = served.clock;
+  host = host;
+  process = served.process;
+  lines = lines;
+}
+
+module _ {L H W : Type 0} (step : L → Call → L → Type 0) (acts : H → HostCall L → H → Type 0)
+    (contents : W → Option (List ℕ)) (asks : W → WriteCall → W → Type 0) where
+  -- a turn was done, or it was refused, and what must be printed for it was; or that could not be
+  -- written
+  abbrev pub TriesTurn : Serving L H → Writing W → Serving L H → Writing W
+      → Result TurnAttempt WriteFault → Type 0
+  TriesTurn before old after new (Ok (tried.Done was_idle)) =
+      (status : ℕ) × TurnGoes step acts contents asks before old after new (Ok status)
+  TriesTurn before old after new (Ok (tried.Ends status)) =
+      TurnFails step acts contents asks before old after.host new (Ok status)
+  TriesTurn before old after new (Err fault) =
+      TurnGoes step acts contents asks before old after new (Err fault)
+      ⊎ TurnFails step acts contents asks before old after.host new (Err fault)

@@ -1,0 +1,258 @@
+// Logs the process and its switches in a turn.
+ghost use Rattle.std.specs.Prelude.{◌≡◌};
+ghost use Rattle.bay_server_turn.specs.Served.{reported_in};
+ghost use Rattle.bay_server.specs.Logging.{LogsAll};
+ghost use Rattle.bay_server.specs.ChangeLines.{commanded, end_log, ends_log, lost_log, operates_in, reached_in, seen_at, seen_log, bay_seen, switch_log, switches_log, word_log};
+ghost use Rattle.bay_server.specs.ChangeLines as spec;
+
+use crate::control_lines::id;
+use bay_device::device::Device;
+use bay_io::calls::{LinePart, Sink};
+use bay_io::writer::WatchedWriter;
+use bay_mms_services::answer::Command;
+use bay_server_turn::process_input::TurnInput;
+use bay_server_turn::turn_report::Turn;
+use bay_tree::leaf::Dbpos;
+
+// The maximum number of switches in a bay.
+const SWITCHES: usize = 32;
+
+/// The view of a switch: its position, and whether it may be opened and closed.
+#[derive(Clone, Copy)]
+pub struct SwitchView {
+    pub position: Option<Dbpos>,
+    pub release: Option<(bool, bool)>,
+}
+
+/// What is logged of a switch: its position, or whether it may be opened and closed.
+#[derive(Clone, Copy)]
+pub enum Column {
+    Position,
+    Release,
+}
+
+/// The view of each switch, and the switch that is operating.
+#[derive(Drop)]
+pub struct BayView {
+    pub switches: [SwitchView; SWITCHES],
+    pub operating: Option<usize>,
+}
+
+// Returns the view of the switch at an index.
+fn view_switch(device: &Device, place: usize) -> SwitchView
+    ensures { result ≡ seen_at device.now place }
+{
+    SwitchView {
+        position: device.position(place),
+        release: device.ena(place),
+    }
+}
+
+/// Returns the view of each switch, and the switch that is operating.
+pub fn view_bay(device: &Device) -> BayView
+    ensures { result ≡ bay_seen device.now }
+{
+    let mut switches = [view_switch(device, 0); SWITCHES];
+    for place in 0..SWITCHES {
+        switches[place] = view_switch(device, place);
+    }
+    BayView {
+        switches,
+        operating: device.operating(),
+    }
+}
+
+// Returns a position in a word.
+fn position_word(position: Option<Dbpos>) -> &'static [u8]
+    ensures { result.now ≡ spec.position_word position }
+{
+    match position {
+        None => b"",
+        Some(Dbpos::Intermediate) => b" intermediate\n",
+        Some(Dbpos::Off) => b" open\n",
+        Some(Dbpos::On) => b" closed\n",
+        Some(Dbpos::Bad) => b" bad\n",
+    }
+}
+
+// Returns whether a switch may be opened and closed, in words.
+fn release_word(release: Option<(bool, bool)>) -> &'static [u8]
+    ensures { result.now ≡ spec.release_word release }
+{
+    match release {
+        None => b"",
+        Some((true, true)) => b" open=1 close=1\n",
+        Some((true, false)) => b" open=1 close=0\n",
+        Some((false, true)) => b" open=0 close=1\n",
+        Some((false, false)) => b" open=0 close=0\n",
+    }
+}
+
+// Logs a word on a switch, if it is another than before.
+fn log_word<'a, W: Sink>(
+    writer: &mut WatchedWriter<W>,
+    moment: u64,
+    what: &'a [u8],
+    id: &'a [u8],
+    before: &[u8],
+    after: &'a [u8],
+)
+    ensures { LogsAll W.contents W.does writer.old
+        (word_log moment what.now id.now before.now after.now) writer.new }
+{
+    if before == after {
+        return;
+    }
+    writer.log(&[
+        LinePart::Moment(moment),
+        LinePart::Text(what),
+        LinePart::Text(id),
+        LinePart::Text(after),
+    ]);
+}
+
+// Logs the position or the release of a switch, if it has changed.
+fn log_seen<W: Sink>(
+    writer: &mut WatchedWriter<W>,
+    column: Column,
+    moment: u64,
+    id: &[u8],
+    before: SwitchView,
+    after: SwitchView,
+)
+    ensures { LogsAll W.contents W.does writer.old (seen_log column moment id.now before after)
+        writer.new }
+{
+    match column {
+        Column::Position => {
+            let was = position_word(before.position);
+            let is = position_word(after.position);
+            log_word(writer, moment, b" position ", id, was, is);
+        }
+        Column::Release => {
+            let was = release_word(before.release);
+            let is = release_word(after.release);
+            log_word(writer, moment, b" release ", id, was, is);
+        }
+    }
+}
+
+// Logs the position or the release of the switch at an index, if it has changed.
+fn log_switch<W: Sink>(
+    writer: &mut WatchedWriter<W>,
+    column: Column,
+    device: &Device,
+    moment: u64,
+    place: usize,
+    before: SwitchView,
+)
+    ensures { LogsAll W.contents W.does writer.old
+        (switch_log column moment device.now place before) writer.new }
+{
+    log_seen(
+        writer,
+        column,
+        moment,
+        id(device, place),
+        before,
+        view_switch(device, place),
+    );
+}
+
+/// Logs the positions or the releases of the switches that have changed.
+pub fn log_switches<W: Sink>(
+    writer: &mut WatchedWriter<W>,
+    column: Column,
+    device: &Device,
+    moment: u64,
+    before: &[SwitchView],
+)
+    ensures { LogsAll W.contents W.does writer.old
+        (switches_log column moment device.now 0 before.now) writer.new }
+{
+    for place in 0..before.len() {
+        log_switch(writer, column, device, moment, place, before[place]);
+    }
+}
+
+// Logs why the operate of a switch has ended, if one has.
+fn log_end<'a, W: Sink>(
+    writer: &mut WatchedWriter<W>,
+    device: &'a Device,
+    moment: u64,
+    why: &'a [u8],
+    switch: Option<usize>,
+)
+    ensures { LogsAll W.contents W.does writer.old (end_log moment device.now why.now switch)
+        writer.new }
+{
+    match switch {
+        Some(switch) => writer.log(&[
+            LinePart::Moment(moment),
+            LinePart::Text(b" operate of "),
+            LinePart::Text(id(device, switch)),
+            LinePart::Text(why),
+        ]),
+        None => {}
+    }
+}
+
+// Returns the switch of the first command.
+fn first_commanded(commands: &[Command]) -> Option<usize>
+    ensures { result ≡ commanded commands.now }
+{
+    match commands {
+        [] => None,
+        [command, ..] => Some(command.switch),
+    }
+}
+
+// Returns the switch that has reached its position in a turn, if one has: the one that operated, if
+// none operates after the turn.
+fn reached(before: Option<usize>, after: Option<usize>, turn: &Turn) -> Option<usize>
+    ensures { result ≡ reached_in after
+        (operates_in turn.now.over before (commanded turn.now.commands)) }
+{
+    if after.is_some() {
+        return None;
+    }
+    match (turn.over, before) {
+        (None, Some(switch)) => Some(switch),
+        _ => first_commanded(turn.commands.as_slice()),
+    }
+}
+
+/// Logs the operates that have ended in a turn, and why.
+pub fn log_ends<W: Sink>(
+    writer: &mut WatchedWriter<W>,
+    device: &Device,
+    moment: u64,
+    before: &BayView,
+    turn: &Turn,
+)
+    ensures { LogsAll W.contents W.does writer.old
+        (ends_log moment before.now device.now turn.now) writer.new }
+{
+    log_end(writer, device, moment, b" ended: time over\n", turn.over);
+    let reached = reached(before.operating, device.operating(), turn);
+    log_end(
+        writer,
+        device,
+        moment,
+        b" ended: position reached\n",
+        reached,
+    );
+}
+
+/// Logs that the process is lost, if the input of a turn has this.
+pub fn log_lost<W: Sink>(writer: &mut WatchedWriter<W>, moment: u64, given: TurnInput)
+    ensures { LogsAll W.contents W.does writer.old (lost_log moment (reported_in given).is_lost)
+        writer.new }
+{
+    let Ok(reported) = given else {
+        return;
+    };
+    if reported.is_lost {
+        writer.log(&[LinePart::Moment(moment), LinePart::Text(b" process lost\n")]);
+    }
+}

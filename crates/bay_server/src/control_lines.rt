@@ -1,0 +1,204 @@
+// Logs the controls that clients request.
+ghost use Rattle.std.specs.Prelude.{◌≡◌, map};
+ghost use Rattle.std.specs.List.{flat_map};
+ghost use Rattle.bay_io.specs.Sent.{Logs};
+ghost use Rattle.bay_server.specs.Logging.{LogsAll};
+ghost use Rattle.bay_server.specs.LogLines.{asked_log, decision_line, id_of, selected_line, sign_text, written_line};
+ghost use Rattle.bay_server.specs.LogLines as spec;
+
+use bay_base::listing::Listing;
+use bay_control::cause::AddCause;
+use bay_device::device::Device;
+use bay_io::calls::{LinePart, Sink};
+use bay_io::writer::WatchedWriter;
+use bay_lines::escaped::EscapedText;
+use bay_mms_services::answer::{ControlDecision, ControlRequest};
+use bay_mms_services::target::ControlPart;
+use bay_nodes::switch::Operation;
+
+// Returns the service that is requested of a control.
+fn service_words(part: ControlPart) -> &'static [u8]
+    ensures { result.now ≡ spec.service_words part }
+{
+    match part {
+        ControlPart::Select => b" select ",
+        ControlPart::SelectWith => b" select ",
+        ControlPart::Operate => b" operate ",
+        ControlPart::Cancel => b" cancel ",
+    }
+}
+
+// Returns the decision, with the number of the cause and its text.
+fn verdict_words(answer: Result<(), AddCause>) -> &'static [u8]
+    ensures { result.now ≡ spec.verdict_words answer }
+{
+    match answer {
+        Ok(()) => b": done\n",
+        Err(AddCause::NotSupported) => { b": refused 1: the switch has no control of this kind\n" }
+        Err(AddCause::SelectFailed) => {
+            b": refused 3: another association has selected the switch\n"
+        }
+        Err(AddCause::PositionReached) => {
+            b": refused 5: the switch is where it is asked to go\n"
+        }
+        Err(AddCause::BlockedByMode) => b": refused 8: the request is a test request\n",
+        Err(AddCause::BlockedByProcess) => b": refused 9: the process is lost\n",
+        Err(AddCause::BlockedByInterlocking) => {
+            b": refused 10: the interlocking does not release the operation\n"
+        }
+        Err(AddCause::CommandAlreadyInExecution) => b": refused 12: the switch is operating\n",
+        Err(AddCause::OneOfNControl) => {
+            b": refused 14: another switch is selected or operating\n"
+        }
+        Err(AddCause::TimeLimitOver) => {
+            b": refused 16: the switch did not reach its position in time\n"
+        }
+        Err(AddCause::ObjectNotSelected) => {
+            b": refused 18: the association has not selected the switch for this\n"
+        }
+    }
+}
+
+// Returns the position that is requested.
+fn position_words(operation: Operation) -> &'static [u8]
+    ensures { result.now ≡ spec.position_words operation }
+{
+    match operation {
+        Operation::Open => b" open orCat=",
+        Operation::Close => b" close orCat=",
+    }
+}
+
+// Returns the sign of a number, if it is below 0.
+fn sign(number: i8) -> &'static [u8]
+    ensures { result.now ≡ sign_text number }
+{
+    if number < 0 { b"-" } else { b"" }
+}
+
+/// Returns the id of the switch at an index; nothing if there is none.
+pub fn id(device: &Device, switch: usize) -> &[u8]
+    ensures { result.now ≡ id_of device.now switch }
+{
+    match device.id(switch) {
+        Some(id) => id.as_bytes(),
+        None => b"",
+    }
+}
+
+// Logs what was written to a control, with its orIdent escaped, and the decision.
+fn log_written<'a, W: Sink>(
+    writer: &mut WatchedWriter<W>,
+    moment: u64,
+    id: &'a [u8],
+    ident: &'a [u8],
+    decision: &ControlDecision,
+    asked: &ControlRequest,
+)
+    ensures { Logs W.contents W.does writer.old
+        (written_line moment id.now ident.now decision.now asked.now) writer.new }
+{
+    writer.log(&[
+        LinePart::Moment(moment),
+        LinePart::Text(b" association "),
+        LinePart::Number(u64::from(decision.association)),
+        LinePart::Text(service_words(decision.part)),
+        LinePart::Text(id),
+        LinePart::Text(position_words(asked.operation)),
+        LinePart::Text(sign(asked.origin.cat)),
+        LinePart::Number(u64::from(asked.origin.cat.unsigned_abs())),
+        LinePart::Text(b" orIdent="),
+        LinePart::Text(ident),
+        LinePart::Text(b" ctlNum="),
+        LinePart::Number(u64::from(asked.ctl_num)),
+        LinePart::Text(verdict_words(decision.answer)),
+    ]);
+}
+
+// Logs the decision on a select by a read.
+fn log_selected<W: Sink>(
+    writer: &mut WatchedWriter<W>,
+    moment: u64,
+    id: &[u8],
+    decision: &ControlDecision,
+)
+    ensures { Logs W.contents W.does writer.old (selected_line moment id.now decision.now)
+        writer.new }
+{
+    writer.log(&[
+        LinePart::Moment(moment),
+        LinePart::Text(b" association "),
+        LinePart::Number(u64::from(decision.association)),
+        LinePart::Text(service_words(decision.part)),
+        LinePart::Text(id),
+        LinePart::Text(verdict_words(decision.answer)),
+    ]);
+}
+
+// Logs a decision on a control.
+fn log_decision<W: Sink>(
+    writer: &mut WatchedWriter<W>,
+    device: &Device,
+    moment: u64,
+    decision: &ControlDecision,
+)
+    ensures { Logs W.contents W.does writer.old (decision_line moment device.now decision.now)
+        writer.new }
+{
+    let id = id(device, decision.switch);
+    match &decision.asked {
+        Some(asked) => {
+            let ident = EscapedText::new(asked.origin.ident.as_slice());
+            log_written(writer, moment, id, ident.as_slice(), decision, asked)
+        }
+        None => log_selected(writer, moment, id, decision),
+    }
+}
+
+// Logs decisions on controls.
+fn log_decisions<W: Sink>(
+    writer: &mut WatchedWriter<W>,
+    device: &Device,
+    moment: u64,
+    decisions: &[ControlDecision],
+)
+    ensures { LogsAll W.contents W.does writer.old
+        (map (decision_line moment device.now) decisions.now) writer.new }
+{
+    for decision in decisions {
+        log_decision(writer, device, moment, decision);
+    }
+}
+
+// Logs the decisions on the controls that an association requested, if the device handled octets of
+// it.
+fn log_asked<W: Sink>(
+    writer: &mut WatchedWriter<W>,
+    device: &Device,
+    moment: u64,
+    decisions: &Option<Listing<ControlDecision>>,
+)
+    ensures { LogsAll W.contents W.does writer.old (asked_log moment device.now decisions.now)
+        writer.new }
+{
+    match decisions {
+        Some(decisions) => log_decisions(writer, device, moment, decisions.as_slice()),
+        None => {}
+    }
+}
+
+/// Logs the decisions on the controls that each association requested.
+pub fn log_controls<W: Sink>(
+    writer: &mut WatchedWriter<W>,
+    device: &Device,
+    moment: u64,
+    asked: &[Option<Listing<ControlDecision>>],
+)
+    ensures { LogsAll W.contents W.does writer.old
+        (flat_map (asked_log moment device.now) asked.now)
+        writer.new }
+{
+    for decisions in asked {
+        log_asked(writer, device, moment, decisions);
+    }
+}

@@ -1,0 +1,200 @@
+// The process, and the input of a turn.
+ghost use Rattle.std.specs.Prelude.{◌≡◌, []};
+ghost use Rattle.bay_server_turn.specs.Calls.{Called};
+ghost use Rattle.bay_server.specs.ServeReport.{AttendsTo, Hears, behind_loss, chosen, from_port, loss_of, next_by};
+ghost use Rattle.bay_server.specs.ServeReport as spec;
+
+use crate::trace_lines::TraceLines;
+use crate::turns::report_connection_event;
+use bay_device::device::Device;
+use bay_io::calls::Sink;
+use bay_io::outbox::WriteFault;
+use bay_io::writer::WatchedWriter;
+use bay_lines::escaped::EscapedText;
+use bay_process_port::poll::poll;
+use bay_process_port::port::Port;
+use bay_report::output::Status;
+use bay_server_turn::link::Link;
+use bay_server_turn::process_input::{ProcessReport, TurnInput, read_line};
+use bay_server_turn::turn_report::Turn;
+use std::marker::Model;
+
+/// The input of a turn, with the line that it was read from, escaped, and the number of the line in
+/// the trace, or 0.
+#[derive(Drop)]
+pub struct NextInput {
+    pub number: usize,
+    pub shown: EscapedText,
+    pub given: TurnInput,
+}
+
+/// A process with a link of its own, and whether anything is known to have happened there.
+#[derive(Drop)]
+pub struct Process<L> {
+    link: L,
+    port: Port,
+    is_busy: bool,
+}
+
+impl<L> Model for Process<L> {
+    ghost use Rattle.bay_server.specs.ServeReport.{PollOutcome};
+
+    ghost Value = { PollOutcome L };
+
+    ghost view = { λ p. record { link = p.link; port = p.port } };
+}
+
+impl<L> Process<L> {
+    /// Creates a process on whose link nothing has happened yet.
+    pub fn new(link: L, port: Port) -> Self
+        ensures { result ≡ record { link = link; port = port } }
+    {
+        Process {
+            link,
+            port,
+            is_busy: false,
+        }
+    }
+
+    // Returns whether anything has happened since the last call of this function.
+    fn was_busy(&mut self) -> bool
+        ensures { self.new ≡ self.old }
+    {
+        let was_busy = self.is_busy;
+        self.is_busy = false;
+        was_busy
+    }
+}
+
+/// Returns whether anything has happened on the link of the process since the last call of this
+/// function.
+pub fn was_busy<L>(process: &mut Option<Process<L>>) -> bool
+    ensures { process.new ≡ process.old }
+{
+    match process {
+        Some(process) => process.was_busy(),
+        None => false,
+    }
+}
+
+// Takes the input of a turn from the port of the process, if there is one.
+fn take_port_input<L>(
+    process: &mut Option<Process<L>>,
+    device: &Device,
+    moment: u64,
+    jump: u64,
+) -> NextInput
+    ensures next { result ≡ (from_port device.now moment jump [] process.old).next }
+    ensures process { process.new ≡ (from_port device.now moment jump [] process.old).process }
+{
+    match process {
+        Some(process) => {
+            let said = process.port.take_line(device, moment, jump);
+            NextInput {
+                number: 0,
+                shown: said.shown,
+                given: Ok(ProcessReport {
+                    is_lost: said.is_lost,
+                    event: said.event,
+                }),
+            }
+        }
+        None => NextInput {
+            number: 0,
+            shown: EscapedText::new(b""),
+            given: Ok(ProcessReport::of(None)),
+        },
+    }
+}
+
+// Takes whether a process has gone, or is believed no more, and is lost now.
+fn take_loss<L>(process: &mut Option<Process<L>>, device: &Device, moment: u64, jump: u64) -> bool
+    ensures lost { result ≡ loss_of device.now moment jump process.old }
+    ensures process { process.new ≡ behind_loss device.now moment jump process.old }
+{
+    match process {
+        Some(process) => process.port.take_loss(device, moment, jump),
+        None => false,
+    }
+}
+
+// Adds the loss of the process to the input of a turn with a line.
+fn with_loss(given: TurnInput, is_lost: bool) -> TurnInput
+    ensures { result ≡ spec.with_loss is_lost given }
+{
+    let given = given?;
+    Ok(ProcessReport {
+        is_lost: is_lost || given.is_lost,
+        event: given.event,
+    })
+}
+
+// Reads a line of the trace, with its number, for a turn whose input may also have the loss of the
+// process.
+fn read_next(device: &Device, is_lost: bool, line: (usize, &[u8])) -> NextInput
+    ensures { result ≡ next_by device.now is_lost (line.entry.0, line.entry.1.now) }
+{
+    let (number, text) = line;
+    NextInput {
+        number,
+        shown: EscapedText::new(text),
+        given: with_loss(read_line(device, text), is_lost),
+    }
+}
+
+/// Returns what a turn at a moment is given: the next line of the trace, or after the last one what
+/// the process has. That the process is lost is given beside a line of the trace. `jump` is how many
+/// milliseconds the system's clock has gone on beyond the steady one since the turn before.
+pub fn next_input<L>(
+    lines: &mut TraceLines<'_>,
+    process: &mut Option<Process<L>>,
+    device: &Device,
+    moment: u64,
+    jump: u64,
+) -> NextInput
+    ensures next { result ≡ (chosen device.now moment jump lines.old process.old).next }
+    ensures lines { lines.new ≡ (chosen device.now moment jump lines.old process.old).lines }
+    ensures process { process.new ≡ (chosen device.now moment jump lines.old process.old).process }
+{
+    match lines.next_line() {
+        Some(line) => read_next(device, take_loss(process, device, moment, jump), line),
+        None => take_port_input(process, device, moment, jump),
+    }
+}
+
+// Serves the connection of a process after a turn, and reports its event.
+fn poll_one<L: Link, W: Sink>(
+    process: &mut Process<L>,
+    device: &Device,
+    moment: u64,
+    turn: &Turn,
+    writer: &mut WatchedWriter<W>,
+) -> Result<u8, WriteFault>
+    ensures { AttendsTo (Called L.does L.failures) W.contents W.does moment turn.now device.now
+        process.old
+        process.new writer.old writer.new result }
+{
+    let sizes = process.port.sizes();
+    let news = poll(&mut process.port, &mut process.link, device, moment, turn);
+    process.is_busy |= news.is_some() || process.port.sizes() != sizes;
+    report_connection_event(writer, moment, &news)
+}
+
+/// Serves the connection of the process after a turn, if there is one, and reports its event.
+/// Returns the status 0; fails if a write or a flush fails.
+pub fn poll_process<L: Link, W: Sink>(
+    process: &mut Option<Process<L>>,
+    device: &Device,
+    moment: u64,
+    turn: &Turn,
+    writer: &mut WatchedWriter<W>,
+) -> Result<u8, WriteFault>
+    ensures { Hears (Called L.does L.failures) W.contents W.does moment turn.now device.now
+        process.old
+        process.new writer.old writer.new result }
+{
+    match process {
+        Some(process) => poll_one(process, device, moment, turn, writer),
+        None => Ok(Status::Clean.code()),
+    }
+}

@@ -1,0 +1,34 @@
+// Logs the end of a record.
+ghost use Rattle.std.specs.Prelude.{◌≡◌};
+ghost use Rattle.bay_server.specs.Logging.{LogsAll};
+ghost use Rattle.bay_server.specs.RecordLine.{record_log};
+ghost use Rattle.bay_server.specs.RecordLine as spec;
+
+use bay_io::calls::{LinePart, Sink};
+use bay_io::writer::WatchedWriter;
+use bay_server_turn::record::RecordEnd;
+
+// Returns why a record ends before its server does, in words.
+fn end_words(end: RecordEnd) -> &'static [u8]
+    ensures { result.now ≡ spec.end_words end }
+{
+    match end {
+        RecordEnd::Full => b"it is full\n",
+        RecordEnd::Overlong => b"a line is too long for it\n",
+        RecordEnd::Failed => b"its file can't be written\n",
+    }
+}
+
+/// Logs why a record has ended, if it has.
+pub fn log_record<W: Sink>(writer: &mut WatchedWriter<W>, moment: u64, end: Option<RecordEnd>)
+    ensures { LogsAll W.contents W.does writer.old (record_log moment end) writer.new }
+{
+    let Some(end) = end else {
+        return;
+    };
+    writer.log(&[
+        LinePart::Moment(moment),
+        LinePart::Text(b" the record has ended: "),
+        LinePart::Text(end_words(end)),
+    ]);
+}

@@ -1,0 +1,10 @@
+use Rattle.bay_server_turn.specs.Turns.{after_settling, settling}
+use Rattle.bay_server_turn.proofs.closing.close_overflowed.Goals as goal
+
+pub returns-clause-talks : goal.returns-clause-talks
+unfolding settling
+returns-clause-talks g c = c.settle_some.ensures.talks
+
+pub returns-clause-after : goal.returns-clause-after
+unfolding after_settling
+returns-clause-after g c = c.settle_some.ensures.after

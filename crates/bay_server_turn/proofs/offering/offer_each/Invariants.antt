@@ -1,0 +1,14 @@
+use Rattle.std.proofs.Common.{◌≤◌}
+use Rattle.bay_server_turn.specs.Calls.{Called}
+use Rattle.bay_server_turn.specs.Turns.{offer_calls, offer_one, turning}
+use Rattle.bay_server_turn.specs.Served.{PerformsEach}
+use Rattle.bay_server_turn.proofs.offering.offer_each.Given as goal
+
+abbrev pub invariant-loop-place : goal.invariant-loop-place
+invariant-loop-place g l = record {
+  within : l.place ≤ 8;
+  each : PerformsEach (Called g.L.Link.does g.L.Link.failures) (offer_one l.now)
+      (offer_calls l.now)
+      l.initial.link l.link l.place (turning l.initial.server l.initial.notes)
+      (turning l.server l.notes);
+}

@@ -1,0 +1,18 @@
+-- The numbers of closings and faults.
+use Rattle.std.specs.Prelude.{ℕ}
+use Rattle.bay_server_turn.specs.declared.turn_report.CloseReason.{CloseReason}
+use Rattle.bay_server_turn.specs.declared.turn_report.CloseReason.TheVariants.{Ended, Fault, QueueFull, LinkFailed}
+use Rattle.bay_server_turn.specs.declared.fault.ServeFault.{ServeFault}
+use Rattle.bay_server_turn.specs.declared.fault.ServeFault.TheVariants.{BadLine, MomentTooLarge}
+
+-- the number of the reason for which an association was closed
+abbrev pub code_of : CloseReason → ℕ
+code_of Ended = 0
+code_of (Fault code) = code
+code_of QueueFull = 130
+code_of LinkFailed = 131
+
+-- the number of a refused turn
+abbrev pub serve_code_of : ServeFault → ℕ
+serve_code_of BadLine = 120
+serve_code_of MomentTooLarge = 114

@@ -1,0 +1,41 @@
+-- Octets that are offered to a link.
+use Rattle.std.specs.Prelude.{ℕ, zero, suc, ◌+◌, Bool, false, if◌then◌else◌, List, [], ◌∷◌, ◌++◌, drop, Some, None}
+use Rattle.bay_server_turn.specs.Calls.{Call, Writes}
+
+-- what the link takes of an offer: one number for each write that takes something, and whether the
+-- last write fails
+pub record Offer : Type 0 where
+  pub takes : List ℕ
+  pub fails : Bool
+
+-- the result of an offer: what is left, whether a write failed, and the calls
+pub record Offered : Type 0 where
+  pub left : List ℕ
+  pub failed : Bool
+  pub calls : List Call
+
+-- the same after one more call
+abbrev pub after_call : Call → Offered → Offered
+after_call call o = record { left = o.left; failed = o.failed; calls = call ∷ o.calls }
+
+-- the same after these calls
+abbrev pub after_calls : List Call → Offered → Offered
+after_calls calls o = record { left = o.left; failed = o.failed; calls = calls ++ o.calls }
+
+-- the last write of an offer: it fails, or takes nothing
+abbrev pub last_write : ℕ → List ℕ → Bool → Offered
+last_write a octets fails =
+    record {
+      left = octets;
+      failed = fails;
+      calls = Writes a octets (if fails then None else Some 0) ∷ [];
+    }
+
+-- Octets are offered until none is left, until a write takes none, or until one fails. `takes` has
+-- what the link takes at each write.
+abbrev pub offering_of : ℕ → List ℕ → List ℕ → Bool → Offered
+offering_of a [] takes fails = record { left = []; failed = false; calls = [] }
+offering_of a (x ∷ xs) [] fails = last_write a (x ∷ xs) fails
+offering_of a (x ∷ xs) (zero ∷ takes) fails = last_write a (x ∷ xs) false
+offering_of a (x ∷ xs) (suc n ∷ takes) fails =
+    after_call (Writes a (x ∷ xs) (Some (n + 1))) (offering_of a (drop n xs) takes fails)

@@ -1,0 +1,480 @@
+-- A turn of the server, as a function of what the link and the memory decide.
+use Rattle.std.specs.Prelude.{ℕ, zero, suc, ◌+◌, max, nat_le, Bool, if◌then◌else◌, List, [], ◌∷◌, ◌++◌, length, position, replicate, slice_set, Option, Some, None, is_none, is_some, Result, Ok, Err}
+use Rattle.std.specs.List.{slice_index_or}
+use Rattle.std.specs.declared.net.socket_addr.SocketAddrV4.{SocketAddrV4}
+use Rattle.bay_mms_services.specs.declared.answer.Command.{Command}
+use Rattle.bay_mms_services.specs.declared.answer.ControlDecision.{ControlDecision}
+use Rattle.bay_device.specs.Code.{step_code_of}
+use Rattle.bay_device.specs.Device.{State}
+use Rattle.bay_device.specs.Outcomes.{associations, connection_at, outcome, place_of, Outcome}
+use Rattle.bay_device.specs.declared.event.Event.{Event}
+use Rattle.bay_device.specs.declared.event.Event.TheVariants.{Open, Recv, Close, Contact, Input, Measure, BadMeasure, Lost, Scan}
+use Rattle.bay_device.specs.declared.event.Sent.{Sent}
+use Rattle.bay_device.specs.declared.event.Step.{Step}
+use Rattle.bay_device.specs.declared.event.Why.{Why}
+use Rattle.bay_device.specs.declared.event.Why.TheVariants.{Ended, Fault, Memory}
+use Rattle.bay_device.specs.declared.fault.StepFault.{StepFault}
+use Rattle.bay_trace.specs.Resolving.{borrowed}
+use Rattle.bay_server_turn.specs.Calls.{Call, Accepts, Reads, Closes, ReadOutcome, Octets, Silence, Over, Broken}
+use Rattle.bay_server_turn.specs.Offers.{Offer, Offered, offering_of}
+use Rattle.bay_server_turn.specs.AssociationStates.{after_full, is_full, is_draining, is_close_reported, takes_replies}
+use Rattle.bay_server_turn.specs.declared.process_input.ProcessEvent.{ProcessEvent}
+use Rattle.bay_server_turn.specs.declared.process_input.ProcessEvent.TheVariants as process
+use Rattle.bay_server_turn.specs.declared.process_input.ProcessReport.{ProcessReport}
+use Rattle.bay_server_turn.specs.declared.association_state.AssociationState.{AssociationState}
+use Rattle.bay_server_turn.specs.declared.association_state.AssociationState.TheVariants.{Steady, Leaving, Gone}
+use Rattle.bay_server_turn.specs.declared.turn_report.CloseReason.{CloseReason}
+use Rattle.bay_server_turn.specs.declared.turn_report.CloseReason.TheVariants as closing
+
+-- the device, and for each association the octets that are still to be sent to it
+pub record ServerData : Type 0 where
+  pub device : State
+  pub queues : List (List ℕ)
+
+-- what a turn collects: the state of each association, and the report; for each association what
+-- was decided on the controls that it requested, if the device handled octets of it
+pub record TurnData : Type 0 where
+  pub standings : List AssociationState
+  pub refused : Option ℕ
+  pub commands : List Command
+  pub decisions : List (Option (List ControlDecision))
+  pub closed : List (ℕ × CloseReason)
+  pub memory : List ℕ
+
+-- a turn under way
+pub record TurnState : Type 0 where
+  pub server : ServerData
+  pub noted : TurnData
+
+abbrev pub turning : ServerData → TurnData → TurnState
+turning server noted = record { server = server; noted = noted }
+
+-- ---- its parts
+
+abbrev pub queue_at : ℕ → ServerData → List ℕ
+queue_at place h = slice_index_or h.queues place []
+
+abbrev pub queue_of : ℕ → TurnState → List ℕ
+queue_of place s = queue_at place s.server
+
+-- an association is open
+abbrev pub is_up_in : ℕ → ServerData → Bool
+is_up_in place h = is_some (connection_at (Some place) h.device)
+
+abbrev pub is_up : ℕ → TurnState → Bool
+is_up place s = is_up_in place s.server
+
+-- the state of an association within a turn
+abbrev pub state_in : ℕ → TurnData → AssociationState
+state_in place n = slice_index_or n.standings place Steady
+
+abbrev pub state_at : ℕ → TurnState → AssociationState
+state_at place s = state_in place s.noted
+
+abbrev pub with_device : State → TurnState → TurnState
+with_device device s =
+    record { server = record { device = device; queues = s.server.queues }; noted = s.noted }
+
+abbrev pub put_queue : ℕ → List ℕ → ServerData → ServerData
+put_queue place queue h = record { device = h.device; queues = slice_set h.queues place queue }
+
+abbrev pub with_queue : ℕ → List ℕ → TurnState → TurnState
+with_queue place queue s = record { server = put_queue place queue s.server; noted = s.noted }
+
+-- an association has this state from now on
+abbrev pub with_state : ℕ → AssociationState → TurnData → TurnData
+with_state place standing n = record n { standings = slice_set n.standings place standing }
+
+abbrev pub with_noted : TurnData → TurnState → TurnState
+with_noted noted s = record { server = s.server; noted = noted }
+
+-- ---- what is reported
+
+-- reports that an association was closed, once
+abbrev pub with_closing : ℕ → CloseReason → TurnData → TurnData
+with_closing place closing n =
+    if is_close_reported (state_in place n) then n
+    else record n { closed = n.closed ++ (place + 1, closing) ∷ [] }
+
+-- reports that it was closed because memory ran out, once
+abbrev pub memory_reported : ℕ → TurnData → TurnData
+memory_reported place n =
+    if is_close_reported (state_in place n)
+    then n
+    else record n { memory = n.memory ++ (place + 1) ∷ [] }
+
+-- reports that the device closed it
+abbrev pub close_reported : ℕ → Why → TurnData → TurnData
+close_reported place Ended n = with_closing place closing.Ended n
+close_reported place (Fault code) n = with_closing place (closing.Fault code) n
+close_reported place Memory n = memory_reported place n
+
+-- an association was closed, and its queue will be offered once more
+abbrev pub start_closing : ℕ → Why → TurnData → TurnData
+start_closing place why n = with_state place Leaving (close_reported place why n)
+
+-- closed, with an empty queue
+abbrev pub mark_closed : ℕ → CloseReason → TurnData → TurnData
+mark_closed place closing n = with_state place Gone (with_closing place closing n)
+
+-- ---- what is sent
+
+-- a queue of at most 262,144 octets has room for these too
+abbrev pub has_room : List ℕ → List ℕ → Bool
+has_room queue octets = nat_le (length queue + length octets) 262144
+
+-- A reply is appended to its queue as a whole. If it does not fit, the queue is left unchanged and
+-- the state is marked full.
+abbrev pub put_whole : ℕ → List ℕ → TurnState → TurnState
+put_whole place octets s =
+    if has_room (queue_of place s) octets then with_queue place (queue_of place s ++ octets) s
+    else with_noted (with_state place (after_full (state_at place s)) s.noted) s
+
+-- an association that accepts replies gets this one
+abbrev pub put_at : Option ℕ → List ℕ → TurnState → TurnState
+put_at None octets s = s
+put_at (Some place) octets s =
+    if takes_replies (state_at place s) (is_up place s) then put_whole place octets s else s
+
+-- what the device sends is queued for its association
+abbrev pub put_sent : Sent → TurnState → TurnState
+put_sent sent s = put_at (place_of sent.association) sent.octets s
+
+-- everything that is sent, in order
+abbrev pub put_all : List Sent → TurnState → TurnState
+put_all [] s = s
+put_all (sent ∷ more) s = put_all more (put_sent sent s)
+
+-- the report that an operation ended, if there is one, is queued
+abbrev pub put_ended : Option Sent → TurnState → TurnState
+put_ended None s = s
+put_ended (Some sent) s = put_sent sent s
+
+-- ---- steps of the device
+
+-- after an event that sends nothing but the report that an operation ended
+abbrev pub put_quiet : Result Step StepFault → TurnState → TurnState
+put_quiet (Err fault) s = s
+put_quiet (Ok step) s = put_ended step.ended s
+
+-- the device after it, with what it sends in the queue
+abbrev pub quiet_after : Outcome → TurnState → TurnState
+quiet_after o s = put_quiet o.answer (with_device o.after s)
+
+-- an event at a turn's moment
+abbrev pub after_event : ℕ → Event → TurnState → TurnState
+after_event now event s = quiet_after (outcome None now event s.server.device) s
+
+-- An association is closed at once, and the rest of its queue is lost.
+unfoldable pub close_at_once : ℕ → CloseReason → ℕ → TurnState → TurnState
+close_at_once now closing place s =
+    let t = after_event now (Close (place + 1)) s in
+    with_noted (mark_closed place closing t.noted) (with_queue place [] t)
+
+-- the lowest association to which a reply did not fit
+abbrev pub first_full : TurnData → Option ℕ
+first_full n = position is_full n.standings
+
+-- Each association to which a reply did not fit is closed. A closing can fill the queue of another,
+-- so the search is repeated, at most n times.
+abbrev pub settled_next : ℕ → Option ℕ → TurnState → (TurnState → TurnState) → TurnState
+settled_next now None s later = s
+settled_next now (Some place) s later = later (close_at_once now closing.QueueFull place s)
+
+-- at most n of them, the lowest first
+abbrev pub settled_in : ℕ → ℕ → TurnState → TurnState
+settled_in now zero s = s
+settled_in now (suc count) s = settled_next now (first_full s.noted) s (settled_in now count)
+
+-- the calls that close them
+abbrev pub settling_next : ℕ → Option ℕ → TurnState → (TurnState → List Call) → List Call
+settling_next now None s later = []
+settling_next now (Some place) s later =
+    Closes (place + 1) ∷ later (close_at_once now closing.QueueFull place s)
+
+abbrev pub settling_in : ℕ → ℕ → TurnState → List Call
+settling_in now zero s = []
+settling_in now (suc count) s = settling_next now (first_full s.noted) s (settling_in now count)
+
+-- all of them: after eight none is left
+unfoldable pub after_settling : ℕ → TurnState → TurnState
+after_settling now s = settled_in now associations s
+
+-- the calls of all eight
+unfoldable pub settling : ℕ → TurnState → List Call
+settling now s = settling_in now associations s
+
+-- ---- a connection that waits
+
+-- the lowest association that is free
+abbrev pub free_place : ServerData → Option ℕ
+free_place h = position is_none h.device.connections
+
+abbrev pub after_opening : ℕ → ℕ → TurnState → TurnState
+after_opening now place s = after_event now (Open (place + 1)) s
+
+-- a connection that was accepted opens the association
+abbrev pub on_accept : ℕ → Option ℕ → Option (Option SocketAddrV4) → TurnState → TurnState
+on_accept now None taken s = s
+on_accept now (Some place) None s = s
+on_accept now (Some place) (Some None) s = s
+on_accept now (Some place) (Some (Some from)) s = after_settling now (after_opening now place s)
+
+-- the calls on the link for it; if no association is free, none is made
+abbrev pub accept_calls_at : ℕ → Option ℕ → Option (Option SocketAddrV4) → TurnState → List Call
+accept_calls_at now None taken s = []
+accept_calls_at now (Some place) None s = Accepts (place + 1) None ∷ []
+accept_calls_at now (Some place) (Some None) s = Accepts (place + 1) (Some None) ∷ []
+accept_calls_at now (Some place) (Some (Some from)) s =
+    Accepts (place + 1) (Some (Some from)) ∷ settling now (after_opening now place s)
+
+-- the association that is opened, and the address of its client
+abbrev pub opening_at : Option ℕ → Option (Option SocketAddrV4) → Option (ℕ × SocketAddrV4)
+opening_at None taken = None
+opening_at (Some place) None = None
+opening_at (Some place) (Some None) = None
+opening_at (Some place) (Some (Some from)) = Some (place + 1, from)
+
+abbrev pub opening_of : Option (Option SocketAddrV4) → ServerData → Option (ℕ × SocketAddrV4)
+opening_of taken h = opening_at (free_place h) taken
+
+-- One connection that waits is accepted, under the lowest free number.
+abbrev pub with_accept : ℕ → Option (Option SocketAddrV4) → TurnState → TurnState
+with_accept now taken s = on_accept now (free_place s.server) taken s
+
+abbrev pub accept_calls : ℕ → Option (Option SocketAddrV4) → TurnState → List Call
+accept_calls now taken s = accept_calls_at now (free_place s.server) taken s
+
+-- ---- reading
+
+-- What an association brought: the result of the read, and, if memory ran out for its octets, after
+-- how many of their indications.
+pub record Reading : Type 0 where
+  pub heard : ReadOutcome
+  pub choice : Option ℕ
+
+-- the device closed it, or not
+abbrev pub start_closing_if_closed : ℕ → Option (ℕ × Why) → TurnData → TurnData
+start_closing_if_closed place None n = n
+start_closing_if_closed place (Some closed) n = start_closing place closed.1 n
+
+abbrev pub after_device_close : ℕ → Option (ℕ × Why) → TurnState → TurnState
+after_device_close place closed s = with_noted (start_closing_if_closed place closed s.noted) s
+
+-- switch commands that were issued in this turn
+abbrev pub with_commands : List Command → TurnState → TurnState
+with_commands commands s = with_noted (record s.noted { commands = s.noted.commands ++ commands }) s
+
+-- what was decided on controls that an association requested
+abbrev pub decides : ℕ → List ControlDecision → TurnData → TurnData
+decides place decisions n =
+    record n { decisions = slice_set n.decisions place (Some decisions) }
+
+-- the device's answer to octets: whether it closed the association, what it sends, its commands,
+-- and its decisions
+abbrev pub put_answer : ℕ → Result Step StepFault → TurnState → TurnState
+put_answer place (Err fault) s = s
+put_answer place (Ok step) s =
+    let t : TurnState =
+    with_commands step.commands
+    (put_all step.sent (put_ended step.ended (after_device_close place step.closed s))) in
+    with_noted (decides place step.decisions t.noted) t
+
+abbrev pub answer_after : ℕ → Outcome → TurnState → TurnState
+answer_after place o s = put_answer place o.answer (with_device o.after s)
+
+-- octets of an association are handled
+abbrev pub after_octets : ℕ → ℕ → Option ℕ → List ℕ → TurnState → TurnState
+after_octets now place choice octets s =
+    answer_after place (outcome choice now (Recv (place + 1) (borrowed octets)) s.server.device) s
+
+-- the client sends no more
+abbrev pub after_end : ℕ → ℕ → TurnState → TurnState
+after_end now place s =
+    after_event now (Close (place + 1)) (with_noted (start_closing place Ended s.noted) s)
+
+-- after a read with this result
+abbrev pub on_read : ℕ → ℕ → Option ℕ → ReadOutcome → TurnState → TurnState
+on_read now place choice (Octets octets) s =
+    after_settling now (after_octets now place choice octets s)
+on_read now place choice Silence s = s
+on_read now place choice Over s = after_settling now (after_end now place s)
+on_read now place choice Broken s =
+    after_settling now (close_at_once now closing.LinkFailed place s)
+
+-- the calls on the link after the read
+abbrev pub calls_on_read : ℕ → ℕ → Option ℕ → ReadOutcome → TurnState → List Call
+calls_on_read now place choice (Octets octets) s =
+    settling now (after_octets now place choice octets s)
+calls_on_read now place choice Silence s = []
+calls_on_read now place choice Over s = settling now (after_end now place s)
+calls_on_read now place choice Broken s =
+    Closes (place + 1) ∷ settling now (close_at_once now closing.LinkFailed place s)
+
+-- An open association is read once, up to 4,096 octets.
+abbrev pub read_one : ℕ → ℕ → Reading → TurnState → TurnState
+read_one now place r s = if is_up place s then on_read now place r.choice r.heard s else s
+
+abbrev pub read_calls : ℕ → ℕ → Reading → TurnState → List Call
+read_calls now place r s =
+    if is_up place s
+    then Reads (place + 1) 4096 r.heard ∷ calls_on_read now place r.choice r.heard s
+    else []
+
+-- ---- the process and the scan
+
+-- an event of the process, as an event of a device
+abbrev pub event_of : ProcessEvent → Event
+event_of (process.Contact k position) = Contact k position
+event_of (process.Input k value) = Input k value
+event_of (process.Measure k field value) = Measure k field value
+event_of (process.BadMeasure k field) = BadMeasure k field
+event_of process.Lost = Lost
+
+-- an event that the device refuses is reported
+abbrev pub record_refusal : Result Step StepFault → TurnState → TurnState
+record_refusal (Err fault) s = with_noted (record s.noted { refused = Some (step_code_of fault) }) s
+record_refusal (Ok step) s = put_ended step.ended s
+
+abbrev pub after_reported : Outcome → TurnState → TurnState
+after_reported o s = record_refusal o.answer (with_device o.after s)
+
+-- an event of the process is applied at the turn's moment
+abbrev pub after_process_event : ℕ → ProcessEvent → TurnState → TurnState
+after_process_event now event s =
+    after_reported (outcome None now (event_of event) s.server.device) s
+
+-- the event that a turn applies before it reads: the loss of the process, if it is lost
+abbrev pub first_of : ProcessReport → Option ProcessEvent
+first_of given = if given.is_lost then Some process.Lost else None
+
+-- the event of the process is applied, if there is one
+abbrev pub with_line : ℕ → Option ProcessEvent → TurnState → TurnState
+with_line now None s = s
+with_line now (Some event) s = after_settling now (after_process_event now event s)
+
+abbrev pub line_calls : ℕ → Option ProcessEvent → TurnState → List Call
+line_calls now None s = []
+line_calls now (Some event) s = settling now (after_process_event now event s)
+
+-- the program runs once
+abbrev pub after_turn_scan : ℕ → TurnState → TurnState
+after_turn_scan now s = after_settling now (after_event now Scan s)
+
+abbrev pub scan_calls : ℕ → TurnState → List Call
+scan_calls now s = settling now (after_event now Scan s)
+
+-- ---- offering
+
+-- what the link takes of a queue
+abbrev pub offer_of : ℕ → Offer → TurnState → Offered
+offer_of place o s = offering_of (place + 1) (queue_of place s) o.takes o.fails
+
+-- after an offer: the association is closed if a write failed; otherwise the queue holds what the
+-- link did not take
+abbrev pub after_offer : ℕ → ℕ → Offered → TurnState → TurnState
+after_offer now place o s =
+    if o.failed then after_settling now (close_at_once now closing.LinkFailed place s)
+    else with_queue place o.left s
+
+-- it is closed, and its queue empty
+abbrev pub after_closing : ℕ → TurnState → TurnState
+after_closing place s =
+    record { server = put_queue place [] s.server; noted = with_state place Gone s.noted }
+
+-- The queue of an association is offered. If the association was closed, what the link does not
+-- take is lost.
+abbrev pub offer_one : ℕ → ℕ → Offer → TurnState → TurnState
+offer_one now place o s =
+    if is_draining (state_at place s) then after_closing place s
+    else (if is_up place s then after_offer now place (offer_of place o s) s else s)
+
+abbrev pub offer_end : ℕ → ℕ → Bool → TurnState → List Call
+offer_end now place failed s =
+    if failed then Closes (place + 1) ∷ settling now (close_at_once now closing.LinkFailed place s)
+    else []
+
+-- the calls on the link for an offer
+abbrev pub offer_calls : ℕ → ℕ → Offer → TurnState → List Call
+offer_calls now place o s =
+    if is_draining (state_at place s) then (offer_of place o s).calls ++ Closes (place + 1) ∷ []
+    else (if is_up place s then (offer_of place o s).calls
+    ++ offer_end now place (offer_of place o s).failed s else [])
+
+-- ---- a turn
+
+-- for one association after another
+abbrev pub after_each : {C : Type 0} → (ℕ → C → TurnState → TurnState) → ℕ → List C → TurnState
+    → TurnState
+after_each f place [] s = s
+after_each f place (c ∷ cs) s = after_each f (place + 1) cs (f place c s)
+
+-- the calls for one association after another
+abbrev pub calls_of_each : {C : Type 0} → (ℕ → C → TurnState → TurnState)
+    → (ℕ → C → TurnState → List Call) → ℕ → List C → TurnState → List Call
+calls_of_each f calls place [] s = []
+calls_of_each f calls place (c ∷ cs) s =
+    calls place c s ++ calls_of_each f calls (place + 1) cs (f place c s)
+
+-- all that a turn does not decide itself: whether a connection waited, what each association
+-- brought, and what the link took of each queue
+pub record Script : Type 0 where
+  pub accepted : Option (Option SocketAddrV4)
+  pub readings : List Reading
+  pub offers : List Offer
+
+-- a turn's moment is the later of the clock's and the device's last
+abbrev pub moment_at : ℕ → ServerData → ℕ
+moment_at clock h = max clock h.device.moment
+
+-- nothing is collected yet, and no association is closed
+abbrev pub nothing_noted : TurnData
+nothing_noted =
+    record {
+      standings = replicate associations Steady;
+      refused = None;
+      commands = [];
+      decisions = replicate associations None;
+      closed = [];
+      memory = [];
+    }
+
+-- a turn begins
+abbrev pub turn_begin : ServerData → TurnState
+turn_begin h = turning h nothing_noted
+
+-- the state after each part of a turn
+abbrev pub after_accept : ℕ → Script → ServerData → TurnState
+after_accept now script h = with_accept now script.accepted (turn_begin h)
+
+abbrev pub after_first : ℕ → ProcessReport → Script → ServerData → TurnState
+after_first now given script h = with_line now (first_of given) (after_accept now script h)
+
+abbrev pub after_reads : ℕ → ProcessReport → Script → ServerData → TurnState
+after_reads now given script h =
+    after_each (read_one now) 0 script.readings (after_first now given script h)
+
+abbrev pub after_line : ℕ → ProcessReport → Script → ServerData → TurnState
+after_line now given script h = with_line now given.event (after_reads now given script h)
+
+abbrev pub after_scan : ℕ → ProcessReport → Script → ServerData → TurnState
+after_scan now given script h = after_turn_scan now (after_line now given script h)
+
+-- A turn: accepts one connection; reports the loss of the process to the device, if the process is
+-- lost; reads each association; applies the line; runs the program once; and offers each queue to
+-- the link.
+abbrev pub after_turn : ℕ → ProcessReport → Script → ServerData → TurnState
+after_turn now given script h =
+    after_each (offer_one now) 0 script.offers (after_scan now given script h)
+
+-- the calls on the link, in their order
+abbrev pub turn_calls : ℕ → ProcessReport → Script → ServerData → List Call
+turn_calls now given script h =
+    accept_calls now script.accepted (turn_begin h)
+    ++ line_calls now (first_of given) (after_accept now script h)
+    ++ calls_of_each (read_one now) (read_calls now) 0 script.readings
+    (after_first now given script h)
+    ++ line_calls now given.event (after_reads now given script h)
+    ++ scan_calls now (after_line now given script h)
+    ++ calls_of_each (offer_one now) (offer_calls now) 0 script.offers
+    (after_scan now given script h)

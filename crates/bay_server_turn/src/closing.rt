@@ -1,0 +1,76 @@
+// Closes associations at once.
+ghost use Rattle.std.specs.Prelude.{◌≡◌, ◌+◌, ◌<◌};
+ghost use Rattle.bay_server_turn.specs.Calls.{Called, Closes, MakesCalls};
+ghost use Rattle.bay_server_turn.specs.Turns.{after_settling, settled_in, settling, settling_in, turning};
+ghost use Rattle.bay_server_turn.specs.Turns as spec;
+ghost use Rattle.bay_device.specs.Outcomes.{associations};
+
+use crate::link::Link;
+use crate::sending::step_without_replies;
+use crate::server::Server;
+use crate::turn_builder::TurnBuilder;
+use crate::turn_report::CloseReason;
+use bay_device::event::{ASSOCIATIONS, Event};
+
+/// Closes an association at once, for this reason: in the device and on the link. The rest of its
+/// queue is lost.
+pub fn close_at_once<L: Link>(
+    server: &mut Server,
+    notes: &mut TurnBuilder,
+    link: &mut L,
+    now: u64,
+    place: usize,
+    closing: CloseReason,
+)
+    requires { place < associations }
+    ensures call { Called L.does L.failures link.old (Closes (place + 1)) link.new }
+    ensures after { turning server.new notes.new
+        ≡ spec.close_at_once now closing place (turning server.old notes.old) }
+    ensures commands { notes.new.commands ≡ notes.old.commands }
+{
+    let association = place as u16 + 1;
+    step_without_replies(server, notes, now, Event::Close { association });
+    link.close(association);
+    server.clear(place);
+    notes.mark_closed(place, closing);
+}
+
+// Closes associations to which a reply did not fit, the lowest first, `count` at most. A closing
+// can fill the queue of another association, so each call looks again.
+fn settle_some<L: Link>(
+    server: &mut Server,
+    notes: &mut TurnBuilder,
+    link: &mut L,
+    now: u64,
+    count: usize,
+)
+    ensures talks { MakesCalls (Called L.does L.failures) link.old
+        (settling_in now count (turning server.old notes.old)) link.new }
+    ensures after { turning server.new notes.new
+        ≡ settled_in now count (turning server.old notes.old) }
+    ensures commands { notes.new.commands ≡ notes.old.commands }
+{
+    if count == 0 {
+        return;
+    }
+    if let Some(place) = notes.first_full() {
+        close_at_once(server, notes, link, now, place, CloseReason::QueueFull);
+        settle_some(server, notes, link, now, count - 1);
+    }
+}
+
+/// Closes every association to which a reply did not fit, with the reason `QueueFull`.
+pub fn close_overflowed<L: Link>(
+    server: &mut Server,
+    notes: &mut TurnBuilder,
+    link: &mut L,
+    now: u64,
+)
+    ensures talks { MakesCalls (Called L.does L.failures) link.old
+        (settling now (turning server.old notes.old)) link.new }
+    ensures after { turning server.new notes.new
+        ≡ after_settling now (turning server.old notes.old) }
+    ensures commands { notes.new.commands ≡ notes.old.commands }
+{
+    settle_some(server, notes, link, now, ASSOCIATIONS);
+}

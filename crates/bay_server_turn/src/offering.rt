@@ -1,0 +1,92 @@
+// Offers the queues to the link.
+ghost use Rattle.std.specs.Prelude.{◌≡◌, ◌+◌, ◌<◌, ◌≤◌, length};
+ghost use Rattle.bay_server_turn.specs.Calls.{Called};
+ghost use Rattle.bay_server_turn.specs.Served.{Performs, PerformsEach, Offers};
+ghost use Rattle.bay_server_turn.specs.Turns.{offer_calls, turning};
+ghost use Rattle.bay_server_turn.specs.Turns as spec;
+ghost use Rattle.bay_device.specs.Outcomes.{associations};
+
+use crate::closing::{close_at_once, close_overflowed};
+use crate::link::Link;
+use crate::server::Server;
+use crate::turn_builder::TurnBuilder;
+use crate::turn_report::CloseReason;
+use bay_device::event::ASSOCIATIONS;
+
+// The result of an offer: how many octets the link took, and whether a write failed.
+#[derive(Clone, Copy)]
+struct OfferResult {
+    done: usize,
+    failed: bool,
+}
+
+// Offers octets to a client until none are left, a write takes none, or a write fails.
+fn offer<L: Link>(octets: &[u8], link: &mut L, association: u16) -> OfferResult
+    requires low { 0 < association }
+    requires high { association ≤ associations }
+    ensures within { result.done ≤ length octets.now }
+    ensures offers { Offers (Called L.does L.failures) link.old link.new association octets.now
+        result.done result.failed }
+{
+    let mut done = 0;
+    while done < octets.len() {
+        match link.write(association, &octets[done..]) {
+            Ok(0) => {
+                return OfferResult {
+                    done,
+                    failed: false,
+                };
+            }
+            Ok(count) => done += count,
+            Err(_) => return OfferResult { done, failed: true },
+        }
+    }
+    OfferResult {
+        done,
+        failed: false,
+    }
+}
+
+// Offers the queue of an association, if it is open, or was closed and has not been offered since;
+// then closes the connection of one that was closed.
+fn offer_one<L: Link>(
+    server: &mut Server,
+    notes: &mut TurnBuilder,
+    link: &mut L,
+    now: u64,
+    place: usize,
+)
+    requires { place < associations }
+    ensures { Performs (Called L.does L.failures) (spec.offer_one now place) (offer_calls now place)
+        link.old link.new (turning server.old notes.old) (turning server.new notes.new) }
+{
+    let association = place as u16 + 1;
+    if notes.association_state(place).is_draining() {
+        offer(server.queue(place), link, association);
+        link.close(association);
+        server.clear(place);
+        notes.finish_closing(place);
+        return;
+    }
+    if !server.is_open(place) {
+        return;
+    }
+    let offered = offer(server.queue(place), link, association);
+    if offered.failed {
+        close_at_once(server, notes, link, now, place, CloseReason::LinkFailed);
+        close_overflowed(server, notes, link, now);
+    } else {
+        server.drop_front(place, offered.done);
+    }
+}
+
+/// Offers all queues, in the order of the associations' numbers.
+pub fn offer_each<L: Link>(server: &mut Server, notes: &mut TurnBuilder, link: &mut L, now: u64)
+    ensures { PerformsEach (Called L.does L.failures) (spec.offer_one now) (offer_calls now)
+        link.old
+        link.new associations (turning server.old notes.old) (turning server.new notes.new) }
+{
+    for place in 0..ASSOCIATIONS {
+        offer_one(server, notes, link, now, place);
+    }
+}

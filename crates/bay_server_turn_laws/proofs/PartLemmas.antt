@@ -1,0 +1,179 @@
+-- A turn's device and commands are those of its events, and it tells of a failed link only where a
+-- call failed.
+use Rattle.std.proofs.Common.{Err, List, None, Ok, Result, [], ap, append-nil, arith, false, inl, inr, length, refl, sym, true, ℕ, ◌++◌, ◌+◌, ◌∙◌, ◌∷◌, ◌≡◌, ◌⊎◌}
+use Rattle.std.proofs.lemmas.Bool.{or_left, or_right}
+use Rattle.bay_device.specs.Outcomes.{outcome}
+use Rattle.bay_device.specs.Steps.{IsWithoutOctets}
+use Rattle.bay_device.specs.declared.event.Event.{Event}
+use Rattle.bay_device.specs.declared.event.Event.TheVariants.{Close, Open, Recv, Scan}
+use Rattle.bay_device.specs.declared.event.Step.{Step}
+use Rattle.bay_device.specs.declared.event.Why.TheVariants.{Ended}
+use Rattle.bay_device.specs.declared.fault.StepFault.{StepFault}
+use Rattle.bay_trace.specs.Resolving.{borrowed}
+use Rattle.bay_server_turn.specs.Calls.{Call, Closes, is_failed}
+use Rattle.bay_server_turn.specs.Turns.{ServerData, TurnData, Script, TurnState, after_event, after_opening, after_closing, after_turn, close_at_once, event_of, after_end, start_closing, after_process_event, turn_begin, turn_calls, with_device, with_noted, with_queue}
+use Rattle.bay_server_turn.specs.declared.process_input.ProcessReport.{ProcessReport}
+use Rattle.bay_server_turn.specs.declared.turn_report.CloseReason.{CloseReason}
+use Rattle.bay_server_turn.specs.declared.turn_report.CloseReason.TheVariants as closing
+use Rattle.bay_server_turn_laws.specs.Causes.{has_some}
+use Rattle.bay_server_turn_laws.specs.Events.{ChosenEvent, closing_of, commands_in, commands_of, done_at, surely, turn_events}
+use Rattle.bay_server_turn_laws.specs.Faults.{is_link_failed, tells_failure}
+use Rattle.bay_server_turn_laws.proofs.Acts.{Act, Asks, Breaks, Can, Fills, HangsUp, Hears, Offers, Parts, Scans, Tells, after, calls_by, events_by}
+use Rattle.bay_server_turn_laws.proofs.CallLemmas.{some-append}
+use Rattle.bay_server_turn_laws.proofs.DoneLemmas.{commands-append}
+use Rattle.bay_server_turn_laws.proofs.QuietLemmas.{IsQuiet, outcome-quiet, process-quiet}
+use Rattle.bay_server_turn_laws.proofs.SameLemmas.{Same, Same-refl, goes-commands, goes-same, leaves-same, parted-same, put_answer-commands, put_quiet-same, put_told-same}
+use Rattle.bay_server_turn_laws.proofs.KeptLemmas.{IsKept, answers_to, turned-device, turned-keeps}
+use Rattle.bay_server_turn_laws.proofs.WalkLemmas.{Begins, Opening, Quietly, turn-is-acts}
+
+-- the device after a turn, the commands that it tells, and what it tells of failed links
+pub record Part (now : ℕ) (s : TurnState) (calls : List Call) (events : List ChosenEvent)
+    (t : TurnState)
+    : Type 0 where
+  pub device : t.server.device ≡ (done_at now events s.server.device).after
+  pub commands : t.noted.commands
+      ≡ s.noted.commands ++ commands_of (done_at now events s.server.device).answers
+  pub blames : tells_failure t.noted.closed ≡ true
+      → (tells_failure s.noted.closed ≡ true) ⊎ (has_some is_failed calls ≡ true)
+
+-- such notes, by the calls and the answers up to here
+record Tells_of (calls : List Call) (answers : List (Result Step StepFault)) (n : TurnData)
+    : Type 0 where
+  commands : n.commands ≡ commands_of answers
+  blames : tells_failure n.closed ≡ true → has_some is_failed calls ≡ true
+
+module _ (now : ℕ) where
+  -- ---- what an act adds
+
+  quiet-commands : (answer : Result Step StepFault) → IsQuiet answer
+      → [] ≡ commands_of (answer ∷ [])
+  quiet-commands (Err fault) h = refl
+  quiet-commands (Ok step) h = ap (λ l. l ++ []) (sym h.commands)
+
+  -- an event of which only the device is left, and what does not matter here
+  quiet-part : (s u t : TurnState) (calls : List Call) (event : Event) → IsWithoutOctets event
+      → Same s u
+      → (let o = outcome None now event s.server.device in Same (with_device o.after u) t)
+      → Part now s calls (surely event ∷ []) t
+  quiet-part s u t calls event h first same =
+      let o = outcome None now event s.server.device in
+      record {
+        device = same.device;
+        commands = same.commands ∙ first.commands ∙ sym (append-nil s.noted.commands)
+            ∙ ap (λ l. s.noted.commands ++ l)
+            (quiet-commands o.answer (outcome-quiet None now event s.server.device h));
+        blames = λ e. inl (sym first.failures ∙ sym same.failures ∙ e);
+      }
+
+  still-part : (s t : TurnState) (calls : List Call) → Same s t → Part now s calls [] t
+  still-part s t calls same = record {
+    device = same.device;
+    commands = same.commands ∙ sym (append-nil s.noted.commands);
+    blames = λ e. inl (sym same.failures ∙ e);
+  }
+
+  cut-part : (why : CloseReason) (place : ℕ) (s : TurnState) (calls : List Call)
+      → (is_link_failed why ≡ false) ⊎ (has_some is_failed calls ≡ true)
+      → Part now s calls (closing_of place ∷ []) (close_at_once now why place s)
+  unfolding close_at_once
+  cut-part why place s calls h =
+      let t : TurnState = after_event now (Close (place + 1)) s in
+      let o = outcome None now (Close (place + 1)) s.server.device in
+      let part : Part now s calls (closing_of place ∷ []) t =
+      quiet-part s s t calls (Close (place + 1)) tt (Same-refl s)
+      (put_quiet-same o.answer (with_device o.after s)) in
+      record {
+        device = part.device;
+        commands = goes-commands place why t.noted ∙ part.commands;
+        blames = λ e. elim h [
+          | inl f ↦ part.blames (sym (goes-same place why t.noted f).failures ∙ e)
+          | inr f ↦ inr f
+        ];
+      }
+
+  act-part : (most : ℕ) (a : Act) (s : TurnState) → Can most a s
+      → Part now s (calls_by a) (events_by a) (after now a s)
+  act-part most (Asks call) s can = still-part s s (call ∷ []) (Same-refl s)
+  act-part most (Hears place choice octets) s can =
+      let o = outcome choice now (Recv (place + 1) (borrowed octets)) s.server.device in
+      let told = put_answer-commands place o.answer (with_device o.after s) in
+      record {
+        device = told.device;
+        commands = told.commands
+            ∙ ap (λ l. s.noted.commands ++ l) (sym (append-nil (commands_in o.answer)));
+        blames = λ e. inl (sym told.failures ∙ e);
+      }
+  act-part most (HangsUp place) s can =
+      let o = outcome None now (Close (place + 1)) s.server.device in
+      let left : TurnState = with_noted (start_closing place Ended s.noted) s in
+      quiet-part s left (after_end now place s) (calls_by (HangsUp place)) (Close (place + 1)) tt
+      (leaves-same place Ended s) (put_quiet-same o.answer (with_device o.after left))
+  act-part most (Tells event) s can =
+      let o = outcome None now (event_of event) s.server.device in
+      quiet-part s s (after_process_event now event s) [] (event_of event) (process-quiet event)
+      (Same-refl s)
+      (put_told-same o.answer (with_device o.after s))
+  act-part most Scans s can =
+      let o = outcome None now Scan s.server.device in
+      quiet-part s s (after_event now Scan s) [] Scan tt (Same-refl s)
+      (put_quiet-same o.answer (with_device o.after s))
+  act-part most (Fills place) s can =
+      cut-part closing.QueueFull place s (Closes (place + 1) ∷ []) (inl refl)
+  act-part most (Breaks place calls) s can =
+      cut-part closing.LinkFailed place s (calls ++ Closes (place + 1) ∷ [])
+      (inr (some-append is_failed calls (Closes (place + 1) ∷ [])
+      ∙ or_left _ _ (can.1.offered.blamed refl)))
+  act-part most (Offers place calls left) s can =
+      still-part s (with_queue place left s) calls
+      (record { device = refl; commands = refl; failures = refl })
+  act-part most (Parts place calls) s can =
+      still-part s (after_closing place s) (calls ++ Closes (place + 1) ∷ [])
+      (parted-same place s)
+
+  -- ---- a whole turn
+
+  act-tells : (most : ℕ) → IsKept now most (λ c e r s. Tells_of c r s.noted)
+  act-tells most a c e r s sized can i =
+      let part = act-part most a s can in
+      let answers = answers_to now (events_by a) s in
+      record {
+        commands = part.commands ∙ ap (λ l. l ++ commands_of answers) i.commands
+            ∙ sym (commands-append r answers);
+        blames = λ told. some-append is_failed c (calls_by a) ∙ elim (part.blames told) [
+          | inl f ↦ or_left _ _ (i.blames f)
+          | inr f ↦ or_right _ _ f
+        ];
+      }
+
+  begins-tells : (most : ℕ) (h : ServerData) (s : TurnState) (c : List Call) (e : List ChosenEvent)
+      → Begins now most h s c e → Tells_of c (done_at now e h.device).answers s.noted
+  begins-tells most h s c e Quietly =
+      record { commands = refl; blames = λ told. absurd (cc) }
+  begins-tells most h s c e (Opening place from free) =
+      let t : TurnState = turn_begin h in
+      let o = outcome None now (Open (place + 1)) h.device in
+      let part : Part now t c (surely (Open (place + 1)) ∷ []) (after_opening now place t) =
+      quiet-part t t (after_opening now place t) c (Open (place + 1)) tt (Same-refl t)
+      (put_quiet-same o.answer (with_device o.after t)) in
+      record {
+        commands = part.commands;
+        blames = λ told. elim (part.blames told) [ inl f ↦ absurd (cc) | inr f ↦ f ];
+      }
+
+  pub Part-turn : (given : ProcessReport) (script : Script) (h : ServerData)
+      → Part now (turn_begin h) (turn_calls now given script h) (turn_events now given script h)
+      (after_turn now given script h)
+  Part-turn given script h =
+      let most = length script.readings + length script.offers in
+      let t : TurnState = after_turn now given script h in
+      let m = turn-is-acts now most given script h (omega arith) (omega arith) in
+      let tells =
+      turned-keeps now most (λ c e r s. Tells_of c r s.noted) (act-tells most) h script.accepted t
+      (turn_calls now given script h) (turn_events now given script h) m
+      (begins-tells most h m.start m.calls m.events m.begins) in
+      record {
+        device = turned-device now most h script.accepted t (turn_calls now given script h)
+            (turn_events now given script h) m;
+        commands = tells.commands;
+        blames = λ told. inr (tells.blames told);
+      }

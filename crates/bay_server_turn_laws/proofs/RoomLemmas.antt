@@ -1,0 +1,141 @@
+-- What each part of a turn puts into queues is within their room; and a server as it is made.
+use Rattle.std.proofs.Common.{All, Err, List, None, Ok, Result, [], ap, arith, false, get_or, inl, inr, leb, length, refl, replicate, subst, sym, true, ℕ, ◌++◌, ◌+◌, ◌<◌, ◌≡◌, ◌≤◌, ◌⊎◌}
+use Rattle.std.proofs.Math.ListN.{get_or-eq_default}
+use Rattle.std.proofs.lemmas.Bool.{leb-true}
+use Rattle.std.proofs.lemmas.Bool.Decides.{leb_tells}
+use Rattle.std.proofs.lemmas.List.{get_or-replicate, length-append}
+use Rattle.std.proofs.lemmas.List.Elements.{All-get_or, All-replicate, All-set}
+use Rattle.bay_device.specs.Device.{State}
+use Rattle.bay_device.specs.Outcomes.{outcome}
+use Rattle.bay_device.specs.declared.event.Event.{Event}
+use Rattle.bay_device.specs.declared.event.Event.TheVariants.{Close, Open, Recv, Scan}
+use Rattle.bay_device.specs.declared.event.Step.{Step}
+use Rattle.bay_device.specs.declared.event.Why.TheVariants.{Ended}
+use Rattle.bay_device.specs.declared.fault.StepFault.{StepFault}
+use Rattle.bay_trace.specs.Resolving.{borrowed}
+use Rattle.bay_server_turn.specs.Calls.{Call}
+use Rattle.bay_server_turn.specs.Turns.{ServerData, Script, TurnState, after_event, after_turn, close_at_once, event_of, start_closing, after_device_close, put_answer, put_ended, record_refusal, queue_at, queue_of, turn_begin, turn_calls, with_device, with_noted, with_queue}
+use Rattle.bay_server_turn.specs.declared.process_input.ProcessReport.{ProcessReport}
+use Rattle.bay_server_turn.specs.declared.turn_report.CloseReason.{CloseReason}
+use Rattle.bay_server_turn.specs.declared.turn_report.CloseReason.TheVariants as closing
+use Rattle.bay_server_turn_laws.specs.Events.{ChosenEvent, turn_events}
+use Rattle.bay_server_turn_laws.specs.Flows.{IsTidy}
+use Rattle.bay_server_turn_laws.specs.Room.{AreInRoom}
+use Rattle.bay_server_turn_laws.proofs.Acts.{Act, Asks, Breaks, Can, Fills, HangsUp, Hears, Offers, Parts, Scans, Tells, after}
+use Rattle.bay_server_turn_laws.proofs.PutLemmas.{IsPut, puts-all, puts-ended, puts-quiet}
+use Rattle.bay_server_turn_laws.proofs.KeptLemmas.{turned-keeps}
+use Rattle.bay_server_turn_laws.proofs.WalkLemmas.{Begins, Opening, Quietly, turn-is-acts}
+
+abbrev Fits : List ℕ → Type 0
+Fits queue = length queue ≤ 262144
+
+abbrev Holds : TurnState → Type 0
+Holds s = All Fits s.server.queues
+
+holds-queue : (place : ℕ) (queue : List ℕ) (s : TurnState) → Fits queue → Holds s
+    → Holds (with_queue place queue s)
+holds-queue place queue s fits p = All-set Fits s.server.queues place queue fits p
+
+holds-put : IsPut Holds
+holds-put = record {
+  fits = λ place octets s room p.
+      holds-queue place (queue_of place s ++ octets) s
+      (omega (
+        arith,
+        leb-true (length (queue_of place s) + length octets) 262144 room,
+        length-append (queue_of place s) octets,
+      )) p;
+  fills = λ place s p. p;
+}
+
+-- ---- what is offered
+
+fits-at : (queues : List (List ℕ)) (place : ℕ)
+    → ((leb (length queues) place ≡ true) × (length queues ≤ place))
+    ⊎ ((leb (length queues) place ≡ false) × (place < length queues))
+    → All Fits queues → Fits (get_or queues place [])
+fits-at queues place (inl x) p = subst Fits (sym (get_or-eq_default queues [] x.1)) (omega arith)
+fits-at queues place (inr x) p = All-get_or Fits queues place [] x.1 p
+
+pub in-room : (h : ServerData) (place : ℕ) → AreInRoom h → length (queue_at place h) ≤ 262144
+in-room h place p = fits-at h.queues place (leb_tells (length h.queues) place) p
+
+-- ---- events
+
+module _ (now : ℕ) where
+  holds-stepped : (event : Event) (s : TurnState) → Holds s → Holds (after_event now event s)
+  holds-stepped event s p =
+      let o = outcome None now event s.server.device in
+      puts-quiet Holds holds-put o.answer (with_device o.after s) p
+
+  holds-cut : (why : CloseReason) (place : ℕ) (s : TurnState) → Holds s
+      → Holds (close_at_once now why place s)
+  unfolding close_at_once
+  holds-cut why place s p =
+      holds-queue place [] (after_event now (Close (place + 1)) s) (omega arith)
+      (holds-stepped (Close (place + 1)) s p)
+
+  holds-answer : (place : ℕ) (answer : Result Step StepFault) (s : TurnState) → Holds s
+      → Holds (put_answer place answer s)
+  holds-answer place (Err fault) s p = p
+  holds-answer place (Ok step) s p =
+      puts-all Holds holds-put step.sent
+      (put_ended step.ended (after_device_close place step.closed s))
+      (puts-ended Holds holds-put step.ended (after_device_close place step.closed s) p)
+
+  holds-told : (answer : Result Step StepFault) (s : TurnState) → Holds s
+      → Holds (record_refusal answer s)
+  holds-told (Err fault) s p = p
+  holds-told (Ok step) s p = puts-ended Holds holds-put step.ended s p
+
+  holds-act : (most : ℕ) (a : Act) (s : TurnState) → Can most a s → Holds s → Holds (after now a s)
+  holds-act most (Asks call) s can p = p
+  holds-act most (Hears place choice octets) s can p =
+      let o = outcome choice now (Recv (place + 1) (borrowed octets)) s.server.device in
+      holds-answer place o.answer (with_device o.after s) p
+  holds-act most (HangsUp place) s can p =
+      holds-stepped (Close (place + 1)) (with_noted (start_closing place Ended s.noted) s) p
+  holds-act most (Tells event) s can p =
+      let o = outcome None now (event_of event) s.server.device in
+      holds-told o.answer (with_device o.after s) p
+  holds-act most Scans s can p = holds-stepped Scan s p
+  holds-act most (Fills place) s can p = holds-cut closing.QueueFull place s p
+  holds-act most (Breaks place calls) s can p = holds-cut closing.LinkFailed place s p
+  holds-act most (Offers place calls left) s can p =
+      let o = can.offered in
+      holds-queue place left s
+      (omega (
+        arith,
+        length-append o.taken left,
+        ap length o.is,
+        fits-at s.server.queues place (leb_tells (length s.server.queues) place) p,
+      )) p
+  holds-act most (Parts place calls) s can p = holds-queue place [] s (omega arith) p
+
+  holds-begins : (most : ℕ) (h : ServerData) (s : TurnState) (c : List Call) (e : List ChosenEvent)
+      → Begins now most h s c e → AreInRoom h → Holds s
+  holds-begins most h s c e Quietly p = p
+  holds-begins most h s c e (Opening place from free) p =
+      holds-stepped (Open (place + 1)) (turn_begin h) p
+
+  pub holds-turn : (given : ProcessReport) (script : Script) (h : ServerData) → AreInRoom h
+      → AreInRoom (after_turn now given script h).server
+  holds-turn given script h p =
+      let most = length script.readings + length script.offers in
+      let m = turn-is-acts now most given script h (omega arith) (omega arith) in
+      turned-keeps now most (λ c e r s. Holds s) (λ a c e r s sized can q. holds-act most a s can q)
+      h script.accepted (after_turn now given script h) (turn_calls now given script h)
+      (turn_events now given script h) m
+      (holds-begins most h m.start m.calls m.events m.begins p)
+
+-- ---- a server as it is made
+
+abbrev made : State → ServerData
+made device = record { device = device; queues = replicate 8 [] }
+
+pub made-in-room : (device : State) → AreInRoom (made device)
+made-in-room device = All-replicate Fits 8 [] (omega arith)
+
+pub made-tidy : (device : State) → IsTidy (made device)
+made-tidy device =
+    record { sized = refl; empty = λ place low up. get_or-replicate 8 place [] [] low }

@@ -1,0 +1,123 @@
+-- What changes neither the device nor the commands, and tells of no failed link.
+use Rattle.std.proofs.Common.{Bool, Err, List, None, Ok, Option, Result, Some, [], ap, append-nil, false, if◌then◌else◌, refl, sym, true, ℕ, ◌++◌, ◌+◌, ◌∷◌, ◌≡◌}
+use Rattle.bay_mms_services.specs.declared.answer.Command.{Command}
+use Rattle.bay_device.specs.declared.event.Step.{Step}
+use Rattle.bay_device.specs.declared.event.Why.{Why}
+use Rattle.bay_device.specs.declared.event.Why.TheVariants.{Ended, Fault, Memory}
+use Rattle.bay_device.specs.declared.fault.StepFault.{StepFault}
+use Rattle.bay_server_turn.specs.AssociationStates.{is_close_reported}
+use Rattle.bay_server_turn.specs.Turns.{TurnData, TurnState, after_closing, mark_closed, start_closing, after_device_close, put_all, put_answer, put_ended, put_quiet, record_refusal, state_in, memory_reported, close_reported, with_closing, with_noted}
+use Rattle.bay_server_turn.specs.declared.turn_report.CloseReason.{CloseReason}
+use Rattle.bay_server_turn.specs.declared.turn_report.CloseReason.TheVariants as closing
+use Rattle.bay_server_turn_laws.specs.Events.{commands_in}
+use Rattle.bay_server_turn_laws.specs.Faults.{is_link_failed, tells_failure}
+use Rattle.bay_server_turn_laws.proofs.BlameLemmas.{tells-append}
+use Rattle.bay_server_turn_laws.proofs.PutLemmas.{IsPut, puts-all, puts-ended, puts-quiet}
+
+pub record Same (s t : TurnState) : Type 0 where
+  pub device : t.server.device ≡ s.server.device
+  pub commands : t.noted.commands ≡ s.noted.commands
+  pub failures : tells_failure t.noted.closed ≡ tells_failure s.noted.closed
+
+pub Same-refl : (s : TurnState) → Same s s
+Same-refl s = record { device = refl; commands = refl; failures = refl }
+
+same-put : (s : TurnState) → IsPut (Same s)
+same-put s = record {
+  fits = λ place octets t room p. record
+      { device = p.device; commands = p.commands; failures = p.failures };
+  fills = λ place t p. record
+      { device = p.device; commands = p.commands; failures = p.failures };
+}
+
+pub put_quiet-same : (answer : Result Step StepFault) (s : TurnState) → Same s (put_quiet answer s)
+put_quiet-same answer s = puts-quiet (Same s) (same-put s) answer s (Same-refl s)
+
+pub put_told-same : (answer : Result Step StepFault) (s : TurnState)
+    → Same s (record_refusal answer s)
+put_told-same (Err fault) s = record { device = refl; commands = refl; failures = refl }
+put_told-same (Ok step) s = puts-ended (Same s) (same-put s) step.ended s (Same-refl s)
+
+-- ---- what is told
+
+pub record SameNotes (n m : TurnData) : Type 0 where
+  pub commands : m.commands ≡ n.commands
+  pub failures : tells_failure m.closed ≡ tells_failure n.closed
+
+notes-if : (n m : TurnData) (b : Bool) → SameNotes n m → SameNotes n (if b then n else m)
+notes-if n m true h = record { commands = refl; failures = refl }
+notes-if n m false h = h
+
+told-same : (place : ℕ) (closing : CloseReason) (n : TurnData) → is_link_failed closing ≡ false
+    → SameNotes n (with_closing place closing n)
+told-same place closing n e =
+    notes-if n (record n { closed = n.closed ++ (place + 1, closing) ∷ [] })
+    (is_close_reported (state_in place n))
+    (record { commands = refl; failures = tells-append n.closed (place + 1) closing e })
+
+told_memory-same : (place : ℕ) (n : TurnData) → SameNotes n (memory_reported place n)
+told_memory-same place n =
+    notes-if n (record n { memory = n.memory ++ (place + 1) ∷ [] })
+    (is_close_reported (state_in place n))
+    (record { commands = refl; failures = refl })
+
+told_why-same : (place : ℕ) (why : Why) (n : TurnData) → SameNotes n (close_reported place why n)
+told_why-same place Ended n = told-same place closing.Ended n refl
+told_why-same place (Fault code) n = told-same place (closing.Fault code) n refl
+told_why-same place Memory n = told_memory-same place n
+
+pub leaves-same : (place : ℕ) (why : Why) (s : TurnState)
+    → Same s (with_noted (start_closing place why s.noted) s)
+leaves-same place why s =
+    let with_closing : SameNotes s.noted (close_reported place why s.noted) =
+    told_why-same place why s.noted in
+    record { device = refl; commands = with_closing.commands; failures = with_closing.failures }
+
+pub goes-same : (place : ℕ) (closing : CloseReason) (n : TurnData) → is_link_failed closing ≡ false
+    → SameNotes n (mark_closed place closing n)
+goes-same place closing n e =
+    let with_closing : SameNotes n (with_closing place closing n) = told-same place closing n e in
+    record { commands = with_closing.commands; failures = with_closing.failures }
+
+commands-if : (n m : TurnData) (b : Bool) → m.commands ≡ n.commands
+    → (let o : TurnData = if b then n else m in o).commands ≡ n.commands
+commands-if n m true e = refl
+commands-if n m false e = e
+
+-- whatever the reason
+pub goes-commands : (place : ℕ) (closing : CloseReason) (n : TurnData)
+    → (mark_closed place closing n).commands ≡ n.commands
+goes-commands place closing n =
+    commands-if n (record n { closed = n.closed ++ (place + 1, closing) ∷ [] })
+    (is_close_reported (state_in place n)) refl
+
+pub parted-same : (place : ℕ) (s : TurnState) → Same s (after_closing place s)
+parted-same place s = record { device = refl; commands = refl; failures = refl }
+
+-- ---- the device's answer to octets
+
+left_by-same : (place : ℕ) (closed : Option (ℕ × Why)) (s : TurnState)
+    → Same s (after_device_close place closed s)
+left_by-same place None s = Same-refl s
+left_by-same place (Some closed) s = leaves-same place closed.1 s
+
+-- its commands are told besides
+pub record Commands (added : List Command) (s t : TurnState) : Type 0 where
+  pub device : t.server.device ≡ s.server.device
+  pub commands : t.noted.commands ≡ s.noted.commands ++ added
+  pub failures : tells_failure t.noted.closed ≡ tells_failure s.noted.closed
+
+pub put_answer-commands : (place : ℕ) (answer : Result Step StepFault) (s : TurnState)
+    → Commands (commands_in answer) s (put_answer place answer s)
+put_answer-commands place (Err fault) s =
+    record { device = refl; commands = sym (append-nil s.noted.commands); failures = refl }
+put_answer-commands place (Ok step) s =
+    let left : TurnState = after_device_close place step.closed s in
+    let all : Same s (put_all step.sent (put_ended step.ended left)) =
+    puts-all (Same s) (same-put s) step.sent (put_ended step.ended left)
+    (puts-ended (Same s) (same-put s) step.ended left (left_by-same place step.closed s)) in
+    record {
+      device = all.device;
+      commands = ap (λ l. l ++ step.commands) all.commands;
+      failures = all.failures;
+    }

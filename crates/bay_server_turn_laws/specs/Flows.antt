@@ -1,0 +1,127 @@
+-- The octets of one association through a turn.
+use Rattle.std.specs.Prelude.{◌≡◌, ℕ, ◌+◌, ◌<◌, ◌≤◌, ◌==◌, Bool, true, false, if◌then◌else◌, List, [], ◌∷◌, ◌++◌, length, take, Option, Some, None, Result, Ok, Err, ◌⊎◌}
+use Rattle.bay_device.specs.Outcomes.{associations, last_moment}
+use Rattle.bay_device.specs.declared.event.Event.{Event}
+use Rattle.bay_device.specs.declared.event.Event.TheVariants.{Open, Recv, Close, Contact, Input, Measure, BadMeasure, Lost, Scan}
+use Rattle.bay_device.specs.declared.event.Sent.{Sent}
+use Rattle.bay_device.specs.declared.event.Step.{Step}
+use Rattle.bay_device.specs.declared.fault.StepFault.{StepFault}
+use Rattle.bay_server_turn.specs.Calls.{Call, Accepts, Reads, Writes, Closes, ReadOutcome, Octets, Silence, Over, Broken}
+use Rattle.bay_server_turn.specs.Turns.{ServerData, Script, is_up_in, queue_at, turn_calls, after_turn}
+use Rattle.bay_server_turn.specs.declared.process_input.ProcessReport.{ProcessReport}
+use Rattle.bay_server_turn_laws.specs.Causes.{is_queue_full, tells}
+use Rattle.bay_server_turn_laws.specs.Events.{ChosenEvent, done_at, turn_events}
+
+-- ---- what the link takes
+
+-- the octets that a call wrote for an association
+abbrev pub taken_by : ℕ → Call → List ℕ
+taken_by a (Accepts b taken) = []
+taken_by a (Reads b room what) = []
+taken_by a (Writes b octets None) = []
+taken_by a (Writes b octets (Some n)) = if b == a then take n octets else []
+taken_by a (Closes b) = []
+
+-- the octets that the link took for an association
+abbrev pub taken_of : ℕ → List Call → List ℕ
+taken_of a [] = []
+taken_of a (call ∷ calls) = taken_by a call ++ taken_of a calls
+
+-- ---- what the link reads
+
+abbrev pub octets_in : ReadOutcome → List ℕ
+octets_in (Octets octets) = octets
+octets_in Silence = []
+octets_in Over = []
+octets_in Broken = []
+
+-- the octets that a call read for an association
+abbrev pub given_by : ℕ → Call → List ℕ
+given_by a (Accepts b taken) = []
+given_by a (Reads b room what) = if b == a then octets_in what else []
+given_by a (Writes b octets taken) = []
+given_by a (Closes b) = []
+
+-- the octets that the link read for an association
+abbrev pub given_of : ℕ → List Call → List ℕ
+given_of a [] = []
+given_of a (call ∷ calls) = given_by a call ++ given_of a calls
+
+-- the octets of an association that an event has
+abbrev pub brought_by : ℕ → Event → List ℕ
+brought_by a (Recv b octets) = if b == a then octets.now else []
+brought_by a (Open b) = []
+brought_by a (Close b) = []
+brought_by a (Contact k position) = []
+brought_by a (Input k value) = []
+brought_by a (Measure k field value) = []
+brought_by a (BadMeasure k field) = []
+brought_by a Lost = []
+brought_by a Scan = []
+
+-- the octets of an association that events have, in their order
+abbrev pub received_of : ℕ → List ChosenEvent → List ℕ
+received_of a [] = []
+received_of a (e ∷ es) = brought_by a e.1 ++ received_of a es
+
+-- ---- what the device sends
+
+-- the octets that are for an association
+abbrev pub octets_to : ℕ → Sent → List ℕ
+octets_to a sent = if sent.association == a then sent.octets else []
+
+-- the octets for an association, of all that is sent
+abbrev pub all_to : ℕ → List Sent → List ℕ
+all_to a [] = []
+all_to a (sent ∷ more) = octets_to a sent ++ all_to a more
+
+-- the octets for an association, of the report that an operation ended
+abbrev pub end_to : ℕ → Option Sent → List ℕ
+end_to a None = []
+end_to a (Some sent) = octets_to a sent
+
+-- what an answer sends to an association: the report that an operation ended comes first
+abbrev pub answer_to : ℕ → Result Step StepFault → List ℕ
+answer_to a (Err fault) = []
+answer_to a (Ok step) = end_to a step.ended ++ all_to a step.sent
+
+-- what answers send to an association, in their order
+abbrev pub sent_to : ℕ → List (Result Step StepFault) → List ℕ
+sent_to a [] = []
+sent_to a (answer ∷ answers) = answer_to a answer ++ sent_to a answers
+
+-- ---- the law
+
+-- There is a queue for each association, and that of one that is not open is empty.
+pub record IsTidy (h : ServerData) : Type 0 where
+  pub sized : length h.queues ≡ associations
+  pub empty : (place : ℕ) → place < associations → is_up_in place h ≡ false → queue_at place h ≡ []
+
+-- the moment is one that the device does not refuse
+pub record IsInTime (now : ℕ) (h : ServerData) : Type 0 where
+  pub not_before : h.device.moment ≤ now
+  pub not_past : now ≤ last_moment
+
+-- What the link took, followed by a rest, is what the queue held, followed by what was sent. The
+-- queue holds the rest; or the association is closed, and the queue is empty.
+pub record Flows (taken held sent holds : List ℕ) (up : Bool) : Type 0 where
+  pub rest : List ℕ
+  pub is : taken ++ rest ≡ held ++ sent
+  pub kept : (holds ≡ rest) ⊎ ((holds ≡ []) × (up ≡ false))
+
+abbrev pub FlowsAt : ℕ → ProcessReport → Script → ServerData → ℕ → Type 0
+FlowsAt now given script h place =
+    Flows (taken_of (place + 1) (turn_calls now given script h)) (queue_at place h)
+    (sent_to (place + 1) (done_at now (turn_events now given script h) h.device).answers)
+    (queue_at place (after_turn now given script h).server)
+    (is_up_in place (after_turn now given script h).server)
+
+-- This holds for each association, and the server is tidy again; if a full queue is reported, the
+-- link left more octets of this association than there is room for.
+pub record LosesNothing (now : ℕ) (given : ProcessReport) (script : Script) (h : ServerData)
+    : Type 0 where
+  pub flows : (place : ℕ) → place < associations → FlowsAt now given script h place
+  pub full : (place : ℕ) (low : place < associations)
+      → tells is_queue_full (place + 1) (after_turn now given script h).noted.closed ≡ true
+      → 262144 < length (flows place low).rest
+  pub tidy : IsTidy (after_turn now given script h).server

@@ -1,0 +1,95 @@
+-- The order of a turn's events, by what the link brought, by the line, and by the device at each
+-- event.
+use Rattle.std.specs.Prelude.{◌≡◌, ℕ, ◌+◌, ◌||◌, Bool, true, if◌then◌else◌, All, List, [], ◌∷◌, ◌++◌, position, is_none, is_some, Option, Some, None}
+use Rattle.std.specs.declared.net.socket_addr.SocketAddrV4.{SocketAddrV4}
+use Rattle.bay_device.specs.Device.{State}
+use Rattle.bay_device.specs.Outcomes.{connection_at}
+use Rattle.bay_device.specs.declared.event.Event.TheVariants.{Open, Recv, Close, Scan}
+use Rattle.bay_trace.specs.Resolving.{borrowed}
+use Rattle.bay_server_turn.specs.Calls.{ReadOutcome, Octets, Silence, Over, Broken}
+use Rattle.bay_server_turn.specs.Turns.{ServerData, Reading, Script, after_turn, event_of, first_of, turn_calls}
+use Rattle.bay_server_turn.specs.declared.process_input.ProcessEvent.{ProcessEvent}
+use Rattle.bay_server_turn.specs.declared.process_input.ProcessReport.{ProcessReport}
+use Rattle.bay_server_turn.specs.declared.turn_report.CloseReason.{CloseReason}
+use Rattle.bay_server_turn_laws.specs.Causes.{fails_for, has_some, is_queue_full, tells}
+use Rattle.bay_server_turn_laws.specs.Events.{ChosenEvent, done_at, surely, turn_events}
+
+-- ---- what each part of a turn does
+
+abbrev pub opened_at : Option ℕ → Option (Option SocketAddrV4) → List ChosenEvent
+opened_at (Some place) (Some (Some from)) = surely (Open (place + 1)) ∷ []
+opened_at (Some place) (Some None) = []
+opened_at (Some place) None = []
+opened_at None accepted = []
+
+-- A connection that was accepted opens the lowest free association.
+abbrev pub opened : Option (Option SocketAddrV4) → State → List ChosenEvent
+opened accepted d = opened_at (position is_none d.connections) accepted
+
+-- Octets that were read are received in one event; an end and a failure close the association.
+abbrev pub brought : ℕ → Option ℕ → ReadOutcome → List ChosenEvent
+brought a choice (Octets octets) = (choice, Recv a (borrowed octets)) ∷ []
+brought a choice Silence = []
+brought a choice Over = surely (Close a) ∷ []
+brought a choice Broken = surely (Close a) ∷ []
+
+-- An association is read exactly if it is open.
+abbrev pub read_at : ℕ → Reading → State → List ChosenEvent
+read_at place r d =
+    if is_some (connection_at (Some place) d) then brought (place + 1) r.choice r.heard else []
+
+-- The event of the process, if there is one.
+abbrev pub told_at : Option ProcessEvent → List ChosenEvent
+told_at None = []
+told_at (Some event) = surely (event_of event) ∷ []
+
+-- ---- the order
+
+-- The event closes an association for which there is a reason.
+abbrev pub IsClosing : (ℕ → Bool) → ChosenEvent → Type 0
+IsClosing has_reason e = (a : ℕ) × (e ≡ surely (Close a)) × (has_reason a ≡ true)
+
+-- Each of the events does.
+abbrev pub AreClosings : (ℕ → Bool) → List ChosenEvent → Type 0
+AreClosings has_reason events = All (IsClosing has_reason) events
+
+module _ (now : ℕ) (told : List (ℕ × CloseReason)) where
+  -- First come these events; then closings of associations whose queues were full; and then the
+  -- rest, from the device after those.
+  pub record Then (first : List ChosenEvent) (Rest : State → List ChosenEvent → Type 0) (d : State)
+      (events : List ChosenEvent) : Type 0 where
+    pub cut : List ChosenEvent
+    pub rest : List ChosenEvent
+    pub is : events ≡ first ++ cut ++ rest
+    pub closings : AreClosings (λ a. tells is_queue_full a told) cut
+    pub goes_on : Rest (done_at now (first ++ cut) d).after rest
+
+  -- Each association is read, one after the other.
+  abbrev pub ThenReads : ℕ → List Reading → (State → List ChosenEvent → Type 0) → State
+      → List ChosenEvent → Type 0
+  ThenReads place [] Rest d events = Rest d events
+  ThenReads place (r ∷ rs) Rest d events =
+      Then (read_at place r d) (ThenReads (place + 1) rs Rest) d events
+
+  -- A connection is opened; the loss of the process is reported, if it is lost; each association is
+  -- read; the line is applied; and the program runs once. After that there are only closings of
+  -- associations, for a reason.
+  abbrev pub AreInOrder : (ℕ → Bool) → ProcessReport → Script → State → List ChosenEvent → Type 0
+  AreInOrder has_reason given script d events =
+      Then (opened script.accepted d) (λ c. Then (told_at (first_of given))
+      (ThenReads 0 script.readings
+      (λ e. Then (told_at given.event)
+      (Then (surely Scan ∷ []) (λ f rest. AreClosings has_reason rest))
+      e)) c)
+      d
+      events
+
+-- The events of a turn are in this order. At its end it closes only associations whose queues were
+-- full, or for which a call on the link failed.
+abbrev pub IsInOrder : ℕ → ProcessReport → Script → ServerData → Type 0
+IsInOrder now given script h =
+    let told = (after_turn now given script h).noted.closed in
+    AreInOrder now told
+    (λ a. tells is_queue_full a told || has_some (fails_for a) (turn_calls now given script h))
+    given
+    script h.device (turn_events now given script h)

@@ -1,0 +1,113 @@
+// Laws of a turn. Each function does nothing, and its contract is the law.
+ghost use Rattle.std.specs.Prelude.{◌≡◌, ℕ, ◌+◌, ◌-◌, ◌^◌, ◌<◌, ◌≤◌, [], true, List, Option, length, replicate};
+ghost use Rattle.bay_device.specs.Device.{State};
+ghost use Rattle.bay_device.specs.Outcomes.{associations};
+ghost use Rattle.bay_server_turn.specs.Calls.{Called};
+ghost use Rattle.bay_server_turn.specs.Served.{Serves};
+ghost use Rattle.bay_server_turn.specs.Turns.{ServerData, Script, after_turn, turn_calls};
+ghost use Rattle.bay_server_turn.specs.declared.process_input.ProcessReport.{ProcessReport};
+ghost use Rattle.bay_server_turn.specs.declared.turn_report.Turn.{Turn};
+ghost use Rattle.bay_server_turn_laws.specs.Causes.{HasItsCause};
+ghost use Rattle.bay_server_turn_laws.specs.Events.{IsItsEvents, turn_events};
+ghost use Rattle.bay_server_turn_laws.specs.Faults.{tells_failure};
+ghost use Rattle.bay_server_turn_laws.specs.Flows.{IsInTime, IsTidy, LosesNothing, given_of, received_of};
+ghost use Rattle.bay_server_turn_laws.specs.Fullness.{IsOpenIn, IsToldWhereFull};
+ghost use Rattle.bay_server_turn_laws.specs.Order.{IsInOrder};
+ghost use Rattle.bay_server_turn_laws.specs.Room.{AreInRoom};
+ghost use Rattle.bay_server_turn_laws.specs.CloseReports.{times_told};
+
+use bay_server_turn::link::Link;
+
+/// A turn reports a failed connection of an association only if a call of the link failed: the
+/// link's count of failures rises in such a turn, unless it is at its maximum.
+pub fn a_reported_failure_is_counted<L: Link>(_link: &L)
+    ensures { (old new : L) (now : ℕ) (given : ProcessReport) (before after : ServerData)
+        (turn : Turn)
+        →
+        Serves (Called L.does L.failures) old new now given before after turn
+        → tells_failure turn.closed ≡ true →
+        L.failures old < 2 ^ 64 - 1 → L.failures old < L.failures new }
+{}
+
+/// A turn reports the closing of an association at most once: with its reason, or as out of memory.
+pub fn an_association_is_reported_once<L: Link>(_link: &L)
+    ensures { (old new : L) (now : ℕ) (given : ProcessReport) (before after : ServerData)
+        (turn : Turn)
+        (place : ℕ) →
+        Serves (Called L.does L.failures) old new now given before after turn
+        → times_told (place + 1) turn.closed turn.memory ≤ 1 }
+{}
+
+/// The reason for which an association was closed in a turn follows from the calls on its link and
+/// the device's answers. The turn reports an end exactly if a read brought the end of its client or
+/// the device closed it as ended; a fault, exactly if the device closed it with that number; out of
+/// memory, exactly if the device closed it for that; and a failed link, exactly if a read or a
+/// write of it failed and neither its client nor the device had closed it. It reports a full queue
+/// only if nothing else closed it.
+pub fn each_closing_has_its_cause()
+    ensures { (now : ℕ) (given : ProcessReport) (script : Script) (h : ServerData) → IsTidy h
+        → IsInTime now h → length script.readings ≡ associations
+        → length script.offers ≡ associations → (place : ℕ)
+        → place < associations → HasItsCause now given script h (place + 1) }
+{}
+
+/// The device after a turn is the device before it with the turn's events applied, each at the
+/// turn's time, and the commands that the turn reports are those of the events' answers, in order.
+/// The events are, in this order:
+///
+/// - if a connection was accepted, the lowest free association is opened;
+/// - the loss of the process, if it is lost;
+/// - for each association that is open when its turn comes, what its one read brought (its octets
+///   arrive, or it is closed, or nothing);
+/// - the event of the process, if there is one;
+/// - exactly one scan.
+///
+/// After each of these come the closings of the associations to which a reply did not fit; after
+/// the scan also those of associations for which a call failed. There is no other event.
+pub fn a_turn_is_its_events()
+    ensures events { (now : ℕ) (given : ProcessReport) (script : Script) (h : ServerData)
+        → IsItsEvents now given script h }
+    ensures order { (now : ℕ) (given : ProcessReport) (script : Script) (h : ServerData)
+        → length script.readings ≡ associations → length script.offers ≡ associations
+        → IsInOrder now given script h }
+{}
+
+/// The octets that the link takes for an association in a turn, followed by those that its queue
+/// then holds, are those that the queue held before, followed by those that the device sent to it
+/// in the turn. For an association that is closed after the turn, the link took a prefix of these,
+/// and its queue is empty. If the turn reports a full queue, more than 262,144 octets were left.
+/// The octets that the link reads for an association in a turn are those that the device receives
+/// from it in the turn.
+pub fn octets_are_neither_lost_nor_repeated()
+    ensures octets { (now : ℕ) (given : ProcessReport) (script : Script) (h : ServerData) → IsTidy h
+        → IsInTime now h → length script.offers ≡ associations → LosesNothing now given script h }
+    ensures received { (now : ℕ) (given : ProcessReport) (script : Script) (h : ServerData)
+        → (a : ℕ) → given_of a (turn_calls now given script h)
+        ≡ received_of a (turn_events now given script h) }
+    // A server is tidy when it is created.
+    ensures begins { (device : State)
+        → IsTidy (record { device = device; queues = replicate associations [] }) }
+{}
+
+/// No queue ever holds more than 262,144 octets: none does when a server is created, and none does
+/// after a turn if none did before it.
+pub fn queues_stay_in_their_room()
+    ensures begins { (device : State)
+        → AreInRoom (record { device = device; queues = replicate associations [] }) }
+    ensures stays { (now : ℕ) (given : ProcessReport) (script : Script) (h : ServerData)
+        → AreInRoom h
+        → AreInRoom (after_turn now given script h).server }
+{}
+
+/// Whether a reply does not fit follows from the calls on the link and the device's answers. For an
+/// association that is open at the beginning of a turn, or that the turn opens, the turn reports a
+/// full queue exactly if the link left more than 262,144 octets of what its queue held and the
+/// device sent to it, no call for it failed, its client did not end, and the device did not close
+/// it.
+pub fn a_full_queue_is_reported()
+    ensures { (now : ℕ) (given : ProcessReport) (script : Script) (h : ServerData) → IsTidy h
+        → IsInTime now h → AreInRoom h → length script.readings ≡ associations
+        → length script.offers ≡ associations → (place : ℕ) → place < associations
+        → IsOpenIn place script h
+        → IsToldWhereFull now given script h place }
+{}

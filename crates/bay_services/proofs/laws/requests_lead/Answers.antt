@@ -1,5 +1,0 @@
-use Rattle.bay_services.proofs.EntryLemmas.{request-leads}
-use Rattle.bay_services.proofs.laws.requests_lead.Goals as goal
-
-pub returns : goal.returns
-returns c = request-leads

@@ -1,8 +1,0 @@
-use Rattle.std.proofs.Common.{◌≡◌, ℕ, ◌<◌, None, length, get_or}
-use Rattle.bay_serving.specs.ChangeLines.{seen_at}
-use Rattle.bay_serving.proofs.change_lines.see_bay.Given as goal
-
-abbrev pub invariant-loop-place : goal.invariant-loop-place
-invariant-loop-place l = (length l.switches ≡ 32)
-    × ((k : ℕ) → k < l.place
-    → get_or l.switches k (record { position = None; release = None }) ≡ seen_at l.device k)

@@ -1,4 +1,0 @@
-use Rattle.bay_serving.proofs.log_lines.log_bad_line.Goals as goal
-
-pub returns : goal.returns
-returns g c = rw c.as_slice.ensures at c.log.ensures

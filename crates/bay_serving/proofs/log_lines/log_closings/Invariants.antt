@@ -1,8 +1,0 @@
-use Rattle.bay_serving.specs.LogLines.{closed_line}
-use Rattle.bay_serving.proofs.LogLemmas.{LogsUpTo}
-use Rattle.bay_serving.proofs.log_lines.log_closings.Given as goal
-
-abbrev pub invariant-loop-entry : goal.invariant-loop-entry
-invariant-loop-entry g l =
-    LogsUpTo g.W.Sink.contents g.W.Sink.does (closed_line l.moment) l.closed l.initial.writer
-    l.entry-index l.writer

@@ -1,8 +1,0 @@
-use Rattle.bay_serving.specs.LogLines.{memory_line}
-use Rattle.bay_serving.proofs.LogLemmas.{LogsUpTo}
-use Rattle.bay_serving.proofs.log_lines.log_memories.Given as goal
-
-abbrev pub invariant-loop-association : goal.invariant-loop-association
-invariant-loop-association g l =
-    LogsUpTo g.W.Sink.contents g.W.Sink.does (memory_line l.moment) l.memory l.initial.writer
-    l.association-index l.writer

@@ -1,4 +1,0 @@
-use Rattle.bay_serving.proofs.log_lines.log_silence.Goals as goal
-
-pub returns : goal.returns
-returns g c = rw c.from.ensures at c.log.ensures

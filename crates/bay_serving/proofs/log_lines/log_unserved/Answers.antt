@@ -1,4 +1,0 @@
-use Rattle.bay_serving.proofs.log_lines.log_unserved.Goals as goal
-
-pub returns-in-MomentTooLarge : goal.returns-in-MomentTooLarge
-returns-in-MomentTooLarge g c = rw c.in-MomentTooLarge.is c.log.ensures

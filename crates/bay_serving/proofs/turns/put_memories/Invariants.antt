@@ -1,9 +1,0 @@
-use Rattle.std.proofs.Common.{drop}
-use Rattle.bay_io.proofs.SentLemmas.{Rest}
-use Rattle.bay_serving.specs.TurnLines.{memories_text}
-use Rattle.bay_serving.proofs.turns.put_memories.Given as goal
-
-abbrev pub invariant-loop-association : goal.invariant-loop-association
-invariant-loop-association g l =
-    Rest g.W.Sink.contents g.W.Sink.does l.initial.writer (memories_text l.moment l.memory)
-    (memories_text l.moment (drop l.association-index l.memory)) l.writer

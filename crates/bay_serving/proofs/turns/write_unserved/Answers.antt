@@ -1,4 +1,0 @@
-use Rattle.bay_serving.proofs.turns.write_unserved.Goals as goal
-
-pub returns-in-BadLine : goal.returns-in-BadLine
-returns-in-BadLine g c = rw c.in-BadLine.is c.write_bad_line.ensures

@@ -1,5 +1,0 @@
-use Rattle.bay_transport.proofs.SizeLemmas.{quiet-going}
-use Rattle.bay_transport.proofs.laws.quiet_goes_on.Goals as goal
-
-pub returns : goal.returns
-returns c = quiet-going

@@ -1,0 +1,235 @@
+// A device that is called as a library: its look-ups, a run of events, the image of its program,
+// and the messages of its refusals.
+ghost use Rattle.std.specs.Prelude.{◌<◌, length};
+
+use crate::session::{self, CONFIRM, REQUEST, octets_of};
+use bay_config::bay::Bay;
+use bay_config::read::read_bay;
+use bay_device::device::Device;
+use bay_device::event::Event;
+use bay_device::fault::{LoadFault, StepFault};
+use bay_device::load::{load, load_image};
+use bay_io::outbox::WriteFault;
+use bay_tree::leaf::Dbpos;
+use il_image::decode::decode;
+use il_verify::verify::verify;
+use std::alloc::Global;
+use std::process::Abort;
+use std::test::Fail;
+
+const BAY: &str =
+    "bay = { domain = \"B\", vendor = \"V\", model = \"M\", revision = \"1\", scan_max_age_ms = 0 }
+switch = [{ id = \"QA1\", kind = \"breaker\", control = \"status\" },
+ { id = \"QB1\", kind = \"disconnector\", control = \"status\" }]
+input = [{ name = \"ES\" }, { name = \"LK\" }]
+meter = [{ id = \"M1\" }]
+";
+
+const LOGIC: &str = "PROGRAM P
+VAR_EXTERNAL
+QA1_OPEN, QB1_ENA_OPN, QB1_ENA_CLS : BOOL;
+END_VAR
+LD QA1_OPEN
+ST QB1_ENA_OPN
+ST QB1_ENA_CLS
+END_PROGRAM
+";
+
+// The image of the program in version 1, split around the version number.
+const IMAGE: [&str; 2] = [
+    "494c4243",
+    "00030100085141315f4f50454e01010b5142315f454e415f4f504e01010b5142315f454e415f434c5300000000000d02000607000008000108000201",
+];
+
+// Checks that look-ups find names in either case, do not find other kinds' names, and count each
+// kind correctly.
+fn check_look_ups(rt: &impl Abort, device: &Device) {
+    let switches = [
+        device.switch("qb1"),
+        device.switch("QA1"),
+        device.switch("QB2"),
+    ];
+    assert_eq!(rt; switches, [Some(1), Some(0), None]);
+    let inputs = [device.input("es"), device.input("Lk"), device.input("M1")];
+    assert_eq!(rt; inputs, [Some(0), Some(1), None]);
+    assert_eq!(rt; [device.meter("m1"), device.meter("ES")], [Some(0), None]);
+    let counts = [
+        device.switch_count(),
+        device.input_count(),
+        device.meter_count(),
+    ];
+    assert_eq!(rt; counts, [2, 2, 1]);
+    let ids = [device.id(0), device.id(1), device.id(2)];
+    assert_eq!(rt; ids, [Some("QA1"), Some("QB1"), None]);
+    assert_eq!(rt;
+        [device.ena(0), device.ena(2)],
+        [Some((false, false)), None]
+    );
+}
+
+// Contacts of a switch that exists, and of one that does not.
+const SOME: Event<'static> = Event::Contact {
+    switch: 0,
+    position: Dbpos::Off,
+};
+
+const NO: Event<'static> = Event::Contact {
+    switch: 2,
+    position: Dbpos::Off,
+};
+
+// No octets of association 1, and one of association 2.
+const NOTHING: Event<'static> = Event::Recv {
+    association: 1,
+    octets: &[],
+};
+
+const OTHER: Event<'static> = Event::Recv {
+    association: 2,
+    octets: &[0],
+};
+
+// Checks a device's answers to events of the process, and of associations, one of which requests a
+// transport connection: the numbers of the faults, 0 for events that are accepted.
+fn check_run(rt: &impl Abort, alloc: Global, device: &mut Device) -> Result<(), Fail> {
+    let request = octets_of(alloc, &[REQUEST])?;
+    let asked = Event::Recv {
+        association: 1,
+        octets: request.as_slice(),
+    };
+    let answers = device.run(&[
+        (1000, SOME),
+        (1000, Event::Scan),
+        (999, SOME),
+        (1001, NO),
+        (4_294_967_296_000, NO),
+        (2000, Event::Open { association: 1 }),
+        (2000, asked),
+        (2000, NOTHING),
+        (2000, OTHER),
+        (2000, Event::Close { association: 1 }),
+        (2000, Event::Close { association: 1 }),
+        (2000, NOTHING),
+    ])?;
+    let mut codes = Vec::new(alloc);
+    for answer in answers.as_slice() {
+        let code = match answer {
+            Ok(_) => 0,
+            Err(fault) => fault.code(),
+        };
+        codes.push(code)?;
+    }
+    assert!(rt; codes.as_slice() == [0, 0, 110, 113, 114, 0, 0, 0, 111, 0, 111, 111].as_slice());
+    let [_, Ok(scanned), _, _, _, _, Ok(confirmed), ..] = answers.as_slice() else {
+        return Err(Fail::from("a scan and a request are done"));
+    };
+    let [sent] = confirmed.sent.as_slice() else {
+        return Err(Fail::from("a request is answered"));
+    };
+    let confirm = octets_of(alloc, &[CONFIRM])?;
+    assert!(rt; scanned.scan == Some(6) && sent.octets.as_slice() == confirm.as_slice());
+    assert_eq!(rt; device.ena(1), Some((true, true)));
+    Ok(())
+}
+
+// Shows P-004, P-019, P-025.
+#[test]
+fn a_device_of_a_text(rt: HostRuntime) -> Result<(), Fail> {
+    match load(rt.alloc(), BAY, LOGIC) {
+        Ok(mut device) => {
+            check_look_ups(&rt, &device);
+            check_run(&rt, rt.alloc(), &mut device)
+        }
+        Err(fault) => Err(Fail::from(fault)),
+    }
+}
+
+// A device that is loaded from an image in version 1 returns its image in version 2.
+// Shows P-018, P-019.
+#[test]
+fn a_device_of_an_image(rt: HostRuntime) -> Result<(), Fail> {
+    let first = octets_of(rt.alloc(), &[IMAGE[0], "01", IMAGE[1]])?;
+    let second = octets_of(rt.alloc(), &[IMAGE[0], "02", IMAGE[1]])?;
+    match load_image(rt.alloc(), BAY, first.as_slice()) {
+        Ok(device) => assert!(rt; device.image()?.as_slice() == second.as_slice()),
+        Err(fault) => return Err(Fail::from(fault)),
+    }
+    Ok(())
+}
+
+// Returns whether an image is loaded, and its scan ends within its budget. Does not try an image
+// that can't be decoded, or is not verified for the points of the bay: `load_image` refuses it.
+fn is_loaded(alloc: Global, bay: &Bay, octets: &[u8]) -> bool {
+    let Ok(image) = decode(alloc, octets) else {
+        return false;
+    };
+    if verify(alloc, image, bay.points.as_slice()).is_err() {
+        return false;
+    }
+    let Ok(mut device) = load_image(alloc, session::BAY, octets) else {
+        return false;
+    };
+    let budget = device.report().budget;
+    match device.step(1000, Event::Scan) {
+        Ok(step) => step.scan.unwrap_or(u32::MAX) <= budget,
+        Err(_) => false,
+    }
+}
+
+// Loads an image with the octet at an index replaced by each other value, and returns how many are
+// loaded.
+fn loaded_of(alloc: Global, bay: &Bay, octets: &mut [u8], at: usize) -> usize
+    requires { at < length octets.old }
+{
+    let was = octets[at];
+    let mut loaded = 0usize;
+    for more in 1..=255u8 {
+        octets[at] = was.wrapping_add(more);
+        loaded = loaded.saturating_add(is_loaded(alloc, bay, octets) as usize);
+    }
+    octets[at] = was;
+    loaded
+}
+
+// Does this with each octet, and returns how many images are loaded.
+fn loaded_in(alloc: Global, bay: &Bay, octets: &mut [u8]) -> usize {
+    let mut loaded = 0usize;
+    for at in 0..octets.len() {
+        loaded = loaded.saturating_add(loaded_of(alloc, bay, octets, at));
+    }
+    loaded
+}
+
+// The images that are still loaded: three with the name of another point, one of the other version,
+// and changes of the code: 14, and in version 2 one more, to a PUSHL. In version 1 also those with
+// 1 to 64 timers, since that version has no octets for each timer.
+// Shows P-018, P-061, P-138.
+#[test]
+fn changed_images(rt: HostRuntime) -> Result<(), Fail> {
+    let bay = read_bay(rt.alloc(), session::BAY)?;
+    for (version, wanted) in [("01", 82), ("02", 19)] {
+        let mut octets = octets_of(rt.alloc(), &[IMAGE[0], version, IMAGE[1]])?;
+        let loaded = loaded_in(rt.alloc(), &bay, octets.as_mut_slice());
+        assert_eq!(rt; loaded, wanted, "version {version}");
+    }
+    Ok(())
+}
+
+// Shows P-139.
+#[test]
+fn messages(rt: HostRuntime) -> Result<(), Fail> {
+    let found = format!(in rt.alloc();
+        "{}, {}, {}, {}, {}, {}",
+        LoadFault::Refused { code: 70, line: 2 },
+        LoadFault::OutOfMemory,
+        StepFault::MomentTooLarge,
+        StepFault::TimeWentBack,
+        StepFault::NoSuchPoint,
+        WriteFault
+    )?;
+    let wanted = "fault 70 at line 2, out of memory, the moment is too large, \
+        the moment is before the last event's, there is no such switch, input or meter, \
+        a write failed";
+    assert_eq!(rt; found.as_str(), wanted);
+    Ok(())
+}

@@ -1,0 +1,185 @@
+// Serving a process that is supervised, in memory.
+use crate::serve::{HEARD, ServedCase, check};
+use std::test::Fail;
+
+// A process that is supervised, and must send a line within 1,500 ms.
+const SUPERVISED: ServedCase = ServedCase {
+    words: "serve --log --bay bay --logic logic --port 7 --turns 4 --process 9 --supervise 1500",
+    processes: 1,
+    told: "2000 process 1500 B 1\n",
+    ..HEARD
+};
+
+const ROWS: [ServedCase; 10] = [
+    // The process names this bay, reports a position, and is answered that the server is alive.
+    ServedCase {
+        said: "2000 bay - B 1\n3000 contact Q 1\n4000 alive\n",
+        told: "2000 process 1500 B 1\n5000 alive\n",
+        wanted: "instructions=2 depth=1 budget=2
+| 1970-01-01T00:00:01.000Z clients on 127.0.0.1:7, process on 127.0.0.1:9
+| 1970-01-01T00:00:02.000Z process lost
+| 1970-01-01T00:00:02.000Z position Q bad
+| 1970-01-01T00:00:02.000Z process open
+2000 process open
+| 1970-01-01T00:00:04.000Z position Q open
+| 1970-01-01T00:00:05.000Z process closed 0: it ended its connection
+5000 process closed 0
+| 1970-01-01T00:00:05.000Z all turns are served
+",
+        ..SUPERVISED
+    },
+    // It names another bay, or another revision, or reports before it names any.
+    ServedCase {
+        said: "2000 bay - C 1\n",
+        wanted: "instructions=2 depth=1 budget=2
+| 1970-01-01T00:00:01.000Z clients on 127.0.0.1:7, process on 127.0.0.1:9
+| 1970-01-01T00:00:02.000Z process lost
+| 1970-01-01T00:00:02.000Z position Q bad
+| 1970-01-01T00:00:02.000Z process open
+2000 process open
+| 1970-01-01T00:00:03.000Z process closed 132: it is not the process of this bay, or has another key
+3000 process closed 132
+| 1970-01-01T00:00:04.000Z process lost
+| 1970-01-01T00:00:05.000Z all turns are served
+",
+        ..SUPERVISED
+    },
+    ServedCase {
+        said: "2000 bay - B 2\n",
+        wanted: "instructions=2 depth=1 budget=2
+| 1970-01-01T00:00:01.000Z clients on 127.0.0.1:7, process on 127.0.0.1:9
+| 1970-01-01T00:00:02.000Z process lost
+| 1970-01-01T00:00:02.000Z position Q bad
+| 1970-01-01T00:00:02.000Z process open
+2000 process open
+| 1970-01-01T00:00:03.000Z process closed 132: it is not the process of this bay, or has another key
+3000 process closed 132
+| 1970-01-01T00:00:04.000Z process lost
+| 1970-01-01T00:00:05.000Z all turns are served
+",
+        ..SUPERVISED
+    },
+    ServedCase {
+        said: "2000 contact Q 1\n",
+        wanted: "instructions=2 depth=1 budget=2
+| 1970-01-01T00:00:01.000Z clients on 127.0.0.1:7, process on 127.0.0.1:9
+| 1970-01-01T00:00:02.000Z process lost
+| 1970-01-01T00:00:02.000Z position Q bad
+| 1970-01-01T00:00:02.000Z process open
+2000 process open
+| 1970-01-01T00:00:03.000Z process closed 132: it is not the process of this bay, or has another key
+3000 process closed 132
+| 1970-01-01T00:00:04.000Z process lost
+| 1970-01-01T00:00:05.000Z all turns are served
+",
+        ..SUPERVISED
+    },
+    // It has another key, then the right one.
+    ServedCase {
+        said: "2000 bay - B 1\n",
+        words: "serve --log --bay bay --logic logic --port 7 --turns 4 --process 9 --supervise 1500 --key key",
+        wanted: "instructions=2 depth=1 budget=2
+| 1970-01-01T00:00:01.000Z clients on 127.0.0.1:7, process on 127.0.0.1:9
+| 1970-01-01T00:00:02.000Z process lost
+| 1970-01-01T00:00:02.000Z position Q bad
+| 1970-01-01T00:00:02.000Z process open
+2000 process open
+| 1970-01-01T00:00:03.000Z process closed 132: it is not the process of this bay, or has another key
+3000 process closed 132
+| 1970-01-01T00:00:04.000Z process lost
+| 1970-01-01T00:00:05.000Z all turns are served
+",
+        ..SUPERVISED
+    },
+    ServedCase {
+        said: "2000 bay 0123456789abcdefABCDEF0123456789 B 1\n",
+        words: "serve --log --bay bay --logic logic --port 7 --turns 4 --process 9 --supervise 1500 --key key",
+        wanted: "instructions=2 depth=1 budget=2
+| 1970-01-01T00:00:01.000Z clients on 127.0.0.1:7, process on 127.0.0.1:9
+| 1970-01-01T00:00:02.000Z process lost
+| 1970-01-01T00:00:02.000Z position Q bad
+| 1970-01-01T00:00:02.000Z process open
+2000 process open
+| 1970-01-01T00:00:03.000Z process closed 0: it ended its connection
+3000 process closed 0
+| 1970-01-01T00:00:04.000Z process lost
+| 1970-01-01T00:00:05.000Z all turns are served
+",
+        ..SUPERVISED
+    },
+    // Its line is too old when a turn reads it; and a line has a time in the future.
+    ServedCase {
+        said: "2000 bay - B 1\n2000 contact Q 1\n",
+        wanted: "instructions=2 depth=1 budget=2
+| 1970-01-01T00:00:01.000Z clients on 127.0.0.1:7, process on 127.0.0.1:9
+| 1970-01-01T00:00:02.000Z process lost
+| 1970-01-01T00:00:02.000Z position Q bad
+| 1970-01-01T00:00:02.000Z process open
+2000 process open
+| 1970-01-01T00:00:04.000Z process closed 133: its time is too far from the server's
+4000 process closed 133
+| 1970-01-01T00:00:05.000Z process lost
+| 1970-01-01T00:00:05.000Z all turns are served
+",
+        ..SUPERVISED
+    },
+    ServedCase {
+        said: "2000 bay - B 1\n9000 contact Q 1\n",
+        wanted: "instructions=2 depth=1 budget=2
+| 1970-01-01T00:00:01.000Z clients on 127.0.0.1:7, process on 127.0.0.1:9
+| 1970-01-01T00:00:02.000Z process lost
+| 1970-01-01T00:00:02.000Z position Q bad
+| 1970-01-01T00:00:02.000Z process open
+2000 process open
+| 1970-01-01T00:00:03.000Z process closed 133: its time is too far from the server's
+3000 process closed 133
+| 1970-01-01T00:00:04.000Z process lost
+| 1970-01-01T00:00:05.000Z all turns are served
+",
+        ..SUPERVISED
+    },
+    // It sends nothing more.
+    ServedCase {
+        said: "2000 bay - B 1\n",
+        stays: true,
+        wanted: "instructions=2 depth=1 budget=2
+| 1970-01-01T00:00:01.000Z clients on 127.0.0.1:7, process on 127.0.0.1:9
+| 1970-01-01T00:00:02.000Z process lost
+| 1970-01-01T00:00:02.000Z position Q bad
+| 1970-01-01T00:00:02.000Z process open
+2000 process open
+| 1970-01-01T00:00:04.000Z process closed 134: no line for 1500 ms
+4000 process closed 134
+| 1970-01-01T00:00:05.000Z process lost
+| 1970-01-01T00:00:05.000Z all turns are served
+",
+        ..SUPERVISED
+    },
+    // It sends nothing more after its last line, whose time is before the turn that read it.
+    ServedCase {
+        said: "2000 bay - B 1\n2900 alive\n",
+        stays: true,
+        words: "serve --log --bay bay --logic logic --port 7 --turns 4 --process 9 --supervise 2000",
+        told: "2000 process 2000 B 1\n4000 alive\n",
+        wanted: "instructions=2 depth=1 budget=2
+| 1970-01-01T00:00:01.000Z clients on 127.0.0.1:7, process on 127.0.0.1:9
+| 1970-01-01T00:00:02.000Z process lost
+| 1970-01-01T00:00:02.000Z position Q bad
+| 1970-01-01T00:00:02.000Z process open
+2000 process open
+| 1970-01-01T00:00:05.000Z process closed 134: no line for 2000 ms
+5000 process closed 134
+| 1970-01-01T00:00:05.000Z all turns are served
+",
+        ..SUPERVISED
+    },
+];
+
+// Shows P-117, P-133.
+#[test]
+fn rules_over_memory(rt: HostRuntime) -> Result<(), Fail> {
+    for row in ROWS.iter() {
+        check(&rt, rt.alloc(), row)?;
+    }
+    Ok(())
+}

@@ -1,0 +1,138 @@
+// Turns of a server over clients in memory.
+use crate::memory_link::MemoryLink;
+use crate::session::{CONFIRM, CONNECT, CONNECTED, IDENTIFY, IDENTITY, REQUEST, octets_of, server};
+use bay_server_turn::turn::serve_turn;
+use bay_server_turn::turn_report::CloseReason;
+use std::alloc::Global;
+use std::cell::RefCell;
+use std::process::Abort;
+use std::test::Fail;
+
+// Returns the octets of a client that sends `asked` identify requests.
+fn session(alloc: Global, asked: usize) -> Result<Vec<u8>, Fail> {
+    let mut octets = octets_of(alloc, &[REQUEST, CONNECT])?;
+    let identify = octets_of(alloc, &[IDENTIFY])?;
+    for _ in 0..asked {
+        octets.extend_from_slice(identify.as_slice())?;
+    }
+    Ok(octets)
+}
+
+// Serves turns one millisecond apart, and returns the closings that they report.
+fn closings(
+    alloc: Global,
+    link: &mut MemoryLink<'_>,
+    turns: u64,
+) -> Result<Vec<(u16, CloseReason)>, Fail> {
+    let mut server = server(alloc)?;
+    let mut closed = Vec::new(alloc);
+    for now in 0..turns {
+        let turn = serve_turn(&mut server, link, now, None)?;
+        closed.extend_from_slice(turn.closed.as_slice())?;
+    }
+    Ok(closed)
+}
+
+// Clients that each send a number of identify requests, and take a maximum number of octets at a
+// write, with the number of octets that they take and why they are closed.
+struct Asking {
+    clients: usize,
+    asked: usize,
+    per_write: usize,
+    turns: u64,
+    taken: usize,
+    closed: &'static [(u16, CloseReason)],
+}
+
+// With one octet at a write the result is the same; nine clients are served one after the other,
+// each of which ends in the turn in which the next one connects; a client that never reads is
+// closed.
+const ASKING: [Asking; 3] = [
+    Asking {
+        clients: 1,
+        asked: 1,
+        per_write: 1,
+        turns: 3,
+        taken: 204,
+        closed: &[(1, CloseReason::Ended)],
+    },
+    Asking {
+        clients: 9,
+        asked: 1,
+        per_write: 50,
+        turns: 20,
+        taken: 9 * 204,
+        closed: &[
+            (1, CloseReason::Ended),
+            (2, CloseReason::Ended),
+            (1, CloseReason::Ended),
+            (2, CloseReason::Ended),
+            (1, CloseReason::Ended),
+            (2, CloseReason::Ended),
+            (1, CloseReason::Ended),
+            (2, CloseReason::Ended),
+            (1, CloseReason::Ended),
+        ],
+    },
+    Asking {
+        clients: 1,
+        asked: 8000,
+        per_write: 0,
+        turns: 60,
+        taken: 0,
+        closed: &[(1, CloseReason::QueueFull)],
+    },
+];
+
+// Shows P-122, P-125, P-126, P-129.
+#[test]
+fn clients_are_answered_and_closed(rt: HostRuntime) -> Result<(), Fail> {
+    let whole = octets_of(rt.alloc(), &[CONFIRM, CONNECTED, IDENTITY])?;
+    for row in ASKING.iter() {
+        let asked = session(rt.alloc(), row.asked)?;
+        let taken = RefCell::new(Vec::new(rt.alloc()));
+        let mut link = MemoryLink::new(row.clients, asked, &taken);
+        link.per_write = row.per_write;
+        let closed = closings(rt.alloc(), &mut link, row.turns)?;
+        assert!(rt; closed.as_slice() == row.closed && link.closed == closed.len() as u64);
+        drop(link);
+        let taken = taken.into_inner();
+        assert_eq!(rt; taken.len(), row.taken);
+        assert!(rt; row.clients > 1 || whole.as_slice().starts_with(taken.as_slice()));
+    }
+    Ok(())
+}
+
+// If this call of a session fails, the client received everything, or a prefix of it and the turn
+// reports that its connection failed. Returns the number of calls.
+fn failed_call(rt: &impl Abort, alloc: Global, fails_at: u64) -> Result<u64, Fail> {
+    let asked = session(alloc, 1)?;
+    let whole = octets_of(alloc, &[CONFIRM, CONNECTED, IDENTITY])?;
+    let taken = RefCell::new(Vec::new(alloc));
+    let mut link = MemoryLink::new(1, asked, &taken);
+    link.ends = false;
+    link.per_write = 50;
+    link.fails_at = fails_at;
+    let closed = closings(alloc, &mut link, 3)?;
+    let (calls, failures) = (link.calls, link.failures);
+    drop(link);
+    let taken = taken.into_inner();
+    let is_closed = closed.as_slice() == [(1, CloseReason::LinkFailed)].as_slice();
+    let is_whole = closed.is_empty() && taken.len() == whole.len();
+    let is_told = is_whole || is_closed && fails_at > 0;
+    assert!(rt;
+        whole.as_slice().starts_with(taken.as_slice()) && is_told,
+        "call {fails_at}"
+    );
+    assert_eq!(rt; failures, (fails_at > 0) as u64);
+    Ok(calls)
+}
+
+// Shows P-127, P-129.
+#[test]
+fn each_call_may_fail(rt: HostRuntime) -> Result<(), Fail> {
+    for fails_at in 1..=failed_call(&rt, rt.alloc(), 0)? {
+        failed_call(&rt, rt.alloc(), fails_at)?;
+    }
+    Ok(())
+}

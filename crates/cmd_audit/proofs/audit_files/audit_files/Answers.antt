@@ -1,0 +1,112 @@
+use Rattle.std.proofs.Common.{◌++◌, ◌∙◌, ap, codes, inl, inr, refl, Ok, Err}
+use Rattle.bay_files.specs.Files.{unread_view}
+use Rattle.bay_report.specs.Report.{report_text}
+use Rattle.bay_report.proofs.ReportLemmas.{PrintsLogs-weaker}
+use Rattle.cmd_audit.specs.Auditing.{AuditReport}
+use Rattle.cmd_audit.proofs.audit_files.audit_files.Goals as goal
+
+pub returns-in-Err : goal.returns-in-Err
+returns-in-Err g c = record {
+  read = Err (unread_view c.in-Err.unread);
+  is_read = c.in-Err.ensures.err;
+  does = c.report_unread.ensures;
+}
+
+pub returns-in-Err-read_file : goal.returns-in-Err-read_file
+returns-in-Err-read_file g c = record {
+  read = Ok (record { bay = c.in-Ok.both.bay.items; program = c.in-Ok.both.program.items });
+  is_read = c.in-Ok.ensures.ok;
+  does = (
+    Err (unread_view c.in-Err-read_file.unread),
+    c.in-Err-read_file.ensures.err,
+    c.report_unread-in-Err-read_file.ensures,
+  );
+}
+
+pub returns-in-Err-load_program : goal.returns-in-Err-load_program
+returns-in-Err-load_program g c =
+    let bay = c.in-Ok.both.bay.items in
+    let program = c.in-Ok.both.program.items in
+    let rules = c.in-Ok-read_file.rules.items in
+    let refused =
+    rw (c.as_slice.ensures.value, c.as_slice-2.ensures.value) at
+    c.in-Err-load_program.ensures.refused
+    in
+    record {
+      read = Ok (record { bay = bay; program = program });
+      is_read = c.in-Ok.ensures.ok;
+      does = (
+        Ok rules,
+        c.in-Ok-read_file.ensures.ok,
+        PrintsLogs-weaker (AuditReport bay c.args.form program rules) c.report_load_refusal.result
+            (λ log text status told. inr (record {
+              fault = c.in-Err-load_program.fault;
+              refused = refused;
+              tells = told;
+            })) c.report_load_refusal.ensures,
+      );
+    }
+
+pub returns-in-Ok-loaded_output : goal.returns-in-Ok-loaded_output
+returns-in-Ok-loaded_output g c =
+    let bay = c.in-Ok.both.bay.items in
+    let program = c.in-Ok.both.program.items in
+    let rules = c.in-Ok-read_file.rules.items in
+    let report = c.report-report.result in
+    let loaded =
+    rw (c.as_slice.ensures.value, c.as_slice-2.ensures.value) at c.in-Ok-load_program.ensures.loaded
+    in
+    let said = rw c.as_slice-3.ensures.value at c.in-Ok-loaded_output.ensures in
+    record {
+      read = Ok (record { bay = bay; program = program });
+      is_read = c.in-Ok.ensures.ok;
+      does = (
+        Ok rules,
+        c.in-Ok-read_file.ensures.ok,
+        PrintsLogs-weaker (AuditReport bay c.args.form program rules) c.write_audit.result
+            (λ log text status told. inl (record {
+              device = c.in-Ok-load_program.device;
+              loaded = loaded;
+              tells = record {
+                report = report;
+                is = c.report-report.ensures;
+                rest = c.in-Ok-loaded_output.said.text.items;
+                whole = told.1.0
+                    ∙ ap (λ rest. report_text report ++ rest)
+                    c.as_slice-in-Ok-loaded_output.ensures.value;
+                says = inl (rw (told.0, told.1.1) said);
+              };
+            })) c.write_audit.ensures,
+      );
+    }
+
+pub returns : goal.returns
+returns g c =
+    let bay = c.in-Ok.both.bay.items in
+    let program = c.in-Ok.both.program.items in
+    let rules = c.in-Ok-read_file.rules.items in
+    let report = c.report-report.result in
+    let loaded =
+    rw (c.as_slice.ensures.value, c.as_slice-2.ensures.value) at c.in-Ok-load_program.ensures.loaded
+    in
+    record {
+      read = Ok (record { bay = bay; program = program });
+      is_read = c.in-Ok.ensures.ok;
+      does = (
+        Ok rules,
+        c.in-Ok-read_file.ensures.ok,
+        PrintsLogs-weaker (AuditReport bay c.args.form program rules)
+            c.write_audit-in-Err-loaded_output.result
+            (λ log text status told. inl (record {
+              device = c.in-Ok-load_program.device;
+              loaded = loaded;
+              tells = record {
+                report = report;
+                is = c.report-report.ensures;
+                rest = codes "fault memory\n";
+                whole = told.1.0;
+                says = inr (told.0, (refl, told.1.1));
+              };
+            })) c.write_audit-in-Err-loaded_output.ensures,
+      );
+    }

@@ -1,0 +1,132 @@
+-- What an audit of files prints, with which status, and which line is logged then, if any.
+use Rattle.std.specs.Prelude.{◌≡◌, ℕ, List, ◌++◌, codes, length, map, zip, Option, None, Some, option_and_then, Result, Ok, Err, ◌⊎◌, if◌then◌else◌}
+use Rattle.std.specs.List.{list_all}
+use Rattle.bay_audit.specs.Rules.{AreReleases, AreRight, program_of, way_of, ways}
+use Rattle.bay_audit.specs.declared.answer.RuleAnswer.{RuleAnswer}
+use Rattle.bay_audit.specs.declared.answer.Release.{Release}
+use Rattle.bay_config.specs.declared.bay.Bay.{Bay}
+use Rattle.bay_config.specs.declared.fault.BayFault.{BayFault}
+use Rattle.bay_device.specs.Device.{State}
+use Rattle.bay_device.specs.Load.{IsLoaded}
+use Rattle.bay_device.specs.Report.{IsReport}
+use Rattle.bay_device.specs.declared.fault.LoadFault.{LoadFault}
+use Rattle.bay_device.specs.declared.report.Report.{Report}
+use Rattle.bay_files.specs.Files.{FileReads, FilesData, ReadsBoth, ReadsFile, UnreadData}
+use Rattle.bay_io.specs.Calls.{WriteCall}
+use Rattle.bay_io.specs.Watched.{Writing}
+use Rattle.bay_io.specs.declared.outbox.WriteFault.{WriteFault}
+use Rattle.bay_report.specs.Load.{IsImageOf, MayLoadTo, file_of}
+use Rattle.bay_report.specs.LogLines.{IsReported, PrintsLogs, Refuses, UnreadReport}
+use Rattle.bay_report.specs.Report.{IsLast, report_text}
+use Rattle.bay_report.specs.declared.load.Form.{Form}
+use Rattle.bay_audit_rules.specs.Meaning.{TextRead}
+use Rattle.bay_audit_rules.specs.declared.fault.RuleFault.{RuleFault}
+use Rattle.bay_audit_rules.specs.declared.rule.Rule.{Rule}
+use Rattle.il_image.specs.Images.{Image}
+use Rattle.il_text.specs.Listing.{Declared}
+use Rattle.cmd_audit.specs.Names.{Known, declared_in, known_of}
+use Rattle.cmd_audit.specs.Text.{answers_text, is_passed, refusal_text, refused_log, releases_text}
+
+-- There is an answer for each rule, and a release for each switch and operation, also while the
+-- process is lost. Each is right, and the text has its lines, with these names for what the program
+-- retains.
+pub record Answers (bay : Bay) (names : Known) (image : Image) (rules : List Rule) (text : List ℕ)
+    (status : ℕ) : Type 0 where
+  pub answers : List RuleAnswer
+  pub right : AreRight (program_of bay image) rules answers
+  pub releases : List Release
+  pub released : AreReleases bay (program_of bay image) releases
+  pub all : map way_of releases ≡ ways (length bay.switches)
+  pub said : text
+      ≡ answers_text bay names (zip rules answers) ++ releases_text bay names releases
+  pub ends : status ≡ (if list_all is_passed answers then 0 else 4)
+
+-- rules are refused: the fault, the text and the status
+abbrev pub SaysRefused : RuleFault → Option RuleFault → List ℕ → ℕ → Type 0
+SaysRefused fault refused text status =
+    (refused ≡ Some fault) × IsLast (refusal_text fault) 1 text status
+
+-- the log line, if rules are refused
+abbrev pub log_in : Option RuleFault → Option (List ℕ)
+log_in refused = option_and_then refused_log refused
+
+-- the text for rules; or for a text that has a fault, with the line that is logged then
+abbrev pub SaysOf : Bay → Known → Image → Result (List Rule) RuleFault → Option (List ℕ) → List ℕ
+    → ℕ → Type 0
+SaysOf bay names image (Ok rules) log text status =
+    (log ≡ None) × Answers bay names image rules text status
+SaysOf bay names image (Err fault) log text status =
+    IsReported (refused_log fault) (refusal_text fault) 1 log text status
+
+-- the same for the bay that a file spells, and the names that a program declares
+pub record SaysFor (file : Result Bay BayFault) (declared : List Declared) (rules : List ℕ)
+    (image : Image) (log : Option (List ℕ)) (text : List ℕ) (status : ℕ) : Type 0 where
+  pub bay : Bay
+  pub read : file ≡ Ok bay
+  pub meant : Result (List Rule) RuleFault
+  pub means : TextRead bay rules meant
+  pub says : SaysOf bay (known_of image.points declared) image meant log text status
+
+-- for a device: the line of its load, and the text for rules, unless memory runs out for that
+pub record DeviceReport (file : Result Bay BayFault) (declared : List Declared) (rules : List ℕ)
+    (s : State) (log : Option (List ℕ)) (text : List ℕ) (status : ℕ) : Type 0 where
+  pub report : Report
+  pub is : IsReport s.machine.image report
+  pub rest : List ℕ
+  pub whole : text ≡ report_text report ++ rest
+  pub says : SaysFor file declared rules s.machine.image log rest status
+      ⊎ IsReported None (codes "fault memory\n") 3 log rest status
+
+-- the load of the bay file and the program results in a device
+pub record LoadedReport (bay : List ℕ) (form : Form) (program rules : List ℕ)
+    (log : Option (List ℕ)) (text : List ℕ) (status : ℕ) : Type 0 where
+  pub device : State
+  pub loaded : IsLoaded (file_of bay) (IsImageOf form program) device
+  pub tells : DeviceReport (file_of bay) (declared_in form program) rules device log text status
+
+-- the load is refused
+pub record LoadRefused (bay : List ℕ) (form : Form) (program : List ℕ)
+    (log : Option (List ℕ)) (text : List ℕ) (status : ℕ) : Type 0 where
+  pub fault : LoadFault
+  pub refused : MayLoadTo bay form program (Err fault)
+  pub tells : Refuses fault log text status
+
+-- an audit of these octets
+abbrev pub AuditReport : List ℕ → Form → List ℕ → List ℕ → Option (List ℕ) → List ℕ → ℕ → Type 0
+AuditReport bay form program rules log text status =
+    LoadedReport bay form program rules log text status
+    ⊎ LoadRefused bay form program log text status
+
+-- the same, by the result of reading the rules; the text of a fault if they can't be read
+abbrev pub AuditsRules : {W : Type 0} → (W → Option (List ℕ)) → (W → WriteCall → W → Type 0)
+    → Form → FilesData → Result (List ℕ) UnreadData → Writing W → Writing W → Result ℕ WriteFault
+    → Type 0
+AuditsRules contents asks form both (Err unread) old new answer =
+    PrintsLogs contents asks (UnreadReport unread.name unread.fault) old new answer
+AuditsRules contents asks form both (Ok rules) old new answer =
+    PrintsLogs contents asks (AuditReport both.bay form both.program rules) old new answer
+
+-- the same, after reading the rules
+abbrev pub AuditsRead : {F W : Type 0} → FileReads F → (W → Option (List ℕ))
+    → (W → WriteCall → W → Type 0) → Form → FilesData → List ℕ → F → Writing W
+    → Writing W → Result ℕ WriteFault → Type 0
+AuditsRead reads contents asks form both rules files old new answer =
+    (read : Result (List ℕ) UnreadData) × ReadsFile reads files rules read
+    × AuditsRules contents asks form both read old new answer
+
+-- the same, by the result of reading the bay file and the program
+abbrev pub AuditsBoth : {F W : Type 0} → FileReads F → (W → Option (List ℕ))
+    → (W → WriteCall → W → Type 0) → Form → List ℕ → F → Result FilesData UnreadData → Writing W
+    → Writing W → Result ℕ WriteFault → Type 0
+AuditsBoth reads contents asks form rules files (Err unread) old new answer =
+    PrintsLogs contents asks (UnreadReport unread.name unread.fault) old new answer
+AuditsBoth reads contents asks form rules files (Ok both) old new answer =
+    AuditsRead reads contents asks form both rules files old new answer
+
+-- an audit of a bay file, a program or an image, and rules, by their names
+pub record Audits {F W : Type 0} (reads : FileReads F) (contents : W → Option (List ℕ))
+    (asks : W → WriteCall → W → Type 0) (bay : List ℕ) (form : Form) (program rules : List ℕ)
+    (files : F) (old new : Writing W) (answer : Result ℕ WriteFault) : Type 0 where
+  pub read : Result FilesData UnreadData
+  pub is_read : ReadsBoth reads files bay program read
+  pub does : AuditsBoth reads contents asks form rules files read old new answer

@@ -1,0 +1,66 @@
+-- Which rules hold, as the lines of an audit are read.
+use Rattle.std.specs.Prelude.{◌≡◌, ℕ, true, ◌&&◌, List, ◌∷◌, codes, slice_get, zip, Option, None, Some, if◌then◌else◌}
+use Rattle.std.specs.Fmt.{decimal}
+use Rattle.std.specs.List.{Contains}
+use Rattle.std.specs.Str.{bytes_eq}
+use Rattle.bay_nodes.specs.declared.switch.Operation.{Operation}
+use Rattle.bay_nodes.specs.declared.switch.Operation.TheVariants as operations
+use Rattle.bay_config.specs.declared.bay.Bay.{Bay}
+use Rattle.bay_audit_rules.specs.declared.rule.Rule.{Rule}
+use Rattle.bay_audit.specs.Rules.{BoundProgram, IsRight, program_of}
+use Rattle.bay_audit.specs.declared.answer.RuleAnswer.{RuleAnswer}
+use Rattle.il_image.specs.Images.{Image}
+use Rattle.bay_replay_laws.specs.Printed.{lines_in, words_in}
+use Rattle.cmd_audit.specs.Auditing.{Answers}
+use Rattle.cmd_audit.specs.Names.{AreWords, HasWords, Known}
+use Rattle.cmd_audit.specs.Text.{id_of, is_passed}
+
+-- a line of a rule that holds: the digits of the line of the rule, the id of its switch, and its
+-- operation
+pub record PrintedHold : Type 0 where
+  pub line : List ℕ
+  pub id : List ℕ
+  pub operation : Operation
+
+abbrev pub operation_in : List ℕ → Option Operation
+operation_in word =
+    if bytes_eq word (codes "open") then Some operations.Open
+    else if bytes_eq word (codes "close") then Some operations.Close
+    else None
+
+abbrev pub hold_of : List ℕ → List ℕ → Option Operation → Option PrintedHold
+hold_of line id None = None
+hold_of line id (Some operation) = Some (record { line = line; id = id; operation = operation })
+
+abbrev pub hold_in : List (List ℕ) → Option PrintedHold
+hold_in (rule ∷ line ∷ id ∷ operation ∷ verdict ∷ more) =
+    if bytes_eq rule (codes "rule") && bytes_eq verdict (codes "holds")
+    then hold_of line id (operation_in operation)
+    else None
+hold_in _ = None
+
+-- how a line `rule LINE ID OPERATION holds ..` is read
+abbrev pub printed_hold : List ℕ → Option PrintedHold
+printed_hold line = hold_in (words_in line)
+
+-- The line is that of a rule of this line, switch and operation, whose answer is that it holds; and
+-- the answer is right.
+pub record IsHold (bay : Bay) (g : BoundProgram) (pairs : List (Rule × RuleAnswer))
+    (hold : PrintedHold)
+    : Type 0 where
+  pub pair : Rule × RuleAnswer
+  pub among : Contains pairs pair
+  pub line : decimal pair.0.line ≡ hold.line
+  pub switch : id_of (slice_get bay.switches pair.0.switch) ≡ hold.id
+  pub operation : pair.0.operation ≡ hold.operation
+  pub holds : is_passed pair.1 ≡ true
+  pub right : IsRight g pair.0 pair.1
+
+-- Each such line of the answers to rules is that of such a rule.
+abbrev pub HoldsAreRead : Type 0
+HoldsAreRead =
+    (bay : Bay) (names : Known) (image : Image) (rules : List Rule) (text : List ℕ) (status : ℕ)
+    → HasWords bay → AreWords names → (said : Answers bay names image rules text status)
+    → (line : List ℕ) (hold : PrintedHold) → Contains (lines_in text) line
+    → printed_hold line ≡ Some hold
+    → IsHold bay (program_of bay image) (zip rules said.answers) hold

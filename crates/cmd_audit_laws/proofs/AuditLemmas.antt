@@ -1,0 +1,235 @@
+-- What an audit answers of octets, and a device that they load to.
+use Rattle.std.proofs.Common.{◌≡◌, ◌⊎◌, ◌<◌, ℕ, zero, suc, List, [], ◌∷◌, length, Option, Some, None, Result, Ok, Err, inl, inr, ap, sym, subst, ◌∙◌}
+use Rattle.std.specs.Prelude.{MatchOption, slice_get}
+use Rattle.bay_audit.specs.Rules.{AreRight, BoundProgram, IsAnswer, IsByTimer, IsRight, IsRule, IsTimely, IsUntil, plain_demand, program_of}
+use Rattle.bay_audit.specs.declared.answer.RuleAnswer.{RuleAnswer}
+use Rattle.bay_audit.specs.declared.answer.RuleAnswer.TheVariants.{Broken, Holds, Open, Since, TooMany}
+use Rattle.cmd_audit.specs.Auditing.{AuditReport, SaysFor, SaysOf}
+use Rattle.cmd_audit.specs.Names.{Known, declared_in, known_of}
+use Rattle.bay_config.specs.Laws.{IsBay}
+use Rattle.bay_config.specs.declared.bay.Bay.{Bay}
+use Rattle.bay_config.specs.declared.fault.BayFault.{BayFault}
+use Rattle.bay_device.specs.Device.{State}
+use Rattle.bay_device.specs.Load.{IsCompiled, IsLoaded, Loads, LoadsImage, LoadsRead, initial_device}
+use Rattle.bay_device.specs.Meaning.{Runs}
+use Rattle.cmd_replay.proofs.LoadedLemmas.{file-sound, loaded-from, loaded-runs}
+use Rattle.bay_report.specs.Load.{IsImageOf, LoadsTo, file_of, text_of}
+use Rattle.bay_report.specs.declared.load.Form.{Form}
+use Rattle.bay_report.specs.declared.load.Form.TheVariants as form
+use Rattle.bay_audit_rules.specs.Meaning.{TextRead}
+use Rattle.bay_audit_rules.specs.declared.fault.RuleFault.{RuleFault}
+use Rattle.bay_audit_rules.specs.declared.rule.Rule.{Rule}
+use Rattle.bay_audit_rules.specs.declared.rule.RuleKind.{RuleKind}
+use Rattle.bay_audit_rules.specs.declared.rule.RuleKind.TheVariants.{Never}
+use Rattle.bay_audit_rules.specs.declared.rule.Timing.{Timing}
+use Rattle.il_check.specs.Checking.{checked_of}
+use Rattle.il_compile.specs.Compiled.{compiled_of}
+use Rattle.il_image.specs.Decoding.{image_spelled}
+use Rattle.il_image.specs.Images.{Image}
+use Rattle.il_image.specs.Octets.{AreOctets}
+use Rattle.il_image.specs.declared.fault.ImageFault.{ImageFault}
+use Rattle.il_text.specs.Listing.{Declared, PlainProgram}
+use Rattle.il_text.specs.declared.fault.TextFault.{TextFault}
+use Rattle.cmd_audit_laws.specs.Audited.{AuditSays, ByTimer, IsAudited, Plainly, SaysBehind, SaysOfRule}
+use Rattle.cmd_audit_laws.specs.Served.{IsFile}
+use Rattle.cmd_audit_laws.proofs.RuleLemmas.{rule-there}
+use Rattle.cmd_audit_laws.proofs.SoundLemmas.{Steady, image-sound}
+
+-- ---- what an audit answers
+
+right-at : (g : BoundProgram) (rules : List Rule) (answers : List RuleAnswer) (place : ℕ)
+    (rule : Rule)
+    (answer : RuleAnswer) → AreRight g rules answers → slice_get rules place ≡ Some rule
+    → slice_get answers place ≡ Some answer → IsRight g rule answer
+right-at g [] answers place rule answer right here told = absurd cc
+right-at g (r ∷ rules) [] place rule answer right here told = absurd right
+right-at g (r ∷ rules) (a ∷ answers) zero rule answer right here told =
+    let same : r ≡ rule = cc in
+    let is : a ≡ answer = cc in
+    subst (λ (r : Rule). IsRight g r answer) same (subst (IsRight g r) is right.0)
+right-at g (r ∷ rules) (a ∷ answers) (suc place) rule answer right here told =
+    right-at g rules answers place rule answer right.1 here told
+
+-- a rule that forbids, and is answered so, holds whether it has a time or not
+pub right-rule : (g : BoundProgram) (rule : Rule) (answer : RuleAnswer) → rule.kind ≡ Never
+    → Plainly answer → IsRight g rule answer → IsRule g rule
+right-rule g rule (Holds cases) never so right = by-timed rule.timed right
+  where
+    by-timed : (timed : Option Timing) → MatchOption timed
+        (IsAnswer g (plain_demand rule) (Holds cases))
+        (λ timing. IsUntil g rule timing (Holds cases)) → IsRule g rule
+    by-timed None h = h
+    by-timed (Some timing) h =
+        subst (λ (kind : RuleKind). IsTimely kind g rule timing (Holds cases)) never h
+right-rule g rule (Broken case) never so right = absurd so
+right-rule g rule (Open case kept) never so right = absurd so
+right-rule g rule TooMany never so right = absurd so
+right-rule g rule (Since n cases) never so right = absurd so
+
+-- so does each rule without a time
+pub plain-rule : (g : BoundProgram) (rule : Rule) (answer : RuleAnswer) → rule.timed ≡ None
+    → Plainly answer → IsRight g rule answer → IsRule g rule
+plain-rule g rule (Holds cases) plain so right =
+    subst (λ (o : Option Timing). MatchOption o (IsAnswer g (plain_demand rule) (Holds cases))
+    (λ timing. IsUntil g rule timing (Holds cases))) plain right
+plain-rule g rule (Broken case) plain so right = absurd so
+plain-rule g rule (Open case kept) plain so right = absurd so
+plain-rule g rule TooMany plain so right = absurd so
+plain-rule g rule (Since n cases) plain so right = absurd so
+
+-- A timer bears a rule with a time that forbids.
+pub record Borne (g : BoundProgram) (rule : Rule) (timing : Timing) : Type 0 where
+  pub timer : ℕ
+  pub bears : IsByTimer g rule timing timer
+
+pub right-timer : (g : BoundProgram) (rule : Rule) (timing : Timing) (answer : RuleAnswer)
+    → rule.kind ≡ Never → rule.timed ≡ Some timing → ByTimer answer → IsRight g rule answer
+    → Borne g rule timing
+right-timer g rule timing (Since n cases) never timed so right =
+    let until : IsUntil g rule timing (Since n cases) =
+    subst (λ (o : Option Timing). MatchOption o (IsAnswer g (plain_demand rule) (Since n cases))
+    (λ timing. IsUntil g rule timing (Since n cases))) timed right in
+    record {
+      timer = n;
+      bears = subst (λ (kind : RuleKind). IsTimely kind g rule timing (Since n cases)) never until;
+    }
+right-timer g rule timing (Holds cases) never timed so right = absurd so
+right-timer g rule timing (Broken case) never timed so right = absurd so
+right-timer g rule timing (Open case kept) never timed so right = absurd so
+right-timer g rule timing TooMany never timed so right = absurd so
+
+-- A rule of a switch of the bay is answered so, and rightly, of the program that octets come to on
+-- it.
+pub record OfOctets (So : RuleAnswer → Type 0) (bay : List ℕ) (form : Form) (program : List ℕ)
+    (rule : Rule) : Type 0 where
+  pub own : Bay
+  pub read : file_of bay ≡ Ok own
+  pub image : Image
+  pub made : IsImageOf form program own image
+  pub there : rule.switch < length own.switches
+  pub answer : RuleAnswer
+  pub so : So answer
+  pub right : IsRight (program_of own image) rule answer
+
+same-bay : (file : Result Bay BayFault) (a b : Bay) → file ≡ Ok a → file ≡ Ok b → a ≡ b
+same-bay file a b e f = let both : Ok a ≡ Ok b = sym e ∙ f in cc
+
+module _ (So : RuleAnswer → Type 0) (bay : List ℕ) (f : Form) (program : List ℕ) (rule : Rule) where
+  of-rules : (own : Bay) (names : Known) (image : Image) → file_of bay ≡ Ok own
+      → IsImageOf f program own image
+      → (rules : List ℕ) (meant : Result (List Rule) RuleFault) → TextRead own rules meant
+      → (log : Option (List ℕ)) (text : List ℕ) (status : ℕ)
+      (says : SaysOf own names image meant log text status)
+      → SaysOfRule So own names image meant log text status says rule
+      → OfOctets So bay f program rule
+  of-rules own names image read made rules (Ok rs) means log text status says h = record {
+    own = own;
+    read = read;
+    image = image;
+    made = made;
+    there = rule-there own rules rs means h.place rule h.here;
+    answer = h.answer;
+    so = h.so;
+    right = right-at (program_of own image) rs says.1.answers h.place rule h.answer says.1.right
+        h.here h.told;
+  }
+  of-rules own names image read made rules (Err fault) means log text status says h = absurd h
+
+  of-device : (device : State) (loaded : IsLoaded (file_of bay) (IsImageOf f program) device)
+      (Memory : Type 0) (declared : List Declared) (rules : List ℕ) (log : Option (List ℕ))
+      (text : List ℕ) (status : ℕ)
+      (says : SaysFor (file_of bay) declared rules device.machine.image log text status ⊎ Memory)
+      → SaysBehind So Memory (file_of bay) declared rules device.machine.image log text status says
+      rule → OfOctets So bay f program rule
+  of-device device loaded Memory declared rules log text status (inr memory) h = absurd h
+  of-device device loaded Memory declared rules log text status (inl says) h =
+      let own : loaded.bay ≡ says.bay =
+      same-bay (file_of bay) loaded.bay says.bay loaded.read says.read in
+      let run : loaded.image ≡ device.machine.image =
+      sym (ap (λ (s : State). s.machine.image) loaded.is) in
+      of-rules says.bay (known_of device.machine.image.points declared) device.machine.image
+      says.read
+      (subst (IsImageOf f program says.bay) run
+      (subst (λ (b : Bay). IsImageOf f program b loaded.image) own loaded.made)) rules says.meant
+      says.means log text status says.says h
+
+  of-audit : (rules : List ℕ) (log : Option (List ℕ)) (text : List ℕ) (status : ℕ)
+      (audit : AuditReport bay f program rules log text status)
+      → AuditSays So bay f program rules log text status audit rule
+      → OfOctets So bay f program rule
+  of-audit rules log text status (inr refused) h = absurd h
+  of-audit rules log text status (inl loaded) h =
+      of-device loaded.device loaded.loaded _ (declared_in f program) rules log loaded.tells.rest
+      status loaded.tells.says h
+
+  -- What is answered of a rule is right.
+  pub audited : (rules : List ℕ) → IsAudited So bay f program rules rule
+      → OfOctets So bay f program rule
+  audited rules is = of-audit rules is.log is.text is.status is.audit is.says
+
+-- ---- a device that octets load to
+
+compiled-once : (text : Result PlainProgram TextFault) (bay : Bay) (i j : Image)
+    → IsCompiled text bay i → IsCompiled text bay j → i ≡ j
+compiled-once text bay i j a b =
+    let programs : Ok a.program ≡ Ok b.program = sym a.reads ∙ b.reads in
+    let program : a.program ≡ b.program = cc in
+    let checks : Ok a.checked ≡ Ok b.checked =
+    sym a.passes ∙ ap (λ p. checked_of bay.points p) program ∙ b.passes in
+    let checked : a.checked ≡ b.checked = cc in
+    let images : Ok i ≡ Ok j =
+    sym a.compiles ∙ ap (λ c. compiled_of c) checked ∙ b.compiles in
+    cc
+
+-- it is of this bay and this image, and its scans halt
+pub record Begins (own : Bay) (image : Image) (device : State) : Type 0 where
+  pub sound : IsBay own
+  pub is : device ≡ initial_device own image
+  pub steady : Steady (initial_device own image)
+
+pub text-begins : (bay program : List ℕ) (device : State)
+    (loaded : IsLoaded (file_of bay) (IsCompiled (text_of program)) device)
+    → Runs loaded.made.checked device → (own : Bay) (image : Image) → file_of bay ≡ Ok own
+    → IsCompiled (text_of program) own image → Begins own image device
+text-begins bay program device loaded runs own image read made =
+    let same : loaded.bay ≡ own = same-bay (file_of bay) loaded.bay own loaded.read read in
+    let run : loaded.image ≡ image =
+    compiled-once (text_of program) own loaded.image image
+    (subst (λ (b : Bay). IsCompiled (text_of program) b loaded.image) same loaded.made) made in
+    let is : device ≡ initial_device own image =
+    loaded.is ∙ ap (λ (b : Bay). initial_device b loaded.image) same
+    ∙ ap (initial_device own) run in
+    record {
+      sound = file-sound bay own read;
+      is = is;
+      steady = inl (loaded.made.checked, subst (Runs loaded.made.checked) is runs);
+    }
+
+image-begins : (bay program : List ℕ) (device : State)
+    → LoadsTo bay form.Image program (Ok device) → (own : Bay) (image : Image)
+    → file_of bay ≡ Ok own → image_spelled program ≡ Ok image → AreOctets program
+    → Begins own image device
+image-begins bay program device loads own image read made octets =
+    let on-bay : Loads (Ok own) (image_spelled program) (Ok device) =
+    subst (λ (file : Result Bay BayFault). Loads file (image_spelled program) (Ok device)) read
+    loads in
+    let verified : LoadsImage own image (Ok device) =
+    subst (λ (i : Result Image ImageFault). LoadsRead own i (Ok device)) made on-bay in
+    record {
+      sound = file-sound bay own read;
+      is = verified.1;
+      steady =
+          inr (image-sound program own image (file-sound bay own read) octets made verified.0);
+    }
+
+-- so it is of octets of either form
+pub begins : (bay : List ℕ) (f : Form) (program : List ℕ) (device : State)
+    → LoadsTo bay f program (Ok device) → IsFile f program → (own : Bay) (image : Image)
+    → file_of bay ≡ Ok own → IsImageOf f program own image → Begins own image device
+begins bay form.Logic program device loads file own image read made =
+    let loaded : IsLoaded (file_of bay) (IsCompiled (text_of program)) device =
+    loaded-from bay program device loads in
+    text-begins bay program device loaded (loaded-runs bay program device loaded) own image read
+    made
+begins bay form.Image program device loads file own image read made =
+    image-begins bay program device loads own image read made file

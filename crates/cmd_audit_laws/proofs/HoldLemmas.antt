@@ -1,0 +1,267 @@
+-- A line of an audit that says that a rule holds is of a rule that it answers so.
+use Rattle.std.proofs.Common.{◌≡◌, ◌⊎◌, ◌==◌, ℕ, zero, suc, nat_le, Bool, true, false, cond, List, [], ◌∷◌, ◌++◌, append_assoc, codes, slice_get, zip, Option, Some, None, Result, Ok, Err, inl, inr, refl, ap, sym, subst, ◌∙◌, arith}
+use Rattle.std.proofs.lemmas.Bool.Decides.{nat_tests}
+use Rattle.std.proofs.lemmas.List.Elements.{Contains-append_cases}
+use Rattle.std.specs.Fmt.{decimal}
+use Rattle.std.specs.List.{Contains}
+use Rattle.std.specs.Str.{bytes_eq}
+use Rattle.bay_audit.specs.declared.answer.RuleAnswer.{RuleAnswer}
+use Rattle.bay_audit.specs.declared.answer.RuleAnswer.TheVariants.{Broken, Holds, Open, Since, TooMany}
+use Rattle.cmd_audit.specs.Auditing.{AuditReport, SaysFor, SaysOf}
+use Rattle.cmd_audit.specs.Names.{AreWords, declared_in, known_of}
+use Rattle.cmd_audit.specs.Text.{is_passed, numbered_text}
+use Rattle.cmd_audit.specs.Verdicts.{PrintedHold, hold_in, printed_hold}
+use Rattle.cmd_audit.proofs.BayNameLemmas.{bays-have-words}
+use Rattle.cmd_audit.proofs.NameLemmas.{names-are-words}
+use Rattle.cmd_audit.proofs.VerdictLemmas.{holds-are-read}
+use Rattle.bay_config.specs.declared.bay.Bay.{Bay}
+use Rattle.bay_device.specs.Device.{State}
+use Rattle.bay_device.proofs.LoadLemmas.{image-is}
+use Rattle.bay_device.specs.declared.fault.LoadFault.{LoadFault}
+use Rattle.bay_device.specs.declared.fault.LoadFault.TheVariants.{OutOfMemory, Refused}
+use Rattle.bay_device.specs.declared.report.Report.{Report}
+use Rattle.bay_report.specs.Load.{IsImageOf, file_of}
+use Rattle.bay_report.specs.LogLines.{IsReported}
+use Rattle.bay_report.specs.Report.{refusal_of, report_text}
+use Rattle.bay_report.specs.declared.load.Form.{Form}
+use Rattle.bay_report.specs.declared.load.Form.TheVariants as form
+use Rattle.bay_replay_laws.specs.Printed.{lines_in, words_in}
+use Rattle.bay_replay_laws.proofs.LineLemmas.{AreLines, decimal-free, each-line, free, free-append, no-lines, one-line, split-at}
+use Rattle.bay_replay_laws.proofs.PrintLemmas.{load-is}
+use Rattle.bay_replay_laws.proofs.ReadLemmas.{load_line, no-end, no-space}
+use Rattle.bay_replay_laws.proofs.WithinLemmas.{load-free}
+use Rattle.bay_audit_rules.specs.Code.{code_of, line_of}
+use Rattle.bay_audit_rules.specs.declared.fault.RuleFault.{RuleFault}
+use Rattle.bay_audit_rules.specs.declared.rule.Rule.{Rule}
+use Rattle.il_check.proofs.TypedLemmas.{typed-of}
+use Rattle.il_compile.specs.Compiled.{compiled_of, image_of, image_size, most_octets}
+use Rattle.il_compile.specs.declared.fault.CompileFault.TheVariants.{CodeTooLong}
+use Rattle.il_compile.proofs.CompiledLemmas.{is-image}
+use Rattle.il_check.specs.Program.{Checked}
+use Rattle.il_image.specs.Images.{Image, IsImage}
+use Rattle.il_image.proofs.ImageLemmas.{spelled-image}
+use Rattle.cmd_audit_laws.specs.Audited.{ByTimer, IsAudited, Plainly, SaysBehind, SaysOfRule}
+use Rattle.cmd_audit_laws.specs.Served.{IsFile}
+use Rattle.cmd_audit_laws.specs.Told.{HoldsAreAudited, IsOfRule}
+
+-- ---- the image of a program
+
+compiled-image : (c : Checked) (image : Image) → IsImage (image_of c)
+    ⊎ (compiled_of c ≡ Ok image → ⊥) → compiled_of c ≡ Ok image → IsImage image
+compiled-image c image (inr none) e = absurd (none e)
+compiled-image c image (inl is) e = subst IsImage (sym (image-is c image e)) is
+
+image-kept : (f : Form) (program : List ℕ) (own : Bay) (image : Image) → IsFile f program
+    → IsImageOf f program own image → IsImage image
+image-kept form.Logic program own image file made =
+    let c : Checked = made.checked in
+    compiled-image c image
+    (by-size (nat_le (image_size c) most_octets) refl) made.compiles
+  where
+    by-size : (b : Bool) → nat_le (image_size made.checked) most_octets ≡ b
+        → IsImage (image_of made.checked) ⊎ (compiled_of made.checked ≡ Ok image → ⊥)
+    by-size true small =
+        inl (is-image made.checked (typed-of own.points made.program made.checked made.passes)
+        (grind (arith, nat_tests)))
+    by-size false large = inr (λ e. let no : Err CodeTooLong ≡ Ok image = rw large at e in cc)
+image-kept form.Image program own image file made = (spelled-image program image file made).0
+
+-- ---- lines that say nothing of a rule
+
+abbrev SaysNone : List ℕ → Type 0
+SaysNone line = printed_hold line ≡ None
+
+other-words : (word : List ℕ) (ws : List (List ℕ)) → bytes_eq word (codes "rule") ≡ false
+    → hold_in (word ∷ ws) ≡ None
+other-words word [] other = refl
+other-words word (a ∷ []) other = refl
+other-words word (a ∷ b ∷ []) other = refl
+other-words word (a ∷ b ∷ c ∷ []) other = refl
+other-words word (a ∷ b ∷ c ∷ d ∷ ws) other = rw other refl
+
+other-line : (word rest : List ℕ) → free 32 word ≡ true → bytes_eq word (codes "rule") ≡ false
+    → SaysNone (word ++ 32 ∷ rest)
+other-line word rest plain other =
+    ap hold_in (split-at 32 word rest plain) ∙ other-words word (words_in rest) other
+
+numbered : (a m c end : List ℕ) → a ++ (32 ∷ m) ++ (c ++ end) ≡ (a ++ 32 ∷ (m ++ c)) ++ end
+numbered a m c end = simp append_assoc
+
+numbered-right : (a m c end : List ℕ) → a ++ ((32 ∷ m) ++ (c ++ end)) ≡ (a ++ 32 ∷ (m ++ c)) ++ end
+numbered-right a m c end = simp append_assoc
+
+load-lines : (b : Bool) (code line : ℕ)
+    → AreLines SaysNone (cond b (codes "load refused " ++ (decimal code ++ codes "\n"))
+    (codes "load refused " ++ decimal code ++ codes " line " ++ (decimal line ++ codes "\n")))
+load-lines true code line =
+    one-line (codes "load" ++ 32 ∷ (codes "refused " ++ decimal code)) (decimal-free 10 code no-end)
+    (other-line (codes "load") (codes "refused " ++ decimal code) refl refl)
+load-lines false code line =
+    let rest : List ℕ = decimal code ++ 32 ∷ (codes "line " ++ decimal line) in
+    subst (AreLines SaysNone)
+    (sym (ap (λ t. codes "load refused " ++ t)
+    (numbered (decimal code) (codes "line ") (decimal line) (codes "\n"))))
+    (one-line (codes "load" ++ 32 ∷ (codes "refused " ++ rest))
+    (free-append 10 (decimal code) (32 ∷ (codes "line " ++ decimal line))
+    (decimal-free 10 code no-end) (decimal-free 10 line no-end))
+    (other-line (codes "load") (codes "refused " ++ rest) refl refl))
+
+refused-lines : (fault : LoadFault) → AreLines SaysNone (refusal_of fault)
+refused-lines OutOfMemory = one-line (codes "load refused memory") refl refl
+refused-lines (Refused code line) = load-lines (line == 0) code line
+
+rules-lines : (code : Option ℕ) (line : ℕ) → AreLines SaysNone (numbered_text code line)
+rules-lines None line = no-lines
+rules-lines (Some code) line =
+    let rest : List ℕ = decimal code ++ 32 ∷ (codes "line " ++ decimal line) in
+    subst (AreLines SaysNone)
+    (sym (ap (λ t. codes "rules refused " ++ t)
+    (numbered-right (decimal code) (codes "line ") (decimal line) (codes "\n"))))
+    (one-line (codes "rules" ++ 32 ∷ (codes "refused " ++ rest))
+    (free-append 10 (decimal code) (32 ∷ (codes "line " ++ decimal line))
+    (decimal-free 10 code no-end) (decimal-free 10 line no-end))
+    (other-line (codes "rules") (codes "refused " ++ rest) refl refl))
+
+-- ---- answers
+
+zip-at : (rules : List Rule) (answers : List RuleAnswer) (pair : Rule × RuleAnswer)
+    → Contains (zip rules answers) pair
+    → (k : ℕ) × (slice_get rules k ≡ Some pair.0) × (slice_get answers k ≡ Some pair.1)
+zip-at [] answers pair c = absurd (let low = c.1 in omega (arith, low))
+zip-at (r ∷ rules) [] pair c = absurd (let low = c.1 in omega (arith, low))
+zip-at (r ∷ rules) (a ∷ answers) pair (zero, low, is) =
+    (0, ap (λ (p : Rule × RuleAnswer). Some p.0) is, ap (λ (p : Rule × RuleAnswer). Some p.1) is)
+zip-at (r ∷ rules) (a ∷ answers) pair (suc k, low, is) =
+    let rest = zip-at rules answers pair (k, omega (arith, low), is) in
+    (suc rest.0, rest.1, rest.2)
+
+passed : (answer : RuleAnswer) → is_passed answer ≡ true → Plainly answer ⊎ ByTimer answer
+passed (Holds cases) so = inl tt
+passed (Since timer cases) so = inr tt
+passed (Broken case) so = absurd cc
+passed (Open case kept) so = absurd cc
+passed TooMany so = absurd cc
+
+-- ---- an audit
+
+no-line : (text line : List ℕ) (hold : PrintedHold) → AreLines SaysNone text
+    → Contains (lines_in text) line → printed_hold line ≡ Some hold → ⊥
+no-line text line hold are at e =
+    let none : SaysNone line = each-line are refl line at in
+    let bad : None ≡ Some hold = sym none ∙ e in cc
+
+module _ (bay : List ℕ) (f : Form) (program rules : List ℕ) (log : Option (List ℕ))
+    (whole : List ℕ) (status : ℕ) (file : IsFile f program) (line : List ℕ) (hold : PrintedHold)
+    (e : printed_hold line ≡ Some hold) where
+  of-rules : (own : Bay) (image : Image) → file_of bay ≡ Ok own → IsImage image
+      → (meant : Result (List Rule) RuleFault) (text : List ℕ)
+      (says : SaysOf own (known_of image.points (declared_in f program)) image meant log text
+      status)
+      → Contains (lines_in text) line
+      → ((So : RuleAnswer → Type 0) (rule : Rule)
+      → SaysOfRule So own (known_of image.points (declared_in f program)) image meant log text
+      status
+      says rule → IsAudited So bay f program rules rule)
+      → IsOfRule bay f program rules hold
+  of-rules own image read kept (Err fault) text says at more =
+      absurd (no-line text line hold
+      (subst (AreLines SaysNone) (sym says.1.0) (rules-lines (code_of fault) (line_of fault))) at e)
+  of-rules own image read kept (Ok rs) text says at more =
+      let names = known_of image.points (declared_in f program) in
+      let known : AreWords names = names-are-words image f program kept in
+      let h =
+      holds-are-read own names image rs text status (bays-have-words bay own read) known says.1 line
+      hold at e in
+      let place = zip-at rs says.1.answers h.pair h.among in
+      record {
+        own = own;
+        read = read;
+        rule = h.pair.0;
+        line = h.line;
+        switch = h.switch;
+        operation = h.operation;
+        audited = elim (passed h.pair.1 h.holds) [
+          | inl so ↦ inl (more Plainly h.pair.0 (record {
+            place = place.0;
+            here = place.1;
+            answer = h.pair.1;
+            told = place.2;
+            so = so;
+          }))
+          | inr so ↦ inr (more ByTimer h.pair.0 (record {
+            place = place.0;
+            here = place.1;
+            answer = h.pair.1;
+            told = place.2;
+            so = so;
+          }))
+        ];
+      }
+
+  of-load : (report : Report) (rest : List ℕ) → whole ≡ report_text report ++ rest
+      → Contains (lines_in whole) line → Contains (lines_in rest) line
+  of-load report rest is at =
+      let i = report.instructions in
+      let d = report.depth in
+      let b = report.budget in
+      let cut : lines_in whole ≡ (load_line i d b ∷ []) ++ lines_in rest =
+      ap lines_in (is ∙ ap (λ t. t ++ rest) (load-is report)
+      ∙ append_assoc (load_line i d b) (10 ∷ []) rest)
+      ∙ split-at 10 (load_line i d b) rest (load-free i d b) in
+      by-case (load_line i d b)
+      (other-line (codes "instructions=" ++ decimal i)
+      ((codes "depth=" ++ decimal d) ++ 32 ∷ (codes "budget=" ++ decimal b))
+      (decimal-free 32 i no-space) refl)
+      (Contains-append_cases (load_line i d b ∷ []) (lines_in rest) line
+      (subst (λ ls. Contains ls line) cut at))
+    where
+      by-case : (first : List ℕ) → SaysNone first
+          → Contains (first ∷ []) line ⊎ Contains (lines_in rest) line
+          → Contains (lines_in rest) line
+      by-case first none (inr later) = later
+      by-case first none (inl (zero, low, same)) =
+          absurd (let bad : None ≡ Some hold = sym none ∙ ap printed_hold same ∙ e in cc)
+      by-case first none (inl (suc k, low, same)) = absurd (omega (arith, low))
+
+  of-audit : (audit : AuditReport bay f program rules log whole status)
+      → Contains (lines_in whole) line → IsOfRule bay f program rules hold
+  of-audit (inr refused) at =
+      absurd (no-line whole line hold
+      (subst (AreLines SaysNone) (sym refused.tells.1.0) (refused-lines refused.fault)) at e)
+  of-audit (inl loaded) at =
+      of-says loaded.tells.says
+      (of-load loaded.tells.report loaded.tells.rest loaded.tells.whole at)
+      (λ So rule says. record {
+        log = log;
+        text = whole;
+        status = status;
+        audit = inl loaded;
+        says = says;
+      })
+    where
+      image : Image
+      image = loaded.device.machine.image
+
+      kept : IsImage image
+      kept = subst IsImage (sym (ap (λ (s : State). s.machine.image) loaded.loaded.is))
+          (image-kept f program loaded.loaded.bay loaded.loaded.image file loaded.loaded.made)
+
+      of-says : (says : SaysFor (file_of bay) (declared_in f program) rules image log
+          loaded.tells.rest status
+          ⊎ IsReported None (codes "fault memory\n") 3 log loaded.tells.rest
+          status)
+          → Contains (lines_in loaded.tells.rest) line
+          → ((So : RuleAnswer → Type 0) (rule : Rule)
+          → SaysBehind So _ (file_of bay) (declared_in f program) rules image log loaded.tells.rest
+          status says rule → IsAudited So bay f program rules rule)
+          → IsOfRule bay f program rules hold
+      of-says (inr memory) there more =
+          absurd (no-line loaded.tells.rest line hold
+          (subst (AreLines SaysNone) (sym memory.1.0) (one-line (codes "fault memory") refl refl))
+          there e)
+      of-says (inl says) there more =
+          of-rules says.bay image says.read kept says.meant loaded.tells.rest says.says there more
+
+pub holds-audited : HoldsAreAudited
+holds-audited bay f program rules log text status file audit line hold at e =
+    of-audit bay f program rules log text status file line hold e audit at

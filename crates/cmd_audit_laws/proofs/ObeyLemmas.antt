@@ -1,0 +1,259 @@
+-- A rule that holds, along the turns of a server and the events of a replay.
+use Rattle.std.proofs.Common.{◌≡◌, ◌+◌, ℕ, ◌<◌, Bool, true, false, cond, All, List, [], ◌∷◌, length, position, is_none, is_some, Option, Some, None, Result, refl, sym, subst, slice_get, ap, ◌∙◌}
+use Rattle.std.specs.Prelude.{IfSome}
+use Rattle.std.proofs.lemmas.List.Elements.{All-cons, All-head, All-nil, All-tail, All-weaker}
+use Rattle.std.specs.declared.net.socket_addr.SocketAddrV4.{SocketAddrV4}
+use Rattle.bay_audit.specs.Rules.{IsRule, program_of}
+use Rattle.bay_audit_laws.specs.Laws.{CommandsObeyAt, IsAllowed, IsOfType, ScanObeysAt, process_of}
+use Rattle.bay_audit_laws.proofs.LawLemmas.{Led, Obeying, Turned, allowed, commands-obey, led-step, obeying-first, process-so, turned}
+use Rattle.bay_config.specs.Laws.{IsBay}
+use Rattle.bay_config.specs.declared.bay.Bay.{Bay}
+use Rattle.bay_device.specs.Device.{State}
+use Rattle.bay_device.specs.Fresh.{Past}
+use Rattle.bay_device.specs.Load.{initial_device}
+use Rattle.bay_device.specs.Outcomes.{connection_at, outcome}
+use Rattle.bay_device.specs.Steps.{OfAssociation, Steps}
+use Rattle.bay_device.specs.declared.event.Event.{Event}
+use Rattle.bay_device.specs.declared.event.Event.TheVariants.{Open, Recv, Close, Contact, Input, Measure, BadMeasure, Lost, Scan}
+use Rattle.bay_device.specs.declared.event.Step.{Step}
+use Rattle.bay_device.specs.declared.fault.StepFault.{StepFault}
+use Rattle.bay_device.proofs.CommandLemmas.{step-commanded}
+use Rattle.cmd_replay.specs.History.{EachPast, device_after}
+use Rattle.bay_nodes.specs.declared.switch.Switch.{Switch}
+use Rattle.bay_audit_rules.specs.Process.{holds}
+use Rattle.bay_audit_rules.specs.declared.rule.Rule.{Rule}
+use Rattle.bay_audit_rules.specs.declared.rule.RuleKind.TheVariants.{Never}
+use Rattle.bay_mms_services.specs.declared.answer.Command.{Command}
+use Rattle.il_image.specs.Images.{Image}
+use Rattle.bay_server_turn.specs.Calls.{ReadOutcome, Octets, Silence, Over, Broken}
+use Rattle.bay_server_turn.specs.Turns.{ServerData, Reading, Script, after_turn, first_of}
+use Rattle.bay_server_turn.specs.declared.process_input.ProcessEvent.{ProcessEvent}
+use Rattle.bay_server_turn.specs.declared.process_input.ProcessEvent.TheVariants as process
+use Rattle.bay_server_turn.specs.declared.process_input.ProcessReport.{ProcessReport}
+use Rattle.bay_server_turn_laws.specs.Events.{ChosenEvent, done_at, surely, turn_events}
+use Rattle.bay_server_turn_laws.specs.Order.{AreClosings, Then, brought, opened, opened_at, read_at, told_at}
+use Rattle.bay_server_turn_laws.proofs.OrderLemmas.{in-order}
+use Rattle.bay_server_turn_laws.proofs.PartLemmas.{Part-turn}
+use Rattle.cmd_serve.specs.Orders.{IsOrdered}
+use Rattle.cmd_serve.specs.Service.{AreTurns, DoneTurn, held_behind, past_behind, past_of}
+use Rattle.cmd_serve.proofs.FrontLemmas.{Begins, Behind, Reads, closings-all, reads-all, then-all, why_closed}
+use Rattle.cmd_audit_laws.specs.Served.{OrdersObey}
+use Rattle.cmd_audit_laws.proofs.IdLemmas.{ids-apart}
+use Rattle.cmd_audit_laws.proofs.SoundLemmas.{Steady, steady-halts, steady-on}
+use Rattle.cmd_audit_laws.proofs.TypeLemmas.{EventFits}
+
+-- ---- the events of a turn are of their types
+
+-- an event is of its type
+abbrev pub IsTyped : ChosenEvent → Type 0
+IsTyped e = IsOfType e.1
+
+-- Each measure of the events has 32 bits.
+abbrev pub AreTyped : List ChosenEvent → Type 0
+AreTyped es = All IsTyped es
+
+one : (e : ChosenEvent) → IsTyped e → AreTyped (e ∷ [])
+one e h = All-cons IsTyped e [] h (All-nil IsTyped)
+
+pub of-typed : (event : Event) → OfAssociation event → IsOfType event
+of-typed (Open a) h = tt
+of-typed (Recv a octets) h = tt
+of-typed (Close a) h = tt
+of-typed (Contact k position) h = tt
+of-typed (Input k value) h = tt
+of-typed (Measure k field value) h = absurd h
+of-typed (BadMeasure k field) h = tt
+of-typed Lost h = tt
+of-typed Scan h = tt
+
+told-typed : (o : Option ProcessEvent) → IfSome o EventFits → AreTyped (told_at o)
+told-typed None h = All-nil IsTyped
+told-typed (Some event) h = one _ h
+
+first-typed : (given : ProcessReport) → AreTyped (told_at (first_of given))
+first-typed given = told-typed (first_of given) (by-lost given.is_lost)
+  where
+    by-lost : (b : Bool) → IfSome (cond b (Some process.Lost) None) EventFits
+    by-lost true = tt
+    by-lost false = tt
+
+opened-typed : (place : Option ℕ) (accepted : Option (Option SocketAddrV4))
+    → AreTyped (opened_at place accepted)
+opened-typed (Some place) (Some (Some from)) = one _ tt
+opened-typed (Some place) (Some None) = All-nil IsTyped
+opened-typed (Some place) None = All-nil IsTyped
+opened-typed None accepted = All-nil IsTyped
+
+read-typed : (place : ℕ) (r : Reading) (d : State) → AreTyped (read_at place r d)
+read-typed place r d = by-open (is_some (connection_at (Some place) d))
+  where
+    by-heard : (heard : ReadOutcome) → AreTyped (brought (place + 1) r.choice heard)
+    by-heard (Octets octets) = one _ tt
+    by-heard Silence = All-nil IsTyped
+    by-heard Over = one _ tt
+    by-heard Broken = one _ tt
+
+    by-open : (b : Bool) → AreTyped (cond b (brought (place + 1) r.choice r.heard) [])
+    by-open true = by-heard r.heard
+    by-open false = All-nil IsTyped
+
+pub events-typed : (now : ℕ) (given : ProcessReport) (script : Script) (h : ServerData)
+    → length script.readings ≡ 8 → length script.offers ≡ 8 → IfSome given.event EventFits
+    → AreTyped (turn_events now given script h)
+events-typed now given script h readings offers fits =
+    let told = (after_turn now given script h).noted.closed in
+    let why : ℕ → Bool = why_closed now given script h in
+    let Last : State → List ChosenEvent → Type 0 = λ e rest. AreClosings why rest in
+    then-all now told IsTyped (λ a. tt) (opened script.accepted h.device)
+    (Begins now given script h)
+    h.device
+    (turn_events now given script h)
+    (opened-typed (position is_none h.device.connections) script.accepted)
+    (λ c begun begins. then-all now told IsTyped (λ a. tt) (told_at (first_of given))
+    (Reads now given script h) c begun (first-typed given)
+    (λ d es reads. reads-all now told IsTyped (λ a. tt) (Behind now told why given.event)
+    (λ e behind t. then-all now told IsTyped (λ a. tt) (told_at given.event)
+    (Then now told (surely Scan ∷ []) Last) e behind (told-typed given.event fits)
+    (λ f later u. then-all now told IsTyped (λ a. tt) (surely Scan ∷ []) Last f later
+    (one (surely Scan) tt)
+    (λ g last closings. closings-all now told IsTyped (λ a. tt) why last closings) u) t)
+    read-typed 0 script.readings d es reads) begins)
+    (in-order now given script h readings offers)
+
+-- what each turn was given of the process is of its type
+abbrev pub AreGiven : List DoneTurn → Type 0
+AreGiven [] = Unit {0}
+AreGiven (t ∷ ts) = IfSome t.given.event EventFits × AreGiven ts
+
+-- each event of a history is of its type
+abbrev pub AreTypedPast : State → List Past → Type 0
+AreTypedPast first past = EachPast (λ now event old answer new. IsOfType event) first past
+
+-- so are those of turns
+events-behind : (now : ℕ) (es : List ChosenEvent) (first s : State) (past : List Past)
+    → AreTyped es → AreTypedPast first past → AreTypedPast first (past_behind now es s past)
+events-behind now [] first s past typed before = before
+events-behind now (e ∷ es) first s past typed before =
+    let o = outcome e.0 now e.1 s in
+    events-behind now es first o.after
+    (record { now = now; event = e.1; answer = o.answer; after = o.after } ∷ past)
+    (All-tail IsTyped e es typed) (All-head IsTyped e es typed, before)
+
+pub turns-typed : (first : State) (ts : List DoneTurn) (h : ServerData) (past : List Past)
+    → AreTurns h ts → AreGiven ts → AreTypedPast first past
+    → AreTypedPast first (past_of ts h past)
+turns-typed first [] h past are given before = before
+turns-typed first (t ∷ ts) h past are given before =
+    let events = turn_events t.now t.given t.script h in
+    turns-typed first ts (held_behind t h) (past_behind t.now events h.device past) are.1 given.1
+    (events-behind t.now events first h.device past
+    (events-typed t.now t.given t.script h are.0.all_read are.0.all_offered given.0) before)
+
+-- ---- a device whose scans halt
+
+module _ (bay : Bay) (image : Image) (rule : Rule) (is_bay : IsBay bay)
+    (there : rule.switch < length bay.switches) (holds_so : IsRule (program_of bay image) rule)
+  where
+    -- what is kept along the events
+    abbrev pub Good : State → Type 0
+    Good s = Obeying bay image rule s × Steady s
+
+    turn-of : (now : ℕ) (event : Event) (old : State) (answer : Result Step StepFault)
+        (new : State) → IsOfType event → Steps now event old answer new → Good old
+        → Turned now event old answer new
+    turn-of now event old answer new typed steps g =
+        turned now event old answer new typed steps
+        (steady-halts now event old answer new
+        (process-so bay image rule is_bay there holds_so old g.0) g.1 steps)
+
+    led : (now : ℕ) (event : Event) (old : State) (answer : Result Step StepFault) (new : State)
+        → IsOfType event → Steps now event old answer new → Good old
+        → Led bay image rule is_bay there holds_so event old answer new
+    led now event old answer new typed steps g =
+        led-step bay image rule is_bay there holds_so now event old answer new g.0
+        (turn-of now event old answer new typed steps g)
+
+    good-step : (now : ℕ) (event : Event) (old : State) (answer : Result Step StepFault)
+        (new : State) → IsOfType event → Steps now event old answer new → Good old → Good new
+    good-step now event old answer new typed steps g = (
+      (led now event old answer new typed steps g).goes_on,
+      steady-on now event old answer new
+          (process-so bay image rule is_bay there holds_so old g.0) g.1 steps
+          (turn-of now event old answer new typed steps g),
+    )
+
+    good-events : (now : ℕ) (es : List ChosenEvent) (s : State) → AreTyped es → Good s
+        → Good (done_at now es s).after
+    good-events now [] s typed g = g
+    good-events now (e ∷ es) s typed g =
+        let o = outcome e.0 now e.1 s in
+        good-events now es o.after (All-tail IsTyped e es typed)
+        (good-step now e.1 s o.answer o.after (All-head IsTyped e es typed)
+        (record { choice = e.0; answered = refl; left = refl }) g)
+
+    -- ---- turns
+
+    -- a command to the switch with the id of the rule's, of its operation, is not issued while the
+    -- condition holds
+    pub by-id : (s : State) (command : Command) (named switch : Switch) → rule.kind ≡ Never
+        → IsAllowed rule s command → slice_get bay.switches command.switch ≡ Some named
+        → slice_get bay.switches rule.switch ≡ Some switch → named.id ≡ switch.id
+        → command.operation ≡ rule.operation → holds rule.when (process_of s) ≡ false
+    by-id s command named switch never allow here own same on =
+        allow never
+        (ids-apart bay is_bay command.switch rule.switch named switch here own same) on
+
+    pub turns-obey : (first : State) → first.switches ≡ bay.switches → rule.kind ≡ Never
+        → (ts : List DoneTurn) (h : ServerData) (past : List Past) → AreTurns h ts → AreGiven ts
+        → Good h.device → OrdersObey rule first h past ts
+    turns-obey first of_bay never [] h past are given g = tt
+    turns-obey first of_bay never (t ∷ ts) h past are given g =
+        let events = turn_events t.now t.given t.script h in
+        let typed : AreTyped events =
+        events-typed t.now t.given t.script h are.0.all_read are.0.all_offered given.0 in
+        let obeys : (command : Command) (o : IsOrdered first h t past command)
+        → IsAllowed rule (done_at t.now o.heard.front h.device).after command =
+        λ command o.
+        allowed bay image rule is_bay there holds_so t.now
+        (done_at t.now o.heard.front h.device).after command
+        (good-events t.now o.heard.front h.device
+        (All-weaker (λ (e : ChosenEvent). OfAssociation e.1) IsTyped (λ e of. of-typed e.1 of)
+        o.heard.front o.heard.first) g).0 o.allowed in (
+          obeys,
+          λ printed p switch here named on.
+              by-id (done_at t.now p.ordered.heard.front h.device).after p.command p.switch switch
+              never (obeys p.command p.ordered)
+              (ap (λ ss. slice_get ss p.command.switch) (sym of_bay) ∙ p.here)
+              (ap (λ ss. slice_get ss rule.switch) (sym of_bay) ∙ here) (sym p.named ∙ named)
+              (sym p.operation ∙ on),
+          turns-obey first of_bay never ts (held_behind t h)
+              (past_behind t.now events h.device past) are.1 given.1
+              (subst Good (sym (Part-turn t.now t.given t.script h).device)
+              (good-events t.now events h.device typed g)),
+        )
+
+    -- ---- a history
+
+    pub past-obeys : (first : State) (past : List Past) → EachPast Steps first past
+        → AreTypedPast first past → Good first
+        → EachPast (CommandsObeyAt rule) first past × EachPast (ScanObeysAt rule) first past
+        × Good (device_after first past)
+    past-obeys first [] steps typed g = (tt, tt, g)
+    past-obeys first (p ∷ past) steps typed g =
+        let before = past-obeys first past steps.1 typed.1 g in
+        let old : State = device_after first past in (
+          (
+            commands-obey bay image rule is_bay there holds_so p.now p.event old p.answer p.after
+                before.2.0 (step-commanded p.now p.event old p.answer p.after steps.0),
+            before.0,
+          ),
+          (
+            (led p.now p.event old p.answer p.after typed.0 steps.0 before.2).scan_obeys,
+            before.1,
+          ),
+          good-step p.now p.event old p.answer p.after typed.0 steps.0 before.2,
+        )
+
+    -- a device as it is loaded
+    pub good-first : Steady (initial_device bay image) → Good (initial_device bay image)
+    good-first steady = (obeying-first bay image rule is_bay there holds_so, steady)

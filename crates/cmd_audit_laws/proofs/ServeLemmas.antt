@@ -1,0 +1,206 @@
+-- The turns that files are served by, and what they are given.
+use Rattle.std.proofs.Common.{◌≡◌, ℕ, zero, suc, Bool, List, [], Option, Some, None, Result, Ok, Err, inl, inr, ap, sym, subst}
+use Rattle.std.specs.Prelude.{MatchResult, slice_get}
+use Rattle.bay_audit.specs.Rules.{program_of}
+use Rattle.bay_device.specs.Device.{State}
+use Rattle.bay_files.specs.Files.{FileGuards, FileReads, FilesData}
+use Rattle.bay_io.specs.Calls.{WriteCall}
+use Rattle.bay_io.specs.Watched.{Writing}
+use Rattle.bay_io.specs.declared.outbox.WriteFault.{WriteFault}
+use Rattle.bay_process_port.specs.Ports.{begun}
+use Rattle.bay_process_port.specs.Supervised.{SupervisionSettings}
+use Rattle.bay_report.specs.Load.{LoadsTo}
+use Rattle.bay_report.specs.declared.load.Form.{Form}
+use Rattle.bay_server_turn.specs.Calls.{Call}
+use Rattle.bay_server_turn.specs.Turns.{ServerData}
+use Rattle.bay_server.specs.Host.{HostCall}
+use Rattle.bay_server.specs.Clock.{jump_of}
+use Rattle.bay_server.specs.ServeReport.{AfterTurn, PollOutcome, Serving, ServesTurns, moment_of}
+use Rattle.bay_server.specs.declared.host.BindFault.{BindFault}
+use Rattle.cmd_serve.specs.Live.{InLater}
+use Rattle.cmd_serve.specs.Serve.{BindsPorts, BindsProcess, EndsUnserved, FileNames, IsBound, IsRecordFault, LoadsFiles, ServesBound, ServesLoaded, made_of}
+use Rattle.cmd_serve.specs.Service.{AreTurns, DoneTurn, later_turns, past_of, turns_in}
+use Rattle.cmd_serve.proofs.HistoryLemmas.{stands-first}
+use Rattle.cmd_serve.proofs.TurnLemmas.{stands-turns}
+use Rattle.cmd_serve.specs.declared.serve.Bound.{Bound}
+use Rattle.cmd_serve.specs.declared.serve.Loaded.{Loaded}
+use Rattle.cmd_serve.specs.declared.serve.Numbers.{Numbers}
+use Rattle.cmd_serve.specs.declared.serve.ServeStartFault.{ServeStartFault}
+use Rattle.cmd_serve.specs.declared.serve.ServeStartFault.TheVariants as unserved
+use Rattle.cmd_audit_laws.specs.Audited.{ByTimer, Plainly}
+use Rattle.cmd_audit_laws.specs.Served.{ObeyAuditsOf, OfBound, OfFiles, ServedCommandsObey}
+use Rattle.cmd_audit_laws.proofs.AuditLemmas.{audited, begins, plain-rule, right-rule, right-timer}
+use Rattle.cmd_audit_laws.proofs.ObeyLemmas.{AreGiven, Good, good-first, past-obeys, turns-obey, turns-typed}
+use Rattle.cmd_audit_laws.proofs.TypeLemmas.{choice-fits}
+use Rattle.cmd_audit_laws.proofs.WaitLemmas.{Ready, ready-first, turns-wait}
+
+later-given : (Ends Goes : Type 0) (told : Result ℕ WriteFault) (rest : AfterTurn told Ends Goes)
+    (more : Goes → List DoneTurn) → ((goes : Goes) → AreGiven (more goes))
+    → AreGiven (later_turns Ends Goes told rest more)
+later-given Ends Goes (Err fault) rest more each = tt
+later-given Ends Goes (Ok status) goes more each = each goes
+
+module _ {L H W : Type 0} (step : L → Call → L → Type 0) (acts : H → HostCall L → H → Type 0)
+    (contents : W → Option (List ℕ)) (asks : W → WriteCall → W → Type 0) where
+  pub turns-given : (turns : ℕ) (before : Serving L H) (old : Writing W)
+      (host : H) (new : Writing W) (answer : Result ℕ WriteFault)
+      (serves : ServesTurns step acts contents asks turns before old host new answer)
+      → AreGiven (turns_in step acts contents asks turns before old host new answer serves)
+  turns-given zero before old host new answer serves = tt
+  turns-given (suc turns) before old host new answer (inl fails) = tt
+  turns-given (suc turns) before old host new answer (inr did) = (
+    choice-fits before.held.device (moment_of did.3.clocks before)
+        (jump_of did.3.clocks before.clock) before.lines (slice_get before.lines 0)
+        before.process,
+    later-given _ _ did.2 did.4 _ (λ rest. turns-given turns rest.0 _ host new answer rest.2),
+  )
+
+-- ---- the server that is bound
+
+module _ {L H : Type 0} (acts : H → HostCall L → H → Type 0) where
+  is-made : (records : Bool) (s : State) (link : L) (process : Option (PollOutcome L))
+      (ports : Bound L) → IsBound records s link process (Ok ports) → ports.server ≡ made_of s
+  is-made records s link process ports (inl is) =
+      let same : ports ≡ record { server = made_of s; link = link; process = process } = cc in
+      ap (λ (b : Bound L). b.server) same
+  is-made records s link process ports (inr is) =
+      let no : (let r : Result (Bound L) ServeStartFault = Ok ports in r) ≡ Err is.0 = is.1 in
+      absurd cc
+
+  process-made : (records tells : Bool) (duties : Option SupervisionSettings) (s : State) (link : L)
+      (port : Option ℕ)
+      (before after : H) (ports : Bound L)
+      → BindsProcess acts records tells duties s link port before after (Ok ports)
+      → ports.server ≡ made_of s
+  process-made records tells duties s link None before after ports binds =
+      is-made records s link None ports binds.1
+  process-made records tells duties s link (Some port) before after ports binds =
+      by-had binds.0 binds.2
+    where
+      by-had : (had : Result L BindFault)
+          → MatchResult had
+          (λ other. IsBound records s link (Some (record { link = other; port = begun tells duties }))
+          (Ok ports)) (λ fault. (let r : Result (Bound L) ServeStartFault = Ok ports in r)
+          ≡ Err (unserved.Unbound port fault))
+          → ports.server ≡ made_of s
+      by-had (Ok other) is =
+          is-made records s link (Some (record { link = other; port = begun tells duties })) ports is
+      by-had (Err fault) is = absurd cc
+
+  pub ports-made : (numbers : Numbers) (duties : Option SupervisionSettings) (s : State)
+      (before after : H)
+      (ports : Bound L) → BindsPorts acts numbers duties s before after (Ok ports)
+      → ports.server ≡ made_of s
+  ports-made numbers duties s before after ports binds = by-had binds.0 binds.3
+    where
+      by-had : (had : Result L BindFault)
+          → MatchResult had
+          (λ link. BindsProcess acts numbers.records numbers.tells_releases duties s link
+          numbers.process binds.1 after (Ok ports))
+          (λ fault. (after ≡ binds.1) × ((let r : Result (Bound L) ServeStartFault = Ok ports in r)
+          ≡ Err (unserved.Unbound numbers.port fault)))
+          → ports.server ≡ made_of s
+      by-had (Ok link) is =
+          process-made numbers.records numbers.tells_releases duties s link numbers.process binds.1
+          after ports is
+      by-had (Err fault) is = absurd (let e = is.1 in cc)
+
+-- ---- the rules that an audit answers
+
+-- a server of a device that these octets load to goes by them in its turns
+loaded-obeys : (f : Form) (both : FilesData) (device : State)
+    → LoadsTo both.bay f both.program (Ok device) → (ts : List DoneTurn)
+    → AreTurns (made_of device) ts → AreGiven ts → ObeyAuditsOf f both (made_of device) ts
+loaded-obeys f both device loads ts are given file = record {
+  obey = λ rules rule never is.
+      let own = audited Plainly both.bay f both.program rule rules is in
+      let b = begins both.bay f both.program device loads file own.own own.image own.read own.made
+      in
+      let rule_so = right-rule (program_of own.own own.image) rule own.answer never own.so own.right
+      in
+      turns-obey own.own own.image rule b.sound own.there rule_so device
+      (ap (λ (s : State). s.switches) b.is) never ts (made_of device) [] are given
+      (subst (Good own.own own.image rule b.sound own.there rule_so) (sym b.is)
+      (good-first own.own own.image rule b.sound own.there rule_so b.steady));
+  wait = λ rules rule timing never timed is.
+      let own = audited ByTimer both.bay f both.program rule rules is in
+      let b = begins both.bay f both.program device loads file own.own own.image own.read own.made
+      in
+      let borne = right-timer (program_of own.own own.image) rule timing own.answer never timed
+      own.so own.right in
+      turns-wait own.own own.image rule timing borne.timer b.sound own.there borne.bears device ts
+      (made_of device) [] [] are given
+      (subst (Ready own.own own.image rule timing borne.timer b.sound own.there borne.bears [])
+      (sym b.is)
+      (ready-first own.own own.image rule timing borne.timer b.sound own.there borne.bears
+      b.steady));
+  scans = λ rules rule plain is.
+      let own = audited Plainly both.bay f both.program rule rules is in
+      let b = begins both.bay f both.program device loads file own.own own.image own.read own.made
+      in
+      let rule_so = plain-rule (program_of own.own own.image) rule own.answer plain own.so own.right
+      in
+      let stands =
+      stands-turns device ts (made_of device) []
+      (stands-first device (own.own, own.image, b.is)) in
+      (past-obeys own.own own.image rule b.sound own.there rule_so device
+      (past_of ts (made_of device) []) stands.steps
+      (turns-typed device ts (made_of device) [] are given tt)
+      (subst (Good own.own own.image rule b.sound own.there rule_so) (sym b.is)
+      (good-first own.own own.image rule b.sound own.there rule_so b.steady))).1;
+}
+
+module _ {L H W : Type 0} (step : L → Call → L → Type 0) (acts : H → HostCall L → H → Type 0)
+    (contents : W → Option (List ℕ)) (asks : W → WriteCall → W → Type 0) where
+  later-is : (Ends Goes : Type 0) (told : Result ℕ WriteFault) (rest : AfterTurn told Ends Goes)
+      (Is : Goes → Type 0) → ((goes : Goes) → Is goes) → InLater Ends Goes told rest Is
+  later-is Ends Goes (Err fault) rest Is each = tt
+  later-is Ends Goes (Ok status) goes Is each = each goes
+
+  bound-obeys : (f : Form) (both : FilesData) (numbers : Numbers) (loaded : Loaded)
+      → LoadsTo both.bay f both.program (Ok loaded.device) → (duties : Option SupervisionSettings)
+      (before host after : H) (old new : Writing W) (answer : Result ℕ WriteFault)
+      (bound : Result (Bound L) ServeStartFault)
+      → BindsPorts acts numbers duties loaded.device before host bound
+      → (goes : MatchResult bound
+      (λ ports. ServesBound step acts contents asks numbers ports loaded.trace.items host after old
+      new answer)
+      (λ why. EndsUnserved contents asks why old new answer × (after ≡ host)))
+      → OfBound step acts contents asks (ObeyAuditsOf f both) numbers loaded.trace.items host after
+      old
+      new answer bound goes
+  bound-obeys f both numbers loaded loads duties before host after old new answer (Ok ports) binds
+      goes =
+      let run = goes.5 in
+      let made : ports.server ≡ made_of loaded.device =
+      ports-made acts numbers duties loaded.device before host ports binds in
+      let given : AreGiven run.done =
+      subst AreGiven (sym run.are)
+      (turns-given step acts contents asks numbers.turns _ _ after new answer run.serves) in
+      subst (λ (h : ServerData). ObeyAuditsOf f both h run.done) (sym made)
+      (loaded-obeys f both loaded.device loads run.done
+      (subst (λ (h : ServerData). AreTurns h run.done) made run.run.are) given)
+  bound-obeys f both numbers loaded loads duties before host after old new answer (Err why) binds
+      goes =
+      tt
+
+  module _ {F : Type 0} (reads : FileReads F) (guards : FileGuards F) where
+    files-obey : (files : F) (named : FileNames) (numbers : Numbers) (before after : H)
+        (old new : Writing W) (answer : Result ℕ WriteFault)
+        (loaded : Result Loaded ServeStartFault)
+        (loads : LoadsFiles reads guards files named loaded)
+        (goes : MatchResult loaded
+        (λ all. ServesLoaded step acts contents asks numbers all before after old new answer)
+        (λ why. EndsUnserved contents asks why old new answer × (after ≡ before)))
+        → OfFiles step acts contents asks reads guards (ObeyAuditsOf named.form) files named numbers
+        before after old new answer loaded loads goes
+    files-obey files named numbers before after old new answer (Ok loaded) loads goes =
+        later-is _ _ goes.told goes.goes_on _
+        (λ ports. bound-obeys named.form loads.0 numbers loaded loads.4 _ before ports.host after
+        goes.middle new answer ports.bound ports.binds ports.goes_on)
+    files-obey files named numbers before after old new answer (Err why) loads goes = tt
+
+    pub served-obey : ServedCommandsObey step acts contents asks reads guards
+    served-obey files named numbers before after old new answer serves =
+        files-obey files named numbers before after old new answer serves.loaded serves.loads
+        serves.goes_on

@@ -1,0 +1,90 @@
+-- Small runs of scans, and of turns in which octets arrive.
+use Rattle.std.specs.Prelude.{ℕ, Bool, false, List, [], ◌∷◌, replicate, None, Some, Ok}
+use Rattle.bay_nodes.specs.declared.switch.Operation.TheVariants.{Open}
+use Rattle.bay_tree.specs.declared.leaf.Dbpos.TheVariants.{Off}
+use Rattle.bay_tree.specs.declared.leaf.Leaf.TheVariants as leaf
+use Rattle.bay_mms_services.specs.Released.{releasing}
+use Rattle.bay_mms_services.specs.declared.answer.Command.{Command}
+use Rattle.bay_device.specs.Device.{State}
+use Rattle.bay_device.specs.Fresh.{Past}
+use Rattle.bay_device.specs.Outcomes.{initial_connection}
+use Rattle.bay_device.specs.declared.event.Event.TheVariants.{Contact, Lost, Scan}
+use Rattle.bay_device.specs.declared.event.Step.{Step}
+use Rattle.bay_server_turn.specs.Calls.{Octets, Silence}
+use Rattle.bay_server_turn.specs.Turns.{ServerData, Reading}
+use Rattle.bay_server_turn.specs.declared.turn_report.Turn.{Turn}
+use Rattle.cmd_serve.specs.Service.{DoneTurn}
+
+-- ---- scans
+
+-- the command to open switch 0
+abbrev pub opens : Command
+opens = record { switch = 0; operation = Open }
+
+-- the device in whose tree EnaOpn of switch 0 has this value, and nothing else
+abbrev pub enabling : Bool → State → State
+enabling b s = record s {
+  rows = record { name = releasing 0 Open; leaf = Some (leaf.Truth b) } ∷ [];
+}
+
+-- a scan at moment 0 that was accepted, and the device after it
+abbrev pub scan_past : State → Step → Past
+scan_past s step = record {
+  now = 0;
+  event = Scan;
+  answer = Ok (record step { scan = Some 1 });
+  after = s;
+}
+
+-- a contact that was accepted, and the device after it
+abbrev pub contact_past : State → Step → Past
+contact_past s step = record {
+  now = 0;
+  event = Contact 0 Off;
+  answer = Ok (record step { scan = None });
+  after = s;
+}
+
+-- the loss of the process
+abbrev pub lost_past : State → Step → Past
+lost_past s step = record { now = 0; event = Lost; answer = Ok step; after = s }
+
+-- ---- turns
+
+-- a server on which association 1 alone is open, and none of its octets has arrived yet
+abbrev pub opened : State → ServerData
+opened s = record {
+  device = record s { moment = 0; connections = Some (initial_connection 1) ∷ replicate 7 None };
+  queues = replicate 8 [];
+}
+
+-- a server on which no association is open
+abbrev pub closed : State → ServerData
+closed s = record (opened s) {
+  device = record (opened s).device { connections = replicate 8 None };
+}
+
+-- no octets of an association arrived
+abbrev pub silent : Reading
+silent = record { heard = Silence; choice = None }
+
+-- these octets arrived
+abbrev pub brings : List ℕ → Reading
+brings octets = record { heard = Octets octets; choice = None }
+
+-- these octets arrived, and memory runs out for their first indication
+abbrev pub refused : List ℕ → Reading
+refused octets = record { heard = Octets octets; choice = Some 0 }
+
+-- a turn in which association 1 brought this, and nothing else happened but a scan
+abbrev pub turn_with : Reading → Turn → DoneTurn
+turn_with reading told = record {
+  now = 0;
+  given = record { is_lost = false; event = None };
+  script = record {
+    accepted = None;
+    readings = reading ∷ replicate 7 silent;
+    offers = replicate 8 (record { takes = []; fails = false });
+  };
+  told = told;
+}

@@ -1,0 +1,138 @@
+-- What an audited rule implies for the commands of a service.
+use Rattle.std.specs.Prelude.{ℕ, ◌≡◌, false, slice_get, List, [], ◌∷◌, Option, None, Some, Result, Ok, Err, MatchResult}
+use Rattle.bay_audit_laws.specs.Laws.{IsAllowed, ScanObeysAt, process_of}
+use Rattle.bay_device.specs.Device.{State}
+use Rattle.bay_device.specs.Fresh.{Past}
+use Rattle.bay_files.specs.Files.{FileGuards, FileReads, FilesData}
+use Rattle.bay_io.specs.Calls.{WriteCall}
+use Rattle.bay_io.specs.Watched.{Writing}
+use Rattle.bay_io.specs.declared.outbox.WriteFault.{WriteFault}
+use Rattle.bay_nodes.specs.declared.switch.Switch.{Switch}
+use Rattle.cmd_replay.specs.History.{EachPast}
+use Rattle.bay_report.specs.declared.load.Form.{Form}
+use Rattle.bay_report.specs.declared.load.Form.TheVariants.{Logic, Image}
+use Rattle.bay_replay_laws.specs.Printed.{PrintedCommand}
+use Rattle.bay_audit_rules.specs.Process.{holds}
+use Rattle.bay_audit_rules.specs.declared.rule.Rule.{Rule}
+use Rattle.bay_audit_rules.specs.declared.rule.RuleKind.TheVariants.{Never}
+use Rattle.bay_audit_rules.specs.declared.rule.Timing.{Timing}
+use Rattle.bay_mms_services.specs.declared.answer.Command.{Command}
+use Rattle.bay_server_turn.specs.Calls.{Call}
+use Rattle.bay_server_turn.specs.Turns.{ServerData}
+use Rattle.bay_server_turn_laws.specs.Events.{done_at, turn_events}
+use Rattle.bay_server.specs.Host.{HostCall}
+use Rattle.cmd_serve.specs.Live.{InLater}
+use Rattle.cmd_serve.specs.Orders.{IsOrdered}
+use Rattle.cmd_serve.specs.Serve.{FileNames, LoadsFiles, ServesBound, ServesFiles, ServesLoaded, ServesPorts, EndsUnserved}
+use Rattle.cmd_serve.specs.Service.{DoneTurn, held_behind, past_behind, past_of}
+use Rattle.cmd_serve.specs.Texts.{IsPrintedFor}
+use Rattle.cmd_serve.specs.declared.serve.Bound.{Bound}
+use Rattle.cmd_serve.specs.declared.serve.Loaded.{Loaded}
+use Rattle.cmd_serve.specs.declared.serve.Numbers.{Numbers}
+use Rattle.cmd_serve.specs.declared.serve.ServeStartFault.{ServeStartFault}
+use Rattle.il_image.specs.Octets.{AreOctets}
+use Rattle.cmd_audit_laws.specs.Audited.{ByTimer, IsAudited, Plainly}
+use Rattle.cmd_audit_laws.specs.Waits.{OrdersWait}
+
+-- ---- turns
+
+-- For each command of one of the turns, however it was ordered: if the rule forbids it while its
+-- condition holds, the condition does not hold for what the process had last reported, at the
+-- device just before the client's octets. The same for each line that reads as a command, if it
+-- names the switch of the rule, and its operation.
+abbrev pub OrdersObey : Rule → State → ServerData → List Past → List DoneTurn → Type 0
+OrdersObey rule first h past [] = Unit {0}
+OrdersObey rule first h past (t ∷ ts) =
+    ((command : Command) (o : IsOrdered first h t past command)
+    → IsAllowed rule (done_at t.now o.heard.front h.device).after command)
+    × ((printed : PrintedCommand) (p : IsPrintedFor first h t past printed) (switch : Switch)
+    → slice_get first.switches rule.switch ≡ Some switch → printed.id ≡ switch.id
+    → printed.operation ≡ rule.operation
+    → holds rule.when (process_of (done_at t.now p.ordered.heard.front h.device).after) ≡ false)
+    × OrdersObey rule first (held_behind t h)
+    (past_behind t.now (turn_events t.now t.given t.script h) h.device past) ts
+
+-- the requirement on an image, whoever wrote it: it is a list of octets
+abbrev pub IsFile : Form → List ℕ → Type 0
+IsFile Logic program = Unit {0}
+IsFile Image program = AreOctets program
+
+-- Turns of a server, from its first on, obey each rule that forbids, if an audit of the same octets
+-- answers that it holds, and wait for each with a time, if the audit answers that a timer
+-- establishes it. Each scan in them obeys each rule without a time that holds.
+pub record ObeyAudits (form : Form) (both : FilesData) (begun : ServerData) (turns : List DoneTurn)
+    : Type 0 where
+  pub obey : (rules : List ℕ) (rule : Rule) → rule.kind ≡ Never
+      → IsAudited Plainly both.bay form both.program rules rule
+      → OrdersObey rule begun.device begun [] turns
+  pub wait : (rules : List ℕ) (rule : Rule) (timing : Timing) → rule.kind ≡ Never
+      → rule.timed ≡ Some timing → IsAudited ByTimer both.bay form both.program rules rule
+      → OrdersWait rule timing begun.device begun [] [] turns
+  pub scans : (rules : List ℕ) (rule : Rule) → rule.timed ≡ None
+      → IsAudited Plainly both.bay form both.program rules rule
+      → EachPast (ScanObeysAt rule) begun.device (past_of turns begun [])
+
+-- The same for a program's text, and for the octets of an image.
+abbrev pub ObeyAuditsOf : Form → FilesData → ServerData → List DoneTurn → Type 0
+ObeyAuditsOf form both begun turns = IsFile form both.program → ObeyAudits form both begun turns
+
+-- ---- the turns of a service
+
+module _ {L H W : Type 0} (step : L → Call → L → Type 0) (acts : H → HostCall L → H → Type 0)
+    (contents : W → Option (List ℕ)) (asks : W → WriteCall → W → Type 0) where
+  -- the statement holds for the turns that were served, if the ports could be bound
+  abbrev pub OfBound : (Is : ServerData → List DoneTurn → Type 0) (numbers : Numbers)
+      (trace : List ℕ)
+      (host after : H) (old new : Writing W) (answer : Result ℕ WriteFault)
+      (bound : Result (Bound L) ServeStartFault) → MatchResult bound
+      (λ ports. ServesBound step acts contents asks numbers ports trace host after old new answer)
+      (λ why. EndsUnserved contents asks why old new answer × (after ≡ host))
+      → Type 0
+  OfBound Is numbers trace host after old new answer (Ok ports) goes =
+      Is ports.server goes.5.done
+  OfBound Is numbers trace host after old new answer (Err why) goes = Unit {0}
+
+  abbrev pub OfPorts : (Is : ServerData → List DoneTurn → Type 0) (numbers : Numbers)
+      (loaded : Loaded)
+      (before after : H) (old new : Writing W) (answer : Result ℕ WriteFault)
+      → ServesPorts step acts contents asks numbers loaded before after old new answer → Type 0
+  OfPorts Is numbers loaded before after old new answer ports =
+      OfBound Is numbers loaded.trace.items ports.host after old new answer ports.bound
+      ports.goes_on
+
+  -- the same, if the line of the load could be written
+  abbrev pub OfLoaded : (Is : ServerData → List DoneTurn → Type 0) (numbers : Numbers)
+      (loaded : Loaded)
+      (before after : H) (old new : Writing W) (answer : Result ℕ WriteFault)
+      → ServesLoaded step acts contents asks numbers loaded before after old new answer → Type 0
+  OfLoaded Is numbers loaded before after old new answer serves =
+      InLater _ _ serves.told serves.goes_on
+      (OfPorts Is numbers loaded before after serves.middle new answer)
+
+-- ---- the turns of the files
+
+module _ {F L H W : Type 0} (step : L → Call → L → Type 0) (acts : H → HostCall L → H → Type 0)
+    (contents : W → Option (List ℕ)) (asks : W → WriteCall → W → Type 0) (reads : FileReads F)
+    (guards : FileGuards F) where
+  -- the same, if the files could be read and loaded: with the octets of the bay file and of the
+  -- program
+  abbrev pub OfFiles : (Is : FilesData → ServerData → List DoneTurn → Type 0) (files : F)
+      (named : FileNames) (numbers : Numbers) (before after : H) (old new : Writing W)
+      (answer : Result ℕ WriteFault) (loaded : Result Loaded ServeStartFault)
+      → LoadsFiles reads guards files named loaded → MatchResult loaded
+      (λ all. ServesLoaded step acts contents asks numbers all before after old new answer)
+      (λ why. EndsUnserved contents asks why old new answer × (after ≡ before))
+      → Type 0
+  OfFiles Is files named numbers before after old new answer (Ok loaded) loads goes =
+      OfLoaded step acts contents asks (Is loads.0) numbers loaded before after old new answer goes
+  OfFiles Is files named numbers before after old new answer (Err why) loads goes = Unit {0}
+
+  -- The turns of each service obey the answers of each audit of the same octets.
+  abbrev pub ServedCommandsObey : Type 0
+  ServedCommandsObey =
+      (files : F) (named : FileNames) (numbers : Numbers) (before after : H) (old new : Writing W)
+      (answer : Result ℕ WriteFault)
+      (serves : ServesFiles step acts contents asks reads guards files named numbers before after
+      old new answer)
+      → OfFiles (ObeyAuditsOf named.form) files named numbers before after old new answer
+      serves.loaded serves.loads serves.goes_on

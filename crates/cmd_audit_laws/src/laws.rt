@@ -1,0 +1,124 @@
+// Laws of audited rules, and of small runs of commands. Each function does nothing, and its
+// contract is the law.
+ghost use Rattle.std.specs.Prelude.{◌≡◌, ◌+◌, ℕ, true, false, List, [], ◌∷◌};
+ghost use Rattle.std.specs.List.{Contains};
+ghost use Rattle.bay_mms_services.specs.declared.answer.Command.{Command};
+ghost use Rattle.bay_device.specs.Device.{State};
+ghost use Rattle.bay_device.specs.Fresh.{IsSameProcess, Past};
+ghost use Rattle.bay_device.specs.declared.event.Step.{Step};
+ghost use Rattle.cmd_audit_laws.specs.Orders.{brings, closed, contact_past, enabling, lost_past, opened, opens, refused, scan_past, silent, turn_with};
+ghost use Rattle.cmd_audit_laws.specs.Replayed.{ReplayedCommandsObey};
+ghost use Rattle.cmd_audit_laws.specs.Served.{ServedCommandsObey};
+ghost use Rattle.cmd_audit_laws.specs.Told.{HoldsAreAudited};
+ghost use Rattle.bay_server_turn.specs.Calls.{Called};
+ghost use Rattle.bay_server_turn.specs.Turns.{ServerData};
+ghost use Rattle.bay_server_turn.specs.declared.turn_report.Turn.{Turn};
+ghost use Rattle.cmd_serve.specs.Orders.{AreOrdered, IsHeard, IsOrdered, IsReleasedBy};
+ghost use Rattle.cmd_serve.specs.Service.{DoneTurn, IsTurn};
+
+use bay_files::files::FileSystem;
+use bay_io::calls::Sink;
+use bay_server::host::Host;
+use bay_server_turn::link::Link;
+
+/// The answers of an audit hold for each service of the same bay file and program. Each command
+/// that a turn reports, and each line `ms command id on` (or `off`) that is printed or sent to the
+/// process, follows octets of a client.
+///
+/// If the audit answers that a rule holds which forbids the command while a condition holds, this
+/// condition does not hold for what the process had last reported before these octets. If it
+/// answers that a timer establishes a rule with a time, and the rule applies to what the process
+/// had last reported, its condition had held for this time at the last scan. After each scan of a
+/// turn the interlocking values meet each rule without a time that the audit answers to hold.
+///
+/// An image may come from anyone: it must only be a list of octets. The text of a program may be
+/// any.
+pub fn served_commands_obey<F: FileSystem, L: Link, H: Host<L>, W: Sink>(
+    _files: &F,
+    _link: &L,
+    _host: &H,
+    _sink: &W,
+)
+    ensures { ServedCommandsObey (Called L.does L.failures) H.does W.contents W.does F.reads
+        F.guards }
+{}
+
+/// The answers of an audit hold for each replay whose scenario has the same bay file and program.
+/// If a rule holds that forbids a command while a condition holds, the command is issued by an
+/// event before which the condition did not hold for what the process had last reported. The same
+/// holds for each line `ms command id on` (or `off`) of the text that names the switch of the rule
+/// by its id. If a timer establishes a rule with a time, the commands wait for it; and each scan
+/// obeys each rule without a time that holds.
+pub fn replayed_commands_obey()
+    ensures { ReplayedCommandsObey }
+{}
+
+/// Each line `rule LINE ID OPERATION holds ..` of an audit's text is that of a rule in this line of
+/// the text of rules, for this operation of the switch with this id, for which the audit answers
+/// that it holds, or that a timer establishes it.
+pub fn printed_holds_are_audited()
+    ensures { HoldsAreAudited }
+{}
+
+/// A scan with the result EnaOpn TRUE releases the command to open until it is too old, also after
+/// a contact that changes nothing. A scan with the result FALSE does not, even if an earlier one
+/// had TRUE. Nor does a scan if the process was lost since then, or reports something else.
+pub fn the_last_scan_releases_a_command()
+    ensures released { (s : State) (step : Step) (age : ℕ)
+        → IsReleasedBy age age (scan_past (enabling true s) step ∷ []) (enabling true s) opens }
+    ensures unchanged { (s t : State) (step : Step) (age : ℕ)
+        → IsSameProcess (enabling true s) t
+        → IsReleasedBy age age
+        (contact_past t step ∷ scan_past (enabling true s) step ∷ []) t opens }
+    ensures unscanned { (s : State) (now age : ℕ) → IsReleasedBy now age [] s opens → ⊥ }
+    ensures blocked { (s t : State) (step : Step) (now age : ℕ)
+        → IsReleasedBy now age (scan_past (enabling false s) step ∷ []) t opens → ⊥ }
+    ensures earlier { (s t : State) (step : Step) (now age : ℕ)
+        → IsReleasedBy now age
+        (scan_past (enabling false s) step ∷ scan_past (enabling true s) step ∷ []) t opens → ⊥ }
+    ensures old { (s t : State) (step : Step) (age : ℕ)
+        → IsReleasedBy (age + 1) age (scan_past s step ∷ []) t opens → ⊥ }
+    ensures lost { (s t : State) (step : Step) (now age : ℕ)
+        → IsReleasedBy now age (lost_past t step ∷ scan_past s step ∷ []) t opens → ⊥ }
+    ensures changed { (s t : State) (step : Step) (now age : ℕ) → (IsSameProcess s t → ⊥)
+        → IsReleasedBy now age (scan_past s step ∷ []) t opens → ⊥ }
+{}
+
+/// Octets are heard if they arrive on an open association, and not if none is open. No command is
+/// ordered by a turn in which no octets arrive, by an octet that only begins a TPKT, or by octets
+/// for which memory runs out. None is ordered without a scan, or by a scan that is too old; none on
+/// a device whose process is lost, or in a turn with the loss of the process. Turns that report no
+/// command are ordered. Turns are not if one of them, here the last, reports a command that is not
+/// ordered. No clause has a run that orders a command: a server of bayctl_tests prints one, `3000
+/// command QB1 off`, and the contract of a server states that each command that it prints is
+/// ordered.
+pub fn a_reported_command_needs_each_of_its_parts()
+    ensures heard { (s : State) (octet : ℕ) (octets : List ℕ) (told : Turn)
+        → IsHeard (opened s) (turn_with (brings (octet ∷ octets)) told) }
+    ensures closed { (s : State) (octets : List ℕ) (told : Turn)
+        → IsHeard (closed s) (turn_with (brings octets) told) → ⊥ }
+    ensures silent { (first : State) (h : ServerData) (told : Turn) (past : List Past)
+        (command : Command) → IsOrdered first h (turn_with silent told) past command → ⊥ }
+    ensures part { (first s : State) (told : Turn) (past : List Past) (command : Command)
+        → IsOrdered first (opened s) (turn_with (brings (3 ∷ [])) told) past command → ⊥ }
+    ensures refused { (first s : State) (octet : ℕ) (octets : List ℕ) (told : Turn)
+        (past : List Past) (command : Command)
+        → IsOrdered first (opened s) (turn_with (refused (octet ∷ octets)) told) past
+        command → ⊥ }
+    ensures unscanned { (first : State) (h : ServerData) (t : DoneTurn) (command : Command)
+        → IsOrdered first h t [] command → ⊥ }
+    ensures old { (first s : State) (h : ServerData) (t : DoneTurn) (step : Step)
+        (command : Command)
+        → IsOrdered first h (record t { now = first.scan_max_age_ms + 1 })
+        (scan_past s step ∷ []) command → ⊥ }
+    ensures lost { (first : State) (h : ServerData) (t : DoneTurn) (past : List Past)
+        (command : Command) → h.device.is_lost ≡ true → IsOrdered first h t past command → ⊥ }
+    ensures told_lost { (first : State) (h : ServerData) (t : DoneTurn) (past : List Past)
+        (command : Command) → IsTurn h t → t.given.is_lost ≡ true
+        → IsOrdered first h t past command → ⊥ }
+    ensures quiet { (first : State) (h : ServerData) (t u : DoneTurn) (past : List Past)
+        → t.told.commands ≡ [] → u.told.commands ≡ [] → AreOrdered first h past (t ∷ u ∷ []) }
+    ensures unordered { (first : State) (h : ServerData) (t : DoneTurn) (told : Turn)
+        (past : List Past) (command : Command) → Contains told.commands command
+        → AreOrdered first h past (t ∷ turn_with silent told ∷ []) → ⊥ }
+{}

@@ -1,0 +1,6 @@
+// Laws of audited rules: the commands of a service and of a replay obey them.
+//
+// - `laws`: the laws.
+#![tactic(auto)]
+
+pub mod laws;

@@ -1,0 +1,34 @@
+-- The events of a device since load, the last event first, and statements on all of them.
+use Rattle.std.specs.Prelude.{ℕ, List, [], ◌∷◌, ◌++◌, Result}
+use Rattle.bay_device.specs.Device.{State}
+use Rattle.bay_device.specs.Fresh.{IsFresh, Past}
+use Rattle.bay_device.specs.declared.event.Event.{Event}
+use Rattle.bay_device.specs.declared.event.Step.{Step}
+use Rattle.bay_device.specs.declared.fault.StepFault.{StepFault}
+
+-- the device after these events
+abbrev pub device_after : State → List Past → State
+device_after first [] = first
+device_after first (p ∷ past) = p.after
+
+-- A statement holds for each event: for its moment, the event, the device before it, its answer and
+-- the device after it.
+abbrev pub EachPast : (ℕ → Event → State → Result Step StepFault → State → Type 0) → State
+    → List Past → Type 0
+EachPast Does first [] = Unit {0}
+EachPast Does first (p ∷ past) =
+    Does p.now p.event (device_after first past) p.answer p.after × EachPast Does first past
+
+-- Each command follows such a scan among the events before it.
+abbrev pub AllFresh : ℕ → List Past → Type 0
+AllFresh age [] = Unit {0}
+AllFresh age (p ∷ past) = IsFresh p.now age past p.answer × AllFresh age past
+
+-- the events in their order, and their answers
+abbrev pub events_of : List Past → List (ℕ × Event)
+events_of [] = []
+events_of (p ∷ past) = events_of past ++ (p.now, p.event) ∷ []
+
+abbrev pub answers_of : List Past → List (Result Step StepFault)
+answers_of [] = []
+answers_of (p ∷ past) = answers_of past ++ p.answer ∷ []

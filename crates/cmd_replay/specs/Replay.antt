@@ -1,0 +1,124 @@
+-- What is printed for a scenario, with which status, and which line is logged then, if any.
+use Rattle.bay_io.specs.Calls.{AskedFew, ReadCall, WriteCall, read_failed, some_call, write_failed}
+use Rattle.std.specs.Prelude.{◌≡◌, ℕ, ◌+◌, ◌≤◌, ◌<◌, Bool, false, List, ◌∷◌, ◌++◌, length, codes, Option, None, Some, is_none, IfSome, Result, Ok, Err, is_err, ◌⊎◌, MatchBool, if◌then◌else◌, []}
+use Rattle.bay_device.specs.Device.{State}
+use Rattle.bay_device.specs.Report.{IsReport as IsReportOf}
+use Rattle.bay_device.specs.declared.report.Report.{Report}
+use Rattle.cmd_replay.specs.LineAnswers.{Choice, Replaying, line_answer}
+use Rattle.bay_report.specs.Load.{load_of}
+use Rattle.cmd_replay.specs.Runs.{IsOfRun}
+use Rattle.cmd_replay.specs.Scenario.{ScenarioParts, scenario_of, scenario_limit}
+use Rattle.bay_report.specs.TextLines.{lines_of}
+use Rattle.bay_io.specs.Input.{IsEnded, octets_of}
+use Rattle.bay_io.specs.Watched.{Reading, Writing}
+use Rattle.bay_io.specs.declared.input.ReadFault.{ReadFault}
+use Rattle.bay_io.specs.declared.input.ReadFault.TheVariants as unread
+use Rattle.bay_io.specs.declared.outbox.WriteFault.{WriteFault}
+use Rattle.std.specs.declared.io.ErrorKind.{ErrorKind}
+use Rattle.bay_trace.specs.Trace.{trace_line_of}
+use Rattle.bay_device.specs.declared.fault.LoadFault.{LoadFault}
+use Rattle.bay_device.specs.declared.fault.LoadFault.TheVariants.{OutOfMemory}
+use Rattle.bay_report.specs.LogLines.{IsReported, PrintsLogs, Refuses, UnreadReport, unreadable_line}
+use Rattle.bay_report.specs.Report.{report_text}
+
+-- the log line for line k, the last line of a trace that was answered: none if the line is valid
+abbrev pub last_log : ℕ → List ℕ → Option (List ℕ)
+last_log k line = if is_none (trace_line_of line) then Some (unreadable_line k line) else None
+
+-- the log line, the text and the status for the lines of a trace, from line k on: for each line
+-- there is a choice with which its answer is printed, one after the other, up to a line that is not
+-- valid or for which memory runs out
+abbrev pub TraceReport : Replaying → ℕ → List (List ℕ) → Option (List ℕ) → List ℕ → ℕ → Type 0
+TraceReport r k [] log text status = IsReported None [] 0 log text status
+TraceReport r k (line ∷ lines) log text status =
+    (choice : Choice) × (let answer = line_answer choice k (trace_line_of line) r in
+    MatchBool answer.is_last (IsReported (last_log k line) answer.text 3 log text status)
+    ((rest : List ℕ) × (text ≡ answer.text ++ rest)
+    × TraceReport answer.after (k + 1) lines log rest status))
+
+-- the same for a device and its trace: the line of its load is printed, followed by the answers to
+-- the lines; the buffer for octets is empty at first
+abbrev pub DeviceReport : State → List (List ℕ) → Option (List ℕ) → List ℕ → ℕ → Type 0
+DeviceReport s lines log text status =
+    (report : Report) × IsReportOf s.machine.image report
+    × ((rest : List ℕ) × (text ≡ report_text report ++ rest)
+    × TraceReport (record { device = s; room = 0 }) 1 lines log rest status)
+
+-- the same for the result of a load and a trace
+abbrev pub LoadReport : Result State LoadFault → List ℕ → Option (List ℕ) → List ℕ → ℕ → Type 0
+LoadReport (Err fault) trace log text status = Refuses fault log text status
+LoadReport (Ok device) trace log text status = DeviceReport device (lines_of trace) log text status
+
+-- the same for a bay file, a program and a trace; memory may run out in their load
+abbrev pub LoadsReport : ScenarioParts → Option (List ℕ) → List ℕ → ℕ → Type 0
+LoadsReport parts log text status =
+    LoadReport (load_of parts.bay parts.logic) parts.trace log text status
+    ⊎ Refuses OutOfMemory log text status
+
+-- The same for parts of a scenario, stated once more by the events of the device: if the parts
+-- load, the text is that of a run of the device, of which everything holds that is proved of a run.
+abbrev pub RunReport : ScenarioParts → Option (List ℕ) → List ℕ → ℕ → Type 0
+RunReport parts log text status =
+    LoadsReport parts log text status × IsOfRun parts log text status
+
+-- the same for a scenario's parts, if it has them
+abbrev pub PartsReport : Option ScenarioParts → Option (List ℕ) → List ℕ → ℕ → Type 0
+PartsReport None =
+    IsReported (Some (codes "bayctl: fault 120 line 0: a line %% is missing\n"))
+    (codes "fault 120 line 0\n") 3
+PartsReport (Some parts) = RunReport parts
+
+-- the same for a scenario
+abbrev pub IsReport : List ℕ → Option (List ℕ) → List ℕ → ℕ → Type 0
+IsReport scenario = PartsReport (scenario_of scenario)
+
+-- the same for an input that can't be read
+abbrev pub UnreadInput : ReadFault → Option (List ℕ) → List ℕ → ℕ → Type 0
+UnreadInput = UnreadReport (codes "standard input")
+
+-- the same for the octets of a reader of which no read failed: the report of the scenario, or
+-- memory ran out; a fault if there were too many
+abbrev pub ReadReport : Option (List ℕ) → Option (List ℕ) → List ℕ → ℕ → Type 0
+ReadReport input log text status =
+    ((scenario : List ℕ) × IfSome input (λ octets. scenario ≡ octets)
+    × (length scenario ≤ scenario_limit)
+    × (IsReport scenario log text status ⊎ UnreadInput unread.OutOfMemory log text status))
+    ⊎ (UnreadInput unread.TooLong log text status
+    × IfSome input (λ octets. scenario_limit < length octets))
+
+-- the same for the octets of a reader; a fault of this kind exactly if a read failed
+abbrev pub IsReplay : Option (List ℕ) → Bool → Option (List ℕ) → List ℕ → ℕ → Type 0
+IsReplay input has_failed log text status =
+    MatchBool has_failed ((kind : ErrorKind) × UnreadInput (unread.Failed kind) log text status)
+    (ReadReport input log text status)
+
+-- The octets of a reader were replayed to a writer: the scenario is what at most 16,777,217 reads
+-- returned, in their order, up to the end. The failure of the reader is reported exactly if one of
+-- these reads failed, or one had failed before.
+pub record ReplaysReads {R W : Type 0} (does : R → ReadCall → R → Type 0)
+    (contents : W → Option (List ℕ)) (asks : W → WriteCall → W → Type 0) (old new : Reading R)
+    (before after : Writing W) (result : Result ℕ WriteFault) : Type 0 where
+  pub reads : AskedFew does read_failed (scenario_limit + 1) old.inner old.has_failed new.inner
+      new.has_failed
+  pub ended : new.has_failed ≡ false → IsEnded reads.asked.calls
+      ⊎ (scenario_limit < length (octets_of reads.asked.calls))
+  pub prints : PrintsLogs contents asks
+      (IsReplay (Some (octets_of reads.asked.calls)) new.has_failed) before after result
+
+-- The same from a source to a sink, which were not used before. The result is a fault exactly if a
+-- write or a flush failed, or a write took nothing.
+pub record Replays {R W : Type 0} (does : R → ReadCall → R → Type 0)
+    (contents : W → Option (List ℕ)) (asks : W → WriteCall → W → Type 0) (reader : R) (writer : W)
+    (result : Result ℕ WriteFault) : Type 0 where
+  pub end : Reading R
+  pub last : Writing W
+  pub replays : ReplaysReads does contents asks
+      (record { inner = reader; has_failed = false }) end
+      (record {
+        inner = writer;
+        has_failed = false;
+        is_flushed = false;
+        logs = false;
+        pending = [];
+      }) last result
+  pub fault : is_err result ≡ some_call write_failed replays.prints.printed.asked.calls

@@ -1,0 +1,116 @@
+-- A report is the text of a run of a device.
+use Rattle.std.specs.Prelude.{ℕ, ◌≡◌, ◌+◌, List, [], ◌∷◌, ◌++◌, All, length, codes, Option, None, Some, Ok, ◌⊎◌}
+use Rattle.bay_control.specs.Backing.{AreBacked}
+use Rattle.il_check.specs.Program.{Checked}
+use Rattle.bay_device.specs.Commands.{CommandedAt}
+use Rattle.bay_device.specs.Device.{State, bay_of}
+use Rattle.bay_device.specs.Fresh.{Came, Past}
+use Rattle.bay_device.specs.Load.{IsCompiled, IsLoaded}
+use Rattle.bay_device.specs.Meaning.{HaltsAt, MeansAt, Runs}
+use Rattle.bay_device.specs.Operates.{AllOperate}
+use Rattle.bay_device.specs.Report.{IsReport as IsReportOf}
+use Rattle.bay_device.specs.Steps.{Steps}
+use Rattle.bay_device.specs.EntriesTold.{entries_of_run}
+use Rattle.bay_device.specs.declared.fault.LoadFault.TheVariants.{OutOfMemory}
+use Rattle.bay_device.specs.declared.report.Report.{Report}
+use Rattle.bay_trace.specs.Resolving.{placed_event}
+use Rattle.bay_trace.specs.Trace.{NamedData, at_moment, blank, trace_line_of}
+use Rattle.bay_report.specs.Lines.{step_text, unreadable_text}
+use Rattle.bay_report.specs.Load.{file_of, load_of, text_of}
+use Rattle.bay_report.specs.LogLines.{Refuses}
+use Rattle.bay_report.specs.Report.{report_text}
+use Rattle.bay_report.specs.TextLines.{lines_of}
+use Rattle.cmd_replay.specs.History.{AllFresh, EachPast, answers_of, device_after, events_of}
+use Rattle.cmd_replay.specs.Scenario.{ScenarioParts}
+
+-- ---- the lines of a trace
+
+-- A line is empty.
+abbrev pub IsBlank : List ℕ → Type 0
+IsBlank line = trace_line_of line ≡ Some blank
+
+-- The last of some lines that is not empty has this event at its moment, by the names of the device
+-- before it; `before` are the lines before it, and all lines after it are empty.
+pub record IsLast (s : State) (p : Past) (before lines : List (List ℕ)) : Type 0 where
+  pub line : List ℕ
+  pub blanks : List (List ℕ)
+  pub split : lines ≡ before ++ line ∷ blanks
+  pub named : NamedData
+  pub reads : trace_line_of line ≡ Some (at_moment p.now named)
+  pub event : p.event ≡ placed_event s named
+  pub blank : All IsBlank blanks
+
+-- The events are those of these lines, one for each line that is not empty.
+abbrev pub AreOfLines : State → List Past → List (List ℕ) → Type 0
+AreOfLines first [] lines = All IsBlank lines
+AreOfLines first (p ∷ past) lines =
+    (before : List (List ℕ)) × IsLast (device_after first past) p before lines
+    × AreOfLines first past before
+
+-- ---- the text
+
+-- what is printed for events, one after the other
+abbrev pub printed_of : List Past → List ℕ
+printed_of [] = []
+printed_of (p ∷ past) = printed_of past ++ step_text p.now p.answer p.after
+
+-- How a trace ends after `done` lines: after its last line; or at a line that is not valid, whose
+-- number is printed, or for whose octets memory ran out.
+abbrev pub EndsAs : ℕ → List (List ℕ) → List ℕ → ℕ → Type 0
+EndsAs done [] ending status = (ending ≡ []) × (status ≡ 0)
+EndsAs done (line ∷ lines) ending status =
+    (((trace_line_of line ≡ None) × (ending ≡ unreadable_text (done + 1)))
+    ⊎ (ending ≡ codes "fault memory\n"))
+    × (status ≡ 3)
+
+-- The text and the status of a trace that is replayed on a device, by these events: the line of its
+-- load, what is printed for the events, and how it ends.
+pub record IsTextOf (first : State) (past : List Past) (trace text : List ℕ) (status : ℕ)
+    : Type 0 where
+  pub report : Report
+  pub reported : IsReportOf first.machine.image report
+  pub lines : List (List ℕ)
+  pub rest : List (List ℕ)
+  pub split : lines_of trace ≡ lines ++ rest
+  pub events : AreOfLines first past lines
+  pub ending : List ℕ
+  pub ends : EndsAs (length lines) rest ending status
+  pub whole : text ≡ report_text report ++ (printed_of past ++ ending)
+
+-- ---- a run
+
+-- The events of a device since load, which led from the first state to the last.
+pub record IsOneRun (first : State) (past : List Past) (last : State) : Type 0 where
+  pub came : Came past last
+  -- Each command is one that the interlocking releases, on a fresh scan, while no switch is
+  -- operating, and something is sent with it;
+  pub commanded : EachPast CommandedAt first past
+  -- it follows a scan of these events that is not too old, since which the process has not changed;
+  pub fresh : AllFresh first.scan_max_age_ms past
+  -- and the commands are the accepted operates in the entries of the run, by the octets of the
+  -- events and of the answers, each backed by a select if its switch must be selected.
+  pub operated : AllOperate (bay_of first) first.connections (events_of past) (answers_of past)
+  pub backed : AreBacked first.controls.controls
+      (entries_of_run (bay_of first) first.connections (events_of past) (answers_of past))
+  -- Each scan of a device that runs a program reaches HALT without a trap, within the budget, and
+  -- results in what the program means.
+  pub halts : (c : Checked) → Runs c first → EachPast HaltsAt first past
+  pub means : (c : Checked) → Runs c first → EachPast (MeansAt c) first past
+
+-- The text and the status are those of a run of a device, which was loaded from the parts of a
+-- scenario.
+pub record IsRun (parts : ScenarioParts) (first : State) (text : List ℕ) (status : ℕ)
+    : Type 0 where
+  pub loaded : IsLoaded (file_of parts.bay) (IsCompiled (text_of parts.logic)) first
+  pub past : List Past
+  pub steps : EachPast Steps first past
+  pub printed : IsTextOf first past parts.trace text status
+  pub runs : Runs loaded.made.checked first
+  pub guarded : IsOneRun first past (device_after first past)
+
+-- If the parts of a scenario load to a device, the text and the status are those of a run of it, or
+-- those of a load for which memory ran out.
+abbrev pub IsOfRun : ScenarioParts → Option (List ℕ) → List ℕ → ℕ → Type 0
+IsOfRun parts log text status =
+    (first : State) → load_of parts.bay parts.logic ≡ Ok first
+    → Refuses OutOfMemory log text status ⊎ IsRun parts first text status

@@ -1,0 +1,18 @@
+use Rattle.bay_server_turn.specs.Calls.{Called}
+use Rattle.cmd_serve.proofs.BeginLemmas.{begun-of}
+use Rattle.cmd_replay.proofs.LoadedLemmas.{loaded-from, loaded-runs}
+use Rattle.cmd_serve.proofs.TurnLemmas.{service-of}
+use Rattle.cmd_serve.proofs.laws.all_turns_are_one_run.Goals as goal
+
+pub returns-clause-run : goal.returns-clause-run
+returns-clause-run g c = λ turns before old new host answer serves loaded.
+    service-of (Called g.L.Link.does g.L.Link.failures) g.H.Host.does g.W.Sink.contents
+    g.W.Sink.does turns before old new host answer serves loaded
+
+pub returns-clause-begins : goal.returns-clause-begins
+returns-clause-begins g c = begun-of
+
+pub returns-clause-runs : goal.returns-clause-runs
+returns-clause-runs g c = λ bay program device loads.
+    let loaded = loaded-from bay program device loads in
+    (loaded, loaded-runs bay program device loaded)

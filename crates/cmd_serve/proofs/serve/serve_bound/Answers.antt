@@ -1,0 +1,16 @@
+use Rattle.bay_server_turn.specs.Calls.{Called}
+use Rattle.cmd_serve.proofs.FileLemmas.{one-run}
+use Rattle.cmd_serve.proofs.serve.serve_bound.Goals as goal
+
+pub returns : goal.returns
+returns g c = (
+  c.clocks-clocks.result,
+  c.clocks-clocks.new.self,
+  c.log_ports.new.writer,
+  c.clocks-clocks.ensures,
+  c.log_ports.ensures,
+  one-run (Called g.L.Link.does g.L.Link.failures) g.H.Host.does g.W.Sink.contents
+      g.W.Sink.does _
+      _ _ _ _ _ (rw c.start-clock.ensures at c.serve_turns.ensures) c.requires.begun
+      c.requires.named,
+)

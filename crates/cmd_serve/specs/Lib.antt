@@ -1,0 +1,42 @@
+-- The command `serve`, and laws on all its turns together. The effect of a call of the system is a
+-- relation that its implementation defines.
+--
+-- `Serve` is the main file: files are read and loaded, the line of the load is printed, the ports
+-- are opened, and turns are served, which are one run of the device; if one of these fails, it
+-- defines what is printed, and nothing more is done.
+--
+-- `Service`: the turns that were served, one after the other, and all events of the device in them
+-- since load, which are one run of it. `Orders`: the request, the answer and the scan of each
+-- command that a turn reports; `Texts`: the same for the lines that are printed. `Live`: a
+-- supervised process was alive when a turn with a command began.
+
+-- What public clauses cite of the crates below.
+pub use Rattle.bay_device.specs.Commands
+pub use Rattle.bay_device.specs.Fresh
+pub use Rattle.bay_device.specs.Meaning
+pub use Rattle.bay_device.specs.Operates
+pub use Rattle.bay_device.specs.Steps
+pub use Rattle.bay_device.specs.EntriesTold
+pub use Rattle.bay_files.specs.Files
+pub use Rattle.bay_files.specs.Keys
+pub use Rattle.bay_process_port.specs.Ports
+pub use Rattle.bay_process_port.specs.Supervision
+pub use Rattle.bay_process_port.specs.Supervised
+pub use Rattle.cmd_replay.specs.History
+pub use Rattle.bay_report.specs.Load
+pub use Rattle.bay_report.specs.Report
+pub use Rattle.bay_report.specs.TextLines
+pub use Rattle.bay_replay_laws.specs.Printed
+pub use Rattle.bay_replay_laws.specs.ReadBack
+pub use Rattle.bay_server_turn.specs.Calls
+pub use Rattle.bay_server_turn.specs.Turns
+pub use Rattle.bay_server_turn_laws.specs.Events
+pub use Rattle.bay_server.specs.Host
+pub use Rattle.bay_server.specs.LogLines
+pub use Rattle.bay_server.specs.ServeReport
+-- Its own definitions.
+pub mod Live
+pub mod Orders
+pub mod Serve
+pub mod Service
+pub mod Texts

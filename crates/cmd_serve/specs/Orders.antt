@@ -1,0 +1,97 @@
+-- Each command that a turn reports: who requested it, what was answered, and which scan released
+-- it.
+use Rattle.std.specs.Prelude.{ℕ, ◌≡◌, ◌+◌, true, All, List, [], ◌∷◌, ◌++◌, Option, None, Some, Ok, IfOk}
+use Rattle.std.specs.Borrow.{Bor}
+use Rattle.std.specs.List.{Contains}
+use Rattle.bay_connection.specs.ConnectionStates.{ConnectionState, Terms, indications, tells}
+use Rattle.bay_process.specs.Values.{is_truth}
+use Rattle.bay_mms_services.specs.Accepted.{accepted_in}
+use Rattle.bay_mms_services.specs.Entries.{operates_in}
+use Rattle.bay_mms_services.specs.Released.{releasing}
+use Rattle.bay_mms_services.specs.declared.answer.Command.{Command}
+use Rattle.bay_tree.specs.Rows.{leaf_of}
+use Rattle.bay_device.specs.Commands.{IsReleasedAt}
+use Rattle.bay_device.specs.Device.{State, bay_of}
+use Rattle.bay_device.specs.Fresh.{HasScan, IsSameProcess, Past}
+use Rattle.bay_device.specs.Outcomes.{outcome, place_of}
+use Rattle.bay_device.specs.Steps.{OfAssociation}
+use Rattle.bay_device.specs.EntriesTold.{pdu_in, connection_state_at}
+use Rattle.bay_device.specs.declared.event.Event.TheVariants.{Recv}
+use Rattle.bay_device.specs.declared.event.Sent.{Sent}
+use Rattle.bay_device.specs.declared.event.Step.{Step}
+use Rattle.bay_server_turn.specs.Turns.{ServerData, turn_calls}
+use Rattle.bay_server_turn_laws.specs.Events.{ChosenEvent, done_at, turn_events}
+use Rattle.bay_server_turn_laws.specs.Flows.{FlowsAt, given_of, sent_to}
+use Rattle.cmd_serve.specs.Service.{DoneTurn, held_behind, past_behind}
+
+-- There is such a scan among these events, and none of those since is a scan that was accepted. It
+-- left the interlocking value of the command TRUE (EnaCls for on, EnaOpn for off), and the process
+-- of this device is still as it was after the scan.
+pub record IsReleasedBy (now age : ℕ) (past : List Past) (s : State) (command : Command)
+    : Type 0 where
+  pub scan : HasScan now age past
+  pub last : All (λ (p : Past). IfOk p.answer (λ step. step.scan ≡ None)) scan.since
+  pub enabled : is_truth true
+      (leaf_of (releasing command.switch command.operation) scan.scan.after.rows) ≡ true
+  pub unchanged : IsSameProcess scan.scan.after s
+
+-- some octets are a part of others
+abbrev pub StandIn : List ℕ → List ℕ → Type 0
+StandIn octets all = (before : List ℕ) × (after : List ℕ) × (all ≡ before ++ octets ++ after)
+
+-- all that the device sends to an association in a turn
+abbrev pub sent_in : ℕ → DoneTurn → ServerData → List ℕ
+sent_in a t h =
+    sent_to a (done_at t.now (turn_events t.now t.given t.script h) h.device).answers
+
+-- In a turn octets of an association were handled, after some of its events, each of which is one
+-- of an association. They are those that the link read for the association in the turn, and this is
+-- the device's answer to them.
+pub record IsHeard (h : ServerData) (t : DoneTurn) : Type 0 where
+  pub front : List ChosenEvent
+  pub choice : Option ℕ
+  pub association : ℕ
+  pub octets : Bor (List ℕ)
+  pub back : List ChosenEvent
+  pub is : turn_events t.now t.given t.script h ≡ front ++ (choice, Recv association octets) ∷ back
+  pub first : All (λ (e : ChosenEvent). OfAssociation e.1) front
+  pub given : given_of association (turn_calls t.now t.given t.script h) ≡ octets.now
+  pub step : Step
+  pub answered : (outcome choice t.now (Recv association octets)
+      (done_at t.now front h.device).after).answer ≡ Ok step
+
+-- Octets that were handled cause a command: one of their PDUs requests this operate, and octets
+-- that are sent to the association in the turn, read as the response to that PDU, have a success as
+-- its result. The octets that the link takes for the association in the turn, followed by those
+-- that its queue then holds, are those that the queue held, followed by all that is sent to it. The
+-- last scan of the earlier turns released the command, and the events of this turn before it are of
+-- associations, so they are no scans.
+pub record IsOrdered (first : State) (h : ServerData) (t : DoneTurn) (past : List Past)
+    (command : Command) : Type 0 where
+  pub heard : IsHeard h t
+  pub talk : ConnectionState
+  pub is_open : connection_state_at (place_of heard.association)
+      (done_at t.now heard.front h.device).after.connections ≡ Some talk
+  pub terms : Terms
+  pub pdu : List ℕ
+  pub asked : Contains (indications talk heard.octets.now) (tells terms pdu)
+  pub sent : Sent
+  pub answers : Contains heard.step.sent sent
+  pub to : sent.association ≡ heard.association
+  pub stands : StandIn sent.octets (sent_in heard.association t h)
+  pub place : ℕ
+  pub number : heard.association ≡ place + 1
+  pub flows : FlowsAt t.now t.given t.script h place
+  pub accepts : Contains (operates_in (accepted_in t.now heard.association pdu (bay_of first)
+      (pdu_in sent.octets))) command
+  pub allowed : IsReleasedAt t.now (done_at t.now heard.front h.device).after command
+  pub released : IsReleasedBy t.now first.scan_max_age_ms past
+      (done_at t.now heard.front h.device).after command
+
+-- Each command that one of the turns reports is ordered so.
+abbrev pub AreOrdered : State → ServerData → List Past → List DoneTurn → Type 0
+AreOrdered first h past [] = Unit {0}
+AreOrdered first h past (t ∷ ts) =
+    ((command : Command) → Contains t.told.commands command → IsOrdered first h t past command)
+    × AreOrdered first (held_behind t h)
+    (past_behind t.now (turn_events t.now t.given t.script h) h.device past) ts

@@ -1,0 +1,266 @@
+-- The command `serve`: files are read and loaded, ports are opened, and turns are served.
+use Rattle.bay_io.specs.Calls.{WriteCall}
+use Rattle.std.specs.declared.io.ErrorKind.{ErrorKind}
+use Rattle.std.specs.Prelude.{◌≡◌, ℕ, true, is_err, List, ◌++◌, replicate, option_map, codes, MatchResult, Bool, Option, None, Some, Result, Ok, Err, ◌⊎◌, [], unwrap_or}
+use Rattle.bay_device.specs.Device.{State}
+use Rattle.bay_device.specs.Load.{IsCompiled, IsLoaded}
+use Rattle.bay_device.specs.Meaning.{Runs}
+use Rattle.bay_device.specs.Outcomes.{associations}
+use Rattle.bay_device.specs.Report.{IsReport as IsReportOf}
+use Rattle.bay_device.specs.declared.report.Report.{Report}
+use Rattle.bay_files.specs.Files.{FileGuards, FileReads, FilesData, ReadsBoth, ReadsNamed, unread_view}
+use Rattle.bay_files.specs.Keys.{ReadsNamedKey, keyless_view}
+use Rattle.bay_files.specs.declared.key.KeyFault.{KeyFault}
+use Rattle.bay_files.specs.declared.key.KeyFault.TheVariants as keyless
+use Rattle.bay_io.specs.Sent.{Logs}
+use Rattle.bay_io.specs.Watched.{Writing}
+use Rattle.bay_io.specs.declared.outbox.WriteFault.{WriteFault}
+use Rattle.bay_process_port.specs.Ports.{begun}
+use Rattle.bay_process_port.specs.Supervised.{SupervisionSettings}
+use Rattle.bay_report.specs.Load.{LoadsTo, MayLoadTo, file_of, text_of}
+use Rattle.bay_report.specs.LogLines.{IsReported, PrintsLogs, Refuses, UnreadReport, unwritten_line}
+use Rattle.bay_report.specs.Report.{IsLast, Prints, report_text}
+use Rattle.bay_report.specs.TextLines.{lines_of}
+use Rattle.bay_report.specs.declared.load.Form.{Form}
+use Rattle.bay_report.specs.declared.load.Form.TheVariants.{Logic, Image}
+use Rattle.bay_server_turn.specs.Calls.{Call}
+use Rattle.bay_server_turn.specs.Served.{text_in}
+use Rattle.bay_server_turn.specs.Turns.{ServerData}
+use Rattle.bay_server.specs.Clock.{started}
+use Rattle.bay_server.specs.Host.{HostCall, Binds, Tells}
+use Rattle.bay_server.specs.LogLines.{ports_log, unbound_log}
+use Rattle.bay_server.specs.ServeReport.{AfterTurn, PollOutcome, Serving, ServesTurns, told_lines}
+use Rattle.bay_server.specs.declared.clock.Clocks.{Clocks}
+use Rattle.bay_server.specs.declared.host.BindFault.{BindFault}
+use Rattle.cmd_serve.specs.Live.{CommandsLive, IsSupervised}
+use Rattle.cmd_serve.specs.Orders.{AreOrdered}
+use Rattle.cmd_serve.specs.Service.{DoneTurn, IsService, turns_in}
+use Rattle.cmd_serve.specs.Texts.{ArePrinted}
+use Rattle.cmd_serve.specs.declared.serve.Bound.{Bound}
+use Rattle.cmd_serve.specs.declared.serve.Loaded.{Loaded}
+use Rattle.cmd_serve.specs.declared.serve.NamedFiles.{NamedFiles}
+use Rattle.cmd_serve.specs.declared.serve.Numbers.{Numbers}
+use Rattle.cmd_serve.specs.declared.serve.ServeStartFault.{ServeStartFault}
+use Rattle.cmd_serve.specs.declared.serve.ServeStartFault.TheVariants as unserved
+
+-- the names of the command's files: the bay, a program or an image, and the trace and the key, if
+-- they were given
+pub record FileNames : Type 0 where
+  pub bay : List ℕ
+  pub form : Form
+  pub program : List ℕ
+  pub trace : Option (List ℕ)
+  pub key : Option (List ℕ)
+
+-- the same, as the code has them
+abbrev pub names_of : NamedFiles → FileNames
+names_of named = record {
+  bay = named.bay.now;
+  form = named.form;
+  program = named.program.now;
+  trace = text_in named.trace;
+  key = text_in named.key;
+}
+
+-- a file without a key: the log line, the text and the status
+abbrev pub KeylessReport : List ℕ → KeyFault → Option (List ℕ) → List ℕ → ℕ → Type 0
+KeylessReport name (keyless.Unread fault) = UnreadReport name fault
+KeylessReport name keyless.Exposed =
+    IsReported
+    (Some (codes "bayctl: fault 121: " ++ (name ++ codes ": only its owner may read it\n")))
+    (codes "fault 121\n") 3
+KeylessReport name keyless.Malformed =
+    IsReported (Some (codes "bayctl: fault 121: "
+    ++ (name ++ codes ": a key has 32 to 64 hexadecimal digits\n"))) (codes "fault 121\n") 3
+
+-- why no turn is served: the log line, the text and the status
+abbrev pub UnservedReport : ServeStartFault → Option (List ℕ) → List ℕ → ℕ → Type 0
+UnservedReport (unserved.Unread unread) = UnreadReport unread.name.now unread.fault
+UnservedReport (unserved.KeyFileFault none) = KeylessReport none.name.now none.fault
+UnservedReport (unserved.Refused fault) = Refuses fault
+UnservedReport (unserved.Unbound port fault) =
+    IsReported (Some (unbound_log port fault)) (codes "fault 121\n") 3
+UnservedReport unserved.OutOfMemory = IsReported None (codes "fault memory\n") 3
+UnservedReport (unserved.Unrecorded name kind) = λ logged text status. ⊥
+
+-- the file of the record can't be created: this is logged, and the command fails as at a failed
+-- write
+abbrev pub Unrecorded : {W : Type 0} → (W → Option (List ℕ)) → (W → WriteCall → W → Type 0)
+    → List ℕ → ErrorKind → Writing W → Writing W → Result ℕ WriteFault → Type 0
+Unrecorded contents asks name kind old new answer =
+    Logs contents asks old (unwritten_line name kind) new × (is_err answer ≡ true)
+
+-- how the command ends if no turn is served
+abbrev pub EndsUnserved : {W : Type 0} → (W → Option (List ℕ)) → (W → WriteCall → W → Type 0)
+    → ServeStartFault → Writing W → Writing W → Result ℕ WriteFault → Type 0
+EndsUnserved contents asks (unserved.Unrecorded name kind) old new answer =
+    Unrecorded contents asks name.now kind old new answer
+EndsUnserved contents asks (unserved.Unread unread) old new answer =
+    PrintsLogs contents asks (UnservedReport (unserved.Unread unread)) old new answer
+EndsUnserved contents asks (unserved.KeyFileFault none) old new answer =
+    PrintsLogs contents asks (UnservedReport (unserved.KeyFileFault none)) old new answer
+EndsUnserved contents asks (unserved.Refused fault) old new answer =
+    PrintsLogs contents asks (UnservedReport (unserved.Refused fault)) old new answer
+EndsUnserved contents asks (unserved.Unbound port fault) old new answer =
+    PrintsLogs contents asks (UnservedReport (unserved.Unbound port fault)) old new answer
+EndsUnserved contents asks unserved.OutOfMemory old new answer =
+    PrintsLogs contents asks (UnservedReport unserved.OutOfMemory) old new answer
+
+-- a device that was loaded from the text of a program runs what the text means
+abbrev pub RunsText : Form → FilesData → State → Type 0
+RunsText Logic both s =
+    (loaded : IsLoaded (file_of both.bay) (IsCompiled (text_of both.program)) s)
+    × Runs loaded.made.checked s
+RunsText Image both s = Unit {0}
+
+-- The files were read: the bay and the program or the image, then the trace and the key, if they
+-- were named. Their contents were loaded; or one could not be read, or had no key, or the load was
+-- refused.
+abbrev pub LoadsFiles : {F : Type 0} → FileReads F → FileGuards F → F → FileNames
+    → Result Loaded ServeStartFault → Type 0
+LoadsFiles reads guards files named (Ok loaded) =
+    (both : FilesData) × ReadsBoth reads files named.bay named.program (Ok both)
+    × ReadsNamed reads files named.trace (Ok loaded.trace.items)
+    × ReadsNamedKey guards files named.key (Ok (option_map (λ key. key.items) loaded.key))
+    × LoadsTo both.bay named.form both.program (Ok loaded.device)
+    × RunsText named.form both loaded.device
+LoadsFiles reads guards files named (Err (unserved.Unread unread)) =
+    ReadsBoth reads files named.bay named.program (Err (unread_view unread))
+    ⊎ ((both : FilesData) × ReadsBoth reads files named.bay named.program (Ok both)
+    × ReadsNamed reads files named.trace (Err (unread_view unread)))
+LoadsFiles reads guards files named (Err (unserved.KeyFileFault none)) =
+    (both : FilesData) × ReadsBoth reads files named.bay named.program (Ok both)
+    × ((trace : List ℕ) × ReadsNamed reads files named.trace (Ok trace)
+    × ReadsNamedKey guards files named.key (Err (keyless_view none)))
+LoadsFiles reads guards files named (Err (unserved.Refused fault)) =
+    (both : FilesData) × ReadsBoth reads files named.bay named.program (Ok both)
+    × ((trace : List ℕ) × ReadsNamed reads files named.trace (Ok trace)
+    × ((key : Option (List ℕ)) × ReadsNamedKey guards files named.key (Ok key)
+    × MayLoadTo both.bay named.form both.program (Err fault)))
+LoadsFiles reads guards files named (Err _) = ⊥
+
+-- ---- ports
+
+-- the key that a process must send; a dash if there is none
+abbrev pub key_of : Option (List ℕ) → List ℕ
+key_of key = unwrap_or key (codes "-")
+
+-- the supervision settings, if the process is supervised: the longest silence, and the key
+abbrev pub duties_of : Option ℕ → List ℕ → Option SupervisionSettings
+duties_of limit key = option_map (λ ms. record { limit = ms; key = key }) limit
+
+-- a server as it is created of a device: its queues are empty
+abbrev pub made_of : State → ServerData
+made_of s = record { device = s; queues = replicate associations [] }
+
+-- the record could not be started, if there is to be one
+abbrev pub IsRecordFault : Bool → ServeStartFault → Type 0
+IsRecordFault records (unserved.Unrecorded name kind) = records ≡ true
+IsRecordFault records unserved.OutOfMemory = Unit {0}
+IsRecordFault records (unserved.Unread unread) = ⊥
+IsRecordFault records (unserved.KeyFileFault none) = ⊥
+IsRecordFault records (unserved.Refused fault) = ⊥
+IsRecordFault records (unserved.Unbound port fault) = ⊥
+
+-- a server of a device is created, with the link of its clients and the process; or memory runs
+-- out, or the record can't be started
+abbrev pub IsBound : {L : Type 0} → Bool → State → L → Option (PollOutcome L)
+    → Result (Bound L) ServeStartFault
+    → Type 0
+IsBound records s link process bound =
+    (bound ≡ Ok (record { server = made_of s; link = link; process = process }))
+    ⊎ ((why : ServeStartFault) × (bound ≡ Err why) × IsRecordFault records why)
+
+module _ {L H : Type 0} (acts : H → HostCall L → H → Type 0) where
+  -- the port of the process is opened, if there is one
+  abbrev pub BindsProcess : Bool → Bool → Option SupervisionSettings → State → L → Option ℕ → H
+      → H → Result (Bound L) ServeStartFault → Type 0
+  BindsProcess records tells duties s link None before after bound =
+      (after ≡ before) × IsBound records s link None bound
+  BindsProcess records tells duties s link (Some port) before after bound =
+      (had : Result L BindFault) × acts before (Binds port None had) after
+      × MatchResult had
+      (λ other. IsBound records s link
+      (Some (record { link = other; port = begun tells duties })) bound)
+      (λ fault. bound ≡ Err (unserved.Unbound port fault))
+
+  -- the port of the clients is opened, and then that of the process
+  abbrev pub BindsPorts : Numbers → Option SupervisionSettings → State → H → H
+      → Result (Bound L) ServeStartFault
+      → Type 0
+  BindsPorts numbers duties s before after bound =
+      (had : Result L BindFault) × (mid : H)
+      × acts before (Binds numbers.port numbers.idle_s had) mid
+      × MatchResult had
+      (λ link. BindsProcess numbers.records numbers.tells_releases duties s link numbers.process
+      mid after bound)
+      (λ fault. (after ≡ mid) × (bound ≡ Err (unserved.Unbound numbers.port fault)))
+
+module _ {L H W : Type 0} (step : L → Call → L → Type 0) (acts : H → HostCall L → H → Type 0)
+    (contents : W → Option (List ℕ)) (asks : W → WriteCall → W → Type 0) where
+  -- Turns are served, all of which are one run of the device, from load on. Before each command that
+  -- one of them reports come a client's octets that request it, the success that is sent to this
+  -- client, and the last scan of an earlier turn, which released it; and so before each line that is
+  -- printed, or sent to the process, and reads as one. If the process is supervised, it is live in
+  -- each turn that reports a command.
+  pub record ServesRun (turns : ℕ) (before : Serving L H) (old new : Writing W) (host : H)
+      (answer : Result ℕ WriteFault) : Type 0 where
+    pub serves : ServesTurns step acts contents asks turns before old host new answer
+    pub done : List DoneTurn
+    pub are : done ≡ turns_in step acts contents asks turns before old host new answer serves
+    pub run : IsService before.held done
+    pub ordered : AreOrdered before.held.device before.held [] done
+    pub printed : ArePrinted before.held.device before.held [] done
+    pub live : (duties : SupervisionSettings) → IsSupervised duties before
+        → CommandsLive step acts contents asks duties turns before old host new answer serves
+
+  -- the server's clock is started, the ports are logged, and turns are served
+  abbrev pub ServesBound : Numbers → Bound L → List ℕ → H → H → Writing W → Writing W
+      → Result ℕ WriteFault → Type 0
+  ServesBound numbers bound trace host after old new answer =
+      (clocks : Clocks) × (began : H) × (mid : Writing W)
+      × acts host (Tells clocks.system clocks.steady) began
+      × Logs contents asks old (ports_log clocks.system numbers.port numbers.process) mid
+      × ServesRun numbers.turns
+      (record {
+        link = bound.link;
+        held = bound.server;
+        clock = started clocks;
+        host = began;
+        process = bound.process;
+        lines = told_lines 1 (lines_of trace);
+      }) mid new after answer
+
+  -- the ports are opened and served; or it is reported why no turn is served
+  pub record ServesPorts (numbers : Numbers) (loaded : Loaded) (before after : H)
+      (old new : Writing W) (answer : Result ℕ WriteFault) : Type 0 where
+    pub bound : Result (Bound L) ServeStartFault
+    pub host : H
+    pub binds : BindsPorts acts numbers
+        (duties_of numbers.limit_ms (key_of (option_map (λ digits. digits.items) loaded.key)))
+        loaded.device before host bound
+    pub goes_on : MatchResult bound
+        (λ ports. ServesBound numbers ports loaded.trace.items host after old new answer)
+        (λ why. EndsUnserved contents asks why old new answer × (after ≡ host))
+
+  -- the line of a load is printed, and then the ports are served
+  pub record ServesLoaded (numbers : Numbers) (loaded : Loaded) (before after : H)
+      (old new : Writing W) (answer : Result ℕ WriteFault) : Type 0 where
+    pub report : Report
+    pub is : IsReportOf loaded.device.machine.image report
+    pub middle : Writing W
+    pub told : Result ℕ WriteFault
+    pub printed : Prints contents asks (IsLast (report_text report) 0) old middle told
+    pub goes_on : AfterTurn told ((new ≡ middle) × (after ≡ before) × (answer ≡ told))
+        (ServesPorts numbers loaded before after middle new answer)
+
+  -- Files are read and loaded, and their contents are served; or it is reported why no turn is
+  -- served.
+  pub record ServesFiles {F : Type 0} (reads : FileReads F) (guards : FileGuards F) (files : F)
+      (named : FileNames) (numbers : Numbers) (before after : H) (old new : Writing W)
+      (answer : Result ℕ WriteFault) : Type 0 where
+    pub loaded : Result Loaded ServeStartFault
+    pub loads : LoadsFiles reads guards files named loaded
+    pub goes_on : MatchResult loaded
+        (λ all. ServesLoaded numbers all before after old new answer)
+        (λ why. EndsUnserved contents asks why old new answer × (after ≡ before))

@@ -1,0 +1,114 @@
+-- The turns of a service, and all events of its device in them.
+use Rattle.std.specs.Prelude.{ℕ, ◌≡◌, zero, suc, List, [], ◌∷◌, length, replicate, Option, Result, Ok, Err}
+use mathlib.Core.Logic.{inl, inr}
+use Rattle.bay_device.specs.Device.{State}
+use Rattle.bay_device.specs.Fresh.{Came, Past}
+use Rattle.bay_device.specs.Outcomes.{associations, outcome}
+use Rattle.bay_io.specs.Calls.{WriteCall}
+use Rattle.bay_io.specs.Watched.{Writing}
+use Rattle.bay_io.specs.declared.outbox.WriteFault.{WriteFault}
+use Rattle.cmd_replay.specs.Runs.{IsOneRun}
+use Rattle.bay_server_turn.specs.Calls.{Call}
+use Rattle.bay_server_turn.specs.Served.{reported_in}
+use Rattle.bay_server_turn.specs.Turns.{ServerData, Script, after_turn}
+use Rattle.bay_server_turn.specs.declared.process_input.ProcessReport.{ProcessReport}
+use Rattle.bay_server_turn.specs.declared.turn_report.Turn.{Turn}
+use Rattle.bay_server_turn_laws.specs.Events.{ChosenEvent, turn_events}
+use Rattle.bay_server_turn_laws.specs.Flows.{IsInTime}
+use Rattle.bay_server.specs.Host.{HostCall}
+use Rattle.bay_server.specs.ServeReport.{AfterTurn, Serving, ServesTurns, TurnGoes, choice_of, moment_of}
+
+-- ---- a new server
+
+-- The device is as it was loaded, and the queues of the eight associations are empty.
+pub record IsBegun (h : ServerData) : Type 0 where
+  pub loaded : Came [] h.device
+  pub empty : h.queues ≡ replicate associations []
+
+-- ---- turns
+
+-- a turn that was done: its moment, the report of the process to it, what the link and the memory
+-- decided, and its own report
+pub record DoneTurn : Type 0 where
+  pub now : ℕ
+  pub given : ProcessReport
+  pub script : Script
+  pub told : Turn
+
+-- the server after a turn
+abbrev pub held_behind : DoneTurn → ServerData → ServerData
+held_behind t h = (after_turn t.now t.given t.script h).server
+
+-- the server after all of them
+abbrev pub held_after : List DoneTurn → ServerData → ServerData
+held_after [] h = h
+held_after (t ∷ ts) h = held_after ts (held_behind t h)
+
+-- A turn was done on a server: the script has the results of eight reads and eight offers, the
+-- moment is not before the last nor too large, and the turn reported the commands that it
+-- collected.
+pub record IsTurn (h : ServerData) (t : DoneTurn) : Type 0 where
+  pub all_read : length t.script.readings ≡ associations
+  pub all_offered : length t.script.offers ≡ associations
+  pub in_time : IsInTime t.now h
+  pub commands : t.told.commands ≡ (after_turn t.now t.given t.script h).noted.commands
+
+-- Each turn was done so, on the server after the turns before it.
+abbrev pub AreTurns : ServerData → List DoneTurn → Type 0
+AreTurns h [] = Unit {0}
+AreTurns h (t ∷ ts) = IsTurn h t × AreTurns (held_behind t h) ts
+
+-- ---- the turns that were served
+
+-- the turns after one, if its lines could be written
+abbrev pub later_turns : (Ends Goes : Type 0) (told : Result ℕ WriteFault)
+    → AfterTurn told Ends Goes → (Goes → List DoneTurn) → List DoneTurn
+later_turns Ends Goes (Err fault) ends more = []
+later_turns Ends Goes (Ok status) goes more = more goes
+
+module _ {L H W : Type 0} (step : L → Call → L → Type 0) (acts : H → HostCall L → H → Type 0)
+    (contents : W → Option (List ℕ)) (asks : W → WriteCall → W → Type 0) where
+  abbrev pub turn_in : (before : Serving L H) (old : Writing W) (after : Serving L H)
+      (new : Writing W) (answer : Result ℕ WriteFault)
+      → TurnGoes step acts contents asks before old after new answer → DoneTurn
+  turn_in before old after new answer goes = record {
+    now = moment_of goes.clocks before;
+    given = reported_in (choice_of goes.clocks before).next.given;
+    script = goes.serves.script;
+    told = goes.turn;
+  }
+
+  -- each turn that was done, in their order
+  abbrev pub turns_in : (turns : ℕ) (before : Serving L H) (old : Writing W) (host : H)
+      (new : Writing W) (answer : Result ℕ WriteFault)
+      → ServesTurns step acts contents asks turns before old host new answer
+      → List DoneTurn
+  turns_in zero before old host new answer serves = []
+  turns_in (suc turns) before old host new answer (inl fails) = []
+  turns_in (suc turns) before old host new answer (inr did) =
+      turn_in _ _ _ _ _ did.3
+      ∷ later_turns _ _ did.2 did.4 (λ rest. turns_in turns rest.0 _ host new answer rest.2)
+
+-- ---- the history
+
+-- the history after these events, at this moment
+abbrev pub past_behind : ℕ → List ChosenEvent → State → List Past → List Past
+past_behind now [] s past = past
+past_behind now (e ∷ es) s past =
+    let o = outcome e.0 now e.1 s in
+    past_behind now es o.after
+    (record { now = now; event = e.1; answer = o.answer; after = o.after } ∷ past)
+
+-- the history after these turns
+abbrev pub past_of : List DoneTurn → ServerData → List Past → List Past
+past_of [] h past = past
+past_of (t ∷ ts) h past =
+    past_of ts (held_behind t h)
+    (past_behind t.now (turn_events t.now t.given t.script h) h.device past)
+
+-- ---- one run
+
+-- Turns were done on a server, and the history of its device in them since load is one run.
+pub record IsService (first : ServerData) (turns : List DoneTurn) : Type 0 where
+  pub are : AreTurns first turns
+  pub run : IsOneRun first.device (past_of turns first []) (held_after turns first).device

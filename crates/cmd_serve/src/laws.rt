@@ -1,0 +1,110 @@
+// Laws of a service. Each function does nothing, and its contract is the law.
+ghost use Rattle.std.specs.Prelude.{ℕ, List, [], Ok, Result, replicate};
+ghost use Rattle.bay_device.specs.Device.{State};
+ghost use Rattle.bay_device.specs.Fresh.{Came};
+ghost use Rattle.bay_io.specs.Watched.{Writing};
+ghost use Rattle.bay_io.specs.declared.outbox.WriteFault.{WriteFault};
+ghost use Rattle.bay_device.specs.Load.{IsCompiled, IsLoaded};
+ghost use Rattle.bay_device.specs.Meaning.{Runs};
+ghost use Rattle.bay_device.specs.Outcomes.{associations};
+ghost use Rattle.bay_report.specs.Load.{LoadsTo, file_of, text_of};
+ghost use Rattle.bay_report.specs.declared.load.Form.{Form};
+ghost use Rattle.bay_report.specs.declared.load.Form.TheVariants.{Logic};
+ghost use Rattle.bay_replay_laws.specs.ReadBack.{HaveIds};
+ghost use Rattle.bay_server_turn.specs.Calls.{Called};
+ghost use Rattle.bay_server_turn.specs.Turns.{ServerData};
+ghost use Rattle.bay_server.specs.ServeReport.{Serving, ServesTurns};
+ghost use Rattle.bay_process_port.specs.Supervised.{SupervisionSettings};
+ghost use Rattle.cmd_serve.specs.Live.{CommandsLive, IsSupervised};
+ghost use Rattle.cmd_serve.specs.Orders.{AreOrdered};
+ghost use Rattle.cmd_serve.specs.Texts.{ArePrinted};
+ghost use Rattle.cmd_serve.specs.Service.{AreTurns, DoneTurn, IsBegun, IsService, turns_in};
+
+use bay_io::calls::Sink;
+use bay_server::host::Host;
+use bay_server_turn::link::Link;
+
+/// All turns that are served are one run of the device, from load on: the events of the turns, each
+/// at its turn's moment, are a history of the device. Each command follows a scan of this history
+/// that is not too old, since which the process has not changed. Each command is one that the
+/// interlocking releases on a fresh scan, and an operate that a client's octets request and that
+/// the octets of the answer accept, backed by a select if its switch must be selected. Each scan of
+/// a device that runs a program results in what the program means.
+pub fn all_turns_are_one_run<L: Link, H: Host<L>, W: Sink>(_link: &L, _host: &H, _sink: &W)
+    ensures run { (turns : ℕ) (before : Serving L H) (old new : Writing W) (host : H)
+        (answer : Result ℕ WriteFault)
+        (serves : ServesTurns (Called L.does L.failures) H.does W.contents W.does turns before old
+        host new answer) → Came [] before.held.device
+        → IsService before.held (turns_in (Called L.does L.failures) H.does W.contents W.does turns
+        before old host new answer serves) }
+    // A new server of a device that was just loaded meets `IsBegun`.
+    ensures begins { (bay : List ℕ) (form : Form) (program : List ℕ) (device : State)
+        → LoadsTo bay form program (Ok device)
+        → IsBegun (record { device = device; queues = replicate associations [] }) }
+    // A device that was loaded from a program's text runs it.
+    ensures runs { (bay program : List ℕ) (device : State) → LoadsTo bay Logic program (Ok device)
+        → (loaded : IsLoaded (file_of bay) (IsCompiled (text_of program)) device)
+        × Runs loaded.made.checked device }
+{}
+
+/// Each command that a turn reports, and so each line `ms command id on` (or `off`) that is printed
+/// for it, is an operate that a client requested, in the octets that the link read for its
+/// association in this turn.
+///
+/// Its success is in octets that the device sent to this association in the turn: the octets that
+/// the link takes for the association in the turn, followed by those that its queue then holds, are
+/// those that the queue held before, followed by all that the device sent to it; if the association
+/// is closed after the turn, the link took a prefix of these.
+///
+/// The last scan before the command is of an earlier turn and not too old. It left the switch's
+/// interlocking value TRUE, and since then the process has not changed: in the turn itself only
+/// events of associations come before the octets.
+pub fn each_command_is_asked_for<L: Link, H: Host<L>, W: Sink>(_link: &L, _host: &H, _sink: &W)
+    ensures { (turns : ℕ) (before : Serving L H) (old new : Writing W) (host : H)
+        (answer : Result ℕ WriteFault)
+        (serves : ServesTurns (Called L.does L.failures) H.does W.contents W.does turns before old
+        host new answer) → IsBegun before.held
+        → AreOrdered before.held.device before.held [] (turns_in (Called L.does L.failures) H.does
+        W.contents W.does turns before old host new answer serves) }
+{}
+
+/// Each line that a server prints for its turns, or sends to its process, and that reads as a
+/// command, `ms command id on` (or `off`), is that of a command of this turn, at the turn's moment,
+/// to the switch with this id. This command has the client's octets, the success sent to the client
+/// and the last scan of the earlier turns that the law above requires.
+pub fn printed_commands_are_asked_for<L: Link, H: Host<L>, W: Sink>(_link: &L, _host: &H, _sink: &W)
+    ensures lines { (turns : ℕ) (before : Serving L H) (old new : Writing W) (host : H)
+        (answer : Result ℕ WriteFault)
+        (serves : ServesTurns (Called L.does L.failures) H.does W.contents W.does turns before old
+        host new answer) → IsBegun before.held → HaveIds before.held.device.switches
+        → ArePrinted before.held.device before.held [] (turns_in (Called L.does L.failures) H.does
+        W.contents W.does turns before old host new answer serves) }
+    // The switches of a device that was loaded have ids.
+    ensures names { (bay : List ℕ) (form : Form) (program : List ℕ) (device : State)
+        → LoadsTo bay form program (Ok device) → HaveIds device.switches }
+{}
+
+/// No octets that any client sends, in whatever turns, cause a command without the interlocking:
+/// whatever the link returns and the process reports, each command of each turn was released by the
+/// last scan, which left its interlocking value TRUE, and is an operate that was requested and
+/// answered.
+pub fn no_octets_command_alone()
+    ensures { (begun : ServerData) (turns : List DoneTurn) → IsBegun begun → AreTurns begun turns
+        → AreOrdered begun.device begun [] turns }
+{}
+
+/// Commands need a live process: if a server's process is supervised, and no line of a trace comes
+/// before it, then in each turn that reports a command the process is connected, it has introduced
+/// itself as the process of this bay, and its last line counts from a moment at most the milliseconds
+/// of the supervision before the moment of this very turn; a line counts from no later moment than
+/// that of the turn that took it. Since the turn before, the system's clock has gone on by no more
+/// than these milliseconds beyond the steady one.
+pub fn commands_need_a_live_process<L: Link, H: Host<L>, W: Sink>(_link: &L, _host: &H, _sink: &W)
+    ensures { (duties : SupervisionSettings) (turns : ℕ) (before : Serving L H) (old : Writing W)
+        (host : H)
+        (new : Writing W) (answer : Result ℕ WriteFault)
+        (serves : ServesTurns (Called L.does L.failures) H.does W.contents W.does turns before old
+        host new answer) → IsBegun before.held → IsSupervised duties before
+        → CommandsLive (Called L.does L.failures) H.does W.contents W.does duties turns before old
+        host new answer serves }
+{}

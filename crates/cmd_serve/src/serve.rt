@@ -1,0 +1,459 @@
+// Reads, loads and serves files.
+ghost use Rattle.std.specs.Prelude.{◌≡◌, None, Ok, Err, false, is_some, replicate, IfErr, IfOk, ◌≤◌, length, option_map};
+ghost use Rattle.bay_device.specs.Entries.{IsIdle};
+ghost use Rattle.bay_device.specs.Outcomes.{associations};
+ghost use Rattle.bay_report.specs.LogLines.{PrintsLogs};
+ghost use Rattle.cmd_serve.specs.Serve.{BindsPorts, BindsProcess, EndsUnserved, IsBound, IsRecordFault, KeylessReport, LoadsFiles, ServesBound, ServesFiles, ServesLoaded, Unrecorded, UnservedReport, duties_of, key_of, made_of, names_of};
+ghost use Rattle.cmd_serve.specs.declared.serve.ServeStartFault.TheVariants as unserved;
+ghost use Rattle.bay_replay_laws.specs.ReadBack.{HaveIds};
+ghost use Rattle.bay_server_turn.specs.Calls.{Called};
+ghost use Rattle.cmd_serve.specs.Service.{IsBegun};
+
+use bay_device::device::Device;
+use bay_device::fault::LoadFault;
+use bay_files::files::{FileFault, FileSystem, UnreadFile, read_files, read_optional};
+use bay_files::key::{KeyFault, KeyFileFault, read_key};
+use bay_io::calls::{LinePart, Sink};
+use bay_io::outbox::WriteFault;
+use bay_io::writer::WatchedWriter;
+use bay_process_port::port::Port;
+use bay_process_port::supervision::SupervisionSettings;
+use bay_report::load::{Form, load_program};
+use bay_report::log::{
+    log_unwritten, report_load_refusal, report_unread, write_and_log, write_out_of_memory,
+};
+use bay_report::output::{Status, write_report, write_text};
+use bay_server::clock::ServeClock;
+use bay_server::host::{BindFault, Host};
+use bay_server::log_lines::{log_ports, log_unbound};
+use bay_server::process::Process;
+use bay_server::serving::serve_turns;
+use bay_server_turn::link::Link;
+use bay_server_turn::record::Record;
+use bay_server_turn::server::Server;
+use std::alloc::{AllocError, AllocFailed, Global};
+use std::io::ErrorKind;
+
+/// The port for clients, the number of turns, the port for the process, if there is one, whether it
+/// is told of releases, for how many milliseconds it may be silent, if it is supervised, and for how
+/// many seconds a client may send nothing, if that is limited, and whether the session is recorded.
+#[derive(Clone, Copy)]
+pub struct Numbers {
+    pub port: u16,
+    pub turns: u32,
+    pub process: Option<u16>,
+    pub tells_releases: bool,
+    pub limit_ms: Option<u32>,
+    pub idle_s: Option<u32>,
+    pub records: bool,
+}
+
+/// The new file in which the session is recorded, and the most octets of it.
+#[derive(Clone, Copy)]
+pub struct Recording<'a> {
+    pub name: &'a str,
+    pub most: u32,
+}
+
+/// The names of the files of a service: the bay, a program or an image, the trace of the process,
+/// and the key that the process must send.
+#[derive(Clone, Copy)]
+pub struct NamedFiles<'a> {
+    pub bay: &'a str,
+    pub form: Form,
+    pub program: &'a str,
+    pub trace: Option<&'a str>,
+    pub key: Option<&'a str>,
+}
+
+/// The contents of the files: a device, a trace, and a key, if there is one.
+#[derive(Drop)]
+pub struct Loaded {
+    device: Device,
+    trace: Vec<u8>,
+    key: Option<Vec<u8>>,
+}
+
+/// A server of a device, the link of its clients, and the process, if there is one.
+#[derive(Drop)]
+pub struct Bound<L> {
+    server: Server,
+    link: L,
+    process: Option<Process<L>>,
+}
+
+/// Why no turn is served.
+#[derive(Drop)]
+pub enum ServeStartFault<'a> {
+    /// A file can't be read.
+    Unread(UnreadFile<'a>),
+    /// The file of the key can't be read, users other than its owner may read it, or it has no key.
+    KeyFileFault(KeyFileFault<'a>),
+    /// The load is refused.
+    Refused(LoadFault),
+    /// This port can't be opened.
+    Unbound(u16, BindFault),
+    /// The file with this name can't be created for the record.
+    Unrecorded(&'a str, ErrorKind),
+    OutOfMemory,
+}
+
+impl<'a> From<UnreadFile<'a>> for ServeStartFault<'a> {
+    ghost from_gives = { λ unread why. why ≡ unserved.Unread unread };
+
+    fn from(unread: UnreadFile<'a>) -> Self {
+        ServeStartFault::Unread(unread)
+    }
+}
+
+impl<'a> From<KeyFileFault<'a>> for ServeStartFault<'a> {
+    ghost from_gives = { λ keyless why. why ≡ unserved.KeyFileFault keyless };
+
+    fn from(keyless: KeyFileFault<'a>) -> Self {
+        ServeStartFault::KeyFileFault(keyless)
+    }
+}
+
+impl From<LoadFault> for ServeStartFault<'_> {
+    ghost from_gives = { λ fault why. why ≡ unserved.Refused fault };
+
+    fn from(fault: LoadFault) -> Self {
+        ServeStartFault::Refused(fault)
+    }
+}
+
+impl From<AllocError> for ServeStartFault<'_> {
+    ghost from_gives = { λ _ why. why ≡ unserved.OutOfMemory };
+
+    fn from(_: AllocError) -> Self {
+        ServeStartFault::OutOfMemory
+    }
+}
+
+// Writes the fault of a port that can't be opened, and then logs why.
+fn tell_unbound<W: Sink>(
+    writer: &mut WatchedWriter<W>,
+    port: u16,
+    fault: BindFault,
+) -> Result<u8, WriteFault>
+    ensures { PrintsLogs W.contents W.does (UnservedReport (unserved.Unbound port fault)) writer.old
+        writer.new result }
+{
+    let status = write_text(writer, b"fault 121\n", Status::Fault)?;
+    log_unbound(writer, port, fault);
+    Ok(status)
+}
+
+// Writes the fault of a file without a key, and then logs why.
+fn tell_keyless<W: Sink>(
+    writer: &mut WatchedWriter<W>,
+    name: &str,
+    fault: KeyFault,
+) -> Result<u8, WriteFault>
+    ensures { PrintsLogs W.contents W.does (KeylessReport name.now fault) writer.old writer.new
+        result }
+{
+    let start = LinePart::Text(b"bayctl: fault 121: ");
+    let what = LinePart::Text(name.as_bytes());
+    match fault {
+        KeyFault::Unread(fault) => report_unread(writer, name, fault),
+        KeyFault::Exposed => {
+            let why = LinePart::Text(b": only its owner may read it\n");
+            write_and_log(writer, b"fault 121\n", Status::Fault, &[start, what, why])
+        }
+        KeyFault::Malformed => {
+            let why = LinePart::Text(b": a key has 32 to 64 hexadecimal digits\n");
+            write_and_log(writer, b"fault 121\n", Status::Fault, &[start, what, why])
+        }
+    }
+}
+
+// Logs that the file of the record can't be created, and fails.
+fn tell_unrecorded<W: Sink>(
+    writer: &mut WatchedWriter<W>,
+    name: &str,
+    kind: ErrorKind,
+) -> Result<u8, WriteFault>
+    ensures { Unrecorded W.contents W.does name.now kind writer.old writer.new result }
+{
+    log_unwritten(writer, name, kind);
+    Err(WriteFault)
+}
+
+// Writes why no turn is served, and then logs it.
+fn tell_unserved<W: Sink>(
+    writer: &mut WatchedWriter<W>,
+    why: ServeStartFault<'_>,
+) -> Result<u8, WriteFault>
+    ensures { EndsUnserved W.contents W.does why.entry writer.old writer.new result }
+{
+    match why {
+        ServeStartFault::Unread(UnreadFile { name, fault }) => report_unread(writer, name, fault),
+        ServeStartFault::KeyFileFault(KeyFileFault { name, fault }) => tell_keyless(
+            writer, name, fault,
+        ),
+        ServeStartFault::Refused(fault) => report_load_refusal(writer, fault),
+        ServeStartFault::Unbound(port, fault) => tell_unbound(writer, port, fault),
+        ServeStartFault::Unrecorded(name, kind) => tell_unrecorded(writer, name, kind),
+        ServeStartFault::OutOfMemory => write_out_of_memory(writer),
+    }
+}
+
+// Reads the bay, then the program or the image, then the trace and the key, if they are named, and
+// loads them.
+fn load_files<'a, F: FileSystem>(
+    alloc: Global,
+    named: NamedFiles<'a>,
+    files: &F,
+) -> Result<Loaded, ServeStartFault<'a>>
+    ensures ok { IfOk result
+        (λ loaded. LoadsFiles F.reads F.guards files.now (names_of named.entry) (Ok loaded)) }
+    ensures err { IfErr result
+        (λ why. LoadsFiles F.reads F.guards files.now (names_of named.entry) (Err why)) }
+    ensures idle { IfOk result (λ loaded. IsIdle loaded.device) }
+    ensures begun { IfOk result (λ loaded. IsBegun (made_of loaded.device)) }
+    ensures named { IfOk result (λ loaded. HaveIds loaded.device.switches) }
+    ensures short { IfOk result
+        (λ loaded. length (key_of (option_map (λ digits. digits.items) loaded.key)) ≤ 64) }
+{
+    let both = read_files(alloc, files, named.bay, named.program)?;
+    let trace = read_optional(alloc, files, named.trace)?;
+    let key = read_key(alloc, files, named.key)?;
+    let device = load_program(
+        alloc,
+        both.bay.as_slice(),
+        named.form,
+        both.program.as_slice(),
+    )?;
+    Ok(Loaded { device, trace, key })
+}
+
+// Returns the octets of a key; a dash if there is none.
+fn key_octets(key: &Option<Vec<u8>>) -> &[u8]
+    ensures { result.now ≡ key_of (option_map (λ digits. digits.items) key.now) }
+{
+    match key {
+        Some(key) => key.as_slice(),
+        None => b"-",
+    }
+}
+
+// Returns the supervision settings, if the process is supervised.
+fn duties_by(limit_ms: Option<u32>, key: &[u8]) -> Option<SupervisionSettings>
+    requires { length key.now ≤ 64 }
+    ensures { result ≡ duties_of limit_ms key.now }
+{
+    match limit_ms {
+        Some(limit_ms) => Some(SupervisionSettings::new(limit_ms, key)),
+        None => None,
+    }
+}
+
+// Starts a server's record in a new file, if the session is recorded.
+fn start_record<'a, F: FileSystem>(
+    alloc: Global,
+    recording: Option<Recording<'a>>,
+    files: &mut F,
+    server: &mut Server,
+) -> Result<(), ServeStartFault<'a>>
+    ensures server { server.new ≡ server.old }
+    ensures files { is_some recording.entry ≡ false → files.new ≡ files.old }
+    ensures fault { IfErr result (λ why. IsRecordFault (is_some recording.entry) why) }
+{
+    let Some(recording) = recording else {
+        return Ok(());
+    };
+    let file = match files.create(recording.name) {
+        Ok(file) => file,
+        Err(FileFault::OutOfMemory) => return Err(ServeStartFault::OutOfMemory),
+        Err(FileFault::Failed(kind)) => {
+            return Err(ServeStartFault::Unrecorded(recording.name, kind));
+        }
+    };
+    match Record::new(alloc, file, recording.most) {
+        Ok(record_file) => {
+            server.start_record(record_file);
+            Ok(())
+        }
+        Err(AllocError) => Err(ServeStartFault::OutOfMemory),
+    }
+}
+
+// Creates a server of a device, with the link of its clients and the process, and starts its
+// record.
+fn bound_to<'a, F: FileSystem, L: Drop>(
+    alloc: Global,
+    device: Device,
+    link: L,
+    process: Option<Process<L>>,
+    recording: Option<Recording<'a>>,
+    files: &mut F,
+) -> Result<Bound<L>, ServeStartFault<'a>>
+    requires closed { device.connections ≡ replicate associations None }
+    ensures bound { IsBound (is_some recording.entry) device link process result }
+    ensures server { IfOk result (λ bound. bound.server ≡ made_of device) }
+    ensures files { is_some recording.entry ≡ false → files.new ≡ files.old }
+{
+    let mut server = match Server::new(alloc, device) {
+        Ok(server) => server,
+        Err(AllocFailed { value: _ }) => return Err(ServeStartFault::OutOfMemory),
+    };
+    match start_record(alloc, recording, files, &mut server) {
+        Ok(()) => Ok(Bound {
+            server,
+            link,
+            process,
+        }),
+        Err(why) => Err(why),
+    }
+}
+
+// Opens the port of the process, if there is one, after that of the clients, and starts the record.
+fn bind_process<'a, F: FileSystem, L: Link + Drop, H: Host<L>>(
+    alloc: Global,
+    device: Device,
+    link: L,
+    host: &mut H,
+    numbers: Numbers,
+    duties: Option<SupervisionSettings>,
+    recording: Option<Recording<'a>>,
+    files: &mut F,
+) -> Result<Bound<L>, ServeStartFault<'a>>
+    requires closed { device.connections ≡ replicate associations None }
+    requires records { numbers.records ≡ is_some recording }
+    ensures binds { BindsProcess H.does numbers.records numbers.tells_releases duties device link
+        numbers.process host.old host.new result }
+    ensures server { IfOk result (λ bound. bound.server ≡ made_of device) }
+    ensures files { numbers.records ≡ false → files.new ≡ files.old }
+{
+    let Some(port) = numbers.process else {
+        return bound_to(alloc, device, link, None, recording, files);
+    };
+    match host.bind(port, None) {
+        Ok(had) => {
+            let port = Port::new(alloc, numbers.tells_releases, duties)?;
+            let process = Some(Process::new(had, port));
+            bound_to(alloc, device, link, process, recording, files)
+        }
+        Err(fault) => Err(ServeStartFault::Unbound(port, fault)),
+    }
+}
+
+// Opens the port of the clients, and then that of the process, if there is one, and starts the
+// record.
+fn bind_ports<'a, F: FileSystem, L: Link + Drop, H: Host<L>>(
+    alloc: Global,
+    device: Device,
+    host: &mut H,
+    numbers: Numbers,
+    duties: Option<SupervisionSettings>,
+    recording: Option<Recording<'a>>,
+    files: &mut F,
+) -> Result<Bound<L>, ServeStartFault<'a>>
+    requires closed { device.connections ≡ replicate associations None }
+    requires records { numbers.records ≡ is_some recording }
+    ensures binds { BindsPorts H.does numbers duties device host.old host.new result }
+    ensures server { IfOk result (λ bound. bound.server ≡ made_of device) }
+    ensures files { numbers.records ≡ false → files.new ≡ files.old }
+{
+    match host.bind(numbers.port, numbers.idle_s) {
+        Ok(link) => { bind_process(alloc, device, link, host, numbers, duties, recording, files) }
+        Err(fault) => Err(ServeStartFault::Unbound(numbers.port, fault)),
+    }
+}
+
+// Starts the server's clock, logs the ports, and serves the given number of turns.
+fn serve_bound<L: Link + Drop, H: Host<L>, W: Sink>(
+    bound: Bound<L>,
+    trace: &[u8],
+    host: &mut H,
+    numbers: Numbers,
+    writer: &mut WatchedWriter<W>,
+) -> Result<u8, WriteFault>
+    requires begun { IsBegun bound.server }
+    requires named { HaveIds bound.server.device.switches }
+    ensures { ServesBound (Called L.does L.failures) H.does W.contents W.does numbers bound
+        trace.now host.old host.new writer.old writer.new result }
+{
+    let clocks = host.clocks();
+    log_ports(writer, clocks.system, numbers.port, numbers.process);
+    let Bound {
+        server,
+        link,
+        process,
+    } = bound;
+    let clock = ServeClock::start(clocks);
+    serve_turns(
+        server,
+        clock,
+        link,
+        process,
+        host,
+        trace,
+        numbers.turns,
+        writer,
+    )
+}
+
+// Writes the line of a load, opens the ports, starts the record, and serves.
+fn serve_loaded<F: FileSystem, L: Link + Drop, H: Host<L>, W: Sink>(
+    alloc: Global,
+    loaded: Loaded,
+    recording: Option<Recording<'_>>,
+    files: &mut F,
+    host: &mut H,
+    numbers: Numbers,
+    writer: &mut WatchedWriter<W>,
+) -> Result<u8, WriteFault>
+    requires closed { loaded.device.connections ≡ replicate associations None }
+    requires records { numbers.records ≡ is_some recording }
+    requires begun { IsBegun (made_of loaded.device) }
+    requires named { HaveIds loaded.device.switches }
+    requires short { length (key_of (option_map (λ digits. digits.items) loaded.key)) ≤ 64 }
+    ensures serves { ServesLoaded (Called L.does L.failures) H.does W.contents W.does numbers loaded
+        host.old host.new writer.old writer.new result }
+    ensures files { numbers.records ≡ false → files.new ≡ files.old }
+{
+    let Loaded { device, trace, key } = loaded;
+    write_report(writer, device.report())?;
+    let duties = duties_by(numbers.limit_ms, key_octets(&key));
+    match bind_ports(alloc, device, host, numbers, duties, recording, files) {
+        Ok(bound) => serve_bound(bound, trace.as_slice(), host, numbers, writer),
+        Err(why) => tell_unserved(writer, why),
+    }
+}
+
+/// Serves files by their names. Reads the bay, then the program or the image, then the trace and
+/// the key; loads them and writes the line of the load; opens the port for clients, and then that
+/// of the process, if there is one; creates the file of the record, if the session is recorded; and
+/// serves the given number of turns. Logs the ports, or why no turn is served. Returns the exit
+/// status: 0 after the last turn, 1 if the load is refused, and 3 for any other fault. Fails if a
+/// write or a flush fails, or if the file of the record can't be created.
+///
+/// All turns are one run of the device, from load on. Behind each command that a turn tells, and so
+/// behind each line that is printed, or told the process, and reads as one, stand the octets of a
+/// client that ask for it, the success that is sent to this client, and the last scan before, of an
+/// earlier turn, which left the switch's interlocking value TRUE, and since which the process has
+/// not changed. If the process is supervised, it is connected in this turn, it has introduced itself
+/// as the process of this bay, and its last line counts from a moment at most the milliseconds of the
+/// supervision before the moment of this turn.
+pub fn serve<F: FileSystem, L: Link + Drop, H: Host<L>, W: Sink>(
+    alloc: Global,
+    named: NamedFiles<'_>,
+    recording: Option<Recording<'_>>,
+    files: &mut F,
+    host: &mut H,
+    numbers: Numbers,
+    writer: &mut WatchedWriter<W>,
+) -> Result<u8, WriteFault>
+    requires records { numbers.records ≡ is_some recording }
+    ensures serves { ServesFiles (Called L.does L.failures) H.does W.contents W.does F.reads
+        F.guards files.old (names_of named.entry) numbers host.old host.new writer.old writer.new
+        result }
+    ensures files { numbers.records ≡ false → files.new ≡ files.old }
+{
+    match load_files(alloc, named, files) {
+        Ok(loaded) => serve_loaded(alloc, loaded, recording, files, host, numbers, writer),
+        Err(why) => tell_unserved(writer, why),
+    }
+}

@@ -1,0 +1,13 @@
+use Rattle.std.proofs.Common.{◌≤◌, length, drop, map}
+use Rattle.il_check.specs.ProgramViews.{item_view}
+use Rattle.il_compile.specs.Behind.{IsSettled}
+use Rattle.il_compile.proofs.continuation.compile_all.Given as goal
+
+abbrev pub invariant-loop-at : goal.invariant-loop-at
+invariant-loop-at l = record {
+  within : l.at ≤ length l.items;
+  settled : IsSettled l.externals (map item_view (drop l.at l.items)) l.behind;
+}
+
+abbrev pub decreases-loop-at : goal.decreases-loop-at
+decreases-loop-at l = l.at

@@ -1,0 +1,213 @@
+// Compiles the items of a program from the last to the first: the distance of a jump is known when
+// the code that it skips is.
+ghost use Rattle.std.specs.Prelude.{◌≡◌, ℕ, List, ◌+◌, ◌≤◌, ◌∷◌, [], ◌++◌, length, map, min, reverse, IfOk, OnOk};
+ghost use Rattle.il_image.specs.Spelling.{spelling};
+ghost use Rattle.il_check.specs.Program.{ProgramItem, label, plain, transfer};
+ghost use Rattle.il_check.specs.ProgramViews.{entry_view, item_view};
+ghost use Rattle.il_compile.specs.Behind.{AreSpellable, IsBehind, IsSettled, IsSpellable, IsSpellableEntry, octets_bound};
+ghost use Rattle.il_compile.specs.Code as spec;
+
+use crate::emit::{put, put_call, put_entry, when_of};
+use bay_base::types::ElementaryType;
+use il_check::typed::{Transfer, TypedArguments, TypedEntry, TypedItem};
+use il_image::instr::Instr;
+use il_text::program::Condition;
+use std::alloc::{AllocError, Global};
+use std::collections::HashMap;
+
+// The octets are counted up to this number.
+const BOUND: u32 = 0x1_0000;
+
+/// What is known of the items after a place, the continuation.
+#[derive(Drop)]
+pub(crate) struct Continuation {
+    /// The instructions of these items, the last first.
+    pub(crate) instrs: Vec<Instr>,
+    /// The number of octets of these instructions, counted up to 65,536.
+    pub(crate) octets: u32,
+    /// For each label, the number of octets after it.
+    pub(crate) places: HashMap<usize, u32>,
+    /// The pending instructions of the item before them, in order, until they are moved there.
+    pub(crate) line: Vec<Instr>,
+}
+
+// Returns the number of octets of an instruction.
+fn octets_of(instr: Instr) -> u32
+    ensures { result ≡ length (spelling instr) }
+{
+    match instr {
+        Instr::Push(value) => match value.type_of() {
+            ElementaryType::Bool => 2,
+            ElementaryType::Int => 3,
+            ElementaryType::Dint => 5,
+            ElementaryType::Lint => 9,
+            ElementaryType::Time => 5,
+        },
+        Instr::Slot(_, _) => 3,
+        Instr::Compute(_, _) => 2,
+        Instr::Jump(_, _) => 3,
+        Instr::Timer(_, _) => 3,
+        _ => 1,
+    }
+}
+
+// Returns the sum of two numbers of octets, counted up to 65,536.
+fn bounded_sum(a: u32, b: u32) -> u32
+    requires left { a ≤ octets_bound }
+    requires right { b ≤ octets_bound }
+    ensures { result ≡ min (a + b) octets_bound }
+{
+    let sum = a + b;
+    if sum < BOUND { sum } else { BOUND }
+}
+
+// Prepends instructions to those of the continuation, which are stored with the last first. Returns
+// the number of octets of all of them.
+fn put_before(
+    behind: &mut Vec<Instr>,
+    octets: u32,
+    line: &mut Vec<Instr>,
+) -> Result<u32, AllocError>
+    requires { octets ≤ octets_bound }
+    ensures counted { IfOk result
+        (λ all. all ≡ min (octets + spec.octets line.old.items) octets_bound) }
+    ensures before { OnOk result
+        (reverse behind.new.items ≡ line.old.items ++ reverse behind.old.items) }
+    ensures empty { OnOk result (line.new.items ≡ []) }
+{
+    let mut all = octets;
+    while let Some(instr) = line.pop() {
+        all = bounded_sum(all, octets_of(instr));
+        behind.push(instr)?;
+    }
+    Ok(all)
+}
+
+impl Continuation {
+    // Creates the state after the last item, where nothing follows.
+    fn new(alloc: Global) -> Continuation
+        ensures { (externals : ℕ) → IsSettled externals [] result }
+    {
+        Continuation {
+            instrs: Vec::new(alloc),
+            octets: 0,
+            places: HashMap::new(alloc),
+            line: Vec::new(alloc),
+        }
+    }
+
+    // Prepends the pending instructions to the continuation's code.
+    fn settle(&mut self) -> Result<(), AllocError>
+        requires { self.old.octets ≤ octets_bound }
+        ensures counted { OnOk result
+            (self.new.octets
+            ≡ min (self.old.octets + spec.octets self.old.line.items) octets_bound) }
+        ensures before { OnOk result
+            (reverse self.new.instrs.items ≡ self.old.line.items ++ reverse self.old.instrs.items) }
+        ensures empty { OnOk result (self.new.line.items ≡ []) }
+        ensures places { OnOk result (self.new.places ≡ self.old.places) }
+    {
+        self.octets = put_before(&mut self.instrs, self.octets, &mut self.line)?;
+        Ok(())
+    }
+
+    // Prepends a label, which is where the continuation's code begins.
+    fn put_label(&mut self, number: usize) -> Result<(), AllocError>
+        ensures { (externals : ℕ) (is : List ProgramItem) → IsSettled externals is self.old
+            → OnOk result (IsSettled externals (label number ∷ is) self.new) }
+    {
+        self.places.insert(number, self.octets)?;
+        Ok(())
+    }
+
+    // Prepends the instructions of an operation or a parenthesis.
+    fn put_plain(&mut self, externals: usize, entry: &TypedEntry) -> Result<(), AllocError>
+        requires bounded { self.old.octets ≤ octets_bound }
+        requires spellable { IsSpellableEntry externals (entry_view entry.now) }
+        ensures { (is : List ProgramItem) → IsSettled externals is self.old
+            → OnOk result (IsSettled externals (plain (entry_view entry.now) ∷ is) self.new) }
+    {
+        put_entry(&mut self.line, externals, entry)?;
+        self.settle()
+    }
+
+    // Prepends a jump over the octets before its label.
+    fn put_jump(&mut self, condition: Condition, label: usize) -> Result<(), AllocError>
+        requires { self.old.octets ≤ octets_bound }
+        ensures { (externals : ℕ) (is : List ProgramItem) → IsSettled externals is self.old
+            → OnOk result (IsSettled externals (transfer (Transfer.Jump condition label) ∷ is)
+            self.new) }
+    {
+        let place = self.places.get(&label).copied().unwrap_or(0);
+        let distance = self.octets.saturating_sub(place).min(0xFFFF) as u16;
+        put(&mut self.line, Instr::Jump(when_of(condition), distance))?;
+        self.settle()
+    }
+
+    // Prepends a jump over the continuation's code.
+    fn put_return(&mut self, condition: Condition) -> Result<(), AllocError>
+        requires { self.old.octets ≤ octets_bound }
+        ensures { (externals : ℕ) (is : List ProgramItem) → IsSettled externals is self.old
+            → OnOk result (IsSettled externals (transfer (Transfer.Return condition) ∷ is)
+            self.new) }
+    {
+        let distance = self.octets.min(0xFFFF) as u16;
+        put(&mut self.line, Instr::Jump(when_of(condition), distance))?;
+        self.settle()
+    }
+
+    // Prepends a call of a timer.
+    fn put_timer(
+        &mut self,
+        externals: usize,
+        timer: usize,
+        arguments: TypedArguments,
+    ) -> Result<(), AllocError>
+        requires bounded { self.old.octets ≤ octets_bound }
+        requires spellable { IsSpellable externals (transfer (Transfer.Call timer arguments)) }
+        ensures { (is : List ProgramItem) → IsSettled externals is self.old
+            → OnOk result (IsSettled externals (transfer (Transfer.Call timer arguments) ∷ is)
+            self.new) }
+    {
+        put_call(&mut self.line, externals, timer as u16, arguments)?;
+        self.settle()
+    }
+
+    // Prepends an item.
+    fn put_item(&mut self, externals: usize, item: &TypedItem) -> Result<(), AllocError>
+        requires bounded { self.old.octets ≤ octets_bound }
+        requires spellable { IsSpellable externals (item_view item.now) }
+        ensures { (is : List ProgramItem) → IsSettled externals is self.old
+            → OnOk result (IsSettled externals (item_view item.now ∷ is) self.new) }
+    {
+        match item {
+            TypedItem::Label(number) => self.put_label(*number),
+            TypedItem::Entry(entry) => self.put_plain(externals, entry),
+            TypedItem::Transfer(Transfer::Jump { condition, label }) => self.put_jump(
+                *condition, *label,
+            ),
+            TypedItem::Transfer(Transfer::Return(condition)) => self.put_return(*condition),
+            TypedItem::Transfer(Transfer::Call { timer, arguments }) => self.put_timer(
+                externals, *timer, *arguments,
+            ),
+        }
+    }
+}
+
+/// Compiles all items, from the last to the first. Fails only if an allocation fails.
+pub(crate) fn compile_all(
+    alloc: Global,
+    externals: usize,
+    items: &[TypedItem],
+) -> Result<Continuation, AllocError>
+    requires { AreSpellable externals (map item_view items.now) }
+    ensures { IfOk result (λ behind. IsSettled externals (map item_view items.now) behind) }
+{
+    let mut behind = Continuation::new(alloc);
+    let mut at = items.len();
+    while at > 0 {
+        at -= 1;
+        behind.put_item(externals, &items[at])?;
+    }
+    Ok(behind)
+}

@@ -1,0 +1,130 @@
+-- Inner: the states of the machine of typed values in verified code, and what one step of the
+-- machine of words does there.
+use Rattle.std.specs.Prelude.{ℕ, ℤ, ◌≡◌, ◌≤◌, IsSome, if◌then◌else◌, true, List, [], ◌∷◌, length, slice_get, Option, Some, None}
+use Rattle.bay_base.specs.declared.types.ElementaryType.{ElementaryType}
+use Rattle.il_image.specs.declared.kind.CellKind.{CellKind}
+use Rattle.il_image.specs.declared.timer.TimerState.{TimerState}
+use Rattle.il_image.specs.declared.value.Value.{Value}
+use Rattle.il_image.specs.Images.{Each, Image, IsValue}
+use Rattle.il_image.specs.Kinds.{HasKind}
+use Rattle.il_image.specs.Machine.{Goes, Halted, Halts, State, run_from, initial_state, turn}
+use Rattle.il_image.specs.Tables.{Agrees, IsHalt, IsSuccessor, Table, slot_types}
+use Rattle.il_verify.specs.Judging.{is_read_only}
+use Rattle.il_verify.specs.Slots.{slots_of}
+use Rattle.il_verify.specs.Verdicts.{IsBudget, IsDepth, KeepsReadOnly}
+use Rattle.il_image.specs.declared.image.ImagePoint.{ImagePoint}
+use Rattle.il_image.specs.Values.{value_of}
+use Rattle.il_scan.specs.Scans.{IsWithin}
+use Rattle.il_scan.specs.PointPlaces.{writable_count}
+use Rattle.il_scan.specs.PointPlaces.{read_places, write_places}
+use Rattle.il_scan.specs.Words.{AreTyped, StandFor, value_at, values_of, words_of}
+use Rattle.il_scan.specs.Working.{Words, words}
+
+-- Each value has the kind at the same index, and is in the range of its type.
+abbrev pub Fit : List Value → List CellKind → Type 0
+Fit [] [] = Unit {0}
+Fit (v ∷ values) (k ∷ kinds) = (HasKind v k × IsValue v) × Fit values kinds
+Fit [] (k ∷ kinds) = ⊥
+Fit (v ∷ values) [] = ⊥
+
+-- PT and ET are in the range of TIME.
+abbrev pub IsTimer : TimerState → Type 0
+IsTimer t = (t.preset ≤ 0x7FFF_FFFF) × (t.elapsed ≤ 0x7FFF_FFFF)
+
+-- The slots hold values of these types, and there are `count` timers.
+pub record Typed (types : List ElementaryType) (count : ℕ) (slots : List Value)
+    (timers : List TimerState) : Type 0 where
+  pub of_types : AreTyped types slots
+  pub so_many : length timers ≡ count
+  pub times : Each IsTimer timers
+
+-- An agreeing table allows the cells at the state's place, and the code writes only what it may.
+pub record StandsAs (image : Image) (s : State) : Type 0 where
+  pub table : Table
+  pub agrees : Agrees image table
+  pub writes : KeepsReadOnly image
+  pub kinds : List CellKind
+  pub here : table s.place ≡ Some kinds
+  pub fit : Fit s.cells kinds
+  pub typed : Typed (slot_types image) (length image.timers) s.slots s.timers
+
+-- the words that encode a state's values, and its timers
+abbrev pub words_at : State → Words
+words_at s = words (words_of s.cells) (words_of s.slots) s.timers
+
+-- The words encode this state, which is at this place of the code.
+pub record StandsAt (image : Image) (place : ℕ) (w : Words) (s : State) : Type 0 where
+  pub standing : StandsAs image s
+  pub there : s.place ≡ place
+  pub are : words_at s ≡ w
+
+-- The words encode a state of some image with this code, at this place.
+abbrev pub IsAt : List ℕ → ℕ → Words → Type 0
+IsAt code place w =
+    (image : Image) × (s : State) × (image.code ≡ code) × StandsAt image place w s
+
+-- The slots of points that may only be read are unchanged.
+abbrev pub KeepsSlots : Image → Words → Words → Type 0
+KeepsSlots image old new = (n : ℕ) → is_read_only (slots_of image) n ≡ true
+    → slice_get new.slots n ≡ slice_get old.slots n
+
+-- One step of the machine of typed values from the state results in these words: it halts if there
+-- is no next place, and otherwise goes to that place.
+abbrev pub Turns : Image → ℕ → State → Option ℕ → Words → Type 0
+Turns image now s None after =
+    (turn image.code now s ≡ Halts) × (after ≡ words_at s) × IsHalt image.code s.place
+Turns image now s (Some to) after =
+    IsSuccessor image.code s.place to
+    × ((t : State) × (turn image.code now s ≡ Goes t) × StandsAt image to after t)
+    × KeepsSlots image (words_at s) after
+
+-- ---- between runs
+
+-- The words encode values of the slots' types, and the timers are as many as the image has.
+pub record IsHeld (image : Image) (slots : List ℤ) (timers : List TimerState) : Type 0 where
+  pub stand : StandFor (slot_types image) slots (values_of (slot_types image) slots)
+  pub so_many : length timers ≡ length image.timers
+  pub times : Each IsTimer timers
+
+-- the state in which a run starts, given as words
+abbrev pub first_state : Image → List ℤ → List TimerState → State
+first_state image slots timers = initial_state (values_of (slot_types image) slots) timers
+
+-- The run of the image's code from these slots and timers ends with the new ones, after `steps`
+-- steps.
+pub record RunsTo (image : Image) (now : ℕ) (slots : List ℤ) (timers : List TimerState)
+    (new_slots : List ℤ) (new_timers : List TimerState) (steps : ℕ) : Type 0 where
+  pub halts : (most : ℕ) → steps ≤ most
+      → run_from image.code now most (first_state image slots timers) 0
+      ≡ Halted (values_of (slot_types image) new_slots) new_timers steps
+  pub within : (budget : ℕ) → IsBudget image.code budget → steps ≤ budget
+  pub few : steps ≤ length image.code
+  pub depth : (most : ℕ) (count : ℕ) → IsDepth image most
+      → IsWithin image.code now most count (first_state image slots timers)
+  pub keeps : (n : ℕ) → is_read_only (slots_of image) n ≡ true
+      → slice_get new_slots n ≡ slice_get slots n
+  pub held : IsHeld image new_slots new_timers
+
+-- ---- the machine
+
+-- The content of a machine: the words of its slots, its timers, the places of its points, and room
+-- for an output for each point that may be written.
+pub record IsKept (image : Image) (slots : List ℤ) (timers : List TimerState)
+    (reads writes : List ℕ) (outputs : List Value) : Type 0 where
+  pub held : IsHeld image slots timers
+  pub read : reads ≡ read_places 0 image.points
+  pub written : writes ≡ write_places 0 image.points
+  pub room : length outputs ≡ writable_count image.points
+
+-- There is a word for each point, and it encodes a value of the point's type.
+abbrev pub AreWords : List ImagePoint → List ℤ → Type 0
+AreWords [] words = Unit {0}
+AreWords (p ∷ points) [] = ⊥
+AreWords (p ∷ points) (w ∷ words) = IsSome (value_of p.elementary w) × AreWords points words
+
+-- the values of the points that may be written
+abbrev pub given_by : List ImagePoint → List ℤ → List Value
+given_by [] words = []
+given_by (p ∷ points) [] = []
+given_by (p ∷ points) (w ∷ words) =
+    if p.writable then value_at p.elementary w ∷ given_by points words else given_by points words
