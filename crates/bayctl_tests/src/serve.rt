@@ -440,10 +440,10 @@ fault 120 line 2
 | 1970-01-01T00:00:02.000Z process open
 2000 process open
 | 1970-01-01T00:00:03.000Z position Q open
-| 1970-01-01T00:00:04.000Z process closed 120: 0 scan\\x1b
-4000 process closed 120
 | 1970-01-01T00:00:05.000Z process lost
 | 1970-01-01T00:00:05.000Z position Q bad
+| 1970-01-01T00:00:05.000Z process closed 120: 0 scan\\x1b
+5000 process closed 120
 | 1970-01-01T00:00:09.000Z all turns are served
 ",
         ..HEARD
@@ -457,10 +457,10 @@ fault 120 line 2
 | 1970-01-01T00:00:02.000Z process open
 2000 process open
 | 1970-01-01T00:00:03.000Z position Q open
-| 1970-01-01T00:00:04.000Z process closed 120: 0 contact Q 4
-4000 process closed 120
 | 1970-01-01T00:00:05.000Z process lost
 | 1970-01-01T00:00:05.000Z position Q bad
+| 1970-01-01T00:00:05.000Z process closed 120: 0 contact Q 4
+5000 process closed 120
 | 1970-01-01T00:00:09.000Z all turns are served
 ",
         ..HEARD

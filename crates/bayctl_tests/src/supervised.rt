@@ -10,7 +10,7 @@ const SUPERVISED: ServedCase = ServedCase {
     ..HEARD
 };
 
-const ROWS: [ServedCase; 10] = [
+const ROWS: [ServedCase; 12] = [
     // The process names this bay, reports a position, and is answered that the server is alive.
     ServedCase {
         said: "2000 bay - B 1\n3000 contact Q 1\n4000 alive\n",
@@ -37,9 +37,9 @@ const ROWS: [ServedCase; 10] = [
 | 1970-01-01T00:00:02.000Z position Q bad
 | 1970-01-01T00:00:02.000Z process open
 2000 process open
+| 1970-01-01T00:00:03.000Z process lost
 | 1970-01-01T00:00:03.000Z process closed 132: it is not the process of this bay, or has another key
 3000 process closed 132
-| 1970-01-01T00:00:04.000Z process lost
 | 1970-01-01T00:00:05.000Z all turns are served
 ",
         ..SUPERVISED
@@ -52,9 +52,9 @@ const ROWS: [ServedCase; 10] = [
 | 1970-01-01T00:00:02.000Z position Q bad
 | 1970-01-01T00:00:02.000Z process open
 2000 process open
+| 1970-01-01T00:00:03.000Z process lost
 | 1970-01-01T00:00:03.000Z process closed 132: it is not the process of this bay, or has another key
 3000 process closed 132
-| 1970-01-01T00:00:04.000Z process lost
 | 1970-01-01T00:00:05.000Z all turns are served
 ",
         ..SUPERVISED
@@ -67,9 +67,9 @@ const ROWS: [ServedCase; 10] = [
 | 1970-01-01T00:00:02.000Z position Q bad
 | 1970-01-01T00:00:02.000Z process open
 2000 process open
+| 1970-01-01T00:00:03.000Z process lost
 | 1970-01-01T00:00:03.000Z process closed 132: it is not the process of this bay, or has another key
 3000 process closed 132
-| 1970-01-01T00:00:04.000Z process lost
 | 1970-01-01T00:00:05.000Z all turns are served
 ",
         ..SUPERVISED
@@ -84,9 +84,9 @@ const ROWS: [ServedCase; 10] = [
 | 1970-01-01T00:00:02.000Z position Q bad
 | 1970-01-01T00:00:02.000Z process open
 2000 process open
+| 1970-01-01T00:00:03.000Z process lost
 | 1970-01-01T00:00:03.000Z process closed 132: it is not the process of this bay, or has another key
 3000 process closed 132
-| 1970-01-01T00:00:04.000Z process lost
 | 1970-01-01T00:00:05.000Z all turns are served
 ",
         ..SUPERVISED
@@ -116,9 +116,9 @@ const ROWS: [ServedCase; 10] = [
 | 1970-01-01T00:00:02.000Z position Q bad
 | 1970-01-01T00:00:02.000Z process open
 2000 process open
+| 1970-01-01T00:00:04.000Z process lost
 | 1970-01-01T00:00:04.000Z process closed 133: its time is too far from the server's
 4000 process closed 133
-| 1970-01-01T00:00:05.000Z process lost
 | 1970-01-01T00:00:05.000Z all turns are served
 ",
         ..SUPERVISED
@@ -131,9 +131,9 @@ const ROWS: [ServedCase; 10] = [
 | 1970-01-01T00:00:02.000Z position Q bad
 | 1970-01-01T00:00:02.000Z process open
 2000 process open
-| 1970-01-01T00:00:03.000Z process closed 133: its time is too far from the server's
-3000 process closed 133
 | 1970-01-01T00:00:04.000Z process lost
+| 1970-01-01T00:00:04.000Z process closed 133: its time is too far from the server's
+4000 process closed 133
 | 1970-01-01T00:00:05.000Z all turns are served
 ",
         ..SUPERVISED
@@ -148,9 +148,9 @@ const ROWS: [ServedCase; 10] = [
 | 1970-01-01T00:00:02.000Z position Q bad
 | 1970-01-01T00:00:02.000Z process open
 2000 process open
+| 1970-01-01T00:00:04.000Z process lost
 | 1970-01-01T00:00:04.000Z process closed 134: no line for 1500 ms
 4000 process closed 134
-| 1970-01-01T00:00:05.000Z process lost
 | 1970-01-01T00:00:05.000Z all turns are served
 ",
         ..SUPERVISED
@@ -167,9 +167,48 @@ const ROWS: [ServedCase; 10] = [
 | 1970-01-01T00:00:02.000Z position Q bad
 | 1970-01-01T00:00:02.000Z process open
 2000 process open
+| 1970-01-01T00:00:05.000Z process lost
 | 1970-01-01T00:00:05.000Z process closed 134: no line for 2000 ms
 5000 process closed 134
 | 1970-01-01T00:00:05.000Z all turns are served
+",
+        ..SUPERVISED
+    },
+    // The time of a line is before that of the line before it.
+    ServedCase {
+        said: "2000 bay - B 1\n1999 alive\n",
+        words: "serve --log --bay bay --logic logic --port 7 --turns 4 --process 9 --supervise 2500",
+        told: "2000 process 2500 B 1\n",
+        wanted: "instructions=2 depth=1 budget=2
+| 1970-01-01T00:00:01.000Z clients on 127.0.0.1:7, process on 127.0.0.1:9
+| 1970-01-01T00:00:02.000Z process lost
+| 1970-01-01T00:00:02.000Z position Q bad
+| 1970-01-01T00:00:02.000Z process open
+2000 process open
+| 1970-01-01T00:00:04.000Z process lost
+| 1970-01-01T00:00:04.000Z process closed 133: its time is before that of the line before
+4000 process closed 133
+| 1970-01-01T00:00:05.000Z all turns are served
+",
+        ..SUPERVISED
+    },
+    // The system's clock goes on by an hour more than the steady one, as it does if the machine
+    // sleeps.
+    ServedCase {
+        said: "2000 bay - B 1\n",
+        stays: true,
+        jump: 3_600_000,
+        wanted: "instructions=2 depth=1 budget=2
+| 1970-01-01T00:00:01.000Z clients on 127.0.0.1:7, process on 127.0.0.1:9
+| 1970-01-01T00:00:02.000Z process lost
+| 1970-01-01T00:00:02.000Z position Q bad
+| 1970-01-01T00:00:02.000Z process open
+2000 process open
+| 1970-01-01T00:00:03.010Z the system's clock is 3599990 ms ahead
+| 1970-01-01T00:00:03.010Z process lost
+| 1970-01-01T00:00:03.010Z process closed 134: the clock has jumped
+3010 process closed 134
+| 1970-01-01T00:00:05.030Z all turns are served
 ",
         ..SUPERVISED
     },
