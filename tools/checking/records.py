@@ -7,7 +7,7 @@ import subprocess
 import time
 
 from checking.sessions import BAY, LOGIC, Tap
-from wire.served import Server, until, value
+from wire.served import Server, free_port, until, value
 
 SAID = (b'0 contact QA1 2\n0 contact qb1 2\n0 contact QC1 1\n0 input SPRING 1\n'
         b'0 measure M1 TOTW -4180\n0 measure M1 AA bad\n0 contact NONE 1\n')
@@ -75,11 +75,13 @@ def full(checks) -> None:
         held = record.read_text()
         checks.holds('a full record holds a part of a line, or lacks one that fits',
                      len(told_in(held, r'\d{13} scan')) == 5 and len(held) == 95, held)
+    loaded = subprocess.run([checks.bayctl, 'check', '--bay', BAY, '--logic', LOGIC], check=False,
+                            capture_output=True).stdout
     ran = subprocess.run([checks.bayctl, 'serve', '--bay', BAY, '--logic', LOGIC, '--port',
-                          '10102', '--turns', '0', '--record', record], check=False,
+                          str(free_port()), '--turns', '0', '--record', record], check=False,
                          capture_output=True)
     checks.holds('a record replaces a file',
-                 (ran.returncode, ran.stdout, ran.stderr) == (3, b'', b'fault 122\n')
+                 (ran.returncode, ran.stdout, ran.stderr) == (3, loaded, b'fault 122\n')
                  and record.read_text() == held, str(ran))
 
 

@@ -28,9 +28,11 @@ const ROWS: [ServedCase; 12] = [
 ",
         ..SUPERVISED
     },
-    // It names another bay, or another revision, or reports before it names any.
+    // It names another bay, or another revision, or reports before it names any: it is closed before
+    // anything is written to it.
     ServedCase {
         said: "2000 bay - C 1\n",
+        told: "",
         wanted: "instructions=2 depth=1 budget=2
 | 1970-01-01T00:00:01.000Z clients on 127.0.0.1:7, process on 127.0.0.1:9
 | 1970-01-01T00:00:02.000Z process lost
@@ -46,6 +48,7 @@ const ROWS: [ServedCase; 12] = [
     },
     ServedCase {
         said: "2000 bay - B 2\n",
+        told: "",
         wanted: "instructions=2 depth=1 budget=2
 | 1970-01-01T00:00:01.000Z clients on 127.0.0.1:7, process on 127.0.0.1:9
 | 1970-01-01T00:00:02.000Z process lost
@@ -61,6 +64,7 @@ const ROWS: [ServedCase; 12] = [
     },
     ServedCase {
         said: "2000 contact Q 1\n",
+        told: "",
         wanted: "instructions=2 depth=1 budget=2
 | 1970-01-01T00:00:01.000Z clients on 127.0.0.1:7, process on 127.0.0.1:9
 | 1970-01-01T00:00:02.000Z process lost
@@ -77,6 +81,7 @@ const ROWS: [ServedCase; 12] = [
     // It has another key, then the right one.
     ServedCase {
         said: "2000 bay - B 1\n",
+        told: "",
         words: "serve --log --bay bay --logic logic --port 7 --turns 4 --process 9 --supervise 1500 --key key",
         wanted: "instructions=2 depth=1 budget=2
 | 1970-01-01T00:00:01.000Z clients on 127.0.0.1:7, process on 127.0.0.1:9
@@ -196,6 +201,7 @@ const ROWS: [ServedCase; 12] = [
     // sleeps.
     ServedCase {
         said: "2000 bay - B 1\n",
+        told: "",
         stays: true,
         jump: 3_600_000,
         wanted: "instructions=2 depth=1 budget=2
