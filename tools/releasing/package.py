@@ -69,7 +69,7 @@ serves clients of IEC 61850 MMS, or proves rules of the program.
 .B bayctl COMMAND \\-\\-help
 lists the options of a command.
 .SH SEE ALSO
-/usr/share/doc/bayctl/README.md, /usr/share/doc/bayctl/docs/USER.md.
+/usr/share/doc/bayctl/README.md, /usr/share/doc/bayctl/docs/SERVING.md.
 Tools that are not proved stand beside it, as bayctl\\-client and bayctl\\-audit;
 \\-\\-help explains each.
 '''

@@ -42,9 +42,7 @@ class Crates(unittest.TestCase):
         found = listed_in(section_of('docs/ARCHITECTURE.md', 'The crates'))
         self.assertEqual(sorted(found), sorted(crates()))
 
-    def test_readme_has_each_crate_that_promises_once(self):
-        found = listed_in(section_of('README.md', 'What is proved'))
-        self.assertEqual(sorted(found), sorted(set(crates()) - WITHOUT_PROMISE - TESTED))
+    def test_readme_names_what_is_only_tested(self):
         self.assertTrue(all(it in section_of('README.md', 'What is proved') for it in TESTED))
 
     def test_proved_has_a_promise_of_each_crate(self):

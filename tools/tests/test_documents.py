@@ -76,10 +76,11 @@ class Documents(unittest.TestCase):
         self.assertEqual(names - there, set())
 
     def test_reserved_words(self):
-        """USER lists those that the program has, and PROVED counts them."""
+        """LANGUAGE lists those that the program has, and PROVED counts them."""
         code = (TOP / 'crates' / 'bay_base' / 'src' / 'words.rt').read_text(encoding='utf-8')
         words = set(re.findall(r'^ +\("(\w+)", ReservedWord', code, re.MULTILINE))
-        pages = [(TOP / 'docs' / f'{name}.md').read_text('utf-8') for name in ('PROVED', 'USER')]
+        pages = [(TOP / 'docs' / f'{name}.md').read_text('utf-8')
+                 for name in ('PROVED', 'LANGUAGE')]
         self.assertIn(f'the {len(words)} words that are reserved', pages[0])
         listed = pages[1].partition("Reserved words can't be names: the\noperators below, ")[2]
         listed = set(re.findall(r'\w+', listed.partition('. Q, ET')[0]))

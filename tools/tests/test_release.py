@@ -39,7 +39,7 @@ class Package(Tools):
         laid_out(self.folder / 'root', pathlib.Path(program))
         for name in ('usr/bin/bayctl', 'usr/share/bayctl/tools/client', 'etc/bayctl',
                      'usr/lib/systemd/system/bayctl@.service', 'usr/lib/tmpfiles.d/bayctl.conf',
-                     'usr/share/doc/bayctl/docs/USER.md', 'usr/share/doc/bayctl/copyright'):
+                     'usr/share/doc/bayctl/docs/SERVING.md', 'usr/share/doc/bayctl/copyright'):
             self.assertTrue((self.folder / 'root' / name).exists(), name)
         self.assertFalse((self.folder / 'root/usr/share/bayctl/tools/tests').exists())
         for path in (self.folder / 'root/usr/lib/systemd/system').iterdir():
