@@ -159,7 +159,7 @@ class Asking(Tools):
             self.assertEqual(len(self.answer(ANSWER, status).rules), 5)
         for printed, status, told in (
                 (LOADED + 'rules refused 142 line 7\n', 1,
-                 'rules: line 7: bayctl refuses it with 142: A name that no switch, input or'),
+                 'rules: line 7: bayctl refuses it with 142: A rule has a name that no switch,'),
                 (LOADED + 'rules refused 9 line 7\n', 1, 'line 7: bayctl refuses it with 9'),
                 ('load refused 53\n', 1, 'bayctl audit: load refused 53 (tools/diagnose tells why'),
                 ('fault 121\n', 3, 'bayctl audit: fault 121'),
