@@ -13,7 +13,7 @@ import shared
 from wire.client import Client
 from wire.served import free_port
 
-EXAMPLE = shared.EXAMPLES / 'remote_io'
+EXAMPLE = shared.EXAMPLES / '10_remote_io'
 BAY, LOGIC = EXAMPLE / 'bay.toml', EXAMPLE / 'logic.il'
 SYSTEM = '/usr/bin/python3'  # which has Debian's packages
 LIMIT = 500  # ms of --supervise

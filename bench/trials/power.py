@@ -16,7 +16,7 @@ from common.positions import OF_BITS, POSITIONS
 from wire.client import Client
 from wire.control import Control
 
-SERVED = EXAMPLES / 'served'
+SERVED = EXAMPLES / '09_served'
 TRAVEL = 300  # ms of each switch
 AGAIN, LOOK, PATIENCE = 1.0, 0.01, 20  # seconds
 KEY = '0123456789abcdef' * 2

@@ -4,7 +4,7 @@ import pathlib
 
 from wire.served import Server
 
-EXAMPLE = pathlib.Path(__file__).resolve().parent.parent.parent / 'examples' / 'double_busbar'
+EXAMPLE = pathlib.Path(__file__).resolve().parent.parent.parent / 'examples' / '05_double_busbar'
 STEPS, BAY, LOGIC = (EXAMPLE / name for name in ('acceptance', 'bay.toml', 'logic.il'))
 PASSED = 'PASSED: 30 steps, 13 expectations, all passed'
 

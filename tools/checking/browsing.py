@@ -16,7 +16,7 @@ from .chromium import SHIFT, Broken, Browser, Page, program
 from .panels import SERVED, TOOLS, gear
 
 BAY, LOGIC = SERVED / 'bay.toml', SERVED / 'logic.il'
-DIAGRAMS = SERVED.parent / 'diagrams'
+DIAGRAMS = SERVED.parent / '07_diagrams'
 QA1, NARROW = 'g[data-switch="QA1"]', 400
 SETTLED = 0.9  # seconds in which a command that was to come has come
 CLOSED = f'document.querySelector(\'{QA1}\').classList.contains("closed")'

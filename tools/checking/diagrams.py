@@ -14,7 +14,7 @@ from .panels import Page, positions
 from .planted import EXAMPLES, read_faults
 
 TOOLS = pathlib.Path(__file__).resolve().parent.parent
-DIAGRAMS = EXAMPLES / 'diagrams'
+DIAGRAMS = EXAMPLES / '07_diagrams'
 BY_HAND, OF_DIAGRAM = 'rules', 'rules_of_diagram'
 TOLD = ('instructions=', 'rule ', 'release ', 'lost ')  # the lines that an example keeps
 PART = re.compile(r'(AND|OR)N? \w+')

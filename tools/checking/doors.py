@@ -1,5 +1,5 @@
-"""A bay behind stunnel, as examples/networked has it: who has a certificate reads and operates, and
-no octet of anybody else reaches the bay. Each check has the name of the wrong behaviour that it
+"""A bay behind stunnel, as examples/11_networked has it: who has a certificate reads and operates,
+and no octet of anybody else reaches the bay. Each check has the name of the wrong behaviour that it
 refuses."""
 import contextlib
 import re
@@ -218,7 +218,7 @@ def revoked(checks) -> None:
         time.sleep(SETTLED)
         checks.holds('a new revocation list is not read', not answer and it.opens() == before,
                      f'{answer!r}, {it.server.printed()}')
-        checks.holds('a new list ends who is there, as examples/networked says it does not',
+        checks.holds('a new list ends who is there, as examples/11_networked says it does not',
                      value(held, QA1) != '', it.server.printed())
         out_of_date(checks, it)
         it.door.run.terminate()

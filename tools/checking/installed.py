@@ -11,7 +11,7 @@ from wire.served import Running, Server, free_port
 
 from .panels import SERVED, Page
 
-EXAMPLE, AUDITED = (SERVED.parent / name for name in ('single_busbar', 'operated'))
+EXAMPLE, AUDITED = (SERVED.parent / name for name in ('03_single_busbar', '08_operated'))
 FAULT = 'PROGRAM P\nLD NOBODY\nEND_PROGRAM\n'
 
 

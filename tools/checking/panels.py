@@ -10,7 +10,7 @@ import time
 from wire.served import PATIENCE, Running, Server, Simulator
 
 TOOLS = pathlib.Path(__file__).resolve().parent.parent
-SERVED = TOOLS.parent / 'examples' / 'served'
+SERVED = TOOLS.parent / 'examples' / '09_served'
 LOST = 'every position is bad: the process is lost'
 
 

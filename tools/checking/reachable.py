@@ -1,6 +1,6 @@
-"""The nftables table of examples/networked: its syntax is right, and, in a network namespace of its
-own, it lets only its users reach the two ports. As a program this module is what runs in
-the namespace: python3 -m checking.reachable FILE."""
+"""The nftables table of examples/11_networked: its syntax is right, and, in a network namespace of
+its own, it lets only its users reach the two ports. As a program this module is what runs in the
+namespace: python3 -m checking.reachable FILE."""
 import os
 import pathlib
 import re
@@ -10,7 +10,7 @@ import subprocess
 import sys
 
 TOOLS = pathlib.Path(__file__).resolve().parent.parent
-TABLE = TOOLS.parent / 'examples' / 'networked' / 'bay.nft'
+TABLE = TOOLS.parent / 'examples' / '11_networked' / 'bay.nft'
 CLIENTS, DRIVERS, NEITHER = 61_001, 61_002, 61_003  # users, by their numbers
 PORTS = {'clients': 10_102, 'process': 10_103}
 WANTED = {(CLIENTS, 'clients'), (DRIVERS, 'process')}

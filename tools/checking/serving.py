@@ -12,7 +12,7 @@ import time
 from wire import mms, stream
 from wire.served import PATIENCE, Server, free_port, until, value
 
-SERVED = pathlib.Path(__file__).resolve().parent.parent.parent / 'examples' / 'served'
+SERVED = pathlib.Path(__file__).resolve().parent.parent.parent / 'examples' / '09_served'
 BAY, LOGIC, TRACE = SERVED / 'bay.toml', SERVED / 'logic.il', SERVED / 'trace'
 IDENTIFY = stream.wrapped(stream.data_tsdu(mms.request_octets(1, 0x82)))
 PAGE = stream.wrapped(stream.data_tsdu(mms.names_request(1, 'E05')))

@@ -16,7 +16,7 @@ from wire.client import Client
 from wire.same_bay import compared
 from wire.served import Server, Simulator, until, value
 
-SERVED = pathlib.Path(__file__).resolve().parent.parent.parent / 'examples' / 'served'
+SERVED = pathlib.Path(__file__).resolve().parent.parent.parent / 'examples' / '09_served'
 BAY, LOGIC, TRACE = SERVED / 'bay.toml', SERVED / 'logic.il', SERVED / 'trace'
 CLOSED = '10'
 

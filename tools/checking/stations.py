@@ -11,7 +11,7 @@ from wire.served import PATIENCE, Running, Server, Simulator
 
 TOOLS = pathlib.Path(__file__).resolve().parent.parent
 EXAMPLES = TOOLS.parent / 'examples'
-OTHER, SERVED = EXAMPLES / 'single_busbar', EXAMPLES / 'served'
+OTHER, SERVED = EXAMPLES / '03_single_busbar', EXAMPLES / '09_served'
 GONE = 'every position is bad: the process is lost, since '
 
 

@@ -1,4 +1,4 @@
-"""The steps on the machine of a bay, whose files are where examples/station puts them."""
+"""The steps on the machine of a bay, whose files are where examples/12_station puts them."""
 import contextlib
 import datetime
 import os

@@ -14,7 +14,7 @@ import textwrap
 from common.ending import Failed
 from common.places import TOOLS, TOP
 
-STATION = TOP / 'examples' / 'station'
+STATION = TOP / 'examples' / '12_station'
 # Where the README of the station installs by hand, and where a package does.
 PLACES = {'/usr/local/bin/bayctl': '/usr/bin/bayctl',
           '/usr/local/lib/bayctl/tools': '/usr/share/bayctl/tools'}

@@ -22,7 +22,7 @@ from diagram.paths import paths_between
 from tests.tool import Tools
 from tests.truths import States, forbidden, joined, releases
 
-FOLDER = Path(__file__).resolve().parents[2] / 'examples' / 'diagrams'
+FOLDER = Path(__file__).resolve().parents[2] / 'examples' / '07_diagrams'
 EXAMPLES = sorted(FOLDER.glob('*/bay.toml'))
 AUDITED = (diagrams.diagrams_are_kept, diagrams.hands_follow, diagrams.planted_faults_break)
 KINDS = {'QA': 'breaker', 'QB': 'disconnector', 'QC': 'earthing'}

@@ -1,4 +1,4 @@
-"""What examples/networked ships, and how checks use it, without stunnel and nftables."""
+"""What examples/11_networked ships, and how checks use it, without stunnel and nftables."""
 import contextlib
 import io
 import pathlib
@@ -15,8 +15,8 @@ from readiness import here, there
 from wire import guarded
 from wire.tls import CIPHERS
 
-PAGE_OF_ALL = TOOLS.parent / 'examples' / 'station' / 'bayctl-station.service'
-PAGE = TOOLS.parent / 'examples' / 'networked' / 'README.md'
+PAGE_OF_ALL = TOOLS.parent / 'examples' / '12_station' / 'bayctl-station.service'
+PAGE = TOOLS.parent / 'examples' / '11_networked' / 'README.md'
 SECURITY = TOOLS.parent / 'docs' / 'SECURITY.md'
 
 
@@ -68,7 +68,7 @@ class Shipped(unittest.TestCase):
             self.assertEqual(numbers, [str(at) for at in range(1, len(found) + 1)], act)
 
     def test_both_pages_have_one_layout(self):
-        """What the page names of a bay is what examples/station installs."""
+        """What the page names of a bay is what examples/12_station installs."""
         page = PAGE.read_text(encoding='utf-8')
         station = PAGE_OF_ALL.parent
         units = {path.name.partition('@')[0] for path in station.glob('*@.service')}

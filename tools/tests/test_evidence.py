@@ -16,7 +16,7 @@ from tests.tool import Tools
 from tracing import sheet
 
 TOP = pathlib.Path(__file__).resolve().parents[2]
-LINE = TOP / 'examples' / 'diagrams' / 'line'
+LINE = TOP / 'examples' / '07_diagrams' / 'line'
 LOG = ('2026-11-28T23:59:59.500Z clients on 127.0.0.1:102\n'
        '2026-11-28T23:59:59.900Z position QA1 closed\n')
 SUM = r'[0-9a-f]{64}'

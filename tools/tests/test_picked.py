@@ -9,7 +9,7 @@ from report.picked import Picked
 from report.replay import Replay
 from tests.tool import Tools, zone
 
-OPERATED = pathlib.Path(__file__).resolve().parents[2] / 'examples' / 'operated'
+OPERATED = pathlib.Path(__file__).resolve().parents[2] / 'examples' / '08_operated'
 WORDS = OPERATED / 'scenario', '--printed', OPERATED / 'expected'
 
 

@@ -19,7 +19,7 @@ from tests.loopback import needs_loopback
 from tests.tool import Tools
 from wire.served import Running, free_port, until
 
-EXAMPLE = TOOLS.parent / 'examples' / 'remote_io'
+EXAMPLE = TOOLS.parent / 'examples' / '10_remote_io'
 BAY = {'bay': {}, 'switch': [{'id': 'QA1', 'control': 'direct', 'travel_ms': 100},
                              {'id': 'QC1', 'control': 'status'}],
        'input': [{'name': 'ES'}, {'name': 'OK'}], 'meter': [{'id': 'M1'}]}

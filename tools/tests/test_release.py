@@ -77,7 +77,7 @@ class Package(Tools):
         part = (TOOLS.parent / 'README.md').read_text(encoding='utf-8').partition('## Tools')[2]
         named = re.findall(r'`tools/(\w+)`', part.partition('| Exit status')[0])
         self.assertEqual(sorted(named), list(COMMANDS))
-        page = (TOOLS.parent / 'examples/station/README.md').read_text(encoding='utf-8')
+        page = (TOOLS.parent / 'examples/12_station/README.md').read_text(encoding='utf-8')
         listed_there = page.partition('    for name in ')[2].partition('\n    do ')[0]
         self.assertEqual(listed_there.replace('\\', ' ').split(), list(COMMANDS))
 

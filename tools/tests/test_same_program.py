@@ -22,26 +22,27 @@ class Programs(unittest.TestCase):
         return str(caught.exception)
 
     def test_each_example_fits_its_own_bay(self):
-        names = ('served', 'feeder', 'double_busbar', 'diagrams/line', 'diagrams/single')
+        names = ('09_served', '06_feeder', '05_double_busbar', '07_diagrams/line',
+                 '07_diagrams/single')
         for name in names:
             check_program('logic.il', *files(name))
 
     def test_a_program_of_another_bay(self):
-        text, _ = files('diagrams/line')
-        _, bay = files('served')
+        text, _ = files('07_diagrams/line')
+        _, bay = files('09_served')
         told = self.refusal(text, bay)
         self.assertRegex(told, r'^--logic other.il: it is no program of this bay file: line \d+: '
                          r'the bay has no point \w+.*, and \d+ more; give the program')
 
     def test_a_point_of_another_type(self):
-        text, bay = files('served')
+        text, bay = files('09_served')
         told = self.refusal(text.replace('QA1_OPEN', 'QA1_POS', 1), bay)
         self.assertIn('the point QA1_POS is a', told)
 
     def test_what_bayctl_refuses_is_left_to_it(self):
-        _, bay = files('served')
+        _, bay = files('09_served')
         check_program('x.il', 'no program', bay)
-        text, _ = files('served')
+        text, _ = files('09_served')
         check_program('x.il', text.replace('    LD ', '    LD misspelt_', 1), bay)
 
 

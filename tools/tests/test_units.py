@@ -1,4 +1,4 @@
-"""The unit files of examples/station: their keys and values, users, paths and variables, and how
+"""The unit files of examples/12_station: their keys and values, users, paths and variables, and how
 far systemd would shut each service in."""
 import os
 import pathlib
@@ -14,7 +14,7 @@ sys.path.insert(0, str(TOOLS))
 from overview.bays import PORT, settings_of
 from tests.tool import Tools
 
-STATION = TOOLS.parent / 'examples' / 'station'
+STATION = TOOLS.parent / 'examples' / '12_station'
 HELP = TOOLS / 'checking' / 'help.txt'
 YES, NO, TIME = 'yes', 'no', r'\d+(s|min)?'
 NAMES = r'[\w%@. -]+'
@@ -160,7 +160,7 @@ class Units(Tools):
     def test_the_door(self):
         """The configuration of the networked example stays in the foreground, as a service must,
         and what it names has its owner and mode."""
-        text = (STATION.parent / 'networked' / 'stunnel.conf').read_text(encoding='utf-8')
+        text = (STATION.parent / '11_networked' / 'stunnel.conf').read_text(encoding='utf-8')
         self.assertRegex(text, r'(?m)^foreground = yes$')
         modes = {row[1]: (row[2], row[3]) for row in rows_of('tmpfiles.conf')}
         named = re.findall(r'(?m)^(?:cert|key|CAfile|CRLfile) = (\S+)$', text)

@@ -1,5 +1,5 @@
-"""stunnel before a served bay, for checks and benches: the configuration of examples/networked with
-ports and files of their own, and the certificates of a small authority."""
+"""stunnel before a served bay, for checks and benches: the configuration of examples/11_networked
+with ports and files of their own, and the certificates of a small authority."""
 import pathlib
 import re
 import shutil
@@ -11,7 +11,7 @@ from certifying.authority import CERTIFICATE, LIST, Authority
 from . import tls
 from .served import TOOLS, Running, free_port, until
 
-CONFIGURATION = TOOLS.parent / 'examples' / 'networked' / 'stunnel.conf'
+CONFIGURATION = TOOLS.parent / 'examples' / '11_networked' / 'stunnel.conf'
 NAMES = ('stunnel', 'stunnel4')
 READ = 'Configuration successful'  # what stunnel logs at its start, and after SIGHUP
 SETTING = re.compile(r'(?m)^(\w+) = .*$')
