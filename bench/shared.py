@@ -48,6 +48,18 @@ def text_of(path: str | os.PathLike) -> str:
         return file.read()
 
 
+def scenario_at(folder: pathlib.Path) -> bytes:
+    """The scenario of an example that has its three parts."""
+    from report.joined import scenario_at
+    return scenario_at(folder)
+
+
+def replayed() -> list[pathlib.Path]:
+    """The folders of the examples that have the three parts and are not served by a `run`."""
+    return sorted(path.parent for path in EXAMPLES.glob('*/trace')
+                  if not (path.parent / 'run').exists())
+
+
 def write(path: str | os.PathLike, text: str) -> None:
     """Writes a text to a file."""
     with open(path, 'w', encoding='utf-8') as file:

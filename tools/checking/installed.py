@@ -55,10 +55,10 @@ def installed(checks) -> None:
     checks.wants('an installed audit', *it.run(
         'bayctl-audit', *(AUDITED / name for name in ('bay.toml', 'logic.il', 'rules'))),
         ['PASSED: all '], 0)
-    checks.wants('an installed explain', *it.run('bayctl-explain', EXAMPLE / 'scenario'),
+    checks.wants('an installed explain', *it.run('bayctl-explain', EXAMPLE),
                  ['scan, 83 steps'], 0)
     checks.wants('an installed timeline', *it.run(
-        'bayctl-timeline', EXAMPLE / 'scenario', '--out', 'day.svg'), [], 0)
+        'bayctl-timeline', EXAMPLE, '--out', 'day.svg'), [], 0)
     served(checks, it)
 
 

@@ -1,14 +1,18 @@
 """Traces and captured sessions joined to one trace, so that bayctl replays it, and what it then
 says otherwise."""
+import os
+import pathlib
 import re
 from collections.abc import Iterator
 
+from bay.files import octets_of
 from common.ending import Failed
 from common.moments import is_clock
 from wire.stream import Stream
 
 PLACES = 8  # associations
 TALK = ('open', 'recv', 'close')
+PARTS = ('bay.toml', 'logic.il', 'trace')  # of a scenario, in a folder
 SPLIT = re.compile(rb'(?m)^%%(?=\r?(?:\n|\Z))')  # what parts a scenario
 ENDS = ('finish', 'release', 'abort', 'end', 'fault')  # what ends an association
 
@@ -111,6 +115,14 @@ def scenario_of(bay: bytes, logic: bytes, trace: bytes) -> bytes:
     logic = SPLIT.sub(b' %%', logic)
     return b''.join(part if part.endswith(b'\n') else part + b'\n'
                     for part in (bay, b'%%', logic, b'%%', trace))
+
+
+def scenario_at(path: str | os.PathLike[str]) -> bytes:
+    """The octets of a scenario: those of a file, or the three parts that lie in a folder."""
+    if not os.path.isdir(path):
+        return octets_of(path)
+    bay, logic, trace = (octets_of(pathlib.Path(path) / name) for name in PARTS)
+    return scenario_of(bay, logic, trace)
 
 
 def sent_of(events) -> dict:

@@ -84,6 +84,18 @@ class Joined(Tools):
             self.assertEqual((done.out, done.status), ('', 3))
             self.assertIn('trace: line 1 is not a line of a trace', done.error)
 
+    def test_a_folder(self):
+        """Its trace stays in its order, also where a line comes too late."""
+        for name, text in (('bay.toml', '[bay]\n'), ('logic.il', 'PROGRAM\n'),
+                           ('trace', '5 scan\n\n4 scan\n')):
+            self.file(name, text)
+        self.assertEqual(self.call_tool('join', self.folder).out,
+                         '[bay]\n%%\nPROGRAM\n%%\n5 scan\n\n4 scan\n')
+        (self.folder / 'trace').unlink()
+        done = self.call_tool('join', self.folder)
+        self.assertEqual((done.out, done.status), ('', 3))
+        self.assertEqual(self.call_tool('join', self.folder / 'bay.toml').status, 2)
+
     def test_a_line_that_parts_a_scenario(self):
         paths = [self.file('bay', 'a = 1\n'), self.file('logic', '(*\n%%\r\n*)\n'),
                  self.file('trace', '0 scan\n')]

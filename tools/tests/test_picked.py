@@ -5,12 +5,13 @@ import unittest
 
 sys.path.insert(0, str(pathlib.Path(__file__).resolve().parent.parent))
 from report.history import History
+from report.joined import scenario_at
 from report.picked import Picked
 from report.replay import Replay
 from tests.tool import Tools, zone
 
 OPERATED = pathlib.Path(__file__).resolve().parents[2] / 'examples' / '08_operated'
-WORDS = OPERATED / 'scenario', '--printed', OPERATED / 'expected'
+WORDS = OPERATED, '--printed', OPERATED / 'expected'
 
 
 class Picks(Tools):
@@ -67,7 +68,7 @@ class Picks(Tools):
 
 class Pictures(Tools):
     def history(self, **picked) -> History:
-        scenario, printed = WORDS[0].read_bytes(), WORDS[2].read_text()
+        scenario, printed = scenario_at(WORDS[0]), WORDS[2].read_text()
         return History.of_replay(Replay(scenario, printed), Picked(**picked))
 
     def test_all(self):

@@ -14,8 +14,8 @@ class Pictures(Tools):
         """What the tools draw of an example."""
         folder, out = picture.parent, self.folder / 'drawn.svg'
         if picture.name == 'timeline.svg':
-            found = self.call_tool('timeline', folder / 'scenario', '--printed',
-                                   folder / 'expected', '--out', out)
+            found = self.call_tool('timeline', folder, '--printed', folder / 'expected', '--out',
+                                   out)
         else:
             self.assertEqual(picture.name, 'diagram.svg', f'{picture}: which tool draws it?')
             found = self.call_tool('rules', folder / 'bay.toml', folder / 'diagram.toml', '--draw',
