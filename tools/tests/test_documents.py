@@ -8,7 +8,7 @@ from wire.words import ADD_CAUSES
 
 TOP = pathlib.Path(__file__).resolve().parent.parent.parent
 PAGES = [*sorted(TOP.glob('*.md')), *sorted(TOP.glob('docs/*.md')),
-         *sorted(TOP.glob('examples/*/README.md')), *sorted(TOP.glob('bench/*.md'))]
+         *sorted(TOP.glob('examples/**/README.md')), *sorted(TOP.glob('bench/*.md'))]
 LINK = re.compile(r'\]\(([^)\s]+)\)')
 NAMED = re.compile(r'`?\b((?:docs|tools|bench|examples|crates)/[\w./-]*\w)')
 DEFINED = re.compile(r'\[`(\w+)`\]\(([^)#\s]*crates/[^)\s]+)\)')
@@ -103,6 +103,19 @@ class Documents(unittest.TestCase):
         self.assertEqual({int(number) for _, number in told}, causes)
         for words, number in told:
             self.assertEqual(words, ADD_CAUSES[int(number)])
+
+    def test_the_examples_are_in_their_table(self):
+        """Each folder is there, in its order, and begins with two commands."""
+        examples = TOP / 'examples'
+        folders = sorted(it.name for it in examples.iterdir() if it.is_dir())
+        index = (examples / 'README.md').read_text(encoding='utf-8')
+        self.assertEqual(re.findall(r'(?m)^\| \[(\w+)\]\(\1/README\.md\)', index), folders)
+        self.assertEqual([it[:3] for it in folders],
+                         [f'{at:02}_' for at in range(1, len(folders) + 1)])
+        for name in folders:
+            page = (examples / name / 'README.md').read_text(encoding='utf-8')
+            start = page.split('\n\n')[1]
+            self.assertEqual(len(re.findall(r'(?m)^    \$ ', start)), 2, name)
 
     def test_tables(self):
         for page in PAGES:
