@@ -165,8 +165,9 @@ class Outputs(Tools):
         """Also where the tests ignore one, as a gate does in the background of a shell."""
         before = signal.signal(signal.SIGINT, signal.SIG_IGN)
         self.addCleanup(signal.signal, signal.SIGINT, before)
-        slow = self.file('slow', f'#!{sys.executable}\nimport time\nprint("x", flush=True)\n'
-                         'time.sleep(60)\n')
+        started = self.folder / 'started'
+        slow = self.file('slow', f'#!{sys.executable}\nimport pathlib\nimport time\n'
+                         f'pathlib.Path({str(started)!r}).touch()\ntime.sleep(60)\n')
         slow.chmod(0o755)
         scenario = self.file('scenario', f'{BAY}%%\n{LOGIC}%%\n0 scan\n')
         words = [sys.executable, '-B', TOOLS / 'explain', scenario, '--bayctl', slow]
@@ -174,7 +175,10 @@ class Outputs(Tools):
             run = subprocess.Popen(words, stdout=subprocess.PIPE, stderr=subprocess.PIPE,
                                    text=True, start_new_session=True)
         self.addCleanup(run.kill)
-        time.sleep(1)
+        for _ in range(600):  # a minute, on a machine that is busy
+            if started.exists():
+                break
+            time.sleep(0.1)
         run.send_signal(signal.SIGINT)
         self.assertEqual((*run.communicate(timeout=10), run.returncode), ('', '', 130))
 
