@@ -23,7 +23,7 @@ CODES = {0: 'ended', 10: 'no TPKT', 11: 'no TPDU that may come now', 12: 'anothe
          23: 'no value of ACSE', 24: 'it can\'t come now',
          25: 'too small a PDU size', 120: 'a line that can\'t be read',
          130: 'it did not read, and its queue is full',
-         131: 'its connection failed, or it sent nothing for 10 seconds',
+         131: 'its connection failed, or it sent nothing for too long',
          132: 'another bay, another key, or no line bay first', 133: 'a time that is too far away',
          134: 'no line in time'}
 

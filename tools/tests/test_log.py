@@ -54,7 +54,7 @@ SERVER = f'''instructions=14 depth=2 budget=14
 {at(2650)} process open
 {at(2700)} operate of QB1 ended: time over
 {at(3000)} the system's clock is 1200 ms ahead
-{at(3100)} association 2 closed 131: its connection failed, or it sent nothing for 10 seconds
+{at(3100)} association 2 closed 131: its connection failed, or it sent nothing for too long
 {at(3200)} refused 113: 0 contact QX 1
 '''
 PRINTED = f'''{START + 50} process open
@@ -154,7 +154,7 @@ interlocking does not release the operation
 it showed a certificate of O=Station, CN=operator
   10:00:03.000  stunnel: Failed to load the revocation list
   10:00:03.100  [no certificate, from 127.0.0.1] association 2 closed (131): its connection \
-failed, or it sent nothing for 10 seconds
+failed, or it sent nothing for too long
   10:00:03.200  a line of the process is refused (113): 0 contact QX 1
   10:00:04.000  stunnel ends
 '''

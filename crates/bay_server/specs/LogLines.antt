@@ -97,7 +97,7 @@ abbrev pub closing_words : CloseReason → List ℕ
 closing_words closing.Ended = codes "its client ended it"
 closing_words (closing.Fault code) = fault_words code
 closing_words closing.QueueFull = codes "a reply does not fit its queue"
-closing_words closing.LinkFailed = codes "its connection failed, or it sent nothing for 10 seconds"
+closing_words closing.LinkFailed = codes "its connection failed, or it sent nothing for too long"
 
 -- one of the four octets of an address
 abbrev pub octet_text : SocketAddrV4 → ℕ → List ℕ

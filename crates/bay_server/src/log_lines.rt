@@ -115,7 +115,7 @@ fn closing_words(closing: CloseReason) -> &'static [u8]
         CloseReason::Ended => b"its client ended it",
         CloseReason::Fault(code) => fault_words(code),
         CloseReason::QueueFull => b"a reply does not fit its queue",
-        CloseReason::LinkFailed => b"its connection failed, or it sent nothing for 10 seconds",
+        CloseReason::LinkFailed => b"its connection failed, or it sent nothing for too long",
     }
 }
 
