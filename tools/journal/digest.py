@@ -258,6 +258,8 @@ def without_link(event: Event) -> tuple[str, str]:
             return f'the server listens: clients on {event.address}{event.words}', QUIET
         case lines.LOADED:
             return f'the bay and its program are loaded{why}', QUIET
+        case lines.LEFT_OUT:
+            return f'{event.code} lines of clients that came and went are left out', BAD
         case lines.CLOCK:
             return f'the system\'s clock {event.words}', BAD if event.code else QUIET
         case lines.FAULT:

@@ -13,6 +13,7 @@ OPEN, CLOSED, CONTROL, COMMAND, REFUSED = 'open', 'closed', 'control', 'command'
 CONNECTED, PARTED, LOADED, BEGUN = 'process open', 'process closed', 'loaded', 'begun'
 ENDED, CLOCK, FAULT = 'ended', 'clock', 'fault'
 POSITION, RELEASE, LOST, DONE = 'position', 'release', 'process lost', 'operate ended'
+LEFT_OUT = 'left out'
 REACHED = 'position reached'  # how an operate ends well
 OPERATE = 'operate'
 TWICE = (CLOSED, REFUSED, CONNECTED, PARTED)  # printed and logged
@@ -22,6 +23,7 @@ LINES = [
     (OPEN, r'association (?P<association>\d) open from (?P<address>[\d.]+:\d+)'),
     (CLOSED, r'association (?P<association>\d) closed (?P<code>\d+|memory)(?:: (?P<words>.*))?'),
     (CLOSED, r'closed (?P<association>\d) (?P<code>\d+|memory)'),
+    (LEFT_OUT, r'(?P<code>\d+) lines of connections left out'),
     (CONTROL, r'association (?P<association>\d) (?P<verb>select|operate|cancel) (?P<switch>\w+)'
               r'(?: (?P<way>close|open|on|off) orCat=(?P<category>-?\d+) orIdent=(?P<identity>.*) '
               r'ctlNum=(?P<count>\d+))?' + VERDICT),

@@ -56,6 +56,7 @@ SERVER = f'''instructions=14 depth=2 budget=14
 {at(3000)} the system's clock is 1200 ms ahead
 {at(3100)} association 2 closed 131: its connection failed, or it sent nothing for too long
 {at(3200)} refused 113: 0 contact QX 1
+{at(4000)} 12 lines of connections left out
 '''
 PRINTED = f'''{START + 50} process open
 {START + 1230} command QB1 off
@@ -156,6 +157,7 @@ it showed a certificate of O=Station, CN=operator
   10:00:03.100  [no certificate, from 127.0.0.1] association 2 closed (131): its connection \
 failed, or it sent nothing for too long
   10:00:03.200  a line of the process is refused (113): 0 contact QX 1
+  10:00:04.000  12 lines of clients that came and went are left out
   10:00:04.000  stunnel ends
 '''
 

@@ -15,6 +15,7 @@ use Rattle.bay_server.specs.ServeReport.{AfterTurn, Chosen, PollOutcome, Hears, 
 use Rattle.bay_process_port.specs.declared.connection_event.ConnectionEvent.{ConnectionEvent}
 use Rattle.bay_server.specs.Serving.{TriesTurn}
 use Rattle.bay_server.specs.ChangeLines.{bay_seen}
+use Rattle.bay_server.specs.ConnectionLines.{count_after}
 use Rattle.bay_server.specs.LogLines.{shift_log, used_up_log}
 use Rattle.bay_server.specs.Logging.{LogsAll}
 use Rattle.bay_server.specs.RecordLine.{record_log}
@@ -32,6 +33,7 @@ use Rattle.bay_server_turn.specs.declared.record.RecordEnd.{RecordEnd}
 use Rattle.bay_server.specs.declared.change_lines.BayView.{BayView}
 use Rattle.bay_server.specs.declared.clock.Clocks.{Clocks}
 use Rattle.bay_server.specs.declared.clock.ClockShift.{ClockShift}
+use Rattle.bay_server.specs.declared.connection_lines.LineCount.{LineCount}
 use Rattle.bay_server.specs.declared.process.NextInput.{NextInput}
 
 -- ---- the lines of a trace that are not empty
@@ -117,7 +119,7 @@ module _ {L B H W : Type 0} (below : B → L) (does : L → Call → L → Type 
       (next : NextInput)
       (shift : Option ClockShift) (device : State) (before : BayView)
       (old begun told-to new : Writing W) (end : Option RecordEnd) (turn : Turn) (s : State)
-      (jump : ℕ) (answer : Result ℕ WriteFault)
+      (jump : ℕ) (count-before count-after : LineCount) (answer : Result ℕ WriteFault)
       → clock-after ≡ after_reading clocks clock-before → clock ≡ clock-after.moment
       → now ≡ moment_at clock held-before
       → shift ≡ shift_of clock-before.side clock-after.moment clocks.system
@@ -133,14 +135,16 @@ module _ {L B H W : Type 0} (below : B → L) (does : L → Call → L → Type 
       link-before link-after (moment_at clock held-before) (reported_in next.given) held-before
       held-after turn
       → before ≡ bay_seen held-before.device
-      → ReportsAndPolls (Called does failures) contents asks now next before turn s process-chosen
-      process-after begun told-to answer
+      → ReportsAndPolls (Called does failures) contents asks now count-before next before turn s
+      process-chosen process-after begun told-to answer
+      → count-after ≡ count_after now turn count-before
       → LogsAll contents asks told-to (record_log now end) new
       → TurnGoes (Called does failures) acts contents asks
       (record {
         link = below link-before;
         held = held-before;
         clock = clock-before;
+        count = count-before;
         host = host-before;
         process = process-before;
         lines = lines-before;
@@ -149,15 +153,16 @@ module _ {L B H W : Type 0} (below : B → L) (does : L → Call → L → Type 
         link = below link-after;
         held = held-after;
         clock = clock-after;
+        count = count-after;
         host = host-after;
         process = process-after;
         lines = lines-after;
       }) new answer
   turn-goes link-before link-after held-before held-after clock-before clock-after host-before
       host-after process-before process-chosen process-after lines-before lines-after clocks
-      clock now next shift device before old begun told-to new end turn s jump answer read
-      is-clock now-is shift-is by-device jump-is is-next is-process is-lines is-s told logged
-      at-clock at-clock-serves is-before reports ended =
+      clock now next shift device before old begun told-to new end turn s jump count-before
+      count-after answer read is-clock now-is shift-is by-device jump-is is-next is-process is-lines
+      is-s told logged at-clock at-clock-serves is-before reports counted ended =
       let k : ℕ = moment_read clocks clock-before in
       let same : clock ≡ k = is-clock ∙ ap (λ (x : ClockData). x.moment) read in
       let is-now : now ≡ moment_at k held-before =
@@ -207,19 +212,20 @@ module _ {L B H W : Type 0} (below : B → L) (does : L → Call → L → Type 
             (reported_in n.given) held-before held-after turn) next-is serves-turn;
         told = told-to;
         reports =
-            subst (λ m. ReportsAndPolls (Called does failures) contents asks m here.next
+            subst (λ m. ReportsAndPolls (Called does failures) contents asks m count-before here.next
             (bay_seen held-before.device) turn held-after.device here.process process-after begun
             told-to answer) is-now
-            (subst (λ d. ReportsAndPolls (Called does failures) contents asks now here.next
+            (subst (λ d. ReportsAndPolls (Called does failures) contents asks now count-before here.next
             (bay_seen held-before.device) turn d here.process process-after begun told-to answer)
             is-s
-            (subst (λ p. ReportsAndPolls (Called does failures) contents asks now here.next
+            (subst (λ p. ReportsAndPolls (Called does failures) contents asks now count-before here.next
             (bay_seen held-before.device) turn s p process-after begun told-to answer) process-is
-            (subst (λ (n : NextInput). ReportsAndPolls (Called does failures) contents asks now n
+            (subst (λ (n : NextInput). ReportsAndPolls (Called does failures) contents asks now count-before n
             (bay_seen held-before.device) turn s process-chosen process-after begun told-to answer)
             next-is
-            (subst (λ (b : BayView). ReportsAndPolls (Called does failures) contents asks now next b
+            (subst (λ (b : BayView). ReportsAndPolls (Called does failures) contents asks now count-before next b
             turn s process-chosen process-after begun told-to answer) is-before reports))));
+        count = subst (λ m. count-after ≡ count_after m turn count-before) is-now counted;
         end = end;
         ended = subst (λ m. LogsAll contents asks told-to (record_log m end) new) is-now ended;
       }
@@ -231,7 +237,7 @@ module _ {L H W : Type 0} (step : L → Call → L → Type 0) (acts : H → Hos
       (host-before host-after : H)
       (process-before : Option (PollOutcome L)) (lines-before : List (ℕ × List ℕ)) (clocks : Clocks)
       (clock now : ℕ) (next : NextInput) (shift : Option ClockShift) (device : State) (jump : ℕ)
-      (old begun new : Writing W) (fault : ServeFault) (answer : Result ℕ WriteFault)
+      (count : LineCount) (old begun new : Writing W) (fault : ServeFault) (answer : Result ℕ WriteFault)
       → clock ≡ moment_read clocks clock-before → now ≡ moment_at clock held
       → shift ≡ shift_of clock-before.side (moment_read clocks clock-before) clocks.system
       → device ≡ held.device → jump ≡ jump_of clocks clock-before
@@ -245,12 +251,13 @@ module _ {L H W : Type 0} (step : L → Call → L → Type 0) (acts : H → Hos
         link = link;
         held = held;
         clock = clock-before;
+        count = count;
         host = host-before;
         process = process-before;
         lines = lines-before;
       }) old host-after new answer
   turn-fails link held clock-before host-before host-after process-before lines-before clocks
-      clock now next shift device jump old begun new fault answer same now-is is-shift is-device
+      clock now next shift device jump count old begun new fault answer same now-is is-shift is-device
       jump-is is-next told logged at-clock tells =
       let is-now : now ≡ moment_at (moment_read clocks clock-before) held =
       subst (λ m. now ≡ moment_at m held) same now-is in
@@ -285,11 +292,11 @@ module _ {L H W : Type 0} (step : L → Call → L → Type 0) (acts : H → Hos
       }
 
   -- which fault it is makes no difference
-  tells-cut : (now : ℕ) (next : NextInput) (before : BayView) (turn : Turn) (s : State)
+  tells-cut : (now : ℕ) (count : LineCount) (next : NextInput) (before : BayView) (turn : Turn) (s : State)
       (old new : Writing W) (one other : WriteFault)
-      → ReportsTurn contents asks now next before turn s old new (Err one)
-      → ReportsTurn contents asks now next before turn s old new (Err other)
-  tells-cut now next before turn s old new one other tells = record {
+      → ReportsTurn contents asks now count next before turn s old new (Err one)
+      → ReportsTurn contents asks now count next before turn s old new (Err other)
+  tells-cut now count next before turn s old new one other tells = record {
     mid = tells.mid;
     logged = tells.logged;
     printed = by-quiet (is_quiet turn) tells.printed;
@@ -323,20 +330,20 @@ module _ {L H W : Type 0} (step : L → Call → L → Type 0) (acts : H → Hos
     printed = news-cut now h.news old new one other h.printed;
   }
 
-  reports-cut : (now : ℕ) (next : NextInput) (seen : BayView) (turn : Turn) (s : State)
+  reports-cut : (now : ℕ) (count : LineCount) (next : NextInput) (seen : BayView) (turn : Turn) (s : State)
       (before after : Option (PollOutcome L)) (old new : Writing W) (one other : WriteFault)
-      → ReportsAndPolls step contents asks now next seen turn s before after old new (Err one)
-      → ReportsAndPolls step contents asks now next seen turn s before after old new (Err other)
-  reports-cut now next seen turn s before after old new one other goes =
+      → ReportsAndPolls step contents asks now count next seen turn s before after old new (Err one)
+      → ReportsAndPolls step contents asks now count next seen turn s before after old new (Err other)
+  reports-cut now count next seen turn s before after old new one other goes =
       by-outcome goes.outcome goes.printed goes.hears
     where
       by-outcome : (r : Result ℕ WriteFault)
-          → ReportsTurn contents asks now next seen turn s old goes.between r
+          → ReportsTurn contents asks now count next seen turn s old goes.between r
           → AfterTurn r
           ((after ≡ before) × (new ≡ goes.between)
           × (◌≡◌ {A = Result ℕ WriteFault} (Err one) r))
           (Hears step contents asks now turn s before after goes.between new (Err one))
-          → ReportsAndPolls step contents asks now next seen turn s before after old new (Err other)
+          → ReportsAndPolls step contents asks now count next seen turn s before after old new (Err other)
       by-outcome (Ok status) printed hears = record {
         between = goes.between;
         outcome = Ok status;
@@ -346,21 +353,21 @@ module _ {L H W : Type 0} (step : L → Call → L → Type 0) (acts : H → Hos
       by-outcome (Err fault) printed hears = record {
         between = goes.between;
         outcome = Err other;
-        printed = tells-cut now next seen turn s old goes.between fault other printed;
+        printed = tells-cut now count next seen turn s old goes.between fault other printed;
         hears = (hears.0, hears.1, refl);
       }
 
   -- its lines could not be printed, so the process was not attended to
-  pub report-cut : (now : ℕ) (next : NextInput) (seen : BayView) (turn : Turn) (s : State)
+  pub report-cut : (now : ℕ) (count : LineCount) (next : NextInput) (seen : BayView) (turn : Turn) (s : State)
       (process : Option (PollOutcome L)) (old new : Writing W) (fault : WriteFault)
       (r : Result ℕ WriteFault) → IsErr r
-      → ReportsTurn contents asks now next seen turn s old new (Err fault)
-      → ReportsAndPolls step contents asks now next seen turn s process process old new r
-  report-cut now next seen turn s process old new fault (Ok n) e tells = absurd cc
-  report-cut now next seen turn s process old new fault (Err other) e tells = record {
+      → ReportsTurn contents asks now count next seen turn s old new (Err fault)
+      → ReportsAndPolls step contents asks now count next seen turn s process process old new r
+  report-cut now count next seen turn s process old new fault (Ok n) e tells = absurd cc
+  report-cut now count next seen turn s process old new fault (Err other) e tells = record {
     between = new;
     outcome = Err other;
-    printed = tells-cut now next seen turn s old new fault other tells;
+    printed = tells-cut now count next seen turn s old new fault other tells;
     hears = (refl, refl, refl);
   }
 
@@ -379,10 +386,11 @@ module _ {L H W : Type 0} (step : L → Call → L → Type 0) (acts : H → Hos
     serves = goes.serves;
     told = goes.told;
     reports =
-        reports-cut (moment_of goes.clocks before) (choice_of goes.clocks before).next
+        reports-cut (moment_of goes.clocks before) before.count (choice_of goes.clocks before).next
         (bay_seen before.held.device) goes.turn after.held.device
         (choice_of goes.clocks before).process after.process goes.begun goes.told one other
         goes.reports;
+    count = goes.count;
     end = goes.end;
     ended = goes.ended;
   }

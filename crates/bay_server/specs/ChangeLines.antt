@@ -11,11 +11,13 @@ use Rattle.bay_device.specs.LookUps.{enabled_of, operating_in, position_of}
 use Rattle.bay_mms_services.specs.declared.answer.Command.{Command}
 use Rattle.bay_server_turn.specs.Served.{reported_in}
 use Rattle.bay_server_turn.specs.declared.turn_report.Turn.{Turn}
+use Rattle.bay_server.specs.ConnectionLines.{count_at, count_at_closings, count_at_memory, first_ten, left_out, left_out_log}
 use Rattle.bay_server.specs.LogLines.{asked_log, closed_line, id_of, joined, memory_line, opened_log, refused_log}
 use Rattle.bay_server.specs.declared.change_lines.Column.{Column}
 use Rattle.bay_server.specs.declared.change_lines.Column.TheVariants.{Position, Release}
 use Rattle.bay_server.specs.declared.change_lines.SwitchView.{SwitchView}
 use Rattle.bay_server.specs.declared.change_lines.BayView.{BayView}
+use Rattle.bay_server.specs.declared.connection_lines.LineCount.{LineCount}
 use Rattle.bay_server.specs.declared.process.NextInput.{NextInput}
 
 -- ---- the view of the bay
@@ -116,14 +118,18 @@ abbrev pub lost_log : ℕ → Bool → List (List ℕ)
 lost_log now is_lost =
     if is_lost then joined (utc_text now ∷ codes " process lost\n" ∷ []) ∷ [] else []
 
--- The lines of a turn with this input: an association was opened, the process was lost, the event
--- of the line was refused, controls were requested, associations were closed; operates ended; and
--- the positions that have changed, before the releases that have.
-abbrev pub turn_log : ℕ → NextInput → BayView → State → Turn → List (List ℕ)
-turn_log now next before s turn =
-    opened_log now turn.opened ++ lost_log now (reported_in next.given).is_lost
+-- The lines of a turn with this input: how many lines of connections were left out in the second
+-- before, if it is over; an association was opened, the process was lost, the event of the line was
+-- refused, controls were requested, associations were closed; operates ended; and the positions that
+-- have changed, before the releases that have. Of the lines of associations that are opened and
+-- closed only the first ten in a second are written; the count is of those before the turn.
+abbrev pub turn_log : ℕ → LineCount → NextInput → BayView → State → Turn → List (List ℕ)
+turn_log now count next before s turn =
+    left_out_log now (left_out now count) ++ first_ten (count_at now count) (opened_log now turn.opened)
+    ++ lost_log now (reported_in next.given).is_lost
     ++ refused_log now turn.refused next.shown
     ++ flat_map (asked_log now s) turn.decisions
-    ++ map (closed_line now) turn.closed ++ map (memory_line now) turn.memory
+    ++ map (closed_line now) (first_ten (count_at_closings now turn count) turn.closed)
+    ++ map (memory_line now) (first_ten (count_at_memory now turn count) turn.memory)
     ++ ends_log now before s turn ++ switches_log Position now s 0 before.switches
     ++ switches_log Release now s 0 before.switches

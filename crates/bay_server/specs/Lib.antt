@@ -9,6 +9,7 @@
 -- server's clock, which advances as the steady one does. `TurnLines`: what is printed for a turn,
 -- and for one that is refused. `LogLines`: what is logged of ports, of associations, of the process
 -- and of the end, line by line; `ChangeLines`: of a turn; `RecordLine`: of a record that has ended.
+-- `ConnectionLines`: how many lines of clients' connections are logged in a second.
 -- `Logging`: lines that are logged one after the other. `Serving`: the result of one try of a turn.
 
 -- What public clauses cite of the crates below.
@@ -26,6 +27,7 @@ pub use Rattle.bay_server_turn.specs.Turns
 -- Its own definitions.
 pub mod ChangeLines
 pub mod Clock
+pub mod ConnectionLines
 pub mod Host
 pub mod LogLines
 pub mod Logging

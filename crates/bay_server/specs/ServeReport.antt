@@ -12,6 +12,7 @@ use Rattle.bay_report.specs.Report.{IsLast, Prints}
 use Rattle.bay_server.specs.TurnLines.{is_quiet, connection_event_text, turn_text, unserved_text}
 use Rattle.bay_server.specs.Logging.{LogsAll}
 use Rattle.bay_server.specs.ChangeLines.{bay_seen, turn_log}
+use Rattle.bay_server.specs.ConnectionLines.{count_after}
 use Rattle.bay_server.specs.LogLines.{connection_event_log, shift_log, unserved_log, used_up_log}
 use Rattle.bay_server.specs.RecordLine.{record_log}
 use Rattle.bay_process_port.specs.Polling.{Attends, attendance}
@@ -27,6 +28,7 @@ use Rattle.bay_server_turn.specs.declared.record.RecordEnd.{RecordEnd}
 use Rattle.bay_server_turn.specs.declared.turn_report.Turn.{Turn}
 use Rattle.bay_server.specs.declared.change_lines.BayView.{BayView}
 use Rattle.bay_server.specs.declared.clock.Clocks.{Clocks}
+use Rattle.bay_server.specs.declared.connection_lines.LineCount.{LineCount}
 use Rattle.bay_server.specs.declared.process.NextInput.{NextInput}
 
 -- the lines of a trace that are not empty, each with its number among all
@@ -55,10 +57,10 @@ PrintsTurn contents asks now turn s old new answer =
 -- a turn is logged, and then its lines are printed
 pub record ReportsTurn {W : Type 0} (contents : W → Option (List ℕ))
     (asks : W → WriteCall → W → Type 0)
-    (now : ℕ) (next : NextInput) (before : BayView) (turn : Turn) (s : State) (old new : Writing W)
-    (answer : Result ℕ WriteFault) : Type 0 where
+    (now : ℕ) (count : LineCount) (next : NextInput) (before : BayView) (turn : Turn) (s : State)
+    (old new : Writing W) (answer : Result ℕ WriteFault) : Type 0 where
   pub mid : Writing W
-  pub logged : LogsAll contents asks old (turn_log now next before s turn) mid
+  pub logged : LogsAll contents asks old (turn_log now count next before s turn) mid
   pub printed : PrintsTurn contents asks now turn s mid new answer
 
 -- why a turn is refused is logged, printed and flushed
@@ -79,12 +81,14 @@ pub record PollOutcome (L : Type 0) : Type 0 where
   pub link : L
   pub port : PortData
 
--- the state of a service, before or after a turn: the link, the server, its clock, the host, the
--- process, if there is one, and the lines of the trace that are left
+-- the state of a service, before or after a turn: the link, the server, its clock, the count of the
+-- log lines of connections, the host, the process, if there is one, and the lines of the trace that
+-- are left
 pub record Serving (L H : Type 0) : Type 0 where
   pub link : L
   pub held : ServerData
   pub clock : ClockData
+  pub count : LineCount
   pub host : H
   pub process : Option (PollOutcome L)
   pub lines : List (ℕ × List ℕ)
@@ -213,12 +217,12 @@ module _ {L W : Type 0} (step : L → Call → L → Type 0) (contents : W → O
 
   -- What a turn reports is logged and printed, and then the process is attended to; or the lines
   -- could not be printed.
-  pub record ReportsAndPolls (now : ℕ) (next : NextInput) (seen : BayView) (turn : Turn) (s : State)
-      (before after : Option (PollOutcome L)) (old new : Writing W) (answer : Result ℕ WriteFault)
-      : Type 0 where
+  pub record ReportsAndPolls (now : ℕ) (count : LineCount) (next : NextInput) (seen : BayView)
+      (turn : Turn) (s : State) (before after : Option (PollOutcome L)) (old new : Writing W)
+      (answer : Result ℕ WriteFault) : Type 0 where
     pub between : Writing W
     pub outcome : Result ℕ WriteFault
-    pub printed : ReportsTurn contents asks now next seen turn s old between outcome
+    pub printed : ReportsTurn contents asks now count next seen turn s old between outcome
     pub hears : AfterTurn outcome
         ((after ≡ before) × (new ≡ between) × (answer ≡ outcome))
         (Hears now turn s before after between new answer)
@@ -254,9 +258,10 @@ module _ {L H W : Type 0} (step : L → Call → L → Type 0) (acts : H → Hos
     pub serves : Serves step before.link after.link (moment_of clocks before)
         (reported_in (choice_of clocks before).next.given) before.held after.held turn
     pub told : Writing W
-    pub reports : ReportsAndPolls step contents asks (moment_of clocks before)
+    pub reports : ReportsAndPolls step contents asks (moment_of clocks before) before.count
         (choice_of clocks before).next (bay_seen before.held.device) turn after.held.device
         (choice_of clocks before).process after.process begun told answer
+    pub count : after.count ≡ count_after (moment_of clocks before) turn before.count
     pub end : Option RecordEnd
     pub ended : LogsAll contents asks told (record_log (moment_of clocks before) end) new
 

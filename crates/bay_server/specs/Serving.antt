@@ -16,6 +16,7 @@ with_host served host lines = record {
   link = served.link.link;
   held = served.server;
   clock = served.clock;
+  count = served.count;
   host = host;
   process = served.process;
   lines = lines;

@@ -1,5 +1,5 @@
 // Logs the events of a server.
-ghost use Rattle.std.specs.Prelude.{◌≡◌, Some, map};
+ghost use Rattle.std.specs.Prelude.{◌≡◌, Some, map, take};
 ghost use Rattle.bay_io.specs.Sent.{Logs};
 ghost use Rattle.bay_server.specs.Logging.{LogsAll};
 ghost use Rattle.bay_server.specs.LogLines.{closed_line, memory_line, connection_event_log, opened_line, opened_log, parted_line, disconnect_line, ports_log, reason_of, refused_line, refused_log, shift_log, silent_line, unbound_log, unserved_log, used_up_log};
@@ -9,6 +9,7 @@ ghost use Rattle.bay_server_turn.specs.declared.fault.ServeFault.TheVariants.{Ba
 
 use crate::change_lines::{BayView, Column, log_ends, log_lost, log_switches};
 use crate::clock::{ClockShift, ClockSide};
+use crate::connection_lines::{LineCount, first, log_left_out};
 use crate::control_lines::log_controls;
 use crate::host::BindFault;
 use crate::process::NextInput;
@@ -143,14 +144,19 @@ fn log_open<W: Sink>(writer: &mut WatchedWriter<W>, moment: u64, opened: (u16, S
     ]);
 }
 
-// Logs that an association was opened, if one was.
+// Logs that an association was opened, if one was and there is room for a line.
 fn log_opened<W: Sink>(
     writer: &mut WatchedWriter<W>,
     moment: u64,
     opened: Option<(u16, SocketAddrV4)>,
+    room: usize,
 )
-    ensures { LogsAll W.contents W.does writer.old (opened_log moment opened) writer.new }
+    ensures { LogsAll W.contents W.does writer.old (take room (opened_log moment opened))
+        writer.new }
 {
+    if room == 0 {
+        return;
+    }
     match opened {
         Some(opened) => log_open(writer, moment, opened),
         None => {}
@@ -236,25 +242,29 @@ fn log_memories<W: Sink>(writer: &mut WatchedWriter<W>, moment: u64, memory: &[u
     }
 }
 
-/// Logs what a turn reports and what has changed in it, given its input, the view of the bay before
-/// it, and the device after it.
+/// Logs what a turn reports and what has changed in it, given the count of the lines of connections
+/// before it, its input, the view of the bay before it, and the device after it.
 pub fn log_turn<W: Sink>(
     writer: &mut WatchedWriter<W>,
     device: &Device,
     moment: u64,
+    count: LineCount,
     next: &NextInput,
     before: &BayView,
     turn: &Turn,
 )
     ensures { LogsAll W.contents W.does writer.old
-        (turn_log moment next.now before.now device.now turn.now) writer.new }
+        (turn_log moment count next.now before.now device.now turn.now) writer.new }
 {
-    log_opened(writer, moment, turn.opened);
+    let closed = first(turn.closed.as_slice(), count.at_closings(moment, turn).room());
+    let memory = first(turn.memory.as_slice(), count.at_memory(moment, turn).room());
+    log_left_out(writer, moment, count);
+    log_opened(writer, moment, turn.opened, count.at(moment).room());
     log_lost(writer, moment, next.given);
     log_refused(writer, moment, turn.refused, &next.shown);
     log_controls(writer, device, moment, &turn.decisions);
-    log_closings(writer, moment, turn.closed.as_slice());
-    log_memories(writer, moment, turn.memory.as_slice());
+    log_closings(writer, moment, closed);
+    log_memories(writer, moment, memory);
     log_ends(writer, device, moment, before, turn);
     log_switches(writer, Column::Position, device, moment, &before.switches);
     log_switches(writer, Column::Release, device, moment, &before.switches);

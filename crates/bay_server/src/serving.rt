@@ -1,5 +1,6 @@
 // Serves a device, turn by turn.
 ghost use Rattle.std.specs.Prelude.{◌≡◌, ◌⊎◌};
+ghost use Rattle.bay_server.specs.ConnectionLines.{no_lines};
 ghost use Rattle.bay_server.specs.Host.{Pauses};
 ghost use Rattle.bay_report.specs.TextLines.{lines_of};
 ghost use Rattle.bay_server.specs.ServeReport.{ReportsAndPolls, ServesTurns, told_lines};
@@ -9,6 +10,7 @@ ghost use Rattle.bay_server_turn.specs.Calls.{Called};
 use crate::busy::BusyLink;
 use crate::change_lines::{BayView, view_bay};
 use crate::clock::ServeClock;
+use crate::connection_lines::LineCount;
 use crate::host::Host;
 use crate::log_lines::{log_shift, log_used_up};
 use crate::process::{NextInput, Process, next_input, poll_process, was_busy};
@@ -35,11 +37,13 @@ pub enum TurnAttempt {
     Ends(u8),
 }
 
-// A device that is served to clients over their link by a clock, and the process, if there is one.
+// A device that is served to clients over their link by a clock, with the count of the log lines of
+// their connections, and the process, if there is one.
 #[derive(Drop)]
 struct Served<L> {
     server: Server,
     clock: ServeClock,
+    count: LineCount,
     link: BusyLink<L>,
     process: Option<Process<L>>,
 }
@@ -49,6 +53,7 @@ impl<L> Served<L> {
     fn is_idle(&mut self, given: TurnInput) -> bool
         ensures server { self.new.server ≡ self.old.server }
         ensures clock { self.new.clock ≡ self.old.clock }
+        ensures count { self.new.count ≡ self.old.count }
         ensures link { self.new.link.link ≡ self.old.link.link }
         ensures process { self.new.process ≡ self.old.process }
     {
@@ -65,15 +70,16 @@ fn report_and_poll<L: Link, W: Sink>(
     process: &mut Option<Process<L>>,
     device: &Device,
     moment: u64,
+    count: LineCount,
     next: &NextInput,
     before: &BayView,
     turn: &Turn,
     writer: &mut WatchedWriter<W>,
 ) -> Result<u8, WriteFault>
-    ensures { ReportsAndPolls (Called L.does L.failures) W.contents W.does moment next.now
+    ensures { ReportsAndPolls (Called L.does L.failures) W.contents W.does moment count next.now
         before.now turn.now device.now process.old process.new writer.old writer.new result }
 {
-    report_turn(writer, device, moment, next, before, turn)?;
+    report_turn(writer, device, moment, count, next, before, turn)?;
     poll_process(process, device, moment, turn, writer)
 }
 
@@ -115,11 +121,13 @@ fn try_turn<L: Link, H: Host<L>, W: Sink>(
                 &mut served.process,
                 served.server.device(),
                 moment,
+                served.count,
                 &next,
                 &before,
                 &turn,
                 writer,
             );
+            served.count = served.count.after(moment, &turn);
             log_record(writer, moment, served.server.write_record());
             told?;
             let was_idle = served.is_idle(next.given);
@@ -184,6 +192,7 @@ pub fn serve_turns<L: Link + Drop, H: Host<L>, W: Sink>(
           link = link;
           held = server;
           clock = clock;
+          count = no_lines;
           host = host.old;
           process = process;
           lines = told_lines 1 (lines_of trace.now);
@@ -192,6 +201,7 @@ pub fn serve_turns<L: Link + Drop, H: Host<L>, W: Sink>(
     let mut served = Served {
         server,
         clock,
+        count: LineCount::new(),
         link: BusyLink::new(link),
         process,
     };

@@ -12,6 +12,7 @@ ghost use Rattle.bay_server.specs.TurnLines.{closings_text, memories_text, conne
 ghost use Rattle.bay_server.specs.TurnLines as spec;
 
 use crate::change_lines::BayView;
+use crate::connection_lines::LineCount;
 use crate::log_lines::{log_connection_event, log_turn, log_unserved};
 use crate::process::NextInput;
 use bay_device::device::Device;
@@ -116,21 +117,23 @@ fn print_turn<W: Sink>(
     }
 }
 
-/// Logs what a turn reports and what has changed in it, given its input and the view of the bay
-/// before it, and prints its lines. Returns the status 0; fails if a write or a flush fails.
+/// Logs what a turn reports and what has changed in it, given its input, the count of the log lines
+/// of connections and the view of the bay before it, and prints its lines. Returns the status 0;
+/// fails if a write or a flush fails.
 pub fn report_turn<W: Sink>(
     writer: &mut WatchedWriter<W>,
     device: &Device,
     moment: u64,
+    count: LineCount,
     next: &NextInput,
     before: &BayView,
     turn: &Turn,
 ) -> Result<u8, WriteFault>
-    ensures { ReportsTurn W.contents W.does moment next.now before.now turn.now device.now
+    ensures { ReportsTurn W.contents W.does moment count next.now before.now turn.now device.now
         writer.old
         writer.new result }
 {
-    log_turn(writer, device, moment, next, before, turn);
+    log_turn(writer, device, moment, count, next, before, turn);
     print_turn(writer, device, moment, turn)
 }
 

@@ -116,13 +116,14 @@ impl Sink for Recorder<'_> {
 }
 
 // A host with a port for clients and port 9 for a process, each of which can be opened once. Its
-// clocks advance by a second each time they are read. The clock of the system is ahead by `jump` at
+// clocks advance by `step` milliseconds each time they are read. The clock of the system is ahead by `jump` at
 // the third to the fifth reading.
 #[derive(Drop)]
 struct Ports<'a> {
     clients: Option<MemoryLink<'a>>,
     process: Option<MemoryLink<'a>>,
     now: u64,
+    step: u64,
     readings: u32,
     jump: u64,
 }
@@ -137,7 +138,7 @@ impl<'a> Host<MemoryLink<'a>> for Ports<'a> {
     }
 
     fn clocks(&mut self) -> Clocks {
-        self.now = self.now.saturating_add(1000);
+        self.now = self.now.saturating_add(self.step);
         self.readings = self.readings.saturating_add(1);
         let jump = match self.readings {
             3..=5 => self.jump,
@@ -172,9 +173,10 @@ pub struct ServedCase {
     pub stays: bool,
     // the number of the call of the process's link that fails, or 0
     pub fails_at: u64,
-    // the time of the clocks before they are first read, and by how much the clock of the system
-    // jumps for a while
+    // the time of the clocks before they are first read, by how much they advance, and by how much
+    // the clock of the system jumps for a while
     pub now: u64,
+    pub step: u64,
     pub jump: u64,
     pub status: u8,
     // the lines that the process receives
@@ -195,6 +197,7 @@ const ENDING: ServedCase = ServedCase {
     stays: false,
     fails_at: 0,
     now: 0,
+    step: 1000,
     jump: 0,
     status: 3,
     told: "",
@@ -225,7 +228,7 @@ const OPEN: &str =
 const CANCEL: &str =
     "0300005f02f0800100010061523050020103a04ba049020105a544a021301fa01da11b1a04424159311a13435357493124434f24506f732443616e63656ca01fa21d8301ffa20785010289024101860200ff9108000000000000002a830100";
 
-const ROWS: [ServedCase; 21] = [
+const ROWS: [ServedCase; 22] = [
     ServedCase {
         trace: "\n9 contact X 1\r\n\n9 contact Q 1\n",
         status: 0,
@@ -273,6 +276,39 @@ fault 120 line 3
 | 2106-02-07T06:28:15.000Z clients on 127.0.0.1:7
 | bayctl: fault 114: the clock is past the last moment
 fault 114
+",
+        ..ENDING
+    },
+    // Seven clients come and go: the sixth has no lines in the log, which counts them.
+    ServedCase {
+        words: "serve --log --bay bay --logic logic --port 7 --turns 7",
+        clients: Some(7),
+        now: 1_800,
+        step: 150,
+        status: 0,
+        wanted: "instructions=2 depth=1 budget=2
+| 1970-01-01T00:00:01.950Z clients on 127.0.0.1:7
+| 1970-01-01T00:00:02.100Z association 1 open from 127.0.0.1:40000
+| 1970-01-01T00:00:02.100Z association 1 closed 0: its client ended it
+2100 closed 1 0
+| 1970-01-01T00:00:02.250Z association 1 open from 127.0.0.1:40000
+| 1970-01-01T00:00:02.250Z association 1 closed 0: its client ended it
+2250 closed 1 0
+| 1970-01-01T00:00:02.400Z association 1 open from 127.0.0.1:40000
+| 1970-01-01T00:00:02.400Z association 1 closed 0: its client ended it
+2400 closed 1 0
+| 1970-01-01T00:00:02.550Z association 1 open from 127.0.0.1:40000
+| 1970-01-01T00:00:02.550Z association 1 closed 0: its client ended it
+2550 closed 1 0
+| 1970-01-01T00:00:02.700Z association 1 open from 127.0.0.1:40000
+| 1970-01-01T00:00:02.700Z association 1 closed 0: its client ended it
+2700 closed 1 0
+2850 closed 1 0
+| 1970-01-01T00:00:03.000Z 2 lines of connections left out
+| 1970-01-01T00:00:03.000Z association 1 open from 127.0.0.1:40000
+| 1970-01-01T00:00:03.000Z association 1 closed 0: its client ended it
+3000 closed 1 0
+| 1970-01-01T00:00:03.000Z all turns are served
 ",
         ..ENDING
     },
@@ -517,6 +553,7 @@ pub fn check(rt: &impl Abort, alloc: Global, row: &ServedCase) -> Result<(), Fai
         clients: row.clients.is_some().then_some(clients),
         process: (row.processes > 0).then_some(process),
         now: row.now,
+        step: row.step,
         readings: 0,
         jump: row.jump,
     };

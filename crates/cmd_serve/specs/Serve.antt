@@ -27,6 +27,7 @@ use Rattle.bay_server_turn.specs.Calls.{Call}
 use Rattle.bay_server_turn.specs.Served.{text_in}
 use Rattle.bay_server_turn.specs.Turns.{ServerData}
 use Rattle.bay_server.specs.Clock.{started}
+use Rattle.bay_server.specs.ConnectionLines.{no_lines}
 use Rattle.bay_server.specs.Host.{HostCall, Binds, Tells}
 use Rattle.bay_server.specs.LogLines.{ports_log, unbound_log}
 use Rattle.bay_server.specs.ServeReport.{AfterTurn, PollOutcome, Serving, ServesTurns, told_lines}
@@ -226,6 +227,7 @@ module _ {L H W : Type 0} (step : L → Call → L → Type 0) (acts : H → Hos
         link = bound.link;
         held = bound.server;
         clock = started clocks;
+        count = no_lines;
         host = began;
         process = bound.process;
         lines = told_lines 1 (lines_of trace);

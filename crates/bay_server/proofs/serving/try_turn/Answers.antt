@@ -22,7 +22,7 @@ returns-in_err-told-in-Ok g c =
     (turn-goes (λ busy. busy.link) g.L.Link.does g.L.Link.failures g.H.Host.does
     g.W.Sink.contents
     g.W.Sink.does
-    _ _ _ _ _ _ _ _ _ _ _ _ _ _ _ _ _ _ _ _ _ _ _ _ _ _ _ _ _
+    _ _ _ _ _ _ _ _ _ _ _ _ _ _ _ _ _ _ _ _ _ _ _ _ _ _ _ _ _ _ _
     c.read-reading.ensures.clock c.read-reading.ensures.moment now c.read-reading.ensures.shift
     c.device-2.ensures c.read-reading.ensures.jump c.next_input-next.ensures.next
     c.next_input-next.ensures.process
@@ -32,7 +32,7 @@ returns-in_err-told-in-Ok g c =
     c.in-Ok.ensures.right
     (rw (sym c.write_record.ensures) at c.in-Ok.ensures.ok)
     (c.view_bay-before.ensures ∙ ap bay_seen c.device-3.ensures)
-    c.in_err-told-in-Ok.ensures c.log_record.ensures)
+    c.in_err-told-in-Ok.ensures c.after.ensures c.log_record.ensures)
 
 pub returns-in_ok-told-in-Ok : goal.returns-in_ok-told-in-Ok
 returns-in_ok-told-in-Ok g c =
@@ -45,11 +45,12 @@ returns-in_ok-told-in-Ok g c =
         c.is_idle-was_idle.ensures.link,
         c.is_idle-was_idle.ensures.server,
         c.is_idle-was_idle.ensures.clock,
+        c.is_idle-was_idle.ensures.count,
         c.is_idle-was_idle.ensures.process,
       )
           (turn-goes (λ busy. busy.link) g.L.Link.does g.L.Link.failures g.H.Host.does
           g.W.Sink.contents g.W.Sink.does
-          _ _ _ _ _ _ _ _ _ _ _ _ _ _ _ _ _ _ _ _ _ _ _ _ _ _ _ _ _
+          _ _ _ _ _ _ _ _ _ _ _ _ _ _ _ _ _ _ _ _ _ _ _ _ _ _ _ _ _ _ _
           c.read-reading.ensures.clock c.read-reading.ensures.moment now
           c.read-reading.ensures.shift c.device-2.ensures c.read-reading.ensures.jump
           c.next_input-next.ensures.next
@@ -58,7 +59,7 @@ returns-in_ok-told-in-Ok g c =
           c.clocks.ensures c.log_shift.ensures c.in-Ok.ensures.right
           (rw (sym c.write_record.ensures) at c.in-Ok.ensures.ok)
           (c.view_bay-before.ensures ∙ ap bay_seen c.device-3.ensures)
-          c.in_ok-told-in-Ok.ensures c.log_record.ensures),
+          c.in_ok-told-in-Ok.ensures c.after.ensures c.log_record.ensures),
     )
 
 pub returns-in_err-status-in-Err : goal.returns-in_err-status-in-Err
@@ -75,7 +76,7 @@ returns-in_err-status-in-Err g c =
     _ c.report_unserved.new.writer _ c.from_residual-in_err-status-in-Err.result
     c.from_residual-in_err-status-in-Err.ensures.0
     (turn-fails (Called g.L.Link.does g.L.Link.failures) g.H.Host.does g.W.Sink.contents
-    g.W.Sink.does _ _ _ _ _ _ _ _ _ _ _ _ _ _ _ _ _ _ _
+    g.W.Sink.does _ _ _ _ _ _ _ _ _ _ _ _ _ _ _ _ _ _ _ _
     (c.read-reading.ensures.moment ∙ read) now
     (subst (λ m. c.read-reading.result.shift ≡ shift_of c.args.served.now.clock.side m
     c.clocks.result.system) read c.read-reading.ensures.shift) c.device-2.ensures
@@ -93,7 +94,7 @@ returns-in_ok-status-in-Err g c =
     ≡ moment_read c.clocks.result c.args.served.now.clock =
     ap (λ (x : ClockData). x.moment) c.read-reading.ensures.clock in
     turn-fails (Called g.L.Link.does g.L.Link.failures) g.H.Host.does g.W.Sink.contents
-    g.W.Sink.does _ _ _ _ _ _ _ _ _ _ _ _ _ _ _ _ _ _ _
+    g.W.Sink.does _ _ _ _ _ _ _ _ _ _ _ _ _ _ _ _ _ _ _ _
     (c.read-reading.ensures.moment ∙ read) now
     (subst (λ m. c.read-reading.result.shift ≡ shift_of c.args.served.now.clock.side m
     c.clocks.result.system) read c.read-reading.ensures.shift) c.device-2.ensures
