@@ -69,6 +69,8 @@ def full(checks) -> None:
     record = checks.folder / 'full'
     with Server(checks.bayctl, BAY, LOGIC, '--log', '--record', record, '--record-most',
                 100) as server:
+        server.waits_for(' the record has room for 100 octets: about 0 minutes without clients, '
+                         "about 0 beside a panel and a station's page\n")
         server.waits_for(' the record has ended: it is full\n')
         with contextlib.closing(server.client()) as client:
             client.domain()

@@ -13,7 +13,7 @@ OPEN, CLOSED, CONTROL, COMMAND, REFUSED = 'open', 'closed', 'control', 'command'
 CONNECTED, PARTED, LOADED, BEGUN = 'process open', 'process closed', 'loaded', 'begun'
 ENDED, CLOCK, FAULT = 'ended', 'clock', 'fault'
 POSITION, RELEASE, LOST, DONE = 'position', 'release', 'process lost', 'operate ended'
-LEFT_OUT = 'left out'
+LEFT_OUT, RECORD = 'left out', 'record'
 REACHED = 'position reached'  # how an operate ends well
 OPERATE = 'operate'
 TWICE = (CLOSED, REFUSED, CONNECTED, PARTED)  # printed and logged
@@ -36,6 +36,7 @@ LINES = [
     (RELEASE, r'release (?P<switch>\w+) (?P<words>open=[01] close=[01])'),
     (DONE, r'operate of (?P<switch>\w+) ended: (?P<words>position reached|time over)'),
     (BEGUN, r'clients on (?P<address>[\d.]+:\d+)(?P<words>, process on [\d.]+:\d+)?'),
+    (RECORD, r'(?P<words>the record has (?:room for \d+ octets|ended): .+)'),
     (ENDED, r'(?P<words>all turns are served)'),
     (CLOCK, r'the system\'s clock (?P<words>agrees again|is (?P<code>\d+) ms (?:ahead|behind))')]
 STAMP = r'(?:(?P<moment>\d{1,20})|(?P<time>\d{4}-\d\d-\d\dT\d\d:\d\d:\d\d\.\d{3}Z)) '

@@ -32,6 +32,8 @@ def at(after):
 
 SERVER = f'''instructions=14 depth=2 budget=14
 {at(0)} clients on 127.0.0.1:10102, process on 127.0.0.1:10103
+{at(0)} the record has room for 16000000 octets: about 133 minutes without clients, \
+about 32 beside a panel and a station's page
 {at(10)} process lost
 {at(10)} position QB1 bad
 {at(10)} release QB1 open=0 close=0
@@ -120,6 +122,8 @@ The process
 What happened
   10:00:00.000  the bay and its program are loaded: instructions=14 depth=2 budget=14
   10:00:00.000  the server listens: clients on 127.0.0.1:10102, process on 127.0.0.1:10103
+  10:00:00.000  the record has room for 16000000 octets: about 133 minutes without clients, \
+about 32 beside a panel and a station's page
   10:00:00.000  [from 10.0.0.7] not let in: it showed no certificate
   10:00:00.000  stunnel starts
   10:00:00.000  stunnel has read its configuration, and with it the revocation list
@@ -356,7 +360,7 @@ class Joins(Tools):
                                                     moved))
 
     def test_a_log_that_begins_late(self):
-        late = ''.join(SERVER.splitlines(keepends=True)[9:])
+        late = ''.join(SERVER.splitlines(keepends=True)[10:])
         self.assertIn('unknown: its opening is not in the log: 1 association, 1 done, 1 refused',
                       self.joined(late, DOOR))
 

@@ -1,6 +1,6 @@
 -- What the commands do: what is printed, the exit status, and what becomes of files.
 use Rattle.bay_io.specs.Calls.{WriteCall}
-use Rattle.std.specs.Prelude.{◌≡◌, ℕ, Bool, true, false, List, codes, Option, None, Some, is_some, Result, Ok, Err, is_err, ◌⊎◌, if◌then◌else◌}
+use Rattle.std.specs.Prelude.{◌≡◌, ℕ, Bool, true, false, List, codes, Option, None, Some, is_some, unwrap_or, Result, Ok, Err, is_err, ◌⊎◌, if◌then◌else◌}
 use Rattle.il_image.specs.Images.{image_octets}
 use Rattle.il_image.specs.declared.opcode.Version.TheVariants.{Two}
 use Rattle.bay_device.specs.Device.{State}
@@ -169,6 +169,11 @@ abbrev pub name_of : ProgramFile (List ℕ) → List ℕ
 name_of (Logic name) = name
 name_of (Image name) = name
 
+-- the most octets of a record, if one is named: 16,000,000 if the command names no number
+abbrev pub record_room : Option (List ℕ) → Option ℕ → Option ℕ
+record_room None most = None
+record_room (Some name) most = Some (unwrap_or most 16000000)
+
 -- the log is started, if the command has this option
 abbrev pub logging : {W : Type 0} → Bool → Writing W → Writing W
 logging log writer = if log then record writer { logs = true } else writer
@@ -226,7 +231,7 @@ module _ {F L H R W : Type 0} (reads : FileReads F) (guards : FileGuards F) (wri
         tells_releases = tells;
         limit_ms = limit;
         idle_s = idle;
-        records = is_some file;
+        record_most = record_room file most;
       }) old.host new.host old.writer new.writer answer
       × (is_some file ≡ false → new.files ≡ old.files) × (new.reader ≡ old.reader)
 

@@ -1,5 +1,5 @@
 // Executes a command, over files by their names, a reader and a writer.
-ghost use Rattle.std.specs.Prelude.{◌≡◌, map, None, Result, Ok, option_map};
+ghost use Rattle.std.specs.Prelude.{◌≡◌, map, is_some, None, Result, Ok, option_map};
 ghost use Rattle.bay_server_turn.specs.Calls.{Called};
 ghost use Rattle.bay_main.specs.Commands.{Checks, Compiles, CompilesDevice, CompilesOctets, DoesTask, Obeys, Unwritten, WritesImage, logging, name_of, unprinted_line};
 ghost use Rattle.bay_main.specs.Commands as spec;
@@ -23,7 +23,7 @@ use bay_server::host::Host;
 use bay_server_turn::link::Link;
 use cmd_audit::audit_files::audit_files;
 use cmd_replay::replay::run_replay;
-use cmd_serve::serve::{NamedFiles, Numbers, Recording, serve};
+use cmd_serve::serve::{NamedFiles, Numbers, serve};
 use std::alloc::{AllocError, Global};
 use std::io::ErrorKind;
 
@@ -157,6 +157,18 @@ fn form_of<'a>(program: ProgramFile<&'a str>) -> (Form, &'a str)
     }
 }
 
+// Returns the most octets of a record, if one is named.
+fn record_room(record_file: Option<&str>, record_most: Option<u32>) -> Option<u32>
+    ensures room { result
+        ≡ spec.record_room (option_map (λ name. name.now) record_file.entry) record_most }
+    ensures named { is_some result ≡ is_some record_file.entry }
+{
+    match record_file {
+        Some(_) => Some(record_most.unwrap_or(MOST)),
+        None => None,
+    }
+}
+
 // Executes a task.
 fn do_task<F: FileSystem, L: Link + Drop, H: Host<L>, R: OctetSource, W: Sink>(
     alloc: Global,
@@ -192,13 +204,6 @@ fn do_task<F: FileSystem, L: Link + Drop, H: Host<L>, R: OctetSource, W: Sink>(
             record_most,
             idle_s,
         } => {
-            let recording = match record_file {
-                Some(name) => Some(Recording {
-                    name,
-                    most: record_most.unwrap_or(MOST),
-                }),
-                None => None,
-            };
             let (form, program) = form_of(program);
             let named = NamedFiles {
                 bay,
@@ -214,9 +219,9 @@ fn do_task<F: FileSystem, L: Link + Drop, H: Host<L>, R: OctetSource, W: Sink>(
                 tells_releases,
                 limit_ms,
                 idle_s,
-                records: record_file.is_some(),
+                record_most: record_room(record_file, record_most),
             };
-            serve(alloc, named, recording, files, host, numbers, writer)
+            serve(alloc, named, record_file, files, host, numbers, writer)
         }
         Task::Compile { bay, logic, out } => compile(alloc, bay, logic, out, files, writer),
         Task::Audit {

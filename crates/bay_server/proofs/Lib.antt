@@ -1,4 +1,5 @@
 pub mod ClockLemmas
+pub mod LineCountLemmas
 pub mod LogLemmas
 pub mod ServeLemmas
 pub mod TurnLemmas

@@ -119,7 +119,7 @@ lost_log now is_lost =
     if is_lost then joined (utc_text now ∷ codes " process lost\n" ∷ []) ∷ [] else []
 
 -- The lines of a turn with this input: how many lines of connections were left out in the second
--- before, if it is over; an association was opened, the process was lost, the event of the line was
+-- before, if it has passed; an association was opened, the process was lost, the event of the line was
 -- refused, controls were requested, associations were closed; operates ended; and the positions that
 -- have changed, before the releases that have. Of the lines of associations that are opened and
 -- closed only the first ten in a second are written; the count is of those before the turn.

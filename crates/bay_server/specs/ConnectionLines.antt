@@ -32,7 +32,7 @@ with_lines n c = record { second = c.second; lines = min (c.lines + n) (2 ^ 64 -
 abbrev pub first_ten : {A : Type 0} → LineCount → List A → List A
 first_ten c items = take (10 - c.lines) items
 
--- how many lines of the count's second were left out, if this second is over
+-- how many lines of the count's second were left out, if this second has passed
 abbrev pub left_out : ℕ → LineCount → ℕ
 left_out now c = if now / 1000 == c.second then 0 else c.lines - 10
 

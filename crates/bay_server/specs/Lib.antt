@@ -8,7 +8,7 @@
 -- `Host`: the calls of the system: ports and links, the times of two clocks, a pause. `Clock`: the
 -- server's clock, which advances as the steady one does. `TurnLines`: what is printed for a turn,
 -- and for one that is refused. `LogLines`: what is logged of ports, of associations, of the process
--- and of the end, line by line; `ChangeLines`: of a turn; `RecordLine`: of a record that has ended.
+-- and of the end, line by line; `ChangeLines`: of a turn; `RecordLine`: of a record.
 -- `ConnectionLines`: how many lines of clients' connections are logged in a second.
 -- `Logging`: lines that are logged one after the other. `Serving`: the result of one try of a turn.
 

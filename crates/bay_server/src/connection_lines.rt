@@ -1,6 +1,6 @@
 // Counts the log lines of clients' connections that come and go, so that no client can fill a log
 // by connecting again and again.
-ghost use Rattle.std.specs.Prelude.{◌≡◌, ◌-◌};
+ghost use Rattle.std.specs.Prelude.{◌≡◌, ◌-◌, take};
 ghost use Rattle.bay_server.specs.Logging.{LogsAll};
 ghost use Rattle.bay_server.specs.ConnectionLines.{count_after, count_at, count_at_closings, count_at_memory, left_out_log, no_lines, opened_lines, with_lines};
 ghost use Rattle.bay_server.specs.ConnectionLines as spec;
@@ -88,7 +88,7 @@ impl LineCount {
             .with(turn.memory.as_slice().len())
     }
 
-    // Returns how many lines of the count's second were left out, if this second is over.
+    // Returns how many lines of the count's second were left out, if this second has passed.
     fn left_out(self, moment: u64) -> u64
         ensures { result ≡ spec.left_out moment self }
     {
@@ -110,7 +110,7 @@ fn count_opened(opened: Option<(u16, SocketAddrV4)>) -> usize
     }
 }
 
-/// Logs how many lines were left out in the second of a count, if this second is over and any were.
+/// Logs how many lines were left out in the second of a count, if this second has passed and any were.
 pub fn log_left_out<W: Sink>(writer: &mut WatchedWriter<W>, moment: u64, count: LineCount)
     ensures { LogsAll W.contents W.does writer.old (left_out_log moment (spec.left_out moment count))
         writer.new }

@@ -1,6 +1,6 @@
 -- The turns that files are served by, and what they are given.
 use Rattle.std.proofs.Common.{◌≡◌, ℕ, zero, suc, Bool, List, [], Option, Some, None, Result, Ok, Err, inl, inr, ap, sym, subst}
-use Rattle.std.specs.Prelude.{MatchResult, slice_get}
+use Rattle.std.specs.Prelude.{MatchResult, is_some, slice_get}
 use Rattle.bay_audit.specs.Rules.{program_of}
 use Rattle.bay_device.specs.Device.{State}
 use Rattle.bay_files.specs.Files.{FileGuards, FileReads, FilesData}
@@ -95,13 +95,13 @@ module _ {L H : Type 0} (acts : H → HostCall L → H → Type 0) where
     where
       by-had : (had : Result L BindFault)
           → MatchResult had
-          (λ link. BindsProcess acts numbers.records numbers.tells_releases duties s link
+          (λ link. BindsProcess acts (is_some numbers.record_most) numbers.tells_releases duties s link
           numbers.process binds.1 after (Ok ports))
           (λ fault. (after ≡ binds.1) × ((let r : Result (Bound L) ServeStartFault = Ok ports in r)
           ≡ Err (unserved.Unbound numbers.port fault)))
           → ports.server ≡ made_of s
       by-had (Ok link) is =
-          process-made numbers.records numbers.tells_releases duties s link numbers.process binds.1
+          process-made (is_some numbers.record_most) numbers.tells_releases duties s link numbers.process binds.1
           after ports is
       by-had (Err fault) is = absurd (let e = is.1 in cc)
 

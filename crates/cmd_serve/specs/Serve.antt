@@ -1,7 +1,7 @@
 -- The command `serve`: files are read and loaded, ports are opened, and turns are served.
 use Rattle.bay_io.specs.Calls.{WriteCall}
 use Rattle.std.specs.declared.io.ErrorKind.{ErrorKind}
-use Rattle.std.specs.Prelude.{◌≡◌, ℕ, true, is_err, List, ◌++◌, replicate, option_map, codes, MatchResult, Bool, Option, None, Some, Result, Ok, Err, ◌⊎◌, [], unwrap_or}
+use Rattle.std.specs.Prelude.{◌≡◌, ℕ, true, is_err, is_some, List, ◌∷◌, ◌++◌, replicate, option_map, codes, MatchResult, Bool, Option, None, Some, Result, Ok, Err, ◌⊎◌, [], unwrap_or}
 use Rattle.bay_device.specs.Device.{State}
 use Rattle.bay_device.specs.Load.{IsCompiled, IsLoaded}
 use Rattle.bay_device.specs.Meaning.{Runs}
@@ -30,6 +30,8 @@ use Rattle.bay_server.specs.Clock.{started}
 use Rattle.bay_server.specs.ConnectionLines.{no_lines}
 use Rattle.bay_server.specs.Host.{HostCall, Binds, Tells}
 use Rattle.bay_server.specs.LogLines.{ports_log, unbound_log}
+use Rattle.bay_server.specs.Logging.{LogsAll}
+use Rattle.bay_server.specs.RecordLine.{room_log}
 use Rattle.bay_server.specs.ServeReport.{AfterTurn, PollOutcome, Serving, ServesTurns, told_lines}
 use Rattle.bay_server.specs.declared.clock.Clocks.{Clocks}
 use Rattle.bay_server.specs.declared.host.BindFault.{BindFault}
@@ -193,9 +195,14 @@ module _ {L H : Type 0} (acts : H → HostCall L → H → Type 0) where
       (had : Result L BindFault) × (mid : H)
       × acts before (Binds numbers.port numbers.idle_s had) mid
       × MatchResult had
-      (λ link. BindsProcess numbers.records numbers.tells_releases duties s link numbers.process
-      mid after bound)
+      (λ link. BindsProcess (is_some numbers.record_most) numbers.tells_releases duties s link
+      numbers.process mid after bound)
       (λ fault. (after ≡ mid) × (bound ≡ Err (unserved.Unbound numbers.port fault)))
+
+-- what is logged before the first turn: the ports, and the room of the record, if there is one
+abbrev pub start_log : ℕ → Numbers → List (List ℕ)
+start_log now numbers =
+    ports_log now numbers.port numbers.process ∷ room_log now numbers.record_most
 
 module _ {L H W : Type 0} (step : L → Call → L → Type 0) (acts : H → HostCall L → H → Type 0)
     (contents : W → Option (List ℕ)) (asks : W → WriteCall → W → Type 0) where
@@ -215,13 +222,13 @@ module _ {L H W : Type 0} (step : L → Call → L → Type 0) (acts : H → Hos
     pub live : (duties : SupervisionSettings) → IsSupervised duties before
         → CommandsLive step acts contents asks duties turns before old host new answer serves
 
-  -- the server's clock is started, the ports are logged, and turns are served
+  -- the server's clock is started, the ports and the record's room are logged, and turns are served
   abbrev pub ServesBound : Numbers → Bound L → List ℕ → H → H → Writing W → Writing W
       → Result ℕ WriteFault → Type 0
   ServesBound numbers bound trace host after old new answer =
       (clocks : Clocks) × (began : H) × (mid : Writing W)
       × acts host (Tells clocks.system clocks.steady) began
-      × Logs contents asks old (ports_log clocks.system numbers.port numbers.process) mid
+      × LogsAll contents asks old (start_log clocks.system numbers) mid
       × ServesRun numbers.turns
       (record {
         link = bound.link;

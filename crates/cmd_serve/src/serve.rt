@@ -27,6 +27,7 @@ use bay_server::clock::ServeClock;
 use bay_server::host::{BindFault, Host};
 use bay_server::log_lines::{log_ports, log_unbound};
 use bay_server::process::Process;
+use bay_server::record_line::log_room;
 use bay_server::serving::serve_turns;
 use bay_server_turn::link::Link;
 use bay_server_turn::record::Record;
@@ -35,8 +36,9 @@ use std::alloc::{AllocError, AllocFailed, Global};
 use std::io::ErrorKind;
 
 /// The port for clients, the number of turns, the port for the process, if there is one, whether it
-/// is told of releases, for how many milliseconds it may be silent, if it is supervised, and for how
-/// many seconds a client may send nothing, if that is limited, and whether the session is recorded.
+/// is told of releases, for how many milliseconds it may be silent, if it is supervised, for how many
+/// seconds a client may send nothing, if that is limited, and the most octets of the record, if the
+/// session is recorded.
 #[derive(Clone, Copy)]
 pub struct Numbers {
     pub port: u16,
@@ -45,14 +47,7 @@ pub struct Numbers {
     pub tells_releases: bool,
     pub limit_ms: Option<u32>,
     pub idle_s: Option<u32>,
-    pub records: bool,
-}
-
-/// The new file in which the session is recorded, and the most octets of it.
-#[derive(Clone, Copy)]
-pub struct Recording<'a> {
-    pub name: &'a str,
-    pub most: u32,
+    pub record_most: Option<u32>,
 }
 
 /// The names of the files of a service: the bay, a program or an image, the trace of the process,
@@ -249,28 +244,32 @@ fn duties_by(limit_ms: Option<u32>, key: &[u8]) -> Option<SupervisionSettings>
     }
 }
 
-// Starts a server's record in a new file, if the session is recorded.
+// Starts a server's record in a new file with this name, if the session is recorded.
 fn start_record<'a, F: FileSystem>(
     alloc: Global,
-    recording: Option<Recording<'a>>,
+    record_file: Option<&'a str>,
+    record_most: Option<u32>,
     files: &mut F,
     server: &mut Server,
 ) -> Result<(), ServeStartFault<'a>>
     ensures server { server.new ≡ server.old }
-    ensures files { is_some recording.entry ≡ false → files.new ≡ files.old }
-    ensures fault { IfErr result (λ why. IsRecordFault (is_some recording.entry) why) }
+    ensures files { is_some record_file.entry ≡ false → files.new ≡ files.old }
+    ensures fault { IfErr result (λ why. IsRecordFault (is_some record_file.entry) why) }
 {
-    let Some(recording) = recording else {
+    let Some(name) = record_file else {
         return Ok(());
     };
-    let file = match files.create(recording.name) {
+    let Some(most) = record_most else {
+        return Ok(());
+    };
+    let file = match files.create(name) {
         Ok(file) => file,
         Err(FileFault::OutOfMemory) => return Err(ServeStartFault::OutOfMemory),
         Err(FileFault::Failed(kind)) => {
-            return Err(ServeStartFault::Unrecorded(recording.name, kind));
+            return Err(ServeStartFault::Unrecorded(name, kind));
         }
     };
-    match Record::new(alloc, file, recording.most) {
+    match Record::new(alloc, file, most) {
         Ok(record_file) => {
             server.start_record(record_file);
             Ok(())
@@ -286,19 +285,20 @@ fn bound_to<'a, F: FileSystem, L: Drop>(
     device: Device,
     link: L,
     process: Option<Process<L>>,
-    recording: Option<Recording<'a>>,
+    record_file: Option<&'a str>,
+    record_most: Option<u32>,
     files: &mut F,
 ) -> Result<Bound<L>, ServeStartFault<'a>>
     requires closed { device.connections ≡ replicate associations None }
-    ensures bound { IsBound (is_some recording.entry) device link process result }
+    ensures bound { IsBound (is_some record_file.entry) device link process result }
     ensures server { IfOk result (λ bound. bound.server ≡ made_of device) }
-    ensures files { is_some recording.entry ≡ false → files.new ≡ files.old }
+    ensures files { is_some record_file.entry ≡ false → files.new ≡ files.old }
 {
     let mut server = match Server::new(alloc, device) {
         Ok(server) => server,
         Err(AllocFailed { value: _ }) => return Err(ServeStartFault::OutOfMemory),
     };
-    match start_record(alloc, recording, files, &mut server) {
+    match start_record(alloc, record_file, record_most, files, &mut server) {
         Ok(()) => Ok(Bound {
             server,
             link,
@@ -316,24 +316,25 @@ fn bind_process<'a, F: FileSystem, L: Link + Drop, H: Host<L>>(
     host: &mut H,
     numbers: Numbers,
     duties: Option<SupervisionSettings>,
-    recording: Option<Recording<'a>>,
+    record_file: Option<&'a str>,
     files: &mut F,
 ) -> Result<Bound<L>, ServeStartFault<'a>>
     requires closed { device.connections ≡ replicate associations None }
-    requires records { numbers.records ≡ is_some recording }
-    ensures binds { BindsProcess H.does numbers.records numbers.tells_releases duties device link
-        numbers.process host.old host.new result }
+    requires records { is_some numbers.record_most ≡ is_some record_file }
+    ensures binds { BindsProcess H.does (is_some numbers.record_most) numbers.tells_releases duties
+        device link numbers.process host.old host.new result }
     ensures server { IfOk result (λ bound. bound.server ≡ made_of device) }
-    ensures files { numbers.records ≡ false → files.new ≡ files.old }
+    ensures files { is_some numbers.record_most ≡ false → files.new ≡ files.old }
 {
+    let most = numbers.record_most;
     let Some(port) = numbers.process else {
-        return bound_to(alloc, device, link, None, recording, files);
+        return bound_to(alloc, device, link, None, record_file, most, files);
     };
     match host.bind(port, None) {
         Ok(had) => {
             let port = Port::new(alloc, numbers.tells_releases, duties)?;
             let process = Some(Process::new(had, port));
-            bound_to(alloc, device, link, process, recording, files)
+            bound_to(alloc, device, link, process, record_file, most, files)
         }
         Err(fault) => Err(ServeStartFault::Unbound(port, fault)),
     }
@@ -347,22 +348,32 @@ fn bind_ports<'a, F: FileSystem, L: Link + Drop, H: Host<L>>(
     host: &mut H,
     numbers: Numbers,
     duties: Option<SupervisionSettings>,
-    recording: Option<Recording<'a>>,
+    record_file: Option<&'a str>,
     files: &mut F,
 ) -> Result<Bound<L>, ServeStartFault<'a>>
     requires closed { device.connections ≡ replicate associations None }
-    requires records { numbers.records ≡ is_some recording }
+    requires records { is_some numbers.record_most ≡ is_some record_file }
     ensures binds { BindsPorts H.does numbers duties device host.old host.new result }
     ensures server { IfOk result (λ bound. bound.server ≡ made_of device) }
-    ensures files { numbers.records ≡ false → files.new ≡ files.old }
+    ensures files { is_some numbers.record_most ≡ false → files.new ≡ files.old }
 {
     match host.bind(numbers.port, numbers.idle_s) {
-        Ok(link) => { bind_process(alloc, device, link, host, numbers, duties, recording, files) }
+        Ok(link) => bind_process(
+            alloc,
+            device,
+            link,
+            host,
+            numbers,
+            duties,
+            record_file,
+            files,
+        ),
         Err(fault) => Err(ServeStartFault::Unbound(numbers.port, fault)),
     }
 }
 
-// Starts the server's clock, logs the ports, and serves the given number of turns.
+// Starts the server's clock, logs the ports and the record's room, and serves the given number of
+// turns.
 fn serve_bound<L: Link + Drop, H: Host<L>, W: Sink>(
     bound: Bound<L>,
     trace: &[u8],
@@ -377,6 +388,7 @@ fn serve_bound<L: Link + Drop, H: Host<L>, W: Sink>(
 {
     let clocks = host.clocks();
     log_ports(writer, clocks.system, numbers.port, numbers.process);
+    log_room(writer, clocks.system, numbers.record_most);
     let Bound {
         server,
         link,
@@ -399,25 +411,25 @@ fn serve_bound<L: Link + Drop, H: Host<L>, W: Sink>(
 fn serve_loaded<F: FileSystem, L: Link + Drop, H: Host<L>, W: Sink>(
     alloc: Global,
     loaded: Loaded,
-    recording: Option<Recording<'_>>,
+    record_file: Option<&str>,
     files: &mut F,
     host: &mut H,
     numbers: Numbers,
     writer: &mut WatchedWriter<W>,
 ) -> Result<u8, WriteFault>
     requires closed { loaded.device.connections ≡ replicate associations None }
-    requires records { numbers.records ≡ is_some recording }
+    requires records { is_some numbers.record_most ≡ is_some record_file }
     requires begun { IsBegun (made_of loaded.device) }
     requires named { HaveIds loaded.device.switches }
     requires short { length (key_of (option_map (λ digits. digits.items) loaded.key)) ≤ 64 }
     ensures serves { ServesLoaded (Called L.does L.failures) H.does W.contents W.does numbers loaded
         host.old host.new writer.old writer.new result }
-    ensures files { numbers.records ≡ false → files.new ≡ files.old }
+    ensures files { is_some numbers.record_most ≡ false → files.new ≡ files.old }
 {
     let Loaded { device, trace, key } = loaded;
     write_report(writer, device.report())?;
     let duties = duties_by(numbers.limit_ms, key_octets(&key));
-    match bind_ports(alloc, device, host, numbers, duties, recording, files) {
+    match bind_ports(alloc, device, host, numbers, duties, record_file, files) {
         Ok(bound) => serve_bound(bound, trace.as_slice(), host, numbers, writer),
         Err(why) => tell_unserved(writer, why),
     }
@@ -426,9 +438,9 @@ fn serve_loaded<F: FileSystem, L: Link + Drop, H: Host<L>, W: Sink>(
 /// Serves files by their names. Reads the bay, then the program or the image, then the trace and
 /// the key; loads them and writes the line of the load; opens the port for clients, and then that
 /// of the process, if there is one; creates the file of the record, if the session is recorded; and
-/// serves the given number of turns. Logs the ports, or why no turn is served. Returns the exit
-/// status: 0 after the last turn, 1 if the load is refused, and 3 for any other fault. Fails if a
-/// write or a flush fails, or if the file of the record can't be created.
+/// serves the given number of turns. Logs the ports and the record's room, or why no turn is served.
+/// Returns the exit status: 0 after the last turn, 1 if the load is refused, and 3 for any other
+/// fault. Fails if a write or a flush fails, or if the file of the record can't be created.
 ///
 /// All turns are one run of the device, from load on. Behind each command that a turn tells, and so
 /// behind each line that is printed, or told the process, and reads as one, stand the octets of a
@@ -440,20 +452,20 @@ fn serve_loaded<F: FileSystem, L: Link + Drop, H: Host<L>, W: Sink>(
 pub fn serve<F: FileSystem, L: Link + Drop, H: Host<L>, W: Sink>(
     alloc: Global,
     named: NamedFiles<'_>,
-    recording: Option<Recording<'_>>,
+    record_file: Option<&str>,
     files: &mut F,
     host: &mut H,
     numbers: Numbers,
     writer: &mut WatchedWriter<W>,
 ) -> Result<u8, WriteFault>
-    requires records { numbers.records ≡ is_some recording }
+    requires records { is_some numbers.record_most ≡ is_some record_file }
     ensures serves { ServesFiles (Called L.does L.failures) H.does W.contents W.does F.reads
         F.guards files.old (names_of named.entry) numbers host.old host.new writer.old writer.new
         result }
-    ensures files { numbers.records ≡ false → files.new ≡ files.old }
+    ensures files { is_some numbers.record_most ≡ false → files.new ≡ files.old }
 {
     match load_files(alloc, named, files) {
-        Ok(loaded) => serve_loaded(alloc, loaded, recording, files, host, numbers, writer),
+        Ok(loaded) => serve_loaded(alloc, loaded, record_file, files, host, numbers, writer),
         Err(why) => tell_unserved(writer, why),
     }
 }

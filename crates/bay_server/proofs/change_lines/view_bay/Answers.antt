@@ -1,4 +1,4 @@
-use Rattle.std.proofs.Common.{◌≡◌, ℕ, List, Option, None, map, length, length-set, ap₂, arith}
+use Rattle.std.proofs.Common.{◌≡◌, ℕ, List, Option, None, map, length-set, ap₂, arith}
 use Rattle.std.proofs.lemmas.List.Edits.{fill_by_more}
 use Rattle.std.proofs.lemmas.List.FromFn.{fill_by_all}
 use Rattle.std.specs.List.{range_with_len}

@@ -1,4 +1,4 @@
-use Rattle.std.proofs.Common.{◌≡◌, ◌∙◌, max, ap, refl, subst, sym}
+use Rattle.std.proofs.Common.{◌≡◌, ◌∙◌, max, ap, subst, sym}
 use Rattle.bay_device.specs.Device.{State}
 use Rattle.bay_server.specs.ChangeLines.{bay_seen}
 use Rattle.bay_server.specs.Clock.{ClockData, moment_read, shift_of}
@@ -32,7 +32,7 @@ returns-in_err-told-in-Ok g c =
     c.in-Ok.ensures.right
     (rw (sym c.write_record.ensures) at c.in-Ok.ensures.ok)
     (c.view_bay-before.ensures ∙ ap bay_seen c.device-3.ensures)
-    c.in_err-told-in-Ok.ensures c.after.ensures c.log_record.ensures)
+    c.in_err-told-in-Ok.ensures c.after-served.ensures c.log_record.ensures)
 
 pub returns-in_ok-told-in-Ok : goal.returns-in_ok-told-in-Ok
 returns-in_ok-told-in-Ok g c =
@@ -59,7 +59,7 @@ returns-in_ok-told-in-Ok g c =
           c.clocks.ensures c.log_shift.ensures c.in-Ok.ensures.right
           (rw (sym c.write_record.ensures) at c.in-Ok.ensures.ok)
           (c.view_bay-before.ensures ∙ ap bay_seen c.device-3.ensures)
-          c.in_ok-told-in-Ok.ensures c.after.ensures c.log_record.ensures),
+          c.in_ok-told-in-Ok.ensures c.after-served.ensures c.log_record.ensures),
     )
 
 pub returns-in_err-status-in-Err : goal.returns-in_err-status-in-Err

@@ -6,9 +6,9 @@ pub returns : goal.returns
 returns g c = (
   c.clocks-clocks.result,
   c.clocks-clocks.new.self,
-  c.log_ports.new.writer,
+  c.log_room.new.writer,
   c.clocks-clocks.ensures,
-  c.log_ports.ensures,
+  (c.log_ports.new.writer, c.log_ports.ensures, c.log_room.ensures),
   one-run (Called g.L.Link.does g.L.Link.failures) g.H.Host.does g.W.Sink.contents
       g.W.Sink.does _
       _ _ _ _ _ (rw c.start-clock.ensures at c.serve_turns.ensures) c.requires.begun
