@@ -12,7 +12,7 @@ FORM = re.compile(r'^(?:unfoldable|abbrev) pub (\w+) : (?:[^→]* → )*'
                   r'Form (Part|\(List Part\)|\(List ℕ\)) [^→]*$', re.S)
 TEST = re.compile(r'[a-z]+(?:_[a-z]+)+')
 SIMPLE = {'integer': 'INTEGER', 'truth': 'BOOLEAN', 'bits': 'BIT STRING', 'octets': 'OCTET STRING',
-          'empty': 'NULL', 'anything': 'ANY', 'whole': 'ANY'}
+          'empty': 'NULL', 'any_octets': 'ANY', 'whole': 'ANY'}
 UNIVERSAL = {'int_tag': 'INTEGER', 'oid_tag': 'OBJECT IDENTIFIER', 'visible_tag': 'VisibleString',
              'sequence': 'SEQUENCE', 'set_tag': 'SET', 'external_tag': 'EXTERNAL'}
 PLAIN = ('int_tag', 'oid_tag', 'visible_tag')
@@ -90,11 +90,11 @@ class Module:
             return type_name(form.name)
         if form:
             return self.value(self.opened(term))
-        if term.head in ('map_form', 'such'):
+        if term.head in ('map_form', 'try_map_form'):
             return constrained(self.value(term.args[1]), term)
         if term.head in self.others:
             return type_name(term.head)
-        if term.head == 'under':
+        if term.head == 'tagged':
             return self.tagged(*term.args)
         if term.head == 'choice':
             return block('CHOICE', self.alternatives(term))
@@ -126,7 +126,7 @@ class Module:
     def inner(self, term: Term) -> Term:
         """A content without what is made of it."""
         while True:
-            if term.head in ('map_form', 'such'):
+            if term.head in ('map_form', 'try_map_form'):
                 term = term.args[1]
             elif self.form(term) and self.forms[term.head].parameters:
                 term = self.opened(term)
@@ -142,7 +142,7 @@ class Module:
             return type_name(form.name)
         if form:
             return self.content(self.opened(term), word)
-        if term.head in ('map_form', 'such'):
+        if term.head in ('map_form', 'try_map_form'):
             return constrained(self.content(term.args[1], word), term)
         if term.head in ('one', 'first_form'):
             return self.value(term.args[0])
@@ -152,7 +152,7 @@ class Module:
             return f'{word} OF {self.value(term.args[0])}'
         if term.head == 'fields':
             return block(word, self.row(term.args[0]))
-        if term.head == 'known':
+        if term.head == 'fields_with_tags':
             return block(word, [*self.row(term.args[1]), '...'])
         return unread(term)
 
@@ -162,9 +162,9 @@ class Module:
         """The components of a row."""
         if self.form(term):
             return self.row(self.opened(term))
-        if term.head in ('map_form', 'such'):
+        if term.head in ('map_form', 'try_map_form'):
             return self.row(term.args[1])
-        if term.head == 'next':
+        if term.head == 'value_then':
             first, others = term.args
             return [f'{self.named(first)} {self.value(first)}', *self.row(others)]
         if term.head == 'maybe':
@@ -177,12 +177,12 @@ class Module:
 
     def named(self, term: Term, tag: Term | None = None) -> str:
         """The name of a component: of the form that it is, or of its tag."""
-        inner = self.inner(term) if term.head in ('map_form', 'such') else term
+        inner = self.inner(term) if term.head in ('map_form', 'try_map_form') else term
         if self.form(inner):
             return field_name(inner.head)
         if inner.head in ('one', 'each') and self.form(inner.args[0]):
             return field_name(inner.args[0].head)
-        tag = tag or (inner.args[0] if inner.head == 'under' else None)
+        tag = tag or (inner.args[0] if inner.head == 'tagged' else None)
         if tag is None:
             return 'other'
         return f'field-{tag.args[0].head}' if tag.args else UNIVERSAL.get(
@@ -214,7 +214,7 @@ def unread(term: Term) -> str:
 
 def constrained(text: str, term: Term) -> str:
     """A type of which only a part is taken."""
-    if term.head != 'such':
+    if term.head != 'try_map_form':
         return text
     head = term.args[0].head
     test = TEST.search(head) if head.startswith('(') else re.match(r'\w+', head)

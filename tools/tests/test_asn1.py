@@ -14,17 +14,19 @@ from tracing.definitions import Definition
 DEFINED = (
     'unfoldable pub scope : Form Part Place\nscope =\n'
     '    choice (context 0) (map_form (λ x. whole_vmd) empty)\n'
-    '    (under (context 1) (map_form in_domain octets))',
+    '    (tagged (context 1) (map_form in_domain octets))',
     'unfoldable pub row : Form (List Part) X\n'
-    'row = next (under int_tag (such id_of integer)) (maybe (context 2) octets done)',
+    'row =\n'
+    '    value_then (tagged int_tag (try_map_form id_of integer)) (maybe (context 2) octets done)',
     'unfoldable pub pair : {A : Type 0} → Form Part A → Form (List Part) A\n'
-    'pair f = by_first (context 0) (next f (next scope done)) (next scope (next f done))',
+    'pair f = by_first (context 0) (value_then f (value_then scope done))\n'
+    '    (value_then scope (value_then f done))',
     'unfoldable pub message : Form (List ℕ) X\n'
-    'message = one (under (constructed 8) (known (int_tag ∷ context 2 ∷ []) row))',
-    'unfoldable pub both : Form Part X\nboth = under set_tag (fields (pair scope))',
-    'unfoldable pub all : Form Part X\nall = under sequence (each scope)',
+    'message = one (tagged (constructed 8) (fields_with_tags (int_tag ∷ context 2 ∷ []) row))',
+    'unfoldable pub both : Form Part X\nboth = tagged set_tag (fields (pair scope))',
+    'unfoldable pub all : Form Part X\nall = tagged sequence (each scope)',
     'unfoldable pub tree : ℕ → Form Part X\ntree zero = none\n'
-    'tree (suc n) = choice (constructed 2) (each (tree n)) (under (context 3) truth)',
+    'tree (suc n) = choice (constructed 2) (each (tree n)) (tagged (context 3) truth)',
     'abbrev pub count : ℕ → ℕ\ncount n = n')
 WANTED = {
     'scope': 'Scope ::= CHOICE {\n  field-0 [0] IMPLICIT NULL,\n'

@@ -3,7 +3,7 @@ use Rattle.std.proofs.Common.{◌≡◌, ℕ, ◌+◌, ◌-◌, ◌<◌, ◌||�
 use Rattle.std.specs.List.{list_any}
 use Rattle.std.proofs.lemmas.List.{drop_more, length-drop}
 use Rattle.std.proofs.Math.Seq.{take-length}
-use Rattle.bay_ber.specs.Values.{Part, onto, values_in}
+use Rattle.bay_ber.specs.Values.{Part, prepend_values, values_in}
 use Rattle.bay_ber.proofs.ListingLemmas.{Passed, passed-first, passed-more, passed-end, passed-bad, passed-stop}
 use Rattle.bay_assoc.specs.declared.presentation.Context.{Context}
 use Rattle.bay_assoc.specs.Presentation.{transfer_syntax, transfer_syntaxes, has_id, are_distinct}
@@ -29,7 +29,7 @@ any-more (true ∷ done) one = refl
 any-more (false ∷ done) one = any-more done one
 
 pub flags-more : (whole rest new : List ℕ) (found one more : Bool) (part : Part)
-    → Flags whole rest found → values_in rest ≡ onto (part ∷ []) (values_in new)
+    → Flags whole rest found → values_in rest ≡ prepend_values (part ∷ []) (values_in new)
     → transfer_syntax.reads part ≡ Some one → more ≡ (found || one) → Flags whole new more
 flags-more whole rest new found one more part f step here is = record {
   done = f.done ++ one ∷ [];
@@ -48,7 +48,8 @@ flags-end whole rest found f last =
     ∙ ap Some (sym f.is)
 
 pub flags-bad : (whole rest new : List ℕ) (found : Bool) (part : Part) → Flags whole rest found
-    → values_in rest ≡ onto (part ∷ []) (values_in new) → transfer_syntax.reads part ≡ None
+    → values_in rest ≡ prepend_values (part ∷ []) (values_in new)
+    → transfer_syntax.reads part ≡ None
     → transfer_syntaxes.reads whole ≡ None
 unfolding transfer_syntaxes
 flags-bad whole rest new found part f step bad =

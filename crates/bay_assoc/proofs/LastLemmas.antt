@@ -2,7 +2,7 @@
 use Rattle.std.proofs.Common.{◌≡◌, ℕ, ℤ, List, [], ◌∷◌, ◌++◌, Option, Some, None, Ok, IsSome, refl, sym, ap, subst, ◌∙◌}
 use Rattle.std.proofs.lemmas.List.{append-nil, append_assoc}
 use Rattle.bay_ber.specs.declared.tag.Tag.{Tag}
-use Rattle.bay_ber.specs.Forms.{Form, integer, octets as bare, anything, fields, under, done, next, AreMaybe}
+use Rattle.bay_ber.specs.Forms.{Form, integer, octets as bare, any_octets, fields, tagged, done, value_then, AreMaybe}
 use Rattle.bay_ber.specs.Spelling.{Spells}
 use Rattle.bay_ber.specs.Values.{Part, value, SpellAll}
 use Rattle.bay_ber.proofs.ReadLemmas.{IsBytes}
@@ -51,7 +51,7 @@ last-of octets (part ∷ parts) tag content last same s =
     (last-of s.1 parts tag content last same s.4)
 
 abbrev pair : Form (List Part) (ℤ × (List ℕ × Unit {0}))
-pair = next (under int_tag integer) (next (under (constructed 0) bare) done)
+pair = value_then (tagged int_tag integer) (value_then (tagged (constructed 0) bare) done)
 
 pair-last : (octets : List ℕ) (front parts : List Part) (x : ℤ × (List ℕ × Unit {0}))
     → SpellAll octets (front ++ parts) → pair.Spells parts x → EndsWith octets x.1.0
@@ -65,7 +65,7 @@ pair-last octets front [] x s is = absurd is
 
 parts-last : (octets : List ℕ) (parts : List Part) (name : Option (Unit {0}))
     (x : ℤ × (List ℕ × Unit {0})) → SpellAll octets parts
-    → AreMaybe oid_tag anything.Spells pair.Spells parts name x → EndsWith octets x.1.0
+    → AreMaybe oid_tag any_octets.Spells pair.Spells parts name x → EndsWith octets x.1.0
 parts-last octets parts None x s is = pair-last octets [] parts x s is.1
 parts-last octets (p ∷ parts) (Some name) x s is = pair-last octets (p ∷ []) parts x s is.3
 parts-last octets [] (Some name) x s is = absurd is

@@ -2,7 +2,7 @@
 use Rattle.bay_ber.proofs.FormLemmas.{ExactIn, ExactAs, exacts, Keeps, octets-keeps, made-keeps, under-keeps, one-keeps, fields-keeps, known-keeps, next-keeps, behind-keeps, behind_maybe-keeps, by_first-keeps}
 use Rattle.bay_ber.proofs.ReadLemmas.{IsBytes}
 use Rattle.bay_ber.proofs.BackLemmas.{AllBytes}
-use Rattle.bay_ber.specs.Forms.{octets, anything, integer, such, under, next, done}
+use Rattle.bay_ber.specs.Forms.{octets, any_octets, integer, try_map_form, tagged, value_then, done}
 use Rattle.bay_ber.specs.Tags.{context, constructed, int_tag}
 use Rattle.bay_assoc.specs.Tags.{oid_tag}
 use Rattle.bay_assoc.specs.Presentation.{selector_of, transfer_syntax, transfer_syntaxes, context_parts, definition, definition_list, carried_parts, pdv_list, user_part, user_data, connect_parts, normal_parts, normal, mode, mode_parts, cp, request}
@@ -20,7 +20,7 @@ user_part-exact = search exacts depth 20
 carried-keeps : Keeps AllBytes carried_parts (λ c. IsBytes c.value)
 unfolding carried_parts
 carried-keeps =
-    made-keeps _ (behind_maybe-keeps oid_tag anything (behind-keeps (under int_tag integer)
+    made-keeps _ (behind_maybe-keeps oid_tag any_octets (behind-keeps (tagged int_tag integer)
     (next-keeps done (under-keeps (constructed 0) octets-keeps))))
 
 user_part-keeps : Keeps (λ part. IsBytes part.content) user_part (λ c. IsBytes c.value)
@@ -42,16 +42,16 @@ request-exact = search (exacts, definition_list-exact, user_part-exact) depth 20
 normal-keeps : Keeps (λ part. IsBytes part.content) normal (λ r. IsBytes r.user.value)
 unfolding normal normal_parts connect_parts
 normal-keeps =
-    under-keeps _ (known-keeps _ (made-keeps _ (behind_maybe-keeps (context 1) anything
-    (made-keeps _ (behind_maybe-keeps (context 2) (such selector_of octets)
-    (behind-keeps (under (constructed 4) definition_list) (next-keeps done user_part-keeps)))))))
+    under-keeps _ (known-keeps _ (made-keeps _ (behind_maybe-keeps (context 1) any_octets
+    (made-keeps _ (behind_maybe-keeps (context 2) (try_map_form selector_of octets)
+    (behind-keeps (tagged (constructed 4) definition_list) (next-keeps done user_part-keeps)))))))
 
 pub request-keeps : Keeps IsBytes request (λ r. IsBytes r.user.value)
 unfolding cp mode_parts
 request-keeps =
     one-keeps (under-keeps _ (known-keeps _ (by_first-keeps _
     (made-keeps _ (behind-keeps mode (next-keeps done normal-keeps)))
-    (made-keeps _ (next-keeps (next mode done) normal-keeps)))))
+    (made-keeps _ (next-keeps (value_then mode done) normal-keeps)))))
 
 pub associate-exact : ExactIn associate
 unfolding associate associate_parts application_context information carried_parts

@@ -3,20 +3,20 @@ use Rattle.std.proofs.Common.{◌≡◌, ℕ, Bool, true, false, cond, eqb, List
 use Rattle.std.proofs.lemmas.Option.{same_Some}
 use Rattle.std.specs.Prelude.{⊤}
 use Rattle.std.proofs.lemmas.Bool.{eq-eqb, ne_eqb, eqb-true, and_parts}
-use Rattle.bay_ber.specs.Forms.{Form, map_form, such}
+use Rattle.bay_ber.specs.Forms.{Form, map_form, try_map_form}
 use Rattle.bay_ber.proofs.ReadLemmas.{IsBytes}
 use Rattle.bay_ber.proofs.BackLemmas.{bind-some, bytes-behind, bytes-before}
 use Rattle.bay_ber.proofs.FormLemmas.{Exact, ExactIn, exacts, Keeps, made-keeps}
-use Rattle.bay_assoc.specs.Session.{Unit, unit_at, Leads, SpellUnits, units, alone, unit, coded, uncoded, through, is_user, Users, missing, once, several, users_of, parameters, Spdu, connect, accept, finish, disconnect, abort, transfer, connect_of, finish_of, by_identifier, is_transfer, spdu}
+use Rattle.bay_assoc.specs.Session.{Unit, unit_at, Leads, SpellUnits, units, only_unit, one_unit, unit_choice, no_unit, compose_forms, is_user, Users, missing, once, several, users_of, parameters, Spdu, connect, accept, finish, disconnect, abort, transfer, connect_of, finish_of, by_identifier, is_transfer, spdu}
 use Rattle.bay_assoc.proofs.UnitLemmas.{differs, unit-again, unit-back, units-exact}
 
 -- ---- one unit
 
-alone-is : (v u : Unit) (rest : List ℕ) → alone v rest ≡ Some u → (v ≡ u) × (rest ≡ [])
+alone-is : (v u : Unit) (rest : List ℕ) → only_unit v rest ≡ Some u → (v ≡ u) × (rest ≡ [])
 alone-is v u [] e = (same_Some v u e, refl)
 alone-is v u (octet ∷ rest) e = absurd cc
 
-unit-exact : ExactIn unit
+unit-exact : ExactIn one_unit
 unit-exact = record {
   read = λ o u is. rw (unit-again o u [] is) refl;
   back = λ o u b is.
@@ -32,7 +32,7 @@ abbrev ContentBytes : Unit → Type 0
 ContentBytes u = IsBytes u.content
 
 coded-exact : {A : Type 0} (identifier : ℕ) {f : Form (List ℕ) A} {g : Form Unit A} → ExactIn f
-    → Exact ContentBytes g → Exact ContentBytes (coded identifier f g)
+    → Exact ContentBytes g → Exact ContentBytes (unit_choice identifier f g)
 coded-exact {A} identifier {f} {g} d e = record {
   read = λ u x is. elim is [
     | inl here ↦ rw (eq-eqb u.identifier identifier here.0) (d.read u.content x here.1)
@@ -42,15 +42,16 @@ coded-exact {A} identifier {f} {g} d e = record {
 }
   where
     pick : (u : Unit) (x : A) → IsBytes u.content → (c : Bool) → eqb u.identifier identifier ≡ c
-        → cond c (f.reads u.content) (g.reads u) ≡ Some x → (coded identifier f g).Spells u x
+        → cond c (f.reads u.content) (g.reads u) ≡ Some x → (unit_choice identifier f g).Spells u x
     pick u x b true s is = inl (eqb-true u.identifier identifier s, d.back u.content x b is)
     pick u x b false s is = inr (differs u.identifier identifier s, e.back u x b is)
 
-uncoded-exact : {A : Type 0} → Exact ContentBytes (uncoded {A = A})
+uncoded-exact : {A : Type 0} → Exact ContentBytes (no_unit {A = A})
 uncoded-exact = record { read = λ u x is. absurd is; back = λ u x b e. absurd cc }
 
 through-exact : {S A B : Type 0} {Good : S → Type 0} {Next : A → Type 0} {f : Form S A}
-    {g : Form A B} → Keeps Good f Next → Exact Good f → Exact Next g → Exact Good (through f g)
+    {g : Form A B} → Keeps Good f Next → Exact Good f → Exact Next g
+    → Exact Good (compose_forms f g)
 through-exact {f = f} {g = g} k d e = record {
   read = λ s y is. rw (d.read s is.0 is.1) (e.read is.0 y is.2);
   back = λ s y good is.
@@ -66,7 +67,7 @@ unit-bytes octets u rest b is =
     bytes-behind (u.identifier ∷ is.size) (u.content ++ rest) (subst IsBytes is.is b) in
     (bytes-before u.content rest behind, bytes-behind u.content rest behind)
 
-unit-keeps : Keeps IsBytes unit ContentBytes
+unit-keeps : Keeps IsBytes one_unit ContentBytes
 unit-keeps = record { holds = λ o u b is. (unit-bytes o u [] b is).0 }
 
 -- ---- SPDUs
@@ -75,7 +76,7 @@ by_identifier-exact : Exact ContentBytes by_identifier
 unfolding by_identifier parameters
 by_identifier-exact = search (exacts, units-exact, coded-exact, uncoded-exact) depth 20
 
-framed-exact : ExactIn (through unit by_identifier)
+framed-exact : ExactIn (compose_forms one_unit by_identifier)
 framed-exact = through-exact unit-keeps unit-exact by_identifier-exact
 
 transfer-is : (octets : List ℕ) → is_transfer octets ≡ true → octets ≡ 1 ∷ 0 ∷ 1 ∷ 0 ∷ drop 4 octets
@@ -101,7 +102,8 @@ spdu-exact = record {
 }
   where
     pick : (o : List ℕ) (s : Spdu) → IsBytes o → (c : Bool) → is_transfer o ≡ c
-        → cond c (Some (transfer (drop 4 o))) ((through unit by_identifier).reads o) ≡ Some s
+        → cond c (Some (transfer (drop 4 o))) ((compose_forms one_unit by_identifier).reads o)
+        ≡ Some s
         → spdu.Spells o s
     pick o s b true t is = inl (drop 4 o, transfer-is o t, same_Some (transfer (drop 4 o)) s is)
     pick o s b false t is = inr (t, framed-exact.back o s b is)
@@ -163,7 +165,7 @@ parameters-keeps = made-keeps _ (record {
 such-keeps : {S A B : Type 0} {Good : S → Type 0} {Next : A → Type 0} {Later : B → Type 0}
     (test : A → Option B) {f : Form S A}
     → ((x : A) (y : B) → Next x → test x ≡ Some y → Later y) → Keeps Good f Next
-    → Keeps Good (such test f) Later
+    → Keeps Good (try_map_form test f) Later
 such-keeps test so k =
     record { holds = λ s y good is. so is.0 y (k.holds s is.0 good is.1) is.2 }
 
@@ -178,7 +180,7 @@ finish-bytes several s b e = absurd cc
 
 coded-keeps : {A : Type 0} {Next : A → Type 0} (identifier : ℕ) {f : Form (List ℕ) A}
     {g : Form Unit A} → Keeps IsBytes f Next → Keeps ContentBytes g Next
-    → Keeps ContentBytes (coded identifier f g) Next
+    → Keeps ContentBytes (unit_choice identifier f g) Next
 coded-keeps identifier k l = record {
   holds = λ u x b is. elim is [
     | inl here ↦ k.holds u.content x b here.1
@@ -198,7 +200,7 @@ by_identifier-keeps =
     (coded-keeps _ (kind-keeps accept tt) (coded-keeps _ (kind-keeps disconnect tt)
     (coded-keeps _ (kind-keeps abort tt) (record { holds = λ u s b is. absurd is })))))
 
-framed-keeps : Keeps IsBytes (through unit by_identifier) FramedBytes
+framed-keeps : Keeps IsBytes (compose_forms one_unit by_identifier) FramedBytes
 framed-keeps = record {
   holds = λ o s b is. by_identifier-keeps.holds is.0 s (unit-keeps.holds o is.0 b is.1) is.2;
 }

@@ -4,7 +4,7 @@ use Rattle.std.proofs.lemmas.List.{drop_all, drop_more, length-append}
 use Rattle.std.specs.Borrow.{Bor}
 use Rattle.std.specs.Option.{ForSome, option_map}
 use Rattle.bay_ber.specs.declared.tag.Tag.{Tag}
-use Rattle.bay_ber.specs.EncoderBuffers.{EncoderBuffer, sheet_with, within}
+use Rattle.bay_ber.specs.EncoderBuffers.{EncoderBuffer, sheet_with, text_within_limit}
 use Rattle.bay_ber.specs.Writing.{element, integer_octets, length_octets}
 use Rattle.bay_ber.proofs.SheetLemmas.{put_nil, put-put, fits}
 use Rattle.bay_ber.proofs.SizeLemmas.{length-element, length-integer}
@@ -153,17 +153,17 @@ released_short acse =
 pub connected_within : (called : Option (Bor (List ℕ))) (cs : List Context) (a : Accepted)
     (value : List ℕ) → ForSome called (λ octets. length octets.now ≤ 16) → length cs ≤ 16
     → length value ≤ 271
-    → within 560 (connected_text (option_map (λ octets. octets.now) called) cs a value)
+    → text_within_limit 560 (connected_text (option_map (λ octets. octets.now) called) cs a value)
     ≡ Some (connected_text (option_map (λ octets. octets.now) called) cs a value)
 connected_within called cs a value few most short =
     fits 560 (connected_text (option_map (λ octets. octets.now) called) cs a value)
     (connected_short called cs a value few most short)
 
 pub associated_within : (mms : ℕ) (pdu : List ℕ) → length pdu ≤ 200
-    → within 271 (associated_text mms pdu) ≡ Some (associated_text mms pdu)
+    → text_within_limit 271 (associated_text mms pdu) ≡ Some (associated_text mms pdu)
 associated_within mms pdu short =
     fits 271 (associated_text mms pdu) (associated_short mms pdu short)
 
 pub released_within : (acse : ℕ)
-    → within 41 (user_text acse release_text) ≡ Some (user_text acse release_text)
+    → text_within_limit 41 (user_text acse release_text) ≡ Some (user_text acse release_text)
 released_within acse = fits 41 (user_text acse release_text) (released_short acse)

@@ -7,7 +7,7 @@ use Rattle.std.proofs.lemmas.List.{length-append, take_at, drop_at, append-nil}
 use Rattle.std.proofs.lemmas.List.Elements.{filter-append}
 use Rattle.bay_ber.proofs.BackLemmas.{bind-some, unguarded}
 use Rattle.bay_ber.proofs.FormLemmas.{ExactIn}
-use Rattle.bay_assoc.specs.Session.{Unit, long_size, size_at, counted_at, unit_at, onto, with_front, units_within, units_in, IsSize, Leads, SpellUnits, units, is_user, Users, missing, users_of, parameters}
+use Rattle.bay_assoc.specs.Session.{Unit, long_size, size_at, counted_at, unit_at, prepend_units, with_front, units_within, units_in, IsSize, Leads, SpellUnits, units, is_user, Users, missing, users_of, parameters}
 use Rattle.bay_assoc.specs.SessionReading.{then_user, with_user}
 
 -- ---- one unit
@@ -137,7 +137,7 @@ none-left (suc most) = refl
 same-front : (n m : ℕ) (o : Option (Unit × List ℕ))
     → ((x : Unit × List ℕ) → o ≡ Some x → units_within n x.1 ≡ units_within m x.1)
     → with_front o (units_within n) ≡ with_front o (units_within m)
-same-front n m (Some x) same = ap (onto (x.0 ∷ [])) (same x refl)
+same-front n m (Some x) same = ap (prepend_units (x.0 ∷ [])) (same x refl)
 same-front n m None same = refl
 
 enough : (n m : ℕ) (octets : List ℕ) → length octets ≤ n → length octets ≤ m
@@ -157,12 +157,12 @@ unfolding units_in
 no-units = none-left 0
 
 pub units-step : (octets : List ℕ) (x : Unit × List ℕ) → unit_at octets ≡ Some x
-    → units_in octets ≡ onto (x.0 ∷ []) (units_in x.1)
+    → units_in octets ≡ prepend_units (x.0 ∷ []) (units_in x.1)
 unfolding units_in units_within unit_at
 units-step [] x e = absurd cc
 units-step (octet ∷ octets) x e =
     let s = unit-shorter (octet ∷ octets) x e in
-    rw e (ap (onto (x.0 ∷ []))
+    rw e (ap (prepend_units (x.0 ∷ []))
     (enough (length octets) (length x.1) x.1 (omega arith) (omega arith)))
 
 pub units-stop : (octets : List ℕ) → false ≡ eqb (length octets) 0 → unit_at octets ≡ None
@@ -183,10 +183,11 @@ units-again : (octets : List ℕ) (us : List Unit) → SpellUnits octets us
 units-again octets [] is = ap units_in is ∙ no-units
 units-again octets (u ∷ us) is =
     units-step octets (u, is.0) (unit-again octets u is.0 is.1)
-    ∙ ap (onto (u ∷ [])) (units-again is.0 us is.2)
+    ∙ ap (prepend_units (u ∷ [])) (units-again is.0 us is.2)
 
 onto-back : (front : List Unit) (o : Option (List Unit)) (us : List Unit)
-    → onto front o ≡ Some us → (later : List Unit) × (o ≡ Some later) × (us ≡ front ++ later)
+    → prepend_units front o ≡ Some us
+    → (later : List Unit) × (o ≡ Some later) × (us ≡ front ++ later)
 onto-back front None us e = absurd cc
 onto-back front (Some later) us e = (later, refl, sym (same_Some (front ++ later) us e))
 
@@ -223,15 +224,15 @@ units-exact = record { read = units-again; back = λ o us b e. units-back o us e
 -- Units at the front were read, with such user data among them.
 pub record Found (whole rest : List ℕ) (users : Users) : Type 0 where
   pub front : List Unit
-  pub read : units_in whole ≡ onto front (units_in rest)
+  pub read : units_in whole ≡ prepend_units front (units_in rest)
   pub is : users ≡ users_of (filter is_user front)
 
-onto-nil : (o : Option (List Unit)) → o ≡ onto [] o
+onto-nil : (o : Option (List Unit)) → o ≡ prepend_units [] o
 onto-nil None = refl
 onto-nil (Some us) = refl
 
 onto-onto : (front : List Unit) (u : Unit) (o : Option (List Unit))
-    → onto front (onto (u ∷ []) o) ≡ onto (front ++ u ∷ []) o
+    → prepend_units front (prepend_units (u ∷ []) o) ≡ prepend_units (front ++ u ∷ []) o
 onto-onto front u None = refl
 onto-onto front u (Some us) = ap Some (sym (append_assoc front (u ∷ []) us))
 
@@ -258,10 +259,11 @@ filter-more front u false e =
     ∙ append-nil (filter is_user front))
 
 pub found-more : (whole rest new : List ℕ) (users more : Users) (u : Unit) → Found whole rest users
-    → units_in rest ≡ onto (u ∷ []) (units_in new) → more ≡ with_user users u → Found whole new more
+    → units_in rest ≡ prepend_units (u ∷ []) (units_in new) → more ≡ with_user users u
+    → Found whole new more
 found-more whole rest new users more u f step is = record {
   front = f.front ++ u ∷ [];
-  read = f.read ∙ ap (onto f.front) step ∙ onto-onto f.front u (units_in new);
+  read = f.read ∙ ap (prepend_units f.front) step ∙ onto-onto f.front u (units_in new);
   is = is ∙ ap (λ (us : Users). with_user us u) f.is ∙ sym (filter-more f.front u (is_user u) refl);
 }
 
@@ -272,11 +274,11 @@ pub found-end : (whole rest : List ℕ) (users : Users) → Found whole rest use
     → units_in rest ≡ Some [] → parameters.reads whole ≡ Some users
 unfolding parameters
 found-end whole rest users f last =
-    ap judged (f.read ∙ ap (onto f.front) last)
+    ap judged (f.read ∙ ap (prepend_units f.front) last)
     ∙ ap (λ (us : List Unit). Some (users_of (filter is_user us))) (append-nil f.front)
     ∙ ap Some (sym f.is)
 
 pub found-stop : (whole rest : List ℕ) (users : Users) → Found whole rest users
     → units_in rest ≡ None → parameters.reads whole ≡ None
 unfolding parameters
-found-stop whole rest users f stop = ap judged (f.read ∙ ap (onto f.front) stop)
+found-stop whole rest users f stop = ap judged (f.read ∙ ap (prepend_units f.front) stop)

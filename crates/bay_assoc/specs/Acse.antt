@@ -2,7 +2,7 @@
 -- release.
 use Rattle.std.specs.Prelude.{List, [], ◌∷◌, ℕ, Option, Some, None, if◌then◌else◌}
 use Rattle.std.specs.Str.{bytes_eq}
-use Rattle.bay_ber.specs.Forms.{Form, map_form, such, octets, one, fields, known, under, done, next}
+use Rattle.bay_ber.specs.Forms.{Form, map_form, try_map_form, octets, one, fields, fields_with_tags, tagged, done, value_then}
 use Rattle.bay_ber.specs.Tags.{constructed}
 use Rattle.bay_ber.specs.Values.{Part}
 use Rattle.bay_assoc.specs.Tags.{oid_tag, external_tag, application, mms_application}
@@ -16,23 +16,26 @@ application_of name = if bytes_eq name mms_application then Some name else None
 
 -- the application context, which must be that of MMS (application-context-name)
 unfoldable pub application_context : Form Part (List ℕ)
-application_context = under (constructed 1) (one (under oid_tag (such application_of octets)))
+application_context =
+    tagged (constructed 1) (one (tagged oid_tag (try_map_form application_of octets)))
 
 -- one EXTERNAL (user-information)
 unfoldable pub information : Form Part Carried
-information = under (constructed 30) (one (under external_tag (fields carried_parts)))
+information = tagged (constructed 30) (one (tagged external_tag (fields carried_parts)))
 
 -- the application context and the user information; the result is the latter
 unfoldable pub associate_parts : Form (List Part) Carried
-associate_parts = map_form (λ x. x.1.0) (next application_context (next information done))
+associate_parts =
+    map_form (λ x. x.1.0) (value_then application_context (value_then information done))
 
 -- the request for an association, with these two among its fields (AARQ-apdu)
 unfoldable pub associate : Form (List ℕ) Carried
 associate =
-    one (under (application 0) (known (constructed 1 ∷ constructed 30 ∷ []) associate_parts))
+    one (tagged (application 0)
+    (fields_with_tags (constructed 1 ∷ constructed 30 ∷ []) associate_parts))
 
 -- ---- ISO 8650-1 RLRQ-apdu: the request for a release
 
 -- the request for a release, whose content is not read (RLRQ-apdu)
 unfoldable pub release : Form (List ℕ) (List ℕ)
-release = one (under (application 2) octets)
+release = one (tagged (application 2) octets)

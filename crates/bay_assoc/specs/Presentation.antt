@@ -3,7 +3,7 @@
 use Rattle.std.specs.Prelude.{ℕ, ℤ, pos, negsuc, ◌==◌, ◌&&◌, Bool, true, not, List, [], ◌∷◌, length, Option, Some, None, nat_lt, if◌then◌else◌}
 use Rattle.std.specs.List.{list_any}
 use Rattle.std.specs.Str.{bytes_eq}
-use Rattle.bay_ber.specs.Forms.{Form, map_form, such, integer, octets, anything, one, fields, known, each, whole, under, done, next, maybe, by_first}
+use Rattle.bay_ber.specs.Forms.{Form, map_form, try_map_form, integer, octets, any_octets, one, fields, fields_with_tags, each, whole, tagged, done, value_then, maybe, by_first}
 use Rattle.bay_ber.specs.Tags.{context, constructed, sequence, int_tag}
 use Rattle.bay_ber.specs.Values.{Part}
 use Rattle.bay_assoc.specs.Tags.{oid_tag, set_tag, application, acse_syntax, mms_syntax, ber_syntax}
@@ -13,7 +13,7 @@ use Rattle.bay_assoc.specs.declared.presentation.Context.{Context}
 
 -- a transfer syntax: whether it is the Basic Encoding Rules
 unfoldable pub transfer_syntax : Form Part Bool
-transfer_syntax = under oid_tag (map_form (λ name. bytes_eq name ber_syntax) octets)
+transfer_syntax = tagged oid_tag (map_form (λ name. bytes_eq name ber_syntax) octets)
 
 -- transfer syntaxes: whether one of them is the Basic Encoding Rules
 unfoldable pub transfer_syntaxes : Form (List ℕ) Bool
@@ -37,12 +37,13 @@ context_of x =
 -- a context's identifier, its abstract syntax, and its transfer syntaxes
 unfoldable pub context_parts : Form (List Part) Context
 context_parts =
-    map_form context_of (next (under int_tag (such context_id integer)) (next (under oid_tag octets)
-    (next (under sequence transfer_syntaxes) done)))
+    map_form context_of (value_then (tagged int_tag (try_map_form context_id integer))
+    (value_then (tagged oid_tag octets)
+    (value_then (tagged sequence transfer_syntaxes) done)))
 
 -- one context of the list
 unfoldable pub definition : Form Part Context
-definition = under sequence (fields context_parts)
+definition = tagged sequence (fields context_parts)
 
 -- whether a context has this identifier (own)
 abbrev pub has_id : ℕ → List Context → Bool
@@ -61,7 +62,7 @@ few_contexts contexts =
 
 -- the offered contexts
 unfoldable pub definition_list : Form (List ℕ) (List Context)
-definition_list = such few_contexts (each definition)
+definition_list = try_map_form few_contexts (each definition)
 
 -- ---- ISO 8823-1 User-data: user data
 
@@ -79,16 +80,16 @@ carried_by x = record { id = x.1.0; value = x.1.1.0 }
 -- type.
 unfoldable pub carried_parts : Form (List Part) Carried
 carried_parts =
-    map_form carried_by (maybe oid_tag anything
-    (next (under int_tag integer) (next (under (constructed 0) octets) done)))
+    map_form carried_by (maybe oid_tag any_octets
+    (value_then (tagged int_tag integer) (value_then (tagged (constructed 0) octets) done)))
 
 -- a value and its context (ISO 8823-1, PDV-list)
 unfoldable pub pdv_list : Form Part Carried
-pdv_list = under sequence (fields carried_parts)
+pdv_list = tagged sequence (fields carried_parts)
 
 -- one value and its context, fully encoded (ISO 8823-1, Fully-encoded-data)
 unfoldable pub user_part : Form Part Carried
-user_part = under (application 1) (one pdv_list)
+user_part = tagged (application 1) (one pdv_list)
 
 -- octets that are user data
 unfoldable pub user_data : Form (List ℕ) Carried
@@ -113,18 +114,18 @@ connect_by x = record { called = x.0; contexts = x.1.0; user = x.1.1.0 }
 -- the called selector, which is optional, the contexts, and the user data
 unfoldable pub connect_parts : Form (List Part) Connect
 connect_parts =
-    map_form connect_by (maybe (context 2) (such selector_of octets)
-    (next (under (constructed 4) definition_list) (next user_part done)))
+    map_form connect_by (maybe (context 2) (try_map_form selector_of octets)
+    (value_then (tagged (constructed 4) definition_list) (value_then user_part done)))
 
 -- before them the calling selector, which is optional and ignored
 unfoldable pub normal_parts : Form (List Part) Connect
-normal_parts = map_form (λ x. x.1) (maybe (context 1) anything connect_parts)
+normal_parts = map_form (λ x. x.1) (maybe (context 1) any_octets connect_parts)
 
 -- the parameters of the normal mode, among other fields (normal-mode-parameters)
 unfoldable pub normal : Form Part Connect
 normal =
-    under (constructed 2)
-    (known (context 1 ∷ context 2 ∷ constructed 4 ∷ application 1 ∷ []) normal_parts)
+    tagged (constructed 2)
+    (fields_with_tags (context 1 ∷ context 2 ∷ constructed 4 ∷ application 1 ∷ []) normal_parts)
 
 -- a number, if it is that of the normal mode, 1
 abbrev pub mode_of : ℤ → Option ℤ
@@ -133,18 +134,19 @@ mode_of (negsuc n) = None
 
 -- the normal mode (ISO 8823-1, Mode-selector)
 unfoldable pub mode : Form Part ℤ
-mode = under (constructed 0) (one (under (context 0) (such mode_of integer)))
+mode = tagged (constructed 0) (one (tagged (context 0) (try_map_form mode_of integer)))
 
 -- the normal mode and its parameters, in either order, as in a set
 unfoldable pub mode_parts : {A : Type 0} → Form Part A → Form (List Part) A
 mode_parts parameters =
-    by_first (constructed 0) (map_form (λ x. x.1.0) (next mode (next parameters done)))
-    (map_form (λ x. x.0) (next parameters (next mode done)))
+    by_first (constructed 0) (map_form (λ x. x.1.0) (value_then mode (value_then parameters done)))
+    (map_form (λ x. x.0) (value_then parameters (value_then mode done)))
 
 -- the mode and the parameters, among other fields
 unfoldable pub cp : {A : Type 0} → Form Part A → Form (List ℕ) A
 cp parameters =
-    one (under set_tag (known (constructed 0 ∷ constructed 2 ∷ []) (mode_parts parameters)))
+    one (tagged set_tag (fields_with_tags (constructed 0 ∷ constructed 2 ∷ [])
+    (mode_parts parameters)))
 
 -- a request for a connection
 abbrev pub request : Form (List ℕ) Connect

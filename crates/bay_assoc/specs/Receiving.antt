@@ -1,7 +1,7 @@
 -- The meaning of a TSDU for an association, and the phase after it.
 use Rattle.std.specs.Prelude.{ℕ, ℤ, pos, negsuc, ◌==◌, Bool, false, min, List, [], ◌∷◌, find, Option, Some, None, option_map, Result, Ok, Err, if◌then◌else◌}
 use Rattle.bay_base.specs.Options.{◌>>=◌ as ◌>>◌}
-use Rattle.bay_ber.specs.Judged.{Verdict, or_fault, wanted, verdict_of, ◌>>=◌}
+use Rattle.bay_ber.specs.Judged.{Verdict, or_fault, form_verdict, verdict_of, ◌>>=◌}
 use Rattle.bay_mms_initiate.specs.declared.initiate.Proposal.{Proposal}
 use Rattle.bay_mms_initiate.specs.declared.initiate.Agreed.{Agreed}
 use Rattle.bay_mms_initiate.specs.Initiate.{initiate}
@@ -99,16 +99,16 @@ unfoldable pub agreement : List Context → Carried → Verdict (Accepted × Agr
 agreement contexts user = do
   a ← verdict_of (or_fault fault.NoContext (accepted_of contexts))
   value ← verdict_of (acse_value a user)
-  information ← wanted fault.BadAcse associate value
+  information ← form_verdict fault.BadAcse associate value
   pdu ← verdict_of (mms_value a information)
-  proposal ← wanted fault.BadAcse initiate pdu
+  proposal ← form_verdict fault.BadAcse initiate pdu
   agreed ← verdict_of (or_fault fault.PduSizeTooSmall (agreed_of proposal))
   verdict_of (Ok (a, agreed))
 
 -- a request for a connection (X.225, CN)
 unfoldable pub connection_request : List ℕ → Verdict (TsduMeaning × Phase) AssocFault
 connection_request user = do
-  r ← wanted fault.BadPresentation request user
+  r ← form_verdict fault.BadPresentation request user
   x ← agreement r.contexts r.user
   verdict_of
       (Ok (answer (answer_text r x.0 x.1), Open (record { contexts = x.0; size = x.1.size })))
@@ -118,15 +118,15 @@ unfoldable pub release_request : AssociationTerms → Option (List ℕ)
     → Verdict (TsduMeaning × Phase) AssocFault
 release_request terms None = verdict_of (Ok (released (0x0A ∷ 0 ∷ []), Over))
 release_request terms (Some user) = do
-  c ← wanted fault.BadPresentation user_data user
+  c ← form_verdict fault.BadPresentation user_data user
   value ← verdict_of (acse_value terms.contexts c)
-  content ← wanted fault.BadAcse release value
+  content ← form_verdict fault.BadAcse release value
   verdict_of (Ok (released (disconnect_text (user_text terms.contexts.acse release_text)), Over))
 
 -- data: a PDU in the context of MMS (X.225, DT)
 unfoldable pub data_transfer : AssociationTerms → List ℕ → Verdict (TsduMeaning × Phase) AssocFault
 data_transfer terms user = do
-  c ← wanted fault.BadPresentation user_data user
+  c ← form_verdict fault.BadPresentation user_data user
   pdu ← verdict_of (mms_value terms.contexts c)
   verdict_of (Ok (mms pdu, Open terms))
 
@@ -146,8 +146,8 @@ open_meaning terms s = verdict_of (Err fault.OutOfPhase)
 -- The meaning of a TSDU in a phase, and the phase after it; or the fault of its outermost wrongly
 -- encoded layer. After an end or a fault, every TSDU is refused.
 unfoldable pub verdict : Phase → List ℕ → Verdict (TsduMeaning × Phase) AssocFault
-verdict Idle octets = wanted fault.BadSession spdu octets >>= idle_meaning
-verdict (Open terms) octets = wanted fault.BadSession spdu octets >>= open_meaning terms
+verdict Idle octets = form_verdict fault.BadSession spdu octets >>= idle_meaning
+verdict (Open terms) octets = form_verdict fault.BadSession spdu octets >>= open_meaning terms
 verdict Over octets = verdict_of (Err fault.OutOfPhase)
 verdict Failed octets = verdict_of (Err fault.Failed)
 

@@ -2,7 +2,7 @@
 -- the same way.
 use Rattle.std.specs.Prelude.{ℕ, zero, suc, ◌≡◌, ◌≢◌, ◌⊎◌, ◌+◌, ◌*◌, ◌==◌, ◌&&◌, Bool, false, List, [], ◌∷◌, ◌++◌, length, take, drop, filter, Option, Some, None, option_map, nat_lt, if◌then◌else◌}
 use Rattle.bay_base.specs.Options.{◌>>=◌}
-use Rattle.bay_ber.specs.Forms.{Form, map_form, such}
+use Rattle.bay_ber.specs.Forms.{Form, map_form, try_map_form}
 
 -- ---- X.225 8.2: units
 
@@ -38,12 +38,12 @@ unit_at (identifier ∷ octets) =
     (record { identifier = identifier; content = counted.0 }, counted.1)
 
 -- units before others, if there are others (None stays None) (own)
-abbrev pub onto : List Unit → Option (List Unit) → Option (List Unit)
-onto front = option_map (λ units. front ++ units)
+abbrev pub prepend_units : List Unit → Option (List Unit) → Option (List Unit)
+prepend_units front = option_map (λ units. front ++ units)
 
 -- a unit before those in the rest, if the rest are units (own)
 abbrev pub with_front : Option (Unit × List ℕ) → (List ℕ → Option (List Unit)) → Option (List Unit)
-with_front (Some first) rest = onto (first.0 ∷ []) (rest first.1)
+with_front (Some first) rest = prepend_units (first.0 ∷ []) (rest first.1)
 with_front None rest = None
 
 -- the units that octets encode, if there are at most `most`
@@ -84,33 +84,33 @@ abbrev pub units : Form (List ℕ) (List Unit)
 units = record { reads = units_in; Spells = SpellUnits }
 
 -- the unit, if no octets follow it
-abbrev pub alone : Unit → List ℕ → Option Unit
-alone u [] = Some u
-alone u (octet ∷ octets) = None
+abbrev pub only_unit : Unit → List ℕ → Option Unit
+only_unit u [] = Some u
+only_unit u (octet ∷ octets) = None
 
 -- one unit
-abbrev pub unit : Form (List ℕ) Unit
-unit = record {
-  reads = λ octets. unit_at octets >>= λ x. alone x.0 x.1;
+abbrev pub one_unit : Form (List ℕ) Unit
+one_unit = record {
+  reads = λ octets. unit_at octets >>= λ x. only_unit x.0 x.1;
   Spells = λ octets u. Leads octets u [];
 }
 
 -- a unit with this identifier and a content of one form, or a unit with any other identifier, of
 -- another form
-abbrev pub coded : {A : Type 0} → ℕ → Form (List ℕ) A → Form Unit A → Form Unit A
-coded identifier f g = record {
+abbrev pub unit_choice : {A : Type 0} → ℕ → Form (List ℕ) A → Form Unit A → Form Unit A
+unit_choice identifier f g = record {
   reads = λ u. if u.identifier == identifier then f.reads u.content else g.reads u;
   Spells = λ u x. ((u.identifier ≡ identifier) × f.Spells u.content x)
       ⊎ ((u.identifier ≢ identifier) × g.Spells u x);
 }
 
 -- a form that no unit has
-abbrev pub uncoded : {A : Type 0} → Form Unit A
-uncoded = record { reads = λ u. None; Spells = λ u x. ⊥ }
+abbrev pub no_unit : {A : Type 0} → Form Unit A
+no_unit = record { reads = λ u. None; Spells = λ u x. ⊥ }
 
 -- the form g of the value that f reads
-abbrev pub through : {S A B : Type 0} → Form S A → Form A B → Form S B
-through {A = A} f g = record {
+abbrev pub compose_forms : {S A B : Type 0} → Form S A → Form A B → Form S B
+compose_forms {A = A} f g = record {
   reads = λ s. f.reads s >>= g.reads;
   Spells = λ s y. (x : A) × f.Spells s x × g.Spells x y;
 }
@@ -166,10 +166,11 @@ finish_of several = None
 -- an ACCEPT, a DISCONNECT or an ABORT
 unfoldable pub by_identifier : Form Unit Spdu
 by_identifier =
-    coded 0x0D (such connect_of parameters) (coded 0x09 (such finish_of parameters)
-    (coded 0x0E (map_form (λ x. accept) parameters)
-    (coded 0x0A (map_form (λ x. disconnect) parameters)
-    (coded 0x19 (map_form (λ x. abort) parameters) uncoded))))
+    unit_choice 0x0D (try_map_form connect_of parameters)
+    (unit_choice 0x09 (try_map_form finish_of parameters)
+    (unit_choice 0x0E (map_form (λ x. accept) parameters)
+    (unit_choice 0x0A (map_form (λ x. disconnect) parameters)
+    (unit_choice 0x19 (map_form (λ x. abort) parameters) no_unit))))
 
 -- whether octets begin with an empty GIVE TOKENS and the header of a DATA TRANSFER: 01 00 01 00
 abbrev pub is_transfer : List ℕ → Bool
@@ -180,9 +181,9 @@ is_transfer octets = false
 unfoldable pub spdu : Form (List ℕ) Spdu
 spdu = record {
   reads = λ octets. if is_transfer octets then Some (transfer (drop 4 octets))
-      else (through unit by_identifier).reads octets;
+      else (compose_forms one_unit by_identifier).reads octets;
   Spells = λ octets s. ((user : List ℕ) × (octets ≡ 1 ∷ 0 ∷ 1 ∷ 0 ∷ user) × (transfer user ≡ s))
-      ⊎ ((is_transfer octets ≡ false) × (through unit by_identifier).Spells octets s);
+      ⊎ ((is_transfer octets ≡ false) × (compose_forms one_unit by_identifier).Spells octets s);
 }
 
 -- the SPDU that a TSDU is read as (own)

@@ -2,7 +2,7 @@
 use Rattle.std.specs.Prelude.{ℕ, ◌≡◌, ◌<◌, List, [], ◌∷◌, length, Some, None, if◌then◌else◌}
 use Rattle.bay_assoc.specs.declared.session.UnitRead.{UnitRead}
 use Rattle.bay_assoc.specs.declared.session.UnitRead.TheVariants as next
-use Rattle.bay_assoc.specs.Session.{Unit, onto, units_in, is_user, Users, missing, once, several}
+use Rattle.bay_assoc.specs.Session.{Unit, prepend_units, units_in, is_user, Users, missing, once, several}
 use Rattle.bay_assoc.specs.SessionViews.{unit_of}
 
 -- ---- own: reading consecutive units
@@ -11,7 +11,7 @@ use Rattle.bay_assoc.specs.SessionViews.{unit_of}
 abbrev pub NextUnit : List ℕ → UnitRead → List ℕ → Type 0
 NextUnit old next.End new = units_in old ≡ Some []
 NextUnit old (next.Unit u) new =
-    (units_in old ≡ onto (unit_of u ∷ []) (units_in new)) × (length new < length old)
+    (units_in old ≡ prepend_units (unit_of u ∷ []) (units_in new)) × (length new < length old)
 NextUnit old next.Bad new = units_in old ≡ None
 
 -- the user data found so far, after one more parameter of user data

@@ -1,7 +1,7 @@
 // Reads presentation protocol data units (ISO 8823-1 8.2).
 ghost use Rattle.std.specs.Prelude.{◌≡◌, ◌≤◌, ◌++◌, ◌∷◌, ◌&&◌, ◌||◌, [], length, map, option_map, OnOk, IfOk, IfSome, IsErrOf, IsSome};
 ghost use Rattle.bay_base.specs.Exact.{Gives};
-ghost use Rattle.bay_ber.specs.Forms.{octets as any_content, one, under, each, whole};
+ghost use Rattle.bay_ber.specs.Forms.{octets as any_content, one, tagged, each, whole};
 ghost use Rattle.bay_ber.specs.Values.{part_of};
 ghost use Rattle.bay_assoc.specs.declared.fault.AssocFault.TheVariants.{BadPresentation};
 ghost use Rattle.bay_ber.specs.Judged.{or_fault};
@@ -48,7 +48,7 @@ pub struct ContextValue<'a> {
 
 /// Reads octets as exactly one value, and returns its content if it has this tag.
 pub(crate) fn parse_content_with_tag<'a>(octets: &'a [u8], tag: Tag) -> Option<&'a [u8]>
-    ensures { option_map (λ o. o.now) result ≡ (one (under tag any_content)).reads octets.now }
+    ensures { option_map (λ o. o.now) result ≡ (one (tagged tag any_content)).reads octets.now }
 {
     let value = whole_value(octets)?;
     value.content_with_tag(tag)

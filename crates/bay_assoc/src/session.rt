@@ -1,7 +1,7 @@
 // Reads session protocol data units (X.225 8): an identifier, a length, and parameters, which are
 // encoded the same way.
 ghost use Rattle.std.specs.Prelude.{◌≡◌, ◌+◌, ◌≤◌, length, option_map, IfSome};
-ghost use Rattle.bay_assoc.specs.Session.{unit, parameters, by_identifier, spdu};
+ghost use Rattle.bay_assoc.specs.Session.{one_unit, parameters, by_identifier, spdu};
 ghost use Rattle.bay_assoc.specs.Session as spec;
 ghost use Rattle.bay_assoc.specs.SessionReading.{NextUnit};
 ghost use Rattle.bay_assoc.specs.SessionReading as spec_session_reading;
@@ -231,7 +231,7 @@ fn spdu_from_unit(unit: Unit<'_>) -> Option<Spdu<'_>>
 
 // Reads octets that are exactly one unit.
 fn parse_unit(octets: &[u8]) -> Option<Unit<'_>>
-    ensures { option_map unit_of result ≡ unit.reads octets.now }
+    ensures { option_map unit_of result ≡ one_unit.reads octets.now }
 {
     match unit_at(octets) {
         Some((unit, [])) => Some(unit),

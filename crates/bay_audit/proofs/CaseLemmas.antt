@@ -21,7 +21,7 @@ use Rattle.bay_tree.specs.declared.leaf.Dbpos.TheVariants.{Intermediate, Off, On
 use Rattle.bay_tree.specs.declared.leaf.Leaf.TheVariants as leaf
 use Rattle.il_image.specs.declared.value.Value.TheVariants.{Truth}
 use Rattle.il_range.specs.Ranges.{AreIn, IsIn}
-use Rattle.bay_audit.specs.Cases.{allows, answer_of, bad_positions, example_of, false_inputs, grants, high_after, high_by, high_of, input_may, is_in, is_of_field, lost_case, low_after, low_by, low_of, lowered, may_be, meets, position_range, raised, range_of, same_field, test_allows, test_grants, truth_range}
+use Rattle.bay_audit.specs.Cases.{allows, answer_of, bad_positions, example_of, false_inputs, grants, high_after, high_by, high_of, input_may, is_in, is_of_field, lost_case, low_after, low_by, low_of, lesser_int, may_be, meets, position_range, greater_int, range_of, same_field, test_allows, test_grants, truth_range}
 use Rattle.bay_audit.specs.Process.{IsLost, IsProcess, process_value}
 use Rattle.bay_audit.specs.declared.case.TestAnswer.{TestAnswer}
 use Rattle.bay_audit.specs.declared.case.Test.{Test}
@@ -120,14 +120,14 @@ module _ (p : Process) where
   module _ (k : ℕ) (field : MeterField) where
     above : (b : Bool) (low most : ℤ) → low ≤ℤ p.measure k field
         → (b ≡ true → int_le (p.measure k field) most ≡ false)
-        → cond b (raised low (most +ℤ pos 1)) low ≤ℤ p.measure k field
+        → cond b (greater_int low (most +ℤ pos 1)) low ≤ℤ p.measure k field
     above false low most h more = h
     above true low most h more =
         let not_below : int_le (p.measure k field) most ≡ false = more refl in grind (arith, ints)
 
     below : (b : Bool) (high most : ℤ) → p.measure k field ≤ℤ high
         → (b ≡ true → int_le (p.measure k field) most ≡ true)
-        → p.measure k field ≤ℤ cond b (lowered high most) high
+        → p.measure k field ≤ℤ cond b (lesser_int high most) high
     below false high most h less = h
     below true high most h less =
         let at_most : int_le (p.measure k field) most ≡ true = less refl in grind (arith, ints)
@@ -293,7 +293,7 @@ low-more k field (test.Input j) value low = same-le low
 low-more k field (test.AtMost j which most) value low =
     more-if (is_of_field k field j which && not value) low most
   where
-    more-if : (b : Bool) (low most : ℤ) → low ≤ℤ cond b (raised low (most +ℤ pos 1)) low
+    more-if : (b : Bool) (low most : ℤ) → low ≤ℤ cond b (greater_int low (most +ℤ pos 1)) low
     more-if true low most = grind (arith, ints)
     more-if false low most = omega (arith, ints)
 
@@ -318,7 +318,7 @@ high-less k field (test.Input j) value high = same-le high
 high-less k field (test.AtMost j which most) value high =
     less-if (is_of_field k field j which && value) high most
   where
-    less-if : (b : Bool) (high most : ℤ) → cond b (lowered high most) high ≤ℤ high
+    less-if : (b : Bool) (high most : ℤ) → cond b (lesser_int high most) high ≤ℤ high
     less-if true high most = grind (arith, ints)
     less-if false high most = omega (arith, ints)
 
@@ -331,8 +331,8 @@ high-most k field (l ∷ case) high z h =
     omega (arith, ints, less, rest)
 
 within : (low : ℤ) → negsuc 2147483647 ≤ℤ low
-    → (negsuc 2147483647 ≤ℤ lowered (pos 2147483647) low)
-    × (lowered (pos 2147483647) low ≤ℤ pos 2147483647)
+    → (negsuc 2147483647 ≤ℤ lesser_int (pos 2147483647) low)
+    × (lesser_int (pos 2147483647) low ≤ℤ pos 2147483647)
 within low h = (grind (arith, ints), grind (arith, ints))
 
 pub example-is : (case : List TestAnswer) → IsProcess (example_of case)

@@ -7,13 +7,13 @@ use Rattle.std.proofs.lemmas.Bool.Decides.{Decides-int_eq}
 use Rattle.std.proofs.lemmas.Int.{ints}
 use Rattle.bay_tree.specs.declared.leaf.Dbpos.{Dbpos}
 use Rattle.bay_tree.specs.declared.leaf.Dbpos.TheVariants.{Intermediate, Off, On, Bad}
-use Rattle.bay_audit_rules.specs.Process.{Process, after_item, after_items, holds, joined, negated, same_position, stands, top}
+use Rattle.bay_audit_rules.specs.Process.{Process, after_item, after_items, holds, join_top, negate_top, same_position, has_relation, top}
 use Rattle.bay_audit_rules.specs.declared.rule.ConditionItem.{ConditionItem}
 use Rattle.bay_audit_rules.specs.declared.rule.ConditionItem.TheVariants as items
 use Rattle.bay_audit_rules.specs.declared.rule.Relation.{Relation}
 use Rattle.bay_audit_rules.specs.declared.rule.Relation.TheVariants.{Less, AtMost, Equal, Unequal, AtLeast, Greater}
 use Rattle.bay_audit.specs.Cases.{high_of, input_may, is_in, low_of, may_be}
-use Rattle.bay_audit.specs.Conditions.{both, either, includes, opposed, opposite, truth_set, outlook_after, outlook_of, outlooks_after, paired, position_truths, relation_truths, top_outlook}
+use Rattle.bay_audit.specs.Conditions.{both, either, includes, negate_top_truths, opposite, truth_set, truths_after_item, outlook_of, truths_after_items, join_top_truths, position_truths, relation_truths, top_outlook}
 use Rattle.bay_audit.specs.Process.{IsProcess}
 use Rattle.bay_audit.specs.declared.case.TestAnswer.{TestAnswer}
 use Rattle.bay_audit.specs.declared.truth_set.TruthSet.{TruthSet}
@@ -48,7 +48,7 @@ of-either o q false true h k = or_right o.yes q.yes k
 of-either o q false false h k = and_from o.no q.no h k
 
 include-opposed : (os : List TruthSet) (bs : List Bool) → Include os bs
-    → Include (opposed os) (negated bs)
+    → Include (negate_top_truths os) (negate_top bs)
 include-opposed [] [] h = tt
 include-opposed (o ∷ os) (b ∷ bs) h = (of-opposite o b h.0, h.1)
 include-opposed [] (b ∷ bs) h = absurd h
@@ -58,7 +58,7 @@ module _ (f : TruthSet → TruthSet → TruthSet) (g : Bool → Bool → Bool)
     (each : (o q : TruthSet) (a b : Bool) → includes o a ≡ true → includes q b ≡ true
     → includes (f o q) (g a b) ≡ true) where
   include-joined : (os : List TruthSet) (bs : List Bool) → Include os bs
-      → Include (paired f os) (joined g bs)
+      → Include (join_top_truths f os) (join_top g bs)
   include-joined [] [] h = tt
   include-joined (o ∷ []) (b ∷ []) h = tt
   include-joined (o ∷ q ∷ os) (b ∷ a ∷ bs) h = (each q o a b h.1.0 h.0, h.1.1)
@@ -98,7 +98,7 @@ truth-included t f false p q = q refl
 
 module _ (low high x n : ℤ) (above : low ≤ℤ x) (below : x ≤ℤ high) where
   relation-included : (r : Relation)
-      → includes (relation_truths r low high n) (stands r x n) ≡ true
+      → includes (relation_truths r low high n) (has_relation r x n) ≡ true
   relation-included Less =
       truth-included _ _ (int_lt x n) (λ e. grind (arith, ints)) (λ e. grind (arith, ints))
   relation-included AtMost =
@@ -123,7 +123,7 @@ module _ (p : Process) (is : IsProcess p) (case : List TestAnswer) (h : is_in ca
   input-included k false e = e
 
   item-included : (i : ConditionItem) (os : List TruthSet) (bs : List Bool) → Include os bs
-      → Include (outlook_after case i os) (after_item p i bs)
+      → Include (truths_after_item case i os) (after_item p i bs)
   item-included items.True os bs all = (refl, all)
   item-included (items.Position k which) os bs all =
       (position-included (may_be case k) (p.position k) which (position-may p case h k), all)
@@ -139,10 +139,11 @@ module _ (p : Process) (is : IsProcess p) (case : List TestAnswer) (h : is_in ca
   item-included items.Or os bs all = include-joined either (λ a b. a || b) of-either os bs all
 
   items-included : (is : List ConditionItem) (os : List TruthSet) (bs : List Bool) → Include os bs
-      → Include (outlooks_after case is os) (after_items p is bs)
+      → Include (truths_after_items case is os) (after_items p is bs)
   items-included [] os bs all = all
   items-included (i ∷ is) os bs all =
-      items-included is (outlook_after case i os) (after_item p i bs) (item-included i os bs all)
+      items-included is (truths_after_item case i os) (after_item p i bs)
+      (item-included i os bs all)
 
   top-included : (os : List TruthSet) (bs : List Bool) → Include os bs
       → includes (top_outlook os) (top bs) ≡ true
@@ -155,4 +156,5 @@ module _ (p : Process) (is : IsProcess p) (case : List TestAnswer) (h : is_in ca
   pub condition-included : (is : List ConditionItem)
       → includes (outlook_of case is) (holds is p) ≡ true
   condition-included is =
-      top-included (outlooks_after case is []) (after_items p is []) (items-included is [] [] tt)
+      top-included (truths_after_items case is []) (after_items p is [])
+      (items-included is [] [] tt)

@@ -8,7 +8,7 @@ use Rattle.bay_config.specs.declared.bay.Bay.{Bay}
 use Rattle.bay_audit_rules.specs.Process.{Process}
 use Rattle.bay_audit.specs.Cases.{is_in, lost_case}
 use Rattle.bay_audit.specs.Process.{IsLost, IsProcess}
-use Rattle.bay_audit.specs.Rules.{AreReleases, AreReported, IsDecision, IsRelease, IsReportedFor, IsReportedOf, HasProcess, IsTurn, IsVerdict, BoundProgram, case_count, demand, parts_of, told_count, way_of, ways}
+use Rattle.bay_audit.specs.Rules.{AreReleases, AreReported, IsDecision, IsRelease, IsReportedFor, IsReportedOf, HasProcess, IsTurn, IsVerdict, BoundProgram, case_count, release_demand, parts_of, reported_count, way_of, ways}
 use Rattle.bay_audit.specs.declared.answer.RuleVerdict.{RuleVerdict}
 use Rattle.bay_audit.specs.declared.answer.RuleVerdict.TheVariants.{Obeyed, Missed}
 use Rattle.bay_audit.specs.declared.answer.Release.{Release}
@@ -29,7 +29,7 @@ use Rattle.bay_nodes.specs.declared.switch.Operation.TheVariants as operations
 
 module _ (g : BoundProgram) (k : ℕ) (operation : Operation) where
   pub verdict-told : (case : List TestAnswer) (v : Verdict) (told : CaseRelease)
-      → IsVerdict g (demand k operation) case v
+      → IsVerdict g (release_demand k operation) case v
       → IsTurn v (let r : Result CaseRelease Test = Ok told in r)
       → IsReportedOf g k operation case told
   verdict-told case verdict.Obeyed told is turn =
@@ -46,12 +46,12 @@ module _ (g : BoundProgram) (k : ℕ) (operation : Operation) where
 
   -- what a pass decides of the case of a process that is lost
   module _ (bay : Bay) (d : Demand) (case : List TestAnswer) (x : RuleVerdict)
-      (demands : d ≡ demand k operation)
+      (demands : d ≡ release_demand k operation)
       (lost : case ≡ lost_case (length bay.switches) (length bay.inputs))
       (is : IsDecision g d case x) where
-    decided : (y : RuleVerdict) → x ≡ y → IsDecision g (demand k operation) case y
+    decided : (y : RuleVerdict) → x ≡ y → IsDecision g (release_demand k operation) case y
     decided y same =
-        subst (IsDecision g (demand k operation) case) same
+        subst (IsDecision g (release_demand k operation) case) same
         (subst (λ (e : Demand). IsDecision g e case x) demands is)
 
     inside : (p : Process) → IsLost bay p → is_in case p ≡ true
@@ -76,10 +76,11 @@ module _ (g : BoundProgram) (k : ℕ) (operation : Operation) where
 -- a case that is told is left no more
 pub one-told : (cases : List ReportedCase) (left : List (List TestAnswer)) (c : ReportedCase)
     (p : Process)
-    → told_count cases p + case_count (left ++ c.case ∷ []) p ≡ 1
-    → told_count (cases ++ c ∷ []) p + case_count left p ≡ 1
+    → reported_count cases p + case_count (left ++ c.case ∷ []) p ≡ 1
+    → reported_count (cases ++ c ∷ []) p + case_count left p ≡ 1
 one-told cases left c p one =
-    let told : told_count (cases ++ c ∷ []) p ≡ told_count cases p + (0 + one_if (is_in c.case p)) =
+    let told : reported_count (cases ++ c ∷ []) p
+    ≡ reported_count cases p + (0 + one_if (is_in c.case p)) =
     sum_by-append (λ (d : ReportedCase). cond (is_in d.case p) 1 0) cases (c ∷ []) in
     let e = count-last left c.case p in
     omega (arith, told, e, one)
@@ -87,8 +88,8 @@ one-told cases left c p one =
 -- the parts of a case are left in its place
 pub one-split : (cases : List ReportedCase) (left : List (List TestAnswer)) (case : List TestAnswer)
     (test : Test) (p : Process) → IsProcess p
-    → told_count cases p + case_count (left ++ case ∷ []) p ≡ 1
-    → told_count cases p + case_count (left ++ parts_of case test) p ≡ 1
+    → reported_count cases p + case_count (left ++ case ∷ []) p ≡ 1
+    → reported_count cases p + case_count (left ++ parts_of case test) p ≡ 1
 one-split cases left case test p is one =
     let e = count-last left case p in
     let two = parts-more left case test p is in

@@ -11,7 +11,7 @@ use Rattle.il_image.specs.declared.timer.TimerPhase.TheVariants.{Idle, Held, Sin
 use Rattle.il_image.specs.declared.timer.TimerState.{TimerState}
 use Rattle.il_image.specs.declared.value.Value.{Value}
 use Rattle.il_image.specs.declared.value.Value.TheVariants.{Truth, Short, Long, Wide, Span}
-use Rattle.il_range.specs.Foretold.{AreYoung, Foretells, IsMemory, IsReached, Leaves, began, began_at}
+use Rattle.il_range.specs.Foretold.{AreYoung, Foretells, IsMemory, IsReached, Leaves, delay_start, delay_start_at}
 use Rattle.il_range.specs.Ranges.{AreIn, IsIn, IsYoung}
 use Rattle.il_range.specs.declared.range.Range.{Range}
 use Rattle.il_range.specs.declared.range.Range.TheVariants.{Any, No, Yes, Either, Between}
@@ -21,7 +21,7 @@ use Rattle.il_scan.specs.Scans as scans
 use Rattle.bay_audit.specs.Cases.{is_in, range_of}
 use Rattle.bay_audit.specs.Conditions.{base_truths_of, includes, opposite, outlook_of}
 use Rattle.bay_audit.specs.Process.{IsProcess, process_value}
-use Rattle.bay_audit.specs.Rules.{Comes, Foresees, IsMissed, IsDecision, BoundProgram, decide, goal_range, idle_range, is_asked, is_kept, is_missed, is_obeyed, range_at, range_there, reaches, releasing_point}
+use Rattle.bay_audit.specs.Rules.{Comes, Foresees, IsMissed, IsDecision, BoundProgram, decide, goal_range, idle_range, is_covered, is_surely_obeyed, is_surely_missed, is_obeyed, range_at, range_there, reaches, releasing_point}
 use Rattle.bay_audit.specs.declared.demand.Demand.{Demand}
 use Rattle.bay_audit.specs.declared.demand.Goal.{Goal}
 use Rattle.bay_audit.specs.declared.demand.Goal.TheVariants as goals
@@ -89,7 +89,7 @@ place-told values ranges (Some n) h = there-told values ranges n h
 
 -- a limit tells of a delay only that none runs
 young-told : (now : ℕ) (phase : TimerPhase) (below : Option ℕ) → IsYoung now phase below
-    → Told (idle_range (Some below)) (is_none (began phase))
+    → Told (idle_range (Some below)) (is_none (delay_start phase))
 young-told now phase None y = tt
 young-told now phase (Some (suc n)) y = tt
 young-told now Idle (Some zero) y = refl
@@ -104,7 +104,7 @@ none-told (Some (Some (suc n))) = tt
 
 -- ---- decisions
 
-kept-obeyed : (kind : RuleKind) (r : Range) (b : Bool) → is_kept kind r ≡ true → Told r b
+kept-obeyed : (kind : RuleKind) (r : Range) (b : Bool) → is_surely_obeyed kind r ≡ true → Told r b
     → is_obeyed kind true b ≡ true
 kept-obeyed Never No b e told = ap not told
 kept-obeyed Always Yes b e told = told
@@ -117,7 +117,7 @@ kept-obeyed Always Any b e told = absurd cc
 kept-obeyed Always Either b e told = absurd cc
 kept-obeyed Always (Between x y) b e told = absurd cc
 
-missed-broken : (kind : RuleKind) (r : Range) (b : Bool) → is_missed kind r ≡ true → Told r b
+missed-broken : (kind : RuleKind) (r : Range) (b : Bool) → is_surely_missed kind r ≡ true → Told r b
     → is_obeyed kind true b ≡ false
 missed-broken Never Yes b e told = ap not told
 missed-broken Always No b e told = told
@@ -154,7 +154,7 @@ module _ (kind : RuleKind) (o : TruthSet) (r : Range) (b : Bool) (told : Told r 
       → is_obeyed kind c b ≡ true
   obeyed-so false one e = refl
   obeyed-so true one e =
-      elim (is-obeyed (is_kept kind r) o.yes (is_missed kind r) o.no e) [
+      elim (is-obeyed (is_surely_obeyed kind r) o.yes (is_surely_missed kind r) o.no e) [
         | inl kept ↦ kept-obeyed kind r b kept told
         | inr never ↦ absurd (let f : true ≡ false = sym one ∙ never in cc)
       ]
@@ -162,17 +162,19 @@ module _ (kind : RuleKind) (o : TruthSet) (r : Range) (b : Bool) (told : Told r 
   broken-so : (c : Bool) → includes o c ≡ true → decide kind o r ≡ Missed
       → is_obeyed kind c b ≡ false
   broken-so true one e =
-      missed-broken kind r b (is-missed (is_kept kind r) o.yes (is_missed kind r) o.no e).0 told
+      missed-broken kind r b (is-missed (is_surely_obeyed kind r) o.yes (is_surely_missed kind r)
+      o.no e).0 told
   broken-so false one e =
       absurd (let f : true ≡ false =
-      sym one ∙ (is-missed (is_kept kind r) o.yes (is_missed kind r) o.no e).1 in cc)
+      sym one ∙ (is-missed (is_surely_obeyed kind r) o.yes (is_surely_missed kind r) o.no e).1 in
+      cc)
 
 -- ---- goals
 
 -- what the limit tells of a timer at a place
 idle-told : (now : ℕ) (timers : List TimerState) (limits : List (Option ℕ)) (n : ℕ)
     → AreYoung now timers limits
-    → Told (idle_range (slice_get limits n)) (is_none (began_at n timers))
+    → Told (idle_range (slice_get limits n)) (is_none (delay_start_at n timers))
 idle-told now timers [] n y = tt
 idle-told now [] (below ∷ limits) n y = none-told (slice_get (below ∷ limits) n)
 idle-told now (t ∷ timers) (below ∷ limits) zero y = young-told now t.phase below y.0
@@ -192,7 +194,7 @@ goal-told g (goals.Idle n) now slots timers ranges limits h y = idle-told now ti
 -- ---- what is asked
 
 pub asked-included : (d : Demand) (p : Process) → IsProcess p → (case : List TestAnswer)
-    → is_in case p ≡ true → includes (base_truths_of case d.when d.unless) (is_asked d p) ≡ true
+    → is_in case p ≡ true → includes (base_truths_of case d.when d.unless) (is_covered d p) ≡ true
 asked-included d p is case inside =
     of-both (outlook_of case d.when) (opposite (outlook_of case d.unless)) (holds d.when p)
     (not (holds d.unless p)) (condition-included p is case inside d.when)
@@ -228,21 +230,21 @@ module _ (g : BoundProgram) (d : Demand) (case : List TestAnswer) (ranges : List
           subst (λ (x : Range). Told x (reaches g d.goal slots timers)) (sym is-range)
           (goal-told g d.goal now slots timers ranges limits end.0 end.1)
 
-      included : includes asked (is_asked d p) ≡ true
-      included = ap (λ (o : TruthSet). includes o (is_asked d p)) is-asked
+      included : includes asked (is_covered d p) ≡ true
+      included = ap (λ (o : TruthSet). includes o (is_covered d p)) is-asked
           ∙ asked-included d p is case inside
 
   obeyed-by : decide d.kind asked r ≡ Obeyed
       → (p : Process) → IsProcess p → is_in case p ≡ true → Comes true g d p
   obeyed-by e p is inside machine now slots timers image kept young leaves =
       obeyed-so d.kind asked r (reaches g d.goal slots timers)
-      (told p is inside machine now slots timers image kept young leaves) (is_asked d p)
+      (told p is inside machine now slots timers image kept young leaves) (is_covered d p)
       (included p is inside machine now slots timers image kept young leaves) e
 
   broken-by : decide d.kind asked r ≡ Missed → IsMissed g d case
   broken-by e p is inside machine now slots timers image kept young leaves =
       broken-so d.kind asked r (reaches g d.goal slots timers)
-      (told p is inside machine now slots timers image kept young leaves) (is_asked d p)
+      (told p is inside machine now slots timers image kept young leaves) (is_covered d p)
       (included p is inside machine now slots timers image kept young leaves) e
 
   pub decision-by : (x : RuleVerdict) → x ≡ decide d.kind asked r → IsDecision g d case x
@@ -260,6 +262,6 @@ pub idle-in : (g : BoundProgram) (d : Demand) (case : List TestAnswer)
     → (base_truths_of case d.when d.unless).yes ≡ false → (p : Process) → IsProcess p
     → is_in case p ≡ true → Comes true g d p
 idle-in g d case never p is inside machine now slots timers image kept young leaves =
-    idle-so d.kind (base_truths_of case d.when d.unless) (is_asked d p)
+    idle-so d.kind (base_truths_of case d.when d.unless) (is_covered d p)
     (reaches g d.goal slots timers)
     never (asked-included d p is case inside)

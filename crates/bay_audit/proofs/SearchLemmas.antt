@@ -10,7 +10,7 @@ use Rattle.bay_audit_rules.specs.declared.rule.Rule.{Rule}
 use Rattle.bay_audit.specs.declared.demand.Demand.{Demand}
 use Rattle.bay_audit.specs.Cases.{answer_of, example_of, is_in, meets}
 use Rattle.bay_audit.specs.Process.{IsProcess}
-use Rattle.bay_audit.specs.Rules.{AreRight, Comes, HasProcess, IsLeft, IsMet, IsRight, BoundProgram, case_count, if_any, part, parts_of}
+use Rattle.bay_audit.specs.Rules.{AreRight, Comes, HasProcess, IsLeft, IsMet, IsRight, BoundProgram, case_count, if_any, case_with_answer, parts_of}
 use Rattle.bay_audit.specs.declared.answer.RuleAnswer.{RuleAnswer}
 use Rattle.bay_audit.specs.declared.case.TestAnswer.{TestAnswer}
 use Rattle.bay_audit.specs.declared.case.Test.{Test}
@@ -41,13 +41,14 @@ parts-sum false true = refl
 parts-sum false false = refl
 
 parts-count : (case : List TestAnswer) (test : Test) (p : Process)
-    → one_if (is_in (part case test false) p) + one_if (is_in (part case test true) p)
+    → one_if (is_in (case_with_answer case test false) p)
+    + one_if (is_in (case_with_answer case test true) p)
     ≡ one_if (is_in case p)
 parts-count case test p =
-    let no : is_in (part case test false) p
+    let no : is_in (case_with_answer case test false) p
     ≡ (is_in case p && (beq (answer_of p test) false && true)) =
     in-last case (record { test = test; value = false }) p in
-    let yes : is_in (part case test true) p
+    let yes : is_in (case_with_answer case test true) p
     ≡ (is_in case p && (beq (answer_of p test) true && true)) =
     in-last case (record { test = test; value = true }) p in
     let a = ap one_if no in
@@ -73,9 +74,9 @@ parts-more cases case test p is =
     let a = sum_by-append (λ (c : List TestAnswer). one_if (is_in c p)) cases (parts_of case test)
     in
     let b = sum_by-append (λ (c : List TestAnswer). one_if (is_in c p))
-    (if_any (part case test false)) (if_any (part case test true)) in
-    let no = if-count (part case test false) p is in
-    let yes = if-count (part case test true) p is in
+    (if_any (case_with_answer case test false)) (if_any (case_with_answer case test true)) in
+    let no = if-count (case_with_answer case test false) p is in
+    let yes = if-count (case_with_answer case test true) p is in
     let s = parts-count case test p in
     omega (arith, a, b, no, yes, s)
 
@@ -97,8 +98,9 @@ pub full-more : (cases : List (List TestAnswer)) (case : List TestAnswer) (test 
     → All HasProcess cases → All HasProcess (cases ++ parts_of case test)
 full-more cases case test all =
     All-append HasProcess cases (parts_of case test) all
-    (All-append HasProcess (if_any (part case test false)) (if_any (part case test true))
-    (if-full (part case test false)) (if-full (part case test true)))
+    (All-append HasProcess (if_any (case_with_answer case test false))
+    (if_any (case_with_answer case test true))
+    (if-full (case_with_answer case test false)) (if-full (case_with_answer case test true)))
 
 pub full-last : (cases : List (List TestAnswer)) (case : List TestAnswer)
     → All HasProcess (cases ++ case ∷ []) → All HasProcess cases × HasProcess case

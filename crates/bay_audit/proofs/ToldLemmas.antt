@@ -11,7 +11,7 @@ use Rattle.bay_base.specs.declared.point.MeterField.TheVariants.{TotW, TotVAr, H
 use Rattle.bay_audit_rules.specs.Process.{Process, same_position}
 use Rattle.bay_tree.specs.declared.leaf.Dbpos.{Dbpos}
 use Rattle.bay_tree.specs.declared.leaf.Dbpos.TheVariants.{Intermediate, Off, On, Bad}
-use Rattle.bay_audit.specs.Cases.{IsWithin, allows, answer_of, example_of, first_position, grants, high_after, high_by, high_of, input_may, is_in, is_of_field, low_after, low_by, low_of, lowered, may_be, meets, raised, same_field, test_allows, test_grants}
+use Rattle.bay_audit.specs.Cases.{IsWithin, allows, answer_of, example_of, first_position, grants, high_after, high_by, high_of, input_may, is_in, is_of_field, low_after, low_by, low_of, lesser_int, may_be, meets, greater_int, same_field, test_allows, test_grants}
 use Rattle.bay_audit.specs.Laws.{CasesAreReported, CasesHaveExamples}
 use Rattle.bay_audit.specs.Process.{IsProcess}
 use Rattle.bay_audit.specs.declared.case.TestAnswer.{TestAnswer}
@@ -40,8 +40,8 @@ unless-other true c e h = h
 unless-other false c e h = absurd cc
 
 at-most : (z low high most : ℤ) (b : Bool) (value : Bool) → b ≡ true
-    → cond (b && not value) (raised low (most +ℤ pos 1)) low ≤ℤ z
-    → z ≤ℤ cond (b && value) (lowered high most) high → beq (int_le z most) value ≡ true
+    → cond (b && not value) (greater_int low (most +ℤ pos 1)) low ≤ℤ z
+    → z ≤ℤ cond (b && value) (lesser_int high most) high → beq (int_le z most) value ≡ true
 at-most z low high most true true e least greatest = grind (arith, ints)
 at-most z low high most true false e least greatest = grind (arith, ints)
 at-most z low high most false value e least greatest = absurd cc
@@ -128,10 +128,10 @@ either-may may b h true e = e
 either-may may true h false e = absurd (let f : true ≡ false = sym h ∙ e in cc)
 either-may may false h false e = h
 
-least-within : (low z : ℤ) → low ≤ℤ z → z ≤ℤ pos 2147483647 → low ≤ℤ lowered (pos 2147483647) low
+least-within : (low z : ℤ) → low ≤ℤ z → z ≤ℤ pos 2147483647 → low ≤ℤ lesser_int (pos 2147483647) low
 least-within low z h k = grind (arith, ints)
 
-most-within : (low high z : ℤ) → low ≤ℤ z → z ≤ℤ high → lowered (pos 2147483647) low ≤ℤ high
+most-within : (low high z : ℤ) → low ≤ℤ z → z ≤ℤ high → lesser_int (pos 2147483647) low ≤ℤ high
 most-within low high z h k = grind (arith, ints)
 
 pub examples-there : CasesHaveExamples

@@ -90,17 +90,17 @@ input_may case k wanted = list_all (grants k wanted) case
 abbrev pub is_of_field : ℕ → MeterField → ℕ → MeterField → Bool
 is_of_field k field j which = j == k && same_field which field
 
-abbrev pub raised : ℤ → ℤ → ℤ
-raised low other = if int_lt low other then other else low
+abbrev pub greater_int : ℤ → ℤ → ℤ
+greater_int low other = if int_lt low other then other else low
 
-abbrev pub lowered : ℤ → ℤ → ℤ
-lowered high other = if int_lt other high then other else high
+abbrev pub lesser_int : ℤ → ℤ → ℤ
+lesser_int high other = if int_lt other high then other else high
 
 abbrev pub low_by : ℕ → MeterField → ℤ → Bool → Test → ℤ
 low_by k field low value (test.Position j which) = low
 low_by k field low value (test.Input j) = low
 low_by k field low value (test.AtMost j which most) =
-    if is_of_field k field j which && not value then raised low (most +ℤ pos 1) else low
+    if is_of_field k field j which && not value then greater_int low (most +ℤ pos 1) else low
 
 abbrev pub low_after : ℕ → MeterField → ℤ → TestAnswer → ℤ
 low_after k field low l = low_by k field low l.value l.test
@@ -109,7 +109,7 @@ abbrev pub high_by : ℕ → MeterField → ℤ → Bool → Test → ℤ
 high_by k field high value (test.Position j which) = high
 high_by k field high value (test.Input j) = high
 high_by k field high value (test.AtMost j which most) =
-    if is_of_field k field j which && value then lowered high most else high
+    if is_of_field k field j which && value then lesser_int high most else high
 
 abbrev pub high_after : ℕ → MeterField → ℤ → TestAnswer → ℤ
 high_after k field high l = high_by k field high l.value l.test
@@ -139,7 +139,7 @@ example_of case = record {
   position = λ k. first_position (may_be case k Intermediate) (may_be case k Off)
       (may_be case k On);
   input = λ k. input_may case k true;
-  measure = λ k field. lowered (pos 2147483647) (low_of case k field);
+  measure = λ k field. lesser_int (pos 2147483647) (low_of case k field);
 }
 
 -- ---- the ranges of points

@@ -52,33 +52,33 @@ abbrev pub either : TruthSet → TruthSet → TruthSet
 either a b = truth_set (a.yes || b.yes) (a.no && b.no)
 
 -- the stack, top first, with its top negated, and with its two top sets joined
-abbrev pub opposed : List TruthSet → List TruthSet
-opposed [] = []
-opposed (a ∷ stack) = opposite a ∷ stack
+abbrev pub negate_top_truths : List TruthSet → List TruthSet
+negate_top_truths [] = []
+negate_top_truths (a ∷ stack) = opposite a ∷ stack
 
-abbrev pub paired : (TruthSet → TruthSet → TruthSet) → List TruthSet → List TruthSet
-paired f [] = []
-paired f (b ∷ []) = []
-paired f (b ∷ a ∷ stack) = f a b ∷ stack
+abbrev pub join_top_truths : (TruthSet → TruthSet → TruthSet) → List TruthSet → List TruthSet
+join_top_truths f [] = []
+join_top_truths f (b ∷ []) = []
+join_top_truths f (b ∷ a ∷ stack) = f a b ∷ stack
 
 -- the stack after an item
-abbrev pub outlook_after : List TestAnswer → ConditionItem → List TruthSet → List TruthSet
-outlook_after case items.True stack = truth_set true false ∷ stack
-outlook_after case (items.Position k position) stack =
+abbrev pub truths_after_item : List TestAnswer → ConditionItem → List TruthSet → List TruthSet
+truths_after_item case items.True stack = truth_set true false ∷ stack
+truths_after_item case (items.Position k position) stack =
     position_truths position (may_be case k Intermediate) (may_be case k Off) (may_be case k On)
     (may_be case k Bad) ∷ stack
-outlook_after case (items.Input k) stack =
+truths_after_item case (items.Input k) stack =
     truth_set (input_may case k true) (input_may case k false) ∷ stack
-outlook_after case (items.Measure k field relation value) stack =
+truths_after_item case (items.Measure k field relation value) stack =
     relation_truths relation (low_of case k field) (high_of case k field) value ∷ stack
-outlook_after case items.Not stack = opposed stack
-outlook_after case items.And stack = paired both stack
-outlook_after case items.Or stack = paired either stack
+truths_after_item case items.Not stack = negate_top_truths stack
+truths_after_item case items.And stack = join_top_truths both stack
+truths_after_item case items.Or stack = join_top_truths either stack
 
 -- the stack after a list of items
-abbrev pub outlooks_after : List TestAnswer → List ConditionItem → List TruthSet → List TruthSet
-outlooks_after case [] stack = stack
-outlooks_after case (i ∷ is) stack = outlooks_after case is (outlook_after case i stack)
+abbrev pub truths_after_items : List TestAnswer → List ConditionItem → List TruthSet → List TruthSet
+truths_after_items case [] stack = stack
+truths_after_items case (i ∷ is) stack = truths_after_items case is (truths_after_item case i stack)
 
 abbrev pub top_outlook : List TruthSet → TruthSet
 top_outlook [] = truth_set false true
@@ -86,7 +86,7 @@ top_outlook (a ∷ stack) = a
 
 -- the truth set of the condition of these items
 abbrev pub outlook_of : List TestAnswer → List ConditionItem → TruthSet
-outlook_of case is = top_outlook (outlooks_after case is [])
+outlook_of case is = top_outlook (truths_after_items case is [])
 
 -- the truth set of a condition with its exception: the condition and the negation of the exception
 abbrev pub base_truths_of : List TestAnswer → List ConditionItem → List ConditionItem → TruthSet

@@ -20,7 +20,7 @@ use Rattle.il_image.specs.declared.image.ImagePoint.{ImagePoint}
 use Rattle.il_image.specs.declared.timer.TimerState.{TimerState}
 use Rattle.il_image.specs.declared.value.Value.{Value}
 use Rattle.il_image.specs.Images.{Image}
-use Rattle.il_range.specs.Foretold.{AreYoung, IsReached, Leaves, began_at}
+use Rattle.il_range.specs.Foretold.{AreYoung, IsReached, Leaves, delay_start_at}
 use Rattle.il_range.specs.Ranges.{AreIn}
 use Rattle.il_range.specs.declared.range.Range.{Range}
 use Rattle.il_range.specs.declared.range.Range.TheVariants as range
@@ -84,15 +84,15 @@ is_obeyed Always true release = release
 -- the slots and timers reach the goal: the switch is released, or no delay of the timer runs
 abbrev pub reaches : BoundProgram → Goal → List Value → List TimerState → Bool
 reaches g (goals.Release k operation) slots timers = releases g k operation slots
-reaches g (goals.Idle n) slots timers = is_none (began_at n timers)
+reaches g (goals.Idle n) slots timers = is_none (delay_start_at n timers)
 
 -- the demand covers this process
-abbrev pub is_asked : Demand → Process → Bool
-is_asked d p = holds d.when p && not (holds d.unless p)
+abbrev pub is_covered : Demand → Process → Bool
+is_covered d p = holds d.when p && not (holds d.unless p)
 
 -- the slots and timers meet a demand, for this process
 abbrev pub obeys : BoundProgram → Demand → Process → List Value → List TimerState → Bool
-obeys g d p slots timers = is_obeyed d.kind (is_asked d p) (reaches g d.goal slots timers)
+obeys g d p slots timers = is_obeyed d.kind (is_covered d p) (reaches g d.goal slots timers)
 
 -- Every scan that the demand covers, for this process, at any time and from any state that the
 -- program can reach, meets the demand if b is true, and misses it if b is false.
@@ -136,8 +136,8 @@ abbrev pub limit_of : ℕ → ℕ → List (Option ℕ)
 limit_of n time = replicate n None ++ Some time ∷ []
 
 -- the switch is not released unless a delay of the timer runs that began at least `time` ago
-abbrev pub late : Rule → ℕ → ℕ → Demand
-late rule time n = record {
+abbrev pub delay_demand : Rule → ℕ → ℕ → Demand
+delay_demand rule time n = record {
   kind = Never;
   goal = goals.Release rule.switch rule.operation;
   when = rule.when;
@@ -146,8 +146,8 @@ late rule time n = record {
 }
 
 -- the switch is not released while the condition is FALSE
-abbrev pub there : Rule → List ConditionItem → Demand
-there rule condition = record {
+abbrev pub necessary_demand : Rule → List ConditionItem → Demand
+necessary_demand rule condition = record {
   kind = Never;
   goal = goals.Release rule.switch rule.operation;
   when = rule.when;
@@ -156,8 +156,8 @@ there rule condition = record {
 }
 
 -- no delay of the timer runs while the condition is FALSE
-abbrev pub idle : List ConditionItem → ℕ → Demand
-idle condition n = record {
+abbrev pub idle_timer_demand : List ConditionItem → ℕ → Demand
+idle_timer_demand condition n = record {
   kind = Always;
   goal = goals.Idle n;
   when = items.True ∷ [];
@@ -166,8 +166,8 @@ idle condition n = record {
 }
 
 -- the switch is released while the condition is TRUE
-abbrev pub after : Rule → List ConditionItem → Demand
-after rule condition = record {
+abbrev pub sufficient_demand : Rule → List ConditionItem → Demand
+sufficient_demand rule condition = record {
   kind = Always;
   goal = goals.Release rule.switch rule.operation;
   when = rule.when;
@@ -178,9 +178,9 @@ after rule condition = record {
 -- A timer establishes the rule that a switch is not released until a condition has held for a time:
 -- its delay runs only while the condition is TRUE, and a release waits for it.
 pub record IsByTimer (g : BoundProgram) (rule : Rule) (timing : Timing) (n : ℕ) : Type 0 where
-  pub late_so : IsMet g (late rule timing.time n)
-  pub there_so : IsMet g (there rule timing.condition)
-  pub idle_so : IsMet g (idle timing.condition n)
+  pub late_so : IsMet g (delay_demand rule timing.time n)
+  pub there_so : IsMet g (necessary_demand rule timing.condition)
+  pub idle_so : IsMet g (idle_timer_demand timing.condition n)
 
 -- ---- answers
 
@@ -210,8 +210,9 @@ pub record IsEarlyBy (inputs : List Value) (first : Held) (place : Option ℕ) (
     pub now : ℕ
     pub soon : now < time
     pub after : Held
-    pub passes : Passes inputs before now after
-    pub released : is_true (output_at place (outputs_of after.image.points after.slots)) ≡ true
+    pub passes : Passes inputs before now sufficient_demand
+    pub released : is_true (output_at place
+        (outputs_of sufficient_demand.image.points sufficient_demand.slots)) ≡ true
 
 -- the index of a release among the writable points
 abbrev pub place_of : BoundProgram → Rule → Option ℕ
@@ -235,7 +236,7 @@ abbrev pub IsForbidden : BoundProgram → Rule → Timing → RuleAnswer → Typ
 IsForbidden g rule timing (Holds cases) = IsMet g (plain_demand rule)
 IsForbidden g rule timing (Since n cases) = IsByTimer g rule timing n
 IsForbidden g rule timing (Broken case) =
-    (IsMissed g (there rule timing.condition) case × HasProcess case)
+    (IsMissed g (necessary_demand rule timing.condition) case × HasProcess case)
     ⊎ IsEarlyIn g rule timing.time case
 IsForbidden g rule timing (Open case kept) = HasProcess case
 IsForbidden g rule timing TooMany = Unit {0}
@@ -245,7 +246,7 @@ IsForbidden g rule timing TooMany = Unit {0}
 -- is.
 abbrev pub IsTimely : RuleKind → BoundProgram → Rule → Timing → RuleAnswer → Type 0
 IsTimely Never g rule timing answer = IsForbidden g rule timing answer
-IsTimely Always g rule timing answer = IsAnswer g (after rule timing.condition) answer
+IsTimely Always g rule timing answer = IsAnswer g (sufficient_demand rule timing.condition) answer
 
 abbrev pub IsUntil : BoundProgram → Rule → Timing → RuleAnswer → Type 0
 IsUntil g rule timing answer = IsTimely rule.kind g rule timing answer
@@ -292,8 +293,8 @@ AreReported g k operation (c ∷ cases) =
     IsReportedOf g k operation c.case c.told × AreReported g k operation cases
 
 -- the number of the cases that have this process
-abbrev pub told_count : List ReportedCase → Process → ℕ
-told_count cases p = count_by (λ c. is_in c.case p) cases
+abbrev pub reported_count : List ReportedCase → Process → ℕ
+reported_count cases p = count_by (λ c. is_in c.case p) cases
 
 abbrev pub case_count : List (List TestAnswer) → Process → ℕ
 case_count cases p = count_by (λ case. is_in case p) cases
@@ -304,7 +305,7 @@ pub record IsRelease (bay : Bay) (g : BoundProgram) (r : Release) : Type 0 where
   pub told : AreReported g r.switch r.operation r.cases.items
   pub full : All (λ c. HasProcess c.case) r.cases.items
   pub one : (p : Process) → IsProcess p
-      → told_count r.cases.items p + case_count r.left.items p ≡ 1
+      → reported_count r.cases.items p + case_count r.left.items p ≡ 1
   pub lost : IsReportedFor (IsLost bay) g r.switch r.operation r.lost
 
 -- Each of the releases is so.
@@ -321,8 +322,8 @@ abbrev pub way_of : Release → ℕ × Operation
 way_of r = (r.switch, r.operation)
 
 -- the demand that a switch is always released in a direction
-abbrev pub demand : ℕ → Operation → Demand
-demand k operation = record {
+abbrev pub release_demand : ℕ → Operation → Demand
+release_demand k operation = record {
   kind = Always;
   goal = goals.Release k operation;
   when = items.True ∷ [];
@@ -366,21 +367,21 @@ IsUndecided (verdict.Open kept) = Unit {0}
 
 -- a release in this range obeys, or breaks, a rule of this kind for certain, if its condition is
 -- TRUE
-abbrev pub is_kept : RuleKind → Range → Bool
-is_kept Never range.No = true
-is_kept Always range.Yes = true
-is_kept kind r = false
+abbrev pub is_surely_obeyed : RuleKind → Range → Bool
+is_surely_obeyed Never range.No = true
+is_surely_obeyed Always range.Yes = true
+is_surely_obeyed kind r = false
 
-abbrev pub is_missed : RuleKind → Range → Bool
-is_missed Never range.Yes = true
-is_missed Always range.No = true
-is_missed kind r = false
+abbrev pub is_surely_missed : RuleKind → Range → Bool
+is_surely_missed Never range.Yes = true
+is_surely_missed Always range.No = true
+is_surely_missed kind r = false
 
 -- the decision on a rule, from the truth set of its condition and the range of the release
 abbrev pub decide : RuleKind → TruthSet → Range → RuleVerdict
 decide kind o r =
-    if is_kept kind r || not o.yes then Obeyed
-    else if is_missed kind r && not o.no then Missed else Unknown
+    if is_surely_obeyed kind r || not o.yes then Obeyed
+    else if is_surely_missed kind r && not o.no then Missed else Unknown
 
 -- the range of the value that the program writes to a point; FALSE if it does not name the point
 abbrev pub range_there : Option Range → Range
@@ -414,12 +415,13 @@ abbrev pub if_any : List TestAnswer → List (List TestAnswer)
 if_any case = if is_in case (example_of case) then case ∷ [] else []
 
 -- the part of a case in which a test has this answer
-abbrev pub part : List TestAnswer → Test → Bool → List TestAnswer
-part case test value = case ++ record { test = test; value = value } ∷ []
+abbrev pub case_with_answer : List TestAnswer → Test → Bool → List TestAnswer
+case_with_answer case test value = case ++ record { test = test; value = value } ∷ []
 
 -- the parts of a case that have a process
 abbrev pub parts_of : List TestAnswer → Test → List (List TestAnswer)
-parts_of case test = if_any (part case test false) ++ if_any (part case test true)
+parts_of case test =
+    if_any (case_with_answer case test false) ++ if_any (case_with_answer case test true)
 
 -- The demand is met for each process that is in none of these cases.
 abbrev pub IsLeft : BoundProgram → Demand → List (List TestAnswer) → Type 0

@@ -106,14 +106,14 @@ impl TestAnswer {
 
 // Returns the greater of two numbers.
 fn greater(low: i64, other: i64) -> i64
-    ensures { result ≡ spec.raised low other }
+    ensures { result ≡ spec.greater_int low other }
 {
     if low < other { other } else { low }
 }
 
 // Returns the lesser of two numbers.
 fn lesser(high: i64, other: i64) -> i64
-    ensures { result ≡ spec.lowered high other }
+    ensures { result ≡ spec.lesser_int high other }
 {
     if other < high { other } else { high }
 }

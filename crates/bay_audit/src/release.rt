@@ -20,7 +20,7 @@ use std::alloc::{AllocError, Global};
 
 // Returns the demand that a switch is always released in a direction.
 fn demand(alloc: Global, switch: usize, operation: Operation) -> Result<Demand, AllocError>
-    ensures { IfOk result (λ demand. demand ≡ spec.demand switch operation) }
+    ensures { IfOk result (λ demand. demand ≡ spec.release_demand switch operation) }
 {
     let when = vec![in alloc; ConditionItem::True]?;
     Ok(Demand {

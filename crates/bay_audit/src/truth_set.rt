@@ -143,7 +143,7 @@ impl TruthSetStack {
 
     // Replaces the top by its negation.
     fn oppose(&mut self) -> Result<(), AllocError>
-        ensures { OnOk result (self.new ≡ spec.opposed self.old) }
+        ensures { OnOk result (self.new ≡ spec.negate_top_truths self.old) }
     {
         match self.pop() {
             Some(a) => self.push(a.opposite()),
@@ -153,9 +153,10 @@ impl TruthSetStack {
 
     // Replaces the two on top by their conjunction, or by their disjunction.
     fn pair(&mut self, is_both: bool) -> Result<(), AllocError>
-        ensures both { is_both ≡ true → OnOk result (self.new ≡ spec.paired spec.both self.old) }
+        ensures both { is_both ≡ true
+            → OnOk result (self.new ≡ spec.join_top_truths spec.both self.old) }
         ensures either { is_both ≡ false
-            → OnOk result (self.new ≡ spec.paired spec.either self.old) }
+            → OnOk result (self.new ≡ spec.join_top_truths spec.either self.old) }
     {
         let Some(b) = self.pop() else {
             return Ok(());
@@ -168,7 +169,7 @@ impl TruthSetStack {
 
     // Applies one item of a condition.
     fn take(&mut self, case: &Case, item: ConditionItem) -> Result<(), AllocError>
-        ensures { OnOk result (self.new ≡ spec.outlook_after case.now item self.old) }
+        ensures { OnOk result (self.new ≡ spec.truths_after_item case.now item self.old) }
     {
         match item {
             ConditionItem::True => self.push(TruthSet {

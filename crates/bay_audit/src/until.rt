@@ -33,7 +33,7 @@ fn limit_of(alloc: Global, timer: usize, time: u32) -> Result<Listing<Option<u32
 // Returns the demand that the switch is not released unless a delay of the timer runs that began at
 // least `time` ago.
 fn late_demand(alloc: Global, rule: &Rule, time: u32, timer: usize) -> Result<Demand, AllocError>
-    ensures { IfOk result (λ demand. demand ≡ spec.late rule.now time timer) }
+    ensures { IfOk result (λ demand. demand ≡ spec.delay_demand rule.now time timer) }
 {
     let when = copy_of(alloc, rule.when.as_slice())?;
     let limits = limit_of(alloc, timer, time)?;
@@ -55,7 +55,7 @@ fn presence_demand(
     rule: &Rule,
     condition: &[ConditionItem],
 ) -> Result<Demand, AllocError>
-    ensures { IfOk result (λ demand. demand ≡ spec.there rule.now condition.now) }
+    ensures { IfOk result (λ demand. demand ≡ spec.necessary_demand rule.now condition.now) }
 {
     let when = copy_of(alloc, rule.when.as_slice())?;
     let unless = copy_of(alloc, condition)?;
@@ -77,7 +77,7 @@ fn idle_demand(
     condition: &[ConditionItem],
     timer: usize,
 ) -> Result<Demand, AllocError>
-    ensures { IfOk result (λ demand. demand ≡ spec.idle condition.now timer) }
+    ensures { IfOk result (λ demand. demand ≡ spec.idle_timer_demand condition.now timer) }
 {
     let when = vec![in alloc; ConditionItem::True]?;
     let unless = copy_of(alloc, condition)?;
@@ -96,7 +96,7 @@ fn later_demand(
     rule: &Rule,
     condition: &[ConditionItem],
 ) -> Result<Demand, AllocError>
-    ensures { IfOk result (λ demand. demand ≡ spec.after rule.now condition.now) }
+    ensures { IfOk result (λ demand. demand ≡ spec.sufficient_demand rule.now condition.now) }
 {
     let when = copy_of(alloc, rule.when.as_slice())?;
     let mut unless = Vec::from_slice(alloc, condition)?;
@@ -139,8 +139,8 @@ fn by_timer(
     passes: &mut u32,
 ) -> Result<Option<u32>, AllocError>
     ensures { IfOk result (λ cases. IsSome cases
-        → IsMet program.now (spec.late rule.now timing.now.time timer)
-        × IsMet program.now (spec.idle timing.now.condition timer)) }
+        → IsMet program.now (spec.delay_demand rule.now timing.now.time timer)
+        × IsMet program.now (spec.idle_timer_demand timing.now.condition timer)) }
 {
     let demand = late_demand(alloc, rule, timing.time, timer)?;
     let Some(late_demand) = cases_needed(alloc, program, &demand, passes)? else {
@@ -163,7 +163,7 @@ fn answer_by_bearing_timer(
     cases: u32,
     passes: &mut u32,
 ) -> Result<Option<RuleAnswer>, AllocError>
-    requires { IsMet program.now (spec.there rule.now timing.now.condition) }
+    requires { IsMet program.now (spec.necessary_demand rule.now timing.now.condition) }
     ensures { IfOk result
         (λ found. IfSome found (IsForbidden program.now rule.now timing.now)) }
 {

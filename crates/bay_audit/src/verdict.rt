@@ -82,8 +82,8 @@ fn range_at(outputs: &[Range], place: Option<usize>) -> Range
 
 // Returns whether a release in this range obeys the rule for certain, if the rule's condition is
 // TRUE.
-fn is_kept(kind: RuleKind, release: Range) -> bool
-    ensures { result ≡ spec.is_kept kind release }
+fn is_surely_obeyed(kind: RuleKind, release: Range) -> bool
+    ensures { result ≡ spec.is_surely_obeyed kind release }
 {
     match (kind, release) {
         (RuleKind::Never, Range::No) | (RuleKind::Always, Range::Yes) => true,
@@ -93,8 +93,8 @@ fn is_kept(kind: RuleKind, release: Range) -> bool
 
 // Returns whether a release in this range breaks the rule for certain, if the rule's condition is
 // TRUE.
-fn is_missed(kind: RuleKind, release: Range) -> bool
-    ensures { result ≡ spec.is_missed kind release }
+fn is_surely_missed(kind: RuleKind, release: Range) -> bool
+    ensures { result ≡ spec.is_surely_missed kind release }
 {
     match (kind, release) {
         (RuleKind::Never, Range::Yes) | (RuleKind::Always, Range::No) => true,
@@ -106,9 +106,9 @@ fn is_missed(kind: RuleKind, release: Range) -> bool
 fn decide(kind: RuleKind, when: TruthSet, release: Range) -> RuleVerdict
     ensures { result ≡ spec.decide kind when release }
 {
-    if is_kept(kind, release) || !when.yes {
+    if is_surely_obeyed(kind, release) || !when.yes {
         RuleVerdict::Obeyed
-    } else if is_missed(kind, release) && !when.no {
+    } else if is_surely_missed(kind, release) && !when.no {
         RuleVerdict::Missed
     } else {
         RuleVerdict::Unknown

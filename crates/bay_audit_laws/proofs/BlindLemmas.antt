@@ -25,7 +25,7 @@ use Rattle.bay_tree.specs.declared.row.Row.{Row}
 use Rattle.il_image.specs.Images.{Image}
 use Rattle.il_image.specs.declared.value.Value.{Value}
 use Rattle.il_image.specs.declared.value.Value.TheVariants.{Truth}
-use Rattle.bay_device.specs.Device.{State, contact_taken, device_at, inputs_lost, lost_taken, positions_lost}
+use Rattle.bay_device.specs.Device.{State, device_after_contact, device_at, inputs_lost, device_after_loss, positions_lost}
 use Rattle.bay_device.specs.Fresh.{Past}
 use Rattle.bay_device.specs.Load.{initial_device}
 use Rattle.bay_device.specs.Outcomes.{Outcome, contact_outcome, doubt_outcome, event_outcome, input_outcome, last_moment, measure_outcome, outcome, refusal_of}
@@ -68,19 +68,22 @@ lost-bad now (x ∷ ss) k s zero i switch here at there =
     let there-own : AreThere (node_of s.switches k x) s.rows =
     subst (λ m. AreThere (node_of s.switches m x) s.rows) (sym first)
     (subst (λ (y : Switch). AreThere (node_of s.switches i y) s.rows) (sym same) there) in
-    let own : BadAt (node_of s.switches k x) (contact_taken now k x Bad s).rows =
+    let own : BadAt (node_of s.switches k x) (device_after_contact now k x Bad s).rows =
     bad-if (has_position (position_names (node_of s.switches k x)) Bad s.rows)
     (node_of s.switches k x) (control_of k) now s.rows refl there-own in
-    let bad : BadAt node (contact_taken now k x Bad s).rows =
-    subst (λ (y : Switch). BadAt (node_of s.switches i y) (contact_taken now k x Bad s).rows) same
-    (subst (λ m. BadAt (node_of s.switches m x) (contact_taken now k x Bad s).rows) first own) in
+    let bad : BadAt node (device_after_contact now k x Bad s).rows =
+    subst (λ (y : Switch). BadAt (node_of s.switches i y) (device_after_contact now k x Bad s).rows)
+    same
+    (subst (λ m. BadAt (node_of s.switches m x) (device_after_contact now k x Bad s).rows) first
+    own) in
     positions-pass (λ t. BadAt node t.rows) now
     (λ m y t p. contact-bad node t.switches m y now t.rows p)
-    (λ m field t p. doubt-bad node m field now t.rows p) (k + 1) ss (contact_taken now k x Bad s)
+    (λ m field t p. doubt-bad node m field now t.rows p) (k + 1) ss
+    (device_after_contact now k x Bad s)
     bad
 lost-bad now (x ∷ ss) k s (suc j) i switch here at there =
     let next : k + 1 + j ≡ i = omega (arith, at) in
-    lost-bad now ss (k + 1) (contact_taken now k x Bad s) j i switch here next
+    lost-bad now ss (k + 1) (device_after_contact now k x Bad s) j i switch here next
     (contact-passes (AreThere (node_of s.switches i switch))
     (written-there (node_of s.switches i switch)) (switch_names s.switches k x) Bad now s.rows
     there)
@@ -113,7 +116,8 @@ cleared (v ∷ values) zero = refl
 cleared (v ∷ values) (suc k) = cleared values k
 
 module _ (now : ℕ) (s : State) (have : HavePositions s.switches s.rows) where
-  blind-lost : Blind s.switches (lost_taken now s).rows (lost_taken now s).input_values
+  blind-lost : Blind s.switches (device_after_loss now s).rows
+      (device_after_loss now s).input_values
   blind-lost =
       let t : State = inputs_lost (positions_lost now 0 s.switches s) in
       record {
@@ -130,7 +134,7 @@ module _ (now : ℕ) (s : State) (have : HavePositions s.switches s.rows) where
             (cleared (positions_lost now 0 s.switches s).input_values);
       }
 
-  have-lost : HavePositions s.switches (lost_taken now s).rows
+  have-lost : HavePositions s.switches (device_after_loss now s).rows
   have-lost =
       loss-passes (λ t. HavePositions s.switches t.rows) now
       (λ k switch t p. contact-passes (HavePositions s.switches) (written-have s.switches)
@@ -138,14 +142,14 @@ module _ (now : ℕ) (s : State) (have : HavePositions s.switches s.rows) where
       (λ k field t p. doubt-passes (HavePositions s.switches) (written-have s.switches)
       (field_names field (meter_names k)) now t.rows p) (λ t p. p) (λ t p. p) s have
 
-  wary-lost : IsWary (seen_of (lost_taken now s))
+  wary-lost : IsWary (seen_of (device_after_loss now s))
   wary-lost =
-      let same : (lost_taken now s).switches ≡ s.switches =
+      let same : (device_after_loss now s).switches ≡ s.switches =
       ap (λ (f : Fixed). f.switches) (lost-fixed now s) in
       subst (λ (ss : List Switch). IsWary (let seen : Seen = record {
         switches = ss;
-        rows = (lost_taken now s).rows;
-        inputs = (lost_taken now s).input_values;
+        rows = (device_after_loss now s).rows;
+        inputs = (device_after_loss now s).input_values;
         lost = true;
       } in seen)) (sym same) (record { have = have-lost; blind = λ lost. blind-lost })
 

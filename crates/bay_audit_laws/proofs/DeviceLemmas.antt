@@ -12,7 +12,7 @@ use Rattle.bay_tree.specs.Rows.{leaf_of, with_leaf_of}
 use Rattle.bay_tree.specs.declared.leaf.Dbpos.{Dbpos}
 use Rattle.bay_tree.specs.declared.leaf.Leaf.TheVariants as leaf
 use Rattle.bay_tree.specs.declared.leaf.Quality.TheVariants.{Good, Invalid}
-use Rattle.bay_device.specs.Device.{State, contact_taken, device_at, doubt_taken, input_taken, lost_taken, measure_taken}
+use Rattle.bay_device.specs.Device.{State, device_after_contact, device_at, device_after_bad_measure, device_after_input, device_after_loss, device_after_measure}
 use Rattle.bay_device.specs.Outcomes.{contact_outcome, doubt_outcome, event_outcome, input_outcome, measure_outcome}
 use Rattle.bay_device.specs.declared.event.Event.{Event}
 use Rattle.bay_device.specs.declared.event.Event.TheVariants.{Open, Recv, Close, Contact, Input, Measure, BadMeasure, Lost, Scan}
@@ -64,7 +64,7 @@ set-same (y ∷ xs) zero x here = let same : y ≡ x = cc in ap (λ z. z ∷ xs)
 set-same (y ∷ xs) (suc k) x here = ap (λ zs. y ∷ zs) (set-same xs k x here)
 
 quiet-contact : (now k : ℕ) (switch : Switch) (position : Dbpos) (s : State)
-    → Quiet s (contact_taken now k switch position s)
+    → Quiet s (device_after_contact now k switch position s)
 quiet-contact now k switch position s =
     let names = switch_names s.switches k switch in
     let told : Bool = tells_position names.position position s.rows in
@@ -84,7 +84,7 @@ quiet-contact now k switch position s =
     }
 
 quiet-input : (k : ℕ) (value before : Bool) (s : State)
-    → slice_get s.input_values k ≡ Some before → Quiet s (input_taken k value before s)
+    → slice_get s.input_values k ≡ Some before → Quiet s (device_after_input k value before s)
 quiet-input k value before s here =
     let told : Bool = beq value before in
     record {
@@ -104,7 +104,7 @@ quiet-input k value before s here =
     }
 
 quiet-measure : (now k : ℕ) (field : MeterField) (value : ℤ) (s : State) → Has32Bits value
-    → Quiet s (measure_taken now k field value s)
+    → Quiet s (device_after_measure now k field value s)
 quiet-measure now k field value s typed =
     let names = field_names field (meter_names k) in
     let told : Bool = tells_measure names value s.rows in
@@ -124,7 +124,8 @@ quiet-measure now k field value s typed =
       fits = λ count. measure-fits count names value now s.rows typed;
     }
 
-quiet-doubt : (now k : ℕ) (field : MeterField) (s : State) → Quiet s (doubt_taken now k field s)
+quiet-doubt : (now k : ℕ) (field : MeterField) (s : State)
+    → Quiet s (device_after_bad_measure now k field s)
 quiet-doubt now k field s =
     let names = field_names field (meter_names k) in
     let told : Bool = tells_doubt names s.rows in
@@ -146,7 +147,7 @@ quiet-doubt now k field s =
     }
 
 -- the process is lost
-quiet-lost : (now : ℕ) (s : State) → Quiet s (lost_taken now s)
+quiet-lost : (now : ℕ) (s : State) → Quiet s (device_after_loss now s)
 quiet-lost now s =
     let fixed = lost-fixed now s in
     let still = still-lost now s in

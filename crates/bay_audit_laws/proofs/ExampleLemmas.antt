@@ -3,7 +3,7 @@ use Rattle.std.proofs.Common.{◌≡◌, ℤ, pos, true, false, List, [], refl, 
 use Rattle.std.proofs.lemmas.Int.{ints}
 use Rattle.bay_audit.specs.Process.{IsProcess}
 use Rattle.bay_audit.specs.Rules.{IsRule}
-use Rattle.bay_audit_laws.specs.Examples.{at_all_times, halting}
+use Rattle.bay_audit_laws.specs.Examples.{at_all_times, halting_program}
 use Rattle.bay_audit_rules.specs.Process.{Process}
 use Rattle.bay_audit_rules.specs.declared.rule.RuleKind.TheVariants.{Always, Never}
 use Rattle.bay_tree.specs.declared.leaf.Dbpos.TheVariants.{Bad}
@@ -14,7 +14,7 @@ use Rattle.il_image.specs.Reading.{instr_at, instr_from}
 use Rattle.il_range.specs.Foretold.{First}
 use Rattle.il_scan.specs.Scans.{held_first}
 
-pub keeps-never : IsRule halting (at_all_times Never)
+pub keeps-never : IsRule halting_program (at_all_times Never)
 keeps-never p is machine now slots timers image reached young leaves = refl
 
 abbrev silent : Process
@@ -26,10 +26,11 @@ is-silent = record {
   greatest = λ k field. grind (arith, ints);
 }
 
-pub breaks-always : IsRule halting (at_all_times Always) → ⊥
+pub breaks-always : IsRule halting_program (at_all_times Always) → ⊥
 unfolding run_from act is_place instr_at instr_from opcode_of
 breaks-always h =
     let no : false ≡ true =
-    h silent is-silent (held_first halting.image) 0 [] [] refl (First halting.image) tt
+    h silent is-silent (held_first halting_program.image) 0 [] [] refl (First halting_program.image)
+    tt
     (record { most = 1; steps = 1; halts = refl }) in
     absurd cc

@@ -20,7 +20,7 @@ use Rattle.bay_audit_rules.specs.declared.rule.ConditionItem.{ConditionItem}
 use Rattle.bay_audit_rules.specs.declared.rule.Rule.{Rule}
 use Rattle.bay_audit_rules.specs.declared.rule.RuleKind.TheVariants.{Never}
 use Rattle.bay_mms_services.specs.Controls.{dbpos_of}
-use Rattle.bay_mms_services.specs.Released.{releasing}
+use Rattle.bay_mms_services.specs.Released.{enable_name}
 use Rattle.bay_mms_services.specs.declared.answer.Command.{Command}
 use Rattle.bay_tree.specs.Rows.{leaf_of}
 use Rattle.bay_tree.specs.declared.leaf.Leaf.TheVariants as leaf
@@ -238,7 +238,7 @@ module _ (bay : Bay) (image : Image) (rule : Rule) (is_bay : IsBay bay)
           let before : RowsObey rule s =
           o.obeyed m (sym q.scans ∙ scans) (q.stale fresh) in
           ap₂ (is_obeyed rule.kind) (ap (holds rule.when) same)
-          (ap (λ rows. is_truth true (leaf_of (releasing rule.switch rule.operation) rows))
+          (ap (λ rows. is_truth true (leaf_of (enable_name rule.switch rule.operation) rows))
           (q.rows fresh))
           ∙ before;
     }

@@ -23,7 +23,7 @@ use Rattle.bay_tree.specs.declared.leaf.Leaf.TheVariants as leaf
 use Rattle.bay_tree.specs.declared.leaf.Quality.{Quality}
 use Rattle.bay_tree.specs.declared.leaf.Quality.TheVariants.{Good, Invalid}
 use Rattle.bay_tree.specs.declared.row.Row.{Row}
-use Rattle.bay_device.specs.Device.{State, lost_taken}
+use Rattle.bay_device.specs.Device.{State, device_after_loss}
 use Rattle.bay_device.proofs.LostLemmas.{loss-passes}
 use Rattle.bay_audit_laws.specs.Laws.{Has32Bits}
 
@@ -184,7 +184,7 @@ module _ (count : ℕ) where
       (written-fits rows _ names.quality (leaf.Quality Invalid) tt (all k field lt)))
 
   pub lost-fits : (now : ℕ) (s : State) → AllFit count s.rows
-      → AllFit count (lost_taken now s).rows
+      → AllFit count (device_after_loss now s).rows
   lost-fits now s all =
       loss-passes (λ t. AllFit count t.rows) now
       (λ k switch t p. contact-fits t.switches k switch Bad now t.rows p)

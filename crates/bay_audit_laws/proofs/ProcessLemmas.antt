@@ -11,7 +11,7 @@ use Rattle.bay_nodes.specs.declared.switch.Switch.{Switch}
 use Rattle.bay_process.specs.Names.{field_names}
 use Rattle.bay_process.specs.Values.{measure_leaf, number_of_leaf, position_leaf, position_value, with_outputs}
 use Rattle.bay_process.proofs.ToldLemmas.{IsAway, away-position, field-away}
-use Rattle.bay_audit_rules.specs.Process.{Process, after_item, after_items, holds, same_position, stands, top}
+use Rattle.bay_audit_rules.specs.Process.{Process, after_item, after_items, holds, same_position, has_relation, top}
 use Rattle.bay_audit_rules.specs.declared.rule.ConditionItem.{ConditionItem}
 use Rattle.bay_audit_rules.specs.declared.rule.ConditionItem.TheVariants as items
 use Rattle.bay_mms_services.specs.Controls.{dbpos_of}
@@ -39,7 +39,7 @@ module _ (p q : Process) (alike : IsAlike p q) where
       ap (λ d. same_position d position ∷ stack) (alike.position k)
   item-alike (items.Input k) stack = ap (λ (b : Bool). b ∷ stack) (alike.input k)
   item-alike (items.Measure k field relation value) stack =
-      ap (λ z. stands relation z value ∷ stack) (alike.measure k field)
+      ap (λ z. has_relation relation z value ∷ stack) (alike.measure k field)
   item-alike items.Not stack = refl
   item-alike items.And stack = refl
   item-alike items.Or stack = refl

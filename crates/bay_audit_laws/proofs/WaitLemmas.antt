@@ -9,7 +9,7 @@ use Rattle.bay_audit_rules.specs.declared.rule.Rule.{Rule}
 use Rattle.bay_audit_rules.specs.declared.rule.RuleKind.TheVariants.{Always, Never}
 use Rattle.bay_audit_rules.specs.declared.rule.Timing.{Timing}
 use Rattle.bay_process.specs.Values.{is_truth}
-use Rattle.bay_mms_services.specs.Released.{releasing}
+use Rattle.bay_mms_services.specs.Released.{enable_name}
 use Rattle.bay_mms_services.specs.declared.answer.Command.{Command}
 use Rattle.bay_tree.specs.Rows.{leaf_of}
 use Rattle.il_image.specs.Images.{Image}
@@ -18,7 +18,7 @@ use Rattle.il_image.specs.declared.timer.TimerPhase.TheVariants.{Idle, Held, Sin
 use Rattle.il_image.specs.declared.timer.TimerState.{TimerState}
 use Rattle.il_image.specs.Timers.{first_state}
 use Rattle.bay_base.specs.declared.types.TimerKind.{TimerKind}
-use Rattle.il_range.specs.Foretold.{AreYoung, began, began_at}
+use Rattle.il_range.specs.Foretold.{AreYoung, delay_start, delay_start_at}
 use Rattle.il_range.specs.Ranges.{IsYoung}
 use Rattle.il_range.proofs.StartLemmas.{delays-continue}
 use Rattle.bay_device.specs.Commands.{AreCommanded, IsReleasedAt}
@@ -40,14 +40,14 @@ use Rattle.bay_audit_laws.proofs.LawLemmas.{Obeying, Turned, halts-of, leaves, l
 
 -- a timer whose delay began less than the time ago is within its limit
 young-limit : (now time : ℕ) (n : ℕ) (timers : List TimerState)
-    → ((start : ℕ) → began_at n timers ≡ Some start → now - start < time)
+    → ((start : ℕ) → delay_start_at n timers ≡ Some start → now - start < time)
     → AreYoung now timers (limit_of n time)
 young-limit now time zero [] less = tt
 young-limit now time (suc n) [] less = tt
 young-limit now time zero (t ∷ timers) less = (young t.phase less, tt)
   where
     young : (phase : TimerPhase)
-        → ((start : ℕ) → began phase ≡ Some start → now - start < time)
+        → ((start : ℕ) → delay_start phase ≡ Some start → now - start < time)
         → IsYoung now phase (Some time)
     young Idle h = tt
     young Held h = tt
@@ -56,7 +56,7 @@ young-limit now time (suc n) (t ∷ timers) less = (tt, young-limit now time n t
 
 -- no delay runs before the first scan
 first-began : (kinds : List TimerKind) (n start : ℕ)
-    → began_at n (map first_state kinds) ≡ Some start → ⊥
+    → delay_start_at n (map first_state kinds) ≡ Some start → ⊥
 first-began [] n start is = absurd cc
 first-began (k ∷ kinds) zero start is = absurd cc
 first-began (k ∷ kinds) (suc n) start is = first-began kinds n start is
@@ -121,7 +121,7 @@ module _ (bay : Bay) (image : Image) (rule : Rule) (timing : Timing) (n : ℕ) (
   -- A delay that runs began at a scan since which the condition has held; where the last scan is
   -- not stale and releases the switch, the condition has held for the time.
   pub record Waiting (scans : List (ℕ × Bool)) (s : State) : Type 0 where
-    runs : (start : ℕ) → began_at n s.machine.timers ≡ Some start → RunsFrom start scans
+    runs : (start : ℕ) → delay_start_at n s.machine.timers ≡ Some start → RunsFrom start scans
     waits : (m : ℕ) → s.last_scan ≡ Some m → s.is_stale ≡ false
         → holds rule.when (process_of s) ≡ true
         → is_released s rule.switch rule.operation ≡ true → HasHeld timing.time m scans
@@ -131,14 +131,15 @@ module _ (bay : Bay) (image : Image) (rule : Rule) (timing : Timing) (n : ℕ) (
   waiting-quiet : (scans : List (ℕ × Bool)) (s t : State) → Waiting scans s → Quiet s t
       → Waiting scans t
   waiting-quiet scans s t w q = record {
-    runs = λ start is. w.runs start (subst (λ m. began_at n m.timers ≡ Some start) q.machine is);
+    runs = λ start is. w.runs start
+        (subst (λ m. delay_start_at n m.timers ≡ Some start) q.machine is);
     waits = λ m last fresh asked released.
         let same : process_of t ≡ process_of s =
         process-same bay image no_rule is_bay there no-rule-holds s t q.switches (q.rows fresh)
         (q.inputs fresh) q.meters in
         w.waits m (sym q.scans ∙ last) (q.stale fresh)
         (ap (holds rule.when) (sym same) ∙ asked)
-        (ap (λ rows. is_truth true (leaf_of (releasing rule.switch rule.operation) rows))
+        (ap (λ rows. is_truth true (leaf_of (enable_name rule.switch rule.operation) rows))
         (sym (q.rows fresh)) ∙ released);
   }
 
@@ -152,23 +153,24 @@ module _ (bay : Bay) (image : Image) (rule : Rule) (timing : Timing) (n : ℕ) (
     abbrev held : Bool
     held = holds timing.condition (process_of s)
 
-    idle-told : held ≡ false → (start : ℕ) → began_at n scanned.machine.timers ≡ Some start → ⊥
+    idle-told : held ≡ false → (start : ℕ) → delay_start_at n scanned.machine.timers ≡ Some start
+        → ⊥
     idle-told none start is =
-        let none_runs : is_none (began_at n scanned.machine.timers) ≡ true =
-        always-so (not held) (is_none (began_at n scanned.machine.timers))
+        let none_runs : is_none (delay_start_at n scanned.machine.timers) ≡ true =
+        always-so (not held) (is_none (delay_start_at n scanned.machine.timers))
         (bears.idle_so (process_of s) (process-so bay image no_rule is_bay there no-rule-holds s o)
         s.machine now scanned.machine.slots scanned.machine.timers o.image_is o.reached tt
         (read bay image no_rule is_bay there no-rule-holds now s o steps halts)) (ap not none) in
-        none-some (began_at n scanned.machine.timers) start none_runs is
+        none-some (delay_start_at n scanned.machine.timers) start none_runs is
 
-    held-while : (start : ℕ) → began_at n scanned.machine.timers ≡ Some start → held ≡ true
+    held-while : (start : ℕ) → delay_start_at n scanned.machine.timers ≡ Some start → held ≡ true
     held-while start is = go held refl
       where
         go : (b : Bool) → held ≡ b → held ≡ true
         go true e = e
         go false e = absurd (idle-told e start is)
 
-    runs-on : (start : ℕ) → began_at n scanned.machine.timers ≡ Some start
+    runs-on : (start : ℕ) → delay_start_at n scanned.machine.timers ≡ Some start
         → RunsFrom start ((now, held) ∷ scans)
     runs-on start is = (
       held-while start is,
@@ -214,9 +216,9 @@ module _ (bay : Bay) (image : Image) (rule : Rule) (timing : Timing) (n : ℕ) (
     waits-on : holds rule.when (process_of s) ≡ true → g_releases ≡ true
         → HasHeld timing.time now ((now, held) ∷ scans)
     waits-on asked released =
-        (held-at asked released, inr (go (began_at n s.machine.timers) refl))
+        (held-at asked released, inr (go (delay_start_at n s.machine.timers) refl))
       where
-        long : (start : ℕ) (b : Bool) → began_at n s.machine.timers ≡ Some start
+        long : (start : ℕ) (b : Bool) → delay_start_at n s.machine.timers ≡ Some start
             → nat_lt (now - start) timing.time ≡ b → HasHeld timing.time now scans
         long start true is less = absurd (not-young asked released
             (young-limit now timing.time n s.machine.timers
@@ -225,7 +227,7 @@ module _ (bay : Bay) (image : Image) (rule : Rule) (timing : Timing) (n : ℕ) (
         long start false is less =
             held-from timing.time now start scans (grind (arith, less)) (w.runs start is)
 
-        go : (b : Option ℕ) → began_at n s.machine.timers ≡ b → HasHeld timing.time now scans
+        go : (b : Option ℕ) → delay_start_at n s.machine.timers ≡ b → HasHeld timing.time now scans
         go None is = absurd (not-young asked released
             (young-limit now timing.time n s.machine.timers (λ start began. absurd (cc))))
         go (Some start) is = long start (nat_lt (now - start) timing.time) is refl

@@ -7,8 +7,8 @@ use Rattle.bay_audit_rules.specs.declared.rule.Rule.{Rule}
 use Rattle.bay_audit_rules.specs.declared.rule.RuleKind.{RuleKind}
 
 -- the program, without points, variables and timers
-abbrev pub halting : BoundProgram
-halting = program (record { points = []; variables = []; timers = []; code = 1 ∷ [] }) [] []
+abbrev pub halting_program : BoundProgram
+halting_program = program (record { points = []; variables = []; timers = []; code = 1 ∷ [] }) [] []
 
 -- the rule that the first switch is never, or always, released for opening, for every process
 abbrev pub at_all_times : RuleKind → Rule

@@ -11,7 +11,7 @@ use Rattle.bay_audit_rules.specs.declared.rule.Rule.{Rule}
 use Rattle.bay_audit_rules.specs.declared.rule.RuleKind.TheVariants.{Never}
 use Rattle.bay_audit_rules.specs.declared.rule.Timing.{Timing}
 use Rattle.bay_mms_services.specs.Controls.{dbpos_of}
-use Rattle.bay_mms_services.specs.Released.{releasing}
+use Rattle.bay_mms_services.specs.Released.{enable_name}
 use Rattle.bay_mms_services.specs.declared.answer.Command.{Command}
 use Rattle.il_image.specs.Images.{Image}
 use Rattle.bay_device.specs.Device.{State}
@@ -37,7 +37,7 @@ process_of s = record {
 
 -- the operation of the switch is released: EnaCls of its CILO for closing, EnaOpn for opening
 abbrev pub is_released : State → ℕ → Operation → Bool
-is_released s k operation = is_truth true (leaf_of (releasing k operation) s.rows)
+is_released s k operation = is_truth true (leaf_of (enable_name k operation) s.rows)
 
 -- The interlocking values obey a rule, for the process of the device.
 abbrev pub RowsObey : Rule → State → Type 0

@@ -1,7 +1,7 @@
 // Laws of a device for a rule that holds of its program. Each function does nothing; its contract
 // is the law.
 ghost use Rattle.bay_audit.specs.Rules.{IsRule};
-ghost use Rattle.bay_audit_laws.specs.Examples.{at_all_times, halting};
+ghost use Rattle.bay_audit_laws.specs.Examples.{at_all_times, halting_program};
 ghost use Rattle.bay_audit_laws.specs.Laws.{CommandsObey, CommandsWait, ScansObey, ScansWait};
 ghost use Rattle.bay_audit_laws.specs.Lost.{LostIsBlind};
 ghost use Rattle.bay_audit_rules.specs.declared.rule.RuleKind.TheVariants.{Always, Never};
@@ -43,6 +43,6 @@ pub fn a_lost_process_releases_only_what_lost_does()
 /// switch, so the rule holds of it that a switch is never released, and not the rule that a switch
 /// is always released.
 pub fn a_program_that_releases_nothing()
-    ensures never { IsRule halting (at_all_times Never) }
-    ensures always { IsRule halting (at_all_times Always) → ⊥ }
+    ensures never { IsRule halting_program (at_all_times Never) }
+    ensures always { IsRule halting_program (at_all_times Always) → ⊥ }
 {}

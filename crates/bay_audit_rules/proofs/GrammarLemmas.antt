@@ -13,12 +13,12 @@ use Rattle.bay_audit_rules.specs.declared.token.TestValue.{TestValue}
 use Rattle.bay_audit_rules.proofs.ConditionLemmas.{plus-assoc, plus-four, none-plus, run-over}
 use Rattle.bay_audit_rules.specs.Facts.{Items, ◌⊕◌, item, negation, value_items}
 use Rattle.bay_audit_rules.specs.Grammar.{value_of, AreValues, IsTold, IsFact, Level, operand, conjunction, condition, Reads}
-use Rattle.bay_audit_rules.specs.Running.{Taken, more_at, fact_at, values_at, is_at, or_alone, behind, State, state, settled, closed, took, ended, finished, finish, expects, passes, run, condition_at}
+use Rattle.bay_audit_rules.specs.Running.{Taken, more_at, fact_at, values_at, is_at, or_alone, with_one_more_token, State, state, append_operators, append_or, after_fact, close_parenthesis, found_if_complete, finish, expects, passes, found_after_tokens, condition_at}
 
 -- ---- tokens that are passed
 
 run-passed : (s : State) (ts rest : List RuleToken)
-    → run (passes (length ts)) s (ts ++ rest) ≡ run (passes 0) s rest
+    → found_after_tokens (passes (length ts)) s (ts ++ rest) ≡ found_after_tokens (passes 0) s rest
 run-passed s [] rest = refl
 run-passed s (t ∷ ts) rest = run-passed s ts rest
 
@@ -82,14 +82,15 @@ fact-found named ts c rest (IsFact.valued t {value = value} {ts = us} {c = d} Is
     ∙ ap (or_alone named) (first-found named false t value us d rest is-value more ends)
 fact-found named ts c rest (IsFact.valued t {value = value} {ts = us} {c = d} IsTold.is is-value
     more) ends =
-    ap behind (value-behind named t value (us ++ rest) is-value
+    ap with_one_more_token (value-behind named t value (us ++ rest) is-value
     ∙ first-found named false t value us d rest is-value more ends)
 fact-found named ts c rest (IsFact.valued t {value = value} {ts = us} {c = d} IsTold.not is-value
     more) ends =
-    ap behind (first-found named true t value us d rest is-value more ends)
+    ap with_one_more_token (first-found named true t value us d rest is-value more ends)
 fact-found named ts c rest (IsFact.valued t {value = value} {ts = us} {c = d} IsTold.is_not
     is-value more) ends =
-    ap (λ x. behind (behind x)) (first-found named true t value us d rest is-value more ends)
+    ap (λ x. with_one_more_token (with_one_more_token x))
+    (first-found named true t value us d rest is-value more ends)
 
 -- ---- each condition is found
 
@@ -105,13 +106,13 @@ pub data IsBase : List Pending → Type 0 where
   begun : {pending : List Pending} → IsBase (waits.Begin ∷ pending)
 
 pub open-settled : (pending : List Pending) (c : Items) → IsOpen pending
-    → settled pending c ≡ state pending c
+    → append_operators pending c ≡ state pending c
 open-settled pending c empty = refl
 open-settled pending c begun = refl
 open-settled pending c chosen = refl
 
 base-closed : (pending : List Pending) (c : Items) → IsBase pending
-    → closed (state pending c) ≡ state pending c
+    → append_or (state pending c) ≡ state pending c
 base-closed pending c empty = refl
 base-closed pending c begun = refl
 
@@ -123,42 +124,49 @@ base-open pending begun = begun
 pub record IsFound (pending : List Pending) (c : Items) (ts : List RuleToken) (d : Items)
     (rest : List RuleToken) : Type 0 where
   pub last : State
-  pub goes : run expects (state pending c) (ts ++ rest) ≡ run (passes 0) last rest
-  pub closes : closed last ≡ state pending (c ⊕ d)
+  pub goes : found_after_tokens expects (state pending c) (ts ++ rest)
+      ≡ found_after_tokens (passes 0) last rest
+  pub closes : append_or last ≡ state pending (c ⊕ d)
 
 abbrev pub Finds : Level → List RuleToken → Items → Type 0
 Finds operand ts d = (pending : List Pending) (c : Items) (rest : List RuleToken) → Ends rest
-    → run expects (state pending c) (ts ++ rest) ≡ run (passes 0) (settled pending (c ⊕ d)) rest
+    → found_after_tokens expects (state pending c) (ts ++ rest)
+    ≡ found_after_tokens (passes 0) (append_operators pending (c ⊕ d)) rest
 Finds conjunction ts d =
     (pending : List Pending) (c : Items) (rest : List RuleToken) → IsOpen pending
     → Ends rest
-    → run expects (state pending c) (ts ++ rest) ≡ run (passes 0) (state pending (c ⊕ d)) rest
+    → found_after_tokens expects (state pending c) (ts ++ rest)
+    ≡ found_after_tokens (passes 0) (state pending (c ⊕ d)) rest
 Finds condition ts d = (pending : List Pending) (c : Items) (rest : List RuleToken) → IsBase pending
     → Ends rest → IsFound pending c ts d rest
 
 pub finds : (level : Level) (ts : List RuleToken) (d : Items) → Reads level ts d → Finds level ts d
 finds level ts d (Reads.fact {named = named} {ts = us} is) = λ pending c rest ends.
     ap (λ (x : Option Taken). let then =
-    took (state pending c) x in run then.0 then.1 (us ++ rest)) (fact-found named us d rest is ends)
-    ∙ run-passed (settled pending (c ⊕ d)) us rest
+    after_fact (state pending c) x in found_after_tokens then.0 then.1 (us ++ rest))
+    (fact-found named us d rest is ends)
+    ∙ run-passed (append_operators pending (c ⊕ d)) us rest
 finds level ts d (Reads.not {ts = us} {c = e} r) = λ pending c rest ends.
     finds operand us e r (waits.Not ∷ pending) c rest ends
-    ∙ ap (λ x. run (passes 0) (settled pending x) rest) (plus-assoc c e (item items.Not))
+    ∙ ap (λ x. found_after_tokens (passes 0) (append_operators pending x) rest)
+    (plus-assoc c e (item items.Not))
 finds level ts d (Reads.group {ts = us} r) = λ pending c rest ends.
     let found = finds condition us d r (waits.Begin ∷ pending) c (token.Connector End ∷ rest) begun
     at_link in
-    ap (run expects (state (waits.Begin ∷ pending) c))
+    ap (found_after_tokens expects (state (waits.Begin ∷ pending) c))
     (append_assoc us (token.Connector End ∷ []) rest)
     ∙ found.goes
-    ∙ ap (λ (s : State). let then = ended s in run then.0 then.1 rest) found.closes
+    ∙ ap (λ (s : State). let then = close_parenthesis s in found_after_tokens then.0 then.1 rest)
+    found.closes
 finds level ts d (Reads.one r) = λ pending c rest is ends.
     finds operand ts d r pending c rest ends
-    ∙ ap (λ s. run (passes 0) s rest) (open-settled pending (c ⊕ d) is)
+    ∙ ap (λ s. found_after_tokens (passes 0) s rest) (open-settled pending (c ⊕ d) is)
 finds level ts d (Reads.and {ts = us} {us = vs} {c = e} {d = f} r q) = λ pending c rest is ends.
-    ap (run expects (state pending c)) (append_assoc us (token.Connector And ∷ vs) rest)
+    ap (found_after_tokens expects (state pending c))
+    (append_assoc us (token.Connector And ∷ vs) rest)
     ∙ finds conjunction us e r pending c (token.Connector And ∷ (vs ++ rest)) is at_link
     ∙ finds operand vs f q (waits.And ∷ pending) (c ⊕ e) rest ends
-    ∙ ap (λ s. run (passes 0) s rest)
+    ∙ ap (λ s. found_after_tokens (passes 0) s rest)
     (open-settled pending (((c ⊕ e) ⊕ f) ⊕ item items.And) is
     ∙ ap (state pending) (plus-four c e f (item items.And)))
 finds level ts d (Reads.all r) = λ pending c rest is ends.
@@ -171,9 +179,11 @@ finds level ts d (Reads.or {ts = us} {us = vs} {c = e} {d = f} r q) = λ pending
     let found = finds condition us e r pending c (token.Connector Or ∷ (vs ++ rest)) is at_link in
     record {
       last = state (waits.Or ∷ pending) ((c ⊕ e) ⊕ f);
-      goes = ap (run expects (state pending c)) (append_assoc us (token.Connector Or ∷ vs) rest)
+      goes = ap (found_after_tokens expects (state pending c))
+          (append_assoc us (token.Connector Or ∷ vs) rest)
           ∙ found.goes
-          ∙ ap (λ (s : State). run expects (state (waits.Or ∷ s.pending) s.items) (vs ++ rest))
+          ∙ ap (λ (s : State). found_after_tokens expects (state (waits.Or ∷ s.pending) s.items)
+          (vs ++ rest))
           found.closes
           ∙ finds conjunction vs f q (waits.Or ∷ pending) (c ⊕ e) rest chosen ends;
       closes = ap (state pending) (plus-four c e f (item items.Or));
@@ -191,7 +201,7 @@ stops-ends rest at_for = at_for
 stops-ends rest at_when = at_when
 
 stops-finish : (s : State) (rest : List RuleToken) → Stops rest
-    → run (passes 0) s rest ≡ finish s rest
+    → found_after_tokens (passes 0) s rest ≡ finish s rest
 stops-finish s rest at_end = refl
 stops-finish s rest (at_for {ts = ts}) = run-over (finish s (token.For ∷ ts)) s ts
 stops-finish s rest (at_when {ts = ts}) = run-over (finish s (token.When ∷ ts)) s ts
@@ -204,4 +214,4 @@ unfolding condition_at
 condition-found ts d rest r stops =
     let found = finds condition ts d r [] (Some []) rest empty (stops-ends rest stops) in
     found.goes ∙ stops-finish found.last rest stops
-    ∙ ap (λ (s : State). finished s rest) (found.closes ∙ ap (state []) (none-plus d))
+    ∙ ap (λ (s : State). found_if_complete s rest) (found.closes ∙ ap (state []) (none-plus d))

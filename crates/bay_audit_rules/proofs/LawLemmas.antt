@@ -20,7 +20,7 @@ use Rattle.bay_audit_rules.specs.declared.token.TestValue.{TestValue}
 use Rattle.bay_audit_rules.specs.declared.token.TestValue.TheVariants.{Position, Truth, Number}
 use Rattle.bay_audit_rules.specs.Facts.{Items, ◌⊕◌, item, negation, input_items, measure_items, number_items, truth_of, value_items, relation_items}
 use Rattle.bay_audit_rules.specs.Grammar.{AreValues, IsFact, Level, operand, conjunction, condition, Reads, Spells}
-use Rattle.bay_audit_rules.specs.Meaning.{TokensRead, LineRead, LinesRead, onto, some_rule, is_unknown, is_deep, rules_of, is_line_end}
+use Rattle.bay_audit_rules.specs.Meaning.{TokensRead, LineRead, LinesRead, prepend_rules, some_rule, is_unknown, is_deep, rules_of, is_line_end}
 use Rattle.bay_audit_rules.specs.Laws.{OneReading, IsCondition, AreConditions, AreTruths}
 use Rattle.bay_audit_rules.specs.Process.{Process, after_item, after_items, top, holds}
 use Rattle.bay_audit_rules.proofs.ConditionLemmas.{plus-four}
@@ -243,8 +243,8 @@ lines-once bay line count lines r q (LinesRead.next {text = text} {rest = rest} 
     let same : rs ≡ qs = cc in
     let here = subst (λ (xs : List Rule). LinesRead bay (line + 1) (count + length xs) rest s) same
     more in
-    ap (onto rs) (lines-once bay (line + 1) (count + length qs) rest s t here also)
-    ∙ ap (λ (xs : List Rule). onto xs t) same
+    ap (prepend_rules rs) (lines-once bay (line + 1) (count + length qs) rest s t here also)
+    ∙ ap (λ (xs : List Rule). prepend_rules xs t) same
 
 pub one-reading : OneReading
 one-reading bay text r q p o =

@@ -14,7 +14,7 @@ use Rattle.bay_audit_rules.specs.declared.token.TestValue.{TestValue}
 use Rattle.bay_audit_rules.specs.declared.token.TestValue.TheVariants.{Position, Truth, Number}
 use Rattle.bay_audit_rules.specs.Facts.{Items, ◌⊕◌, item, negation, value_items}
 use Rattle.bay_audit_rules.specs.Grammar.{value_of, AreValues, IsTold, IsFact, operand, conjunction, condition, Reads}
-use Rattle.bay_audit_rules.specs.Running.{Taken, more_at, values_at, number_at, is_at, or_alone, behind, fact_at, State, state, settled, closed, took, ended, finished, finish, operand_at, behind_at, Phase, expects, passes, over, next, run, Found, condition_at}
+use Rattle.bay_audit_rules.specs.Running.{Taken, more_at, values_at, number_at, is_at, or_alone, with_one_more_token, fact_at, State, state, append_operators, append_or, after_fact, close_parenthesis, found_if_complete, finish, operand_at, after_operand, Phase, expects, passes, over, token_step, found_after_tokens, Found, condition_at}
 use Rattle.bay_audit_rules.proofs.ConditionLemmas.{plus-assoc, plus-four, none-plus}
 use Rattle.bay_audit_rules.proofs.GrammarLemmas.{IsOpen, IsBase, open-settled}
 
@@ -60,7 +60,8 @@ pub record IsBehind (x : Option Taken) (taken : Taken) : Type 0 where
   pub was : x ≡ Some first
   pub is : (first.0, suc first.1) ≡ taken
 
-behind-some : (x : Option Taken) (taken : Taken) → behind x ≡ Some taken → IsBehind x taken
+behind-some : (x : Option Taken) (taken : Taken) → with_one_more_token x ≡ Some taken
+    → IsBehind x taken
 behind-some None taken e = absurd cc
 behind-some (Some y) taken e =
     record { first = y; was = refl; is = same_Some (y.0, suc y.1) taken e }
@@ -80,7 +81,7 @@ number-read named relation (other ∷ ts) taken e = absurd cc
 -- a fact behind one token
 one-behind : (named : NamedObject) (t : RuleToken) (ts : List RuleToken) (x : Option Taken)
     (taken : Taken)
-    → behind x ≡ Some taken
+    → with_one_more_token x ≡ Some taken
     → ((y : Taken) → x ≡ Some y → IsFact named (take (suc y.1) (t ∷ ts)) y.0)
     → IsFact named (take taken.1 (t ∷ ts)) taken.0
 one-behind named t ts x taken e read =
@@ -162,7 +163,8 @@ abbrev pub StandsAt : State → List RuleToken → Type 0
 StandsAt s ts = Stands s.pending s.items ts
 
 settles : (pending : List Pending) (c : Items) (ts us : List RuleToken) (d : Items)
-    → Waits pending c ts → Reads operand us d → StandsAt (settled pending (c ⊕ d)) (ts ++ us)
+    → Waits pending c ts → Reads operand us d
+    → StandsAt (append_operators pending (c ⊕ d)) (ts ++ us)
 settles pending c ts us d starts r =
     record {
       first = [];
@@ -200,9 +202,9 @@ settles pending c ts us d (chooses base w q) r =
       tokens = refl;
     }
 settles pending c ts us d (negates {pending = rest} {ts = vs} w) r =
-    subst (StandsAt (settled rest ((c ⊕ d) ⊕ item items.Not)))
+    subst (StandsAt (append_operators rest ((c ⊕ d) ⊕ item items.Not)))
     (sym (append_assoc vs (token.Not ∷ []) us))
-    (subst (λ (x : Items). StandsAt (settled rest x) (vs ++ (token.Not ∷ us)))
+    (subst (λ (x : Items). StandsAt (append_operators rest x) (vs ++ (token.Not ∷ us)))
     (sym (plus-assoc c d (item items.Not)))
     (settles rest c vs (token.Not ∷ us) (d ⊕ item items.Not) w (Reads.not r)))
 settles pending c ts us d (joins {pending = rest} {c = e} {d = f} {ts = vs} {us = xs} open-rest w
@@ -226,7 +228,7 @@ ClosesAt s ts = Closes s.pending s.items ts
 
 closes-at : (pending : List Pending) (c front back : Items) (ts first last : List RuleToken)
     → IsOpen pending → Waits pending front first → Reads conjunction last back → c ≡ front ⊕ back
-    → ts ≡ first ++ last → ClosesAt (closed (state pending c)) ts
+    → ts ≡ first ++ last → ClosesAt (append_or (state pending c)) ts
 closes-at pending c front back ts first last IsOpen.empty w r is from =
     record {
       first = first;
@@ -266,7 +268,7 @@ closes-at pending c front back ts first last IsOpen.chosen
           ∙ ap (λ ys. vs ++ ys) (append_assoc xs (token.Connector Or ∷ []) last);
     }
 
-closes : (s : State) (ts : List RuleToken) → StandsAt s ts → ClosesAt (closed s) ts
+closes : (s : State) (ts : List RuleToken) → StandsAt s ts → ClosesAt (append_or s) ts
 closes s ts at =
     closes-at s.pending s.items at.front at.back ts at.first at.last at.is_open at.waiting at.reads
     at.items at.tokens
@@ -282,7 +284,8 @@ alone-waits : (c d : Items) (ts us : List RuleToken) → Waits [] c ts → Reads
 alone-waits c d ts us starts r = rw (none-plus d) r
 
 finished-read : (pending : List Pending) (c : Items) (ts rest : List RuleToken) (d : Items)
-    (left : List RuleToken) → Closes pending c ts → finished (state pending c) rest ≡ Some (d, left)
+    (left : List RuleToken) → Closes pending c ts
+    → found_if_complete (state pending c) rest ≡ Some (d, left)
     → IsRead (ts ++ rest) d left
 finished-read [] c ts rest d left at e =
     let both : (c, rest) ≡ (d, left) = cc in
@@ -300,7 +303,7 @@ finish-read : (s : State) (ts rest : List RuleToken) (d : Items) (left : List Ru
     → StandsAt s ts
     → finish s rest ≡ Some (d, left) → IsRead (ts ++ rest) d left
 finish-read s ts rest d left at e =
-    finished-read (closed s).pending (closed s).items ts rest d left (closes s ts at) e
+    finished-read (append_or s).pending (append_or s).items ts rest d left (closes s ts at) e
 
 -- what is known of the tokens so far, and of those to come
 abbrev pub Follows : Phase → State → List RuleToken → List RuleToken → Type 0
@@ -323,7 +326,7 @@ nowhere us ts d left e = absurd cc
 
 took-follows : (s : State) (named : NamedObject) (us ts : List RuleToken) (x : Option Taken)
     → fact_at named ts ≡ x → Waits s.pending s.items us
-    → FollowsAt (took s x) (us ++ (token.Name named ∷ [])) ts
+    → FollowsAt (after_fact s x) (us ++ (token.Name named ∷ [])) ts
 took-follows s named us ts None e w = nowhere (us ++ (token.Name named ∷ [])) ts
 took-follows s named us ts (Some taken) e w =
     rw (append_assoc us (token.Name named ∷ []) (take taken.1 ts))
@@ -340,7 +343,7 @@ operand-follows s other us ts w = nowhere (us ++ (other ∷ [])) ts
 
 group-read : (pending : List Pending) (c front back : Items) (us first last : List RuleToken)
     → Waits (waits.Begin ∷ pending) front first → Reads condition last back → c ≡ front ⊕ back
-    → us ≡ first ++ last → StandsAt (settled pending c) (us ++ (token.Connector End ∷ []))
+    → us ≡ first ++ last → StandsAt (append_operators pending c) (us ++ (token.Connector End ∷ []))
 group-read pending c front back us first last (begins {ts = vs} w) r is from =
     rw (
       is,
@@ -353,7 +356,7 @@ group-read pending c front back us first last (begins {ts = vs} w) r is from =
     r))
 
 ended-follows : (pending : List Pending) (c : Items) (us ts : List RuleToken) → Closes pending c us
-    → FollowsAt (ended (state pending c)) (us ++ (token.Connector End ∷ [])) ts
+    → FollowsAt (close_parenthesis (state pending c)) (us ++ (token.Connector End ∷ [])) ts
 ended-follows [] c us ts at = nowhere (us ++ (token.Connector End ∷ [])) ts
 ended-follows (waits.Begin ∷ pending) c us ts at =
     rw append-nil
@@ -375,21 +378,21 @@ or-read pending c us first last front back base w r is from =
     rw (is, from, append_assoc first last (token.Connector Or ∷ [])) (chooses base w r)
 
 behind-follows : (s : State) (t : RuleToken) (us ts : List RuleToken) → StandsAt s us
-    → FollowsAt (behind_at s t ts) (us ++ (t ∷ [])) ts
+    → FollowsAt (after_operand s t ts) (us ++ (t ∷ [])) ts
 behind-follows s (token.Connector And) us ts at =
     and-read s.pending s.items us at.first at.last at.front at.back at.is_open at.waiting at.reads
     at.items at.tokens
 behind-follows s (token.Connector Or) us ts at =
     let last = closes s us at in
-    or-read (closed s).pending (closed s).items us last.first last.last last.front last.back
+    or-read (append_or s).pending (append_or s).items us last.first last.last last.front last.back
     last.is_base last.waiting last.reads last.items last.tokens
 behind-follows s (token.Connector End) us ts at =
-    ended-follows (closed s).pending (closed s).items us ts (closes s us at)
+    ended-follows (append_or s).pending (append_or s).items us ts (closes s us at)
 behind-follows s other us ts at = λ d left e.
     rw (append_assoc us (other ∷ []) ts) (finish-read s us (other ∷ ts) d left at e)
 
 next-follows : (phase : Phase) (s : State) (t : RuleToken) (us ts : List RuleToken)
-    → Follows phase s us (t ∷ ts) → FollowsAt (next phase s t ts) (us ++ (t ∷ [])) ts
+    → Follows phase s us (t ∷ ts) → FollowsAt (token_step phase s t ts) (us ++ (t ∷ [])) ts
 next-follows expects s t us ts at = operand-follows s t us ts at
 next-follows (passes zero) s t us ts at = behind-follows s t us ts (rw append-nil at at)
 next-follows (passes (suc k)) s t us ts at = rw (append_assoc us (t ∷ []) (take k ts)) at
@@ -397,14 +400,14 @@ next-follows (over found) s t us ts at = λ d left e.
     rw (append_assoc us (t ∷ []) ts) (at d left e)
 
 run-read : (ts : List RuleToken) (phase : Phase) (s : State) (us : List RuleToken) (d : Items)
-    (left : List RuleToken) → Follows phase s us ts → run phase s ts ≡ Some (d, left)
+    (left : List RuleToken) → Follows phase s us ts → found_after_tokens phase s ts ≡ Some (d, left)
     → IsRead (us ++ ts) d left
 run-read [] expects s us d left at e = absurd cc
 run-read [] (passes zero) s us d left at e = finish-read s us [] d left (rw append-nil at at) e
 run-read [] (passes (suc k)) s us d left at e = finish-read s us [] d left (rw append-nil at at) e
 run-read [] (over found) s us d left at e = at d left e
 run-read (t ∷ ts) phase s us d left at e =
-    let then = next phase s t ts in
+    let then = token_step phase s t ts in
     rw (← append_assoc us (t ∷ []) ts)
     (run-read ts then.0 then.1 (us ++ (t ∷ [])) d left (next-follows phase s t us ts at) e)
 

@@ -17,7 +17,7 @@ use Rattle.bay_audit_rules.specs.declared.token.RuleToken.TheVariants as token
 use Rattle.bay_audit_rules.specs.Facts.{Items}
 use Rattle.bay_audit_rules.specs.Grammar.{IsFact, condition, Reads, direction_tokens, IsTimed, IsWhen, Spells}
 use Rattle.bay_audit_rules.specs.Running.{Taken, fact_at, condition_at}
-use Rattle.bay_audit_rules.specs.Sayings.{directions_at, open_ways, close_ways, time_behind, since_at, same_kind, timed_at, alone, when_at, looks_at, rule_at, statement_at}
+use Rattle.bay_audit_rules.specs.Sayings.{directions_at, open_ways, close_ways, time_after_condition, since_at, same_kind, timed_at, only_items, when_at, looks_at, rule_at, statement_at}
 use Rattle.bay_audit_rules.proofs.GrammarLemmas.{Ends, Stops, fact-found, condition-found}
 use Rattle.bay_audit_rules.proofs.ReadLemmas.{fact-read, condition-read}
 
@@ -141,7 +141,7 @@ ways-read [] x e = absurd cc
 ways-read (other ∷ ts) x e = absurd cc
 
 behind-read : (c : Items) (ts : List RuleToken) (x : Since × List RuleToken)
-    → time_behind c ts ≡ Some x
+    → time_after_condition c ts ≡ Some x
     → (x.0.condition ≡ c) × (ts ≡ token.For ∷ (token.Time x.0.time ∷ x.1))
 behind-read c [] x e = absurd cc
 behind-read c (token.For ∷ []) x e = absurd cc
@@ -165,7 +165,7 @@ since-read : (kind : RuleKind) (ts : List RuleToken) (x : Since × List RuleToke
     → since_at ts ≡ Some x
     → IsTimedAt kind (token.Since kind ∷ ts) (Some x.0) x.1
 since-read kind ts x e =
-    let at = then-some (condition_at ts) (λ found. time_behind found.0 found.1) x e in
+    let at = then-some (condition_at ts) (λ found. time_after_condition found.0 found.1) x e in
     let read = condition-read ts at.found.0 at.found.1 at.was in
     let time = behind-read at.found.0 at.found.1 x at.is in
     record {
@@ -212,14 +212,15 @@ timed-read kind (token.Since which ∷ ts) x e = since-timed kind which ts x e
 timed-read kind [] x e = untimed-read kind [] x (same_Some _ x e)
 timed-read kind (other ∷ ts) x e = untimed-read kind (other ∷ ts) x (same_Some _ x e)
 
-alone-is : (c : Items) (ts : List RuleToken) (d : Items) → alone c ts ≡ Some d → (c ≡ d) × (ts ≡ [])
+alone-is : (c : Items) (ts : List RuleToken) (d : Items) → only_items c ts ≡ Some d
+    → (c ≡ d) × (ts ≡ [])
 alone-is c [] d e = (same_Some c d e, refl)
 alone-is c (t ∷ ts) d e = absurd cc
 
 when-read : (ts : List RuleToken) (c : Items) → when_at ts ≡ Some c → IsWhen ts c
 when-read [] c e = subst (IsWhen []) (same_Some _ c e) IsWhen.always
 when-read (token.When ∷ ts) c e =
-    let at = then-some (condition_at ts) (λ found. alone found.0 found.1) c e in
+    let at = then-some (condition_at ts) (λ found. only_items found.0 found.1) c e in
     let read = condition-read ts at.found.0 at.found.1 at.was in
     let whole = alone-is at.found.0 at.found.1 c at.is in
     let tokens : ts ≡ read.front = read.tokens ∙ ap (λ us. read.front ++ us) whole.1
@@ -238,9 +239,9 @@ looks-read : (named : NamedObject) (ts : List RuleToken) (s : RuleStatement)
     → looks_at named ts ≡ Some s
     → Spells (token.Look ∷ (token.Name named ∷ ts)) s
 looks-read named ts s e =
-    let x = fact_at named ts >>= λ (taken : Taken). alone taken.0 (drop taken.1 ts) in
+    let x = fact_at named ts >>= λ (taken : Taken). only_items taken.0 (drop taken.1 ts) in
     let looks = mapped-some x Looks s e in
-    let at = then-some (fact_at named ts) (λ (taken : Taken). alone taken.0 (drop taken.1 ts))
+    let at = then-some (fact_at named ts) (λ (taken : Taken). only_items taken.0 (drop taken.1 ts))
     looks.found looks.was in
     let whole = alone-is at.found.0 (drop at.found.1 ts) looks.found at.is in
     let is : IsFact named ts at.found.0 =

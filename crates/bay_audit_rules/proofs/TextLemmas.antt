@@ -14,10 +14,10 @@ use Rattle.bay_audit_rules.specs.declared.token.NamedObject.{NamedObject}
 use Rattle.bay_audit_rules.specs.declared.token.RuleToken.{RuleToken}
 use Rattle.bay_audit_rules.specs.Facts.{Items, ◌⊕◌}
 use Rattle.bay_audit_rules.specs.Grammar.{Spells}
-use Rattle.bay_audit_rules.specs.Meaning.{AllRead, TextRead, onto, line_tokens, TokensRead, LinesRead, LineRead}
+use Rattle.bay_audit_rules.specs.Meaning.{AllRead, TextRead, prepend_rules, line_tokens, TokensRead, LinesRead, LineRead}
 use Rattle.bay_audit_rules.specs.Reading.{Pushes, Tells}
 use Rattle.bay_audit_rules.specs.Running.{Taken, fact_at}
-use Rattle.bay_audit_rules.specs.Sayings.{alone, looks_at, statement_at}
+use Rattle.bay_audit_rules.specs.Sayings.{only_items, looks_at, statement_at}
 use Rattle.bay_audit_rules.specs.Turns.{TookIf}
 use Rattle.bay_audit_rules.proofs.ConditionLemmas.{none-plus}
 use Rattle.bay_audit_rules.proofs.SayingLemmas.{says-found}
@@ -26,22 +26,22 @@ use Rattle.bay_audit_rules.proofs.SayingLemmas.{says-found}
 looks-took : (named : NamedObject) (ts : List RuleToken) (old new : Items)
     (rest : Bor (List RuleToken))
     → old ≡ Some [] → TookIf (fact_at named ts) old new ts (Some rest)
-    → looks_at named ts ≡ option_map Looks (alone new rest.now)
+    → looks_at named ts ≡ option_map Looks (only_items new rest.now)
 looks-took named ts old new rest empty took = by-taken (fact_at named ts) took
   where
     by-taken : (x : Option Taken) → TookIf x old new ts (Some rest)
-        → option_map Looks (x >>= λ taken. alone taken.0 (drop taken.1 ts))
-        ≡ option_map Looks (alone new rest.now)
+        → option_map Looks (x >>= λ taken. only_items taken.0 (drop taken.1 ts))
+        ≡ option_map Looks (only_items new rest.now)
     by-taken None t = absurd t
     by-taken (Some taken) t =
         let items : new ≡ taken.0 = t.items ∙ ap (λ x. x ⊕ taken.0) empty ∙ none-plus taken.0 in
         rw (items, t.rest) refl
 
-alone-empty : (c : Items) (ts : List RuleToken) → (length ts == 0) ≡ true → alone c ts ≡ Some c
+alone-empty : (c : Items) (ts : List RuleToken) → (length ts == 0) ≡ true → only_items c ts ≡ Some c
 alone-empty c [] e = refl
 alone-empty c (t ∷ ts) e = absurd (grind (arith, nat_tests))
 
-alone-more : (c : Items) (ts : List RuleToken) → (length ts == 0) ≡ false → alone c ts ≡ None
+alone-more : (c : Items) (ts : List RuleToken) → (length ts == 0) ≡ false → only_items c ts ≡ None
 alone-more c [] e = absurd (grind (arith, nat_tests))
 alone-more c (t ∷ ts) e = refl
 
@@ -84,7 +84,7 @@ pushes-some (Some rs) old new h = record { rules = rs; was = refl; is = h }
 -- ---- lines
 
 pub onto-twice : (rs qs : List Rule) (r : Result (List Rule) RuleFault)
-    → onto rs (onto qs r) ≡ onto (rs ++ qs) r
+    → prepend_rules rs (prepend_rules qs r) ≡ prepend_rules (rs ++ qs) r
 onto-twice rs qs (Ok more) = ap Ok (sym (append_assoc rs qs more))
 onto-twice rs qs (Err fault) = refl
 
@@ -93,7 +93,7 @@ abbrev pub Goes : Bay → ℕ → List Rule → List (List ℕ) → (Result (Lis
     → Type 0
 Goes bay line rules lines IsAnswer =
     (r : Result (List Rule) RuleFault) → LinesRead bay line (length rules) lines r
-    → IsAnswer (onto rules r)
+    → IsAnswer (prepend_rules rules r)
 
 pub goes-refused : (bay : Bay) (line : ℕ) (rules : List Rule) (first : List ℕ)
     (lines more : List (List ℕ)) (IsAnswer : Result (List Rule) RuleFault → Type 0)
@@ -120,9 +120,9 @@ goes-on bay line rules rs new first lines more IsAnswer p goes read is few = λ 
     let within : length rules + length rs ≤ 1000 = subst (λ n. n ≤ 1000) size few in
     let behind : LinesRead bay (line + 1) (length rules + length rs) more r =
     subst (λ n. LinesRead bay (line + 1) n more r) size next in
-    let all : IsAnswer (onto rules (onto rs r)) =
-    goes (onto rs r) (rw p (LinesRead.next read within behind)) in
-    subst IsAnswer (onto-twice rules rs r ∙ ap (λ qs. onto qs r) (sym is)) all
+    let all : IsAnswer (prepend_rules rules (prepend_rules rs r)) =
+    goes (prepend_rules rs r) (rw p (LinesRead.next read within behind)) in
+    subst IsAnswer (onto-twice rules rs r ∙ ap (λ qs. prepend_rules qs r) (sym is)) all
 
 pub goes-done : (bay : Bay) (line : ℕ) (rules : List Rule) (lines : List (List ℕ))
     (IsAnswer : Result (List Rule) RuleFault → Type 0) → lines ≡ []

@@ -132,9 +132,9 @@ pub data LineRead (bay : Bay) (line : ℕ) (text : List ℕ) : Result (List Rule
         → TokensRead line ts r → LineRead bay line text r
 
 -- these rules and the later ones, or the fault
-abbrev pub onto : List Rule → Result (List Rule) RuleFault → Result (List Rule) RuleFault
-onto rs (Ok more) = Ok (rs ++ more)
-onto rs (Err fault) = Err fault
+abbrev pub prepend_rules : List Rule → Result (List Rule) RuleFault → Result (List Rule) RuleFault
+prepend_rules rs (Ok more) = Ok (rs ++ more)
+prepend_rules rs (Err fault) = Err fault
 
 -- the rules of lines, the first of which has this number, after `count` rules: at most 1,000 rules
 -- in all, or the fault of the first line that has one
@@ -148,7 +148,7 @@ pub data LinesRead (bay : Bay) : ℕ → ℕ → List (List ℕ) → Result (Lis
   next : {line count : ℕ} {text : List ℕ} {rest : List (List ℕ)} {rules : List Rule}
       {r : Result (List Rule) RuleFault} → LineRead bay line text (Ok rules)
       → count + length rules ≤ 1000 → LinesRead bay (line + 1) (count + length rules) rest r
-      → LinesRead bay line count (text ∷ rest) (onto rules r)
+      → LinesRead bay line count (text ∷ rest) (prepend_rules rules r)
 
 -- a line feed
 abbrev pub is_line_end : ℕ → Bool

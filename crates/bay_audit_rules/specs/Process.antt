@@ -25,24 +25,24 @@ same_position Bad Bad = true
 same_position p q = false
 
 -- a measured value has this relation to a number
-abbrev pub stands : Relation → ℤ → ℤ → Bool
-stands Less x n = int_lt x n
-stands AtMost x n = int_le x n
-stands Equal x n = int_eq x n
-stands Unequal x n = not (int_eq x n)
-stands AtLeast x n = int_le n x
-stands Greater x n = int_lt n x
+abbrev pub has_relation : Relation → ℤ → ℤ → Bool
+has_relation Less x n = int_lt x n
+has_relation AtMost x n = int_le x n
+has_relation Equal x n = int_eq x n
+has_relation Unequal x n = not (int_eq x n)
+has_relation AtLeast x n = int_le n x
+has_relation Greater x n = int_lt n x
 
 -- the stack, top first, with its top negated, and with its two top values joined; with too few
 -- values the stack becomes empty
-abbrev pub negated : List Bool → List Bool
-negated [] = []
-negated (a ∷ stack) = not a ∷ stack
+abbrev pub negate_top : List Bool → List Bool
+negate_top [] = []
+negate_top (a ∷ stack) = not a ∷ stack
 
-abbrev pub joined : (Bool → Bool → Bool) → List Bool → List Bool
-joined f [] = []
-joined f (b ∷ []) = []
-joined f (b ∷ a ∷ stack) = f a b ∷ stack
+abbrev pub join_top : (Bool → Bool → Bool) → List Bool → List Bool
+join_top f [] = []
+join_top f (b ∷ []) = []
+join_top f (b ∷ a ∷ stack) = f a b ∷ stack
 
 -- the stack after an item
 abbrev pub after_item : Process → ConditionItem → List Bool → List Bool
@@ -51,10 +51,10 @@ after_item p (items.Position switch position) stack =
     same_position (p.position switch) position ∷ stack
 after_item p (items.Input input) stack = p.input input ∷ stack
 after_item p (items.Measure meter field relation value) stack =
-    stands relation (p.measure meter field) value ∷ stack
-after_item p items.Not stack = negated stack
-after_item p items.And stack = joined (λ a b. a && b) stack
-after_item p items.Or stack = joined (λ a b. a || b) stack
+    has_relation relation (p.measure meter field) value ∷ stack
+after_item p items.Not stack = negate_top stack
+after_item p items.And stack = join_top (λ a b. a && b) stack
+after_item p items.Or stack = join_top (λ a b. a || b) stack
 
 -- the stack after a list of items
 abbrev pub after_items : Process → List ConditionItem → List Bool → List Bool

@@ -41,8 +41,8 @@ values_at named negated [] = None
 values_at named negated (t ∷ ts) = first_at named negated (value_of t) ts
 
 -- the same with one more token
-abbrev pub behind : Option Taken → Option Taken
-behind = option_map (λ taken. (taken.0, suc taken.1))
+abbrev pub with_one_more_token : Option Taken → Option Taken
+with_one_more_token = option_map (λ taken. (taken.0, suc taken.1))
 
 -- an input alone, unless values follow
 abbrev pub or_alone : NamedObject → Option Taken → Option Taken
@@ -51,7 +51,7 @@ or_alone named None = Some (value_items named (Truth true), 0)
 
 -- the values after `is`, with an optional `not`
 abbrev pub is_at : NamedObject → List RuleToken → Option Taken
-is_at named (token.Not ∷ ts) = behind (values_at named true ts)
+is_at named (token.Not ∷ ts) = with_one_more_token (values_at named true ts)
 is_at named ts = values_at named false ts
 
 -- the number after a relation
@@ -62,9 +62,9 @@ number_at named relation ts = None
 
 -- the fact at the start of the tokens, after its name
 abbrev pub fact_at : NamedObject → List RuleToken → Option Taken
-fact_at named (token.Relation relation ∷ ts) = behind (number_at named relation ts)
-fact_at named (token.Is ∷ ts) = behind (is_at named ts)
-fact_at named (token.Not ∷ ts) = behind (values_at named true ts)
+fact_at named (token.Relation relation ∷ ts) = with_one_more_token (number_at named relation ts)
+fact_at named (token.Is ∷ ts) = with_one_more_token (is_at named ts)
+fact_at named (token.Not ∷ ts) = with_one_more_token (values_at named true ts)
 fact_at named ts = or_alone named (values_at named false ts)
 
 -- the last pending operator or parenthesis, and those below it
@@ -85,14 +85,14 @@ abbrev pub state : List Pending → Items → State
 state pending c = record { pending = pending; items = c }
 
 -- an operand is complete: the operators that are pending for it alone are appended
-abbrev pub settled : List Pending → Items → State
-settled (waits.Not ∷ pending) c = settled pending (c ⊕ item items.Not)
-settled (waits.And ∷ pending) c = settled pending (c ⊕ item items.And)
-settled pending c = state pending c
+abbrev pub append_operators : List Pending → Items → State
+append_operators (waits.Not ∷ pending) c = append_operators pending (c ⊕ item items.Not)
+append_operators (waits.And ∷ pending) c = append_operators pending (c ⊕ item items.And)
+append_operators pending c = state pending c
 
 -- operands joined by `and` are complete: the `or` that is pending for them is appended
-abbrev pub closed : State → State
-closed s = closing s.pending s.items
+abbrev pub append_or : State → State
+append_or s = closing s.pending s.items
   where
     closing : List Pending → Items → State
     closing (waits.Or ∷ pending) c = state pending (c ⊕ item items.Or)
@@ -103,15 +103,15 @@ abbrev pub Found : Type 0
 Found = Option (Items × List RuleToken)
 
 -- a condition is complete if nothing is pending
-abbrev pub finished : State → List RuleToken → Found
-finished s rest = alone s.pending s.items
+abbrev pub found_if_complete : State → List RuleToken → Found
+found_if_complete s rest = alone s.pending s.items
   where
     alone : List Pending → Items → Found
     alone [] c = Some (c, rest)
     alone (wait ∷ pending) c = None
 
 abbrev pub finish : State → List RuleToken → Found
-finish s rest = finished (closed s) rest
+finish s rest = found_if_complete (append_or s) rest
 
 -- the state of the reader: an operand is expected; or an operand is complete, and k of its tokens
 -- are still to be skipped; or the condition has ended
@@ -121,43 +121,43 @@ pub data Phase : Type 0 where
   over : Found → Phase
 
 -- an operand is expected
-abbrev pub expecting : List Pending → Items → Phase × State
-expecting pending c = (expects, state pending c)
+abbrev pub expect_operand : List Pending → Items → Phase × State
+expect_operand pending c = (expects, state pending c)
 
 -- after the fact at the start of the tokens
-abbrev pub took : State → Option Taken → Phase × State
-took s None = (over None, s)
-took s (Some taken) = (passes taken.1, settled s.pending (s.items ⊕ taken.0))
+abbrev pub after_fact : State → Option Taken → Phase × State
+after_fact s None = (over None, s)
+after_fact s (Some taken) = (passes taken.1, append_operators s.pending (s.items ⊕ taken.0))
 
 -- a token where an operand is expected
 abbrev pub operand_at : State → RuleToken → List RuleToken → Phase × State
-operand_at s (token.Name named) ts = took s (fact_at named ts)
-operand_at s token.Not ts = expecting (waits.Not ∷ s.pending) s.items
-operand_at s token.Begin ts = expecting (waits.Begin ∷ s.pending) s.items
+operand_at s (token.Name named) ts = after_fact s (fact_at named ts)
+operand_at s token.Not ts = expect_operand (waits.Not ∷ s.pending) s.items
+operand_at s token.Begin ts = expect_operand (waits.Begin ∷ s.pending) s.items
 operand_at s other ts = (over None, s)
 
 -- a `)` closes the last `(`
-abbrev pub ended : State → Phase × State
-ended s = last s.pending s.items
+abbrev pub close_parenthesis : State → Phase × State
+close_parenthesis s = last s.pending s.items
   where
     last : List Pending → Items → Phase × State
-    last (waits.Begin ∷ pending) c = (passes 0, settled pending c)
+    last (waits.Begin ∷ pending) c = (passes 0, append_operators pending c)
     last pending c = (over None, s)
 
 -- a token after an operand
-abbrev pub behind_at : State → RuleToken → List RuleToken → Phase × State
-behind_at s (token.Connector And) ts = expecting (waits.And ∷ s.pending) s.items
-behind_at s (token.Connector Or) ts =
-    let last = closed s in expecting (waits.Or ∷ last.pending) last.items
-behind_at s (token.Connector End) ts = ended (closed s)
-behind_at s other ts = (over (finish s (other ∷ ts)), s)
+abbrev pub after_operand : State → RuleToken → List RuleToken → Phase × State
+after_operand s (token.Connector And) ts = expect_operand (waits.And ∷ s.pending) s.items
+after_operand s (token.Connector Or) ts =
+    let last = append_or s in expect_operand (waits.Or ∷ last.pending) last.items
+after_operand s (token.Connector End) ts = close_parenthesis (append_or s)
+after_operand s other ts = (over (finish s (other ∷ ts)), s)
 
 -- a token
-abbrev pub next : Phase → State → RuleToken → List RuleToken → Phase × State
-next expects s t ts = operand_at s t ts
-next (passes zero) s t ts = behind_at s t ts
-next (passes (suc k)) s t ts = (passes k, s)
-next (over found) s t ts = (over found, s)
+abbrev pub token_step : Phase → State → RuleToken → List RuleToken → Phase × State
+token_step expects s t ts = operand_at s t ts
+token_step (passes zero) s t ts = after_operand s t ts
+token_step (passes (suc k)) s t ts = (passes k, s)
+token_step (over found) s t ts = (over found, s)
 
 -- the end of the tokens
 abbrev pub at_end : Phase → State → Found
@@ -166,10 +166,11 @@ at_end (passes k) s = finish s []
 at_end (over found) s = found
 
 -- all tokens
-abbrev pub run : Phase → State → List RuleToken → Found
-run phase s [] = at_end phase s
-run phase s (t ∷ ts) = let then = next phase s t ts in run then.0 then.1 ts
+abbrev pub found_after_tokens : Phase → State → List RuleToken → Found
+found_after_tokens phase s [] = at_end phase s
+found_after_tokens phase s (t ∷ ts) = let then =
+    token_step phase s t ts in found_after_tokens then.0 then.1 ts
 
 -- the condition at the start of the tokens
 unfoldable pub condition_at : List RuleToken → Found
-condition_at ts = run expects (state [] (Some [])) ts
+condition_at ts = found_after_tokens expects (state [] (Some [])) ts

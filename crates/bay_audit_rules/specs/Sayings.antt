@@ -31,13 +31,13 @@ directions_at (token.Close ∷ ts) = Some (close_ways ts)
 directions_at ts = None
 
 -- `for` and a time after a condition, and the rest
-abbrev pub time_behind : Items → List RuleToken → Option (Since × List RuleToken)
-time_behind c (token.For ∷ (token.Time time ∷ ts)) =
+abbrev pub time_after_condition : Items → List RuleToken → Option (Since × List RuleToken)
+time_after_condition c (token.For ∷ (token.Time time ∷ ts)) =
     Some (record { condition = c; time = time }, ts)
-time_behind c ts = None
+time_after_condition c ts = None
 
 abbrev pub since_at : List RuleToken → Option (Since × List RuleToken)
-since_at ts = condition_at ts >>= λ found. time_behind found.0 found.1
+since_at ts = condition_at ts >>= λ found. time_after_condition found.0 found.1
 
 -- two kinds are equal
 abbrev pub same_kind : RuleKind → RuleKind → Bool
@@ -52,20 +52,20 @@ timed_at kind (token.Since which ∷ ts) =
 timed_at kind ts = Some (None, ts)
 
 -- the items, if no tokens follow
-abbrev pub alone : Items → List RuleToken → Option Items
-alone c [] = Some c
-alone c (t ∷ ts) = None
+abbrev pub only_items : Items → List RuleToken → Option Items
+only_items c [] = Some c
+only_items c (t ∷ ts) = None
 
 -- the condition on the states that a rule covers
 abbrev pub when_at : List RuleToken → Option Items
 when_at [] = Some (item items.True)
-when_at (token.When ∷ ts) = condition_at ts >>= λ found. alone found.0 found.1
+when_at (token.When ∷ ts) = condition_at ts >>= λ found. only_items found.0 found.1
 when_at ts = None
 
 -- the values of a `look` line
 abbrev pub looks_at : NamedObject → List RuleToken → Option RuleStatement
 looks_at named ts =
-    option_map Looks (fact_at named ts >>= λ taken. alone taken.0 (drop taken.1 ts))
+    option_map Looks (fact_at named ts >>= λ taken. only_items taken.0 (drop taken.1 ts))
 
 -- a rule
 abbrev pub rule_at : RuleKind → NamedObject → List RuleToken → Option RuleStatement

@@ -1,7 +1,7 @@
 // Reads a condition.
 ghost use Rattle.std.specs.Prelude.{◌≡◌, ◌∷◌, [], true, false, Some, None, OnOk, IfOk};
 ghost use Rattle.bay_audit_rules.specs.Grammar as grammar;
-ghost use Rattle.bay_audit_rules.specs.Running.{ended as ends, more_at, or_alone, values_at, is_at, number_at, fact_at, state, settled, closed, next, finish, condition_at};
+ghost use Rattle.bay_audit_rules.specs.Running.{close_parenthesis as ends, more_at, or_alone, values_at, is_at, number_at, fact_at, state, append_operators, append_or, token_step, finish, condition_at};
 ghost use Rattle.bay_audit_rules.specs.declared.token.Connector.TheVariants.{End};
 ghost use Rattle.bay_audit_rules.specs.declared.token.RuleToken.TheVariants as token;
 ghost use Rattle.bay_audit_rules.specs.Turns.{Took, TookIf, phase_of, Goes, FoundIf};
@@ -150,7 +150,7 @@ pub fn fact<'a>(
 
 // Appends the operators that are pending for the last operand alone, which is complete.
 fn settle(draft: &mut ConditionDraft, stack: &mut PendingStack) -> Result<(), AllocError>
-    ensures { OnOk result (state stack.new draft.new ≡ settled stack.old draft.old) }
+    ensures { OnOk result (state stack.new draft.new ≡ append_operators stack.old draft.old) }
 {
     loop {
         match stack.top() {
@@ -164,7 +164,7 @@ fn settle(draft: &mut ConditionDraft, stack: &mut PendingStack) -> Result<(), Al
 
 // Appends the `or` that is pending for the last operands joined by `and`, which are complete.
 fn close(draft: &mut ConditionDraft, stack: &mut PendingStack) -> Result<(), AllocError>
-    ensures { OnOk result (state stack.new draft.new ≡ closed (state stack.old draft.old)) }
+    ensures { OnOk result (state stack.new draft.new ≡ append_or (state stack.old draft.old)) }
 {
     if let Some(Pending::Or) = stack.top() {
         draft.push(ConditionItem::Or)?;
@@ -181,7 +181,7 @@ fn operand<'a>(
     rest: &'a [RuleToken],
 ) -> Result<Advance<'a>, AllocError>
     ensures { IfOk result (λ turn. Goes turn (state stack.new draft.new) token rest.entry.now
-        (next (phase_of true) (state stack.old draft.old) token rest.entry.now)) }
+        (token_step (phase_of true) (state stack.old draft.old) token rest.entry.now)) }
 {
     match token {
         RuleToken::Name(named) => match fact(draft, named, rest)? {
@@ -219,7 +219,7 @@ fn end<'a>(
     rest: &'a [RuleToken],
 ) -> Result<Advance<'a>, AllocError>
     ensures { IfOk result (λ turn. Goes turn (state stack.new draft.new) (token.Connector End)
-        rest.entry.now (ends (closed (state stack.old draft.old)))) }
+        rest.entry.now (ends (append_or (state stack.old draft.old)))) }
 {
     close(draft, stack)?;
     match stack.top() {
@@ -236,14 +236,14 @@ fn end<'a>(
 }
 
 // Reads a token after an operand.
-fn behind<'a>(
+fn read_after_operand<'a>(
     draft: &mut ConditionDraft,
     stack: &mut PendingStack,
     token: RuleToken,
     rest: &'a [RuleToken],
 ) -> Result<Advance<'a>, AllocError>
     ensures { IfOk result (λ turn. Goes turn (state stack.new draft.new) token rest.entry.now
-        (next (phase_of false) (state stack.old draft.old) token rest.entry.now)) }
+        (token_step (phase_of false) (state stack.old draft.old) token rest.entry.now)) }
 {
     match token {
         RuleToken::Connector(Connector::And) => {
@@ -275,17 +275,17 @@ fn read_token<'a>(
     rest: &'a [RuleToken],
 ) -> Result<Advance<'a>, AllocError>
     ensures { IfOk result (λ turn. Goes turn (state stack.new draft.new) token rest.entry.now
-        (next (phase_of expects) (state stack.old draft.old) token rest.entry.now)) }
+        (token_step (phase_of expects) (state stack.old draft.old) token rest.entry.now)) }
 {
     if expects {
         operand(draft, stack, token, rest)
     } else {
-        behind(draft, stack, token, rest)
+        read_after_operand(draft, stack, token, rest)
     }
 }
 
 // Ends a condition before the rest of the tokens; `None` if a parenthesis is still open.
-fn ended<'a>(
+fn end_condition<'a>(
     draft: &mut ConditionDraft,
     mut stack: PendingStack,
     rest: &'a [RuleToken],
@@ -321,12 +321,12 @@ pub fn condition<'a>(
                 expects = next;
                 rest = behind;
             }
-            Advance::Stop => return ended(draft, stack, rest),
+            Advance::Stop => return end_condition(draft, stack, rest),
             Advance::Refuse => return Ok(None),
         }
     }
     if expects {
         return Ok(None);
     }
-    ended(draft, stack, rest)
+    end_condition(draft, stack, rest)
 }

@@ -12,7 +12,7 @@ use Rattle.bay_base.specs.Options.{◌>>=◌}
 use Rattle.bay_ber.specs.Content.{IsInteger, IsBits, IsTruth, BitString, integer_in, is_integer, signed_of, are_unused, bits_in, truth_in}
 use Rattle.bay_ber.specs.Spelling.{Spells}
 use Rattle.bay_ber.specs.Tags.{same_class, same_tag}
-use Rattle.bay_ber.specs.Values.{Part, value, SpellAll, values_in, only_one, value_in, at_most_five, few_in, all_of, each_in, is_known, known_in, under, integer_under}
+use Rattle.bay_ber.specs.Values.{Part, value, SpellAll, values_in, only_one, value_in, at_most_five, few_in, all_of, each_in, has_tag_among, values_with_tags, content_with_tag, integer_under}
 use Rattle.bay_ber.proofs.ReadLemmas.{IsBytes}
 use Rattle.bay_ber.proofs.ContentLemmas.{integer-is, unused-yes, unused-is}
 pub use Rattle.bay_ber.proofs.ListingLemmas.{bind-some}
@@ -93,14 +93,14 @@ pub unguarded : {A : Type 0} (b : Bool) (o : Option A) (x : A) → cond b None o
 unguarded true o x e = absurd cc
 unguarded false o x e = (refl, e)
 
-pub under-is : (tag : Tag) (p : Part) (content : List ℕ) → under tag p ≡ Some content
+pub under-is : (tag : Tag) (p : Part) (content : List ℕ) → content_with_tag tag p ≡ Some content
     → p ≡ value tag content
 under-is tag p content e =
     let g = cond_some (same_tag p.tag tag) p.content content e in
     ap (λ (t : Tag). value t p.content) (tag-is p.tag tag g.0) ∙ ap (value tag) g.1
 
 pub under-bytes : (tag : Tag) (p : Part) (content : List ℕ) → IsBytes p.content
-    → under tag p ≡ Some content → (p ≡ value tag content) × IsBytes content
+    → content_with_tag tag p ≡ Some content → (p ≡ value tag content) × IsBytes content
 under-bytes tag p content b e =
     let same = under-is tag p content e in
     (same, subst IsBytes (ap (λ (q : Part). q.content) same) b)
@@ -116,7 +116,7 @@ pub number-back : (tag : Tag) (p : Part) (z : ℤ) → integer_under tag p ≡ S
     → (content : List ℕ) × (p ≡ value tag content) × IsInteger content z
 unfolding integer_under
 number-back tag p z e =
-    let x = bind-some (under tag p) integer_in z e in
+    let x = bind-some (content_with_tag tag p) integer_in z e in
     (x.0, under-is tag p x.0 x.1, integer-back x.0 z x.2)
 
 -- ---- one value, few values and known ones
@@ -138,20 +138,21 @@ one-back octets p b e =
     (s.0, s.1.0)
 
 -- one value in the one under a tag
-pub under-one : (tag : Tag) (p q : Part) → IsBytes p.content → (under tag p >>= value_in) ≡ Some q
+pub under-one : (tag : Tag) (p q : Part) → IsBytes p.content
+    → (content_with_tag tag p >>= value_in) ≡ Some q
     → (octets : List ℕ) × (p ≡ value tag octets) × SpellAll octets (q ∷ []) × IsBytes q.content
 under-one tag p q b e =
-    let x = bind-some (under tag p) value_in q e in
+    let x = bind-some (content_with_tag tag p) value_in q e in
     let outer = under-bytes tag p x.0 b x.1 in
     let one = one-back x.0 q outer.1 x.2 in
     (x.0, outer.0, one.0, one.1)
 
 -- one value under a tag
 pub one-under : (tag : Tag) (octets content : List ℕ) → IsBytes octets
-    → (value_in octets >>= under tag) ≡ Some content
+    → (value_in octets >>= content_with_tag tag) ≡ Some content
     → SpellAll octets (value tag content ∷ []) × IsBytes content
 one-under tag octets content b e =
-    let x = bind-some (value_in octets) (under tag) content e in
+    let x = bind-some (value_in octets) (content_with_tag tag) content e in
     let one = one-back octets x.0 b x.1 in
     let inner = under-bytes tag x.0 content one.1 x.2 in
     (subst (λ (p : Part). SpellAll octets (p ∷ [])) inner.0 one.0, inner.1)
@@ -168,22 +169,22 @@ few-back octets parts b e =
 pub record Fields (tags : List Tag) (octets : List ℕ) (known : List Part) : Type 0 where
   pub fields : List Part
   pub spelled : SpellAll octets fields
-  pub are : filter (is_known tags) fields ≡ known
+  pub are : filter (has_tag_among tags) fields ≡ known
   pub bytes : AllBytes known
 
 pub known-back : (tags : List Tag) (octets : List ℕ) (known : List Part) → IsBytes octets
-    → known_in tags octets ≡ Some known → Fields tags octets known
-unfolding known_in
+    → values_with_tags tags octets ≡ Some known → Fields tags octets known
+unfolding values_with_tags
 known-back tags octets known b e =
-    let x = bind-some (values_in octets) (λ parts. at_most_five (filter (is_known tags) parts))
+    let x = bind-some (values_in octets) (λ parts. at_most_five (filter (has_tag_among tags) parts))
     known e in
     let all = all-back octets x.0 b x.1 in
-    let are = five-is (filter (is_known tags) x.0) known x.2 in
+    let are = five-is (filter (has_tag_among tags) x.0) known x.2 in
     record {
       fields = x.0;
       spelled = all.0;
       are = are;
-      bytes = subst AllBytes are (filter-bytes (is_known tags) x.0 all.1);
+      bytes = subst AllBytes are (filter-bytes (has_tag_among tags) x.0 all.1);
     }
 
 pub record Each {B : Type 0} (f : Part → Option B) (octets : List ℕ) (xs : List B) : Type 0 where
@@ -212,11 +213,11 @@ few-read octets parts is =
     ap (λ (o : Option (List Part)). o >>= at_most_five) (values-again octets parts is)
 
 pub known-read : (tags : List Tag) (octets : List ℕ) (fields known : List Part)
-    → SpellAll octets fields → filter (is_known tags) fields ≡ known
-    → known_in tags octets ≡ at_most_five known
-unfolding known_in
+    → SpellAll octets fields → filter (has_tag_among tags) fields ≡ known
+    → values_with_tags tags octets ≡ at_most_five known
+unfolding values_with_tags
 known-read tags octets fields known is are =
-    ap (λ (o : Option (List Part)). o >>= λ parts. at_most_five (filter (is_known tags) parts))
+    ap (λ (o : Option (List Part)). o >>= λ parts. at_most_five (filter (has_tag_among tags) parts))
     (values-again octets fields is) ∙ ap at_most_five are
 
 -- ---- bits and truth values

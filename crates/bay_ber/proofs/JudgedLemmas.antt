@@ -2,7 +2,7 @@
 use Rattle.std.proofs.Common.{◌≡◌, Option, Some, None, Result, Ok, Err, refl, sym, ap, ◌∙◌, inl, inr}
 use Rattle.bay_ber.proofs.ReadLemmas.{bind-ok, bind-err}
 use Rattle.bay_ber.specs.Forms.{Form}
-use Rattle.bay_ber.specs.Judged.{Verdict, or_fault, wanted, verdict_of, ◌>>=◌}
+use Rattle.bay_ber.specs.Judged.{Verdict, or_fault, form_verdict, verdict_of, ◌>>=◌}
 use Rattle.bay_ber.proofs.FormLemmas.{Exact}
 
 -- What is spelled is answered; and of what is good, what is answered is spelled or refused so.
@@ -21,7 +21,7 @@ told-fair r = record {
 }
 
 pub wanted-fair : {S A E Good : Type 0} {Is : S → Type 0} (fault : E) {f : Form S A} → Exact Is f
-    → (s : S) → (Good → Is s) → Fair Good (wanted fault f s)
+    → (s : S) → (Good → Is s) → Fair Good (form_verdict fault f s)
 wanted-fair {A = A} {E = E} {Good = Good} fault {f} e s is_good = record {
   read = λ x is. ap (or_fault fault) (e.read s x is);
   back = λ good x is. spelled good x (f.reads s) refl is;

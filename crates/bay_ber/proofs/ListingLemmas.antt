@@ -11,7 +11,7 @@ use Rattle.bay_ber.specs.declared.tag.Tag.{Tag}
 use Rattle.bay_ber.specs.Reading.{Reading, class_of, is_constructed, low_bits, second_at, tag_at, length_at, tlv_at}
 use Rattle.bay_base.specs.Options.{◌>>=◌}
 use Rattle.bay_ber.specs.declared.values.Value.{Value}
-use Rattle.bay_ber.specs.Values.{Part, part_of, SpellAll, part_in, onto, with_front, values_within, values_in, only_one, value_in, at_most_five, few_in, all_of, each_in}
+use Rattle.bay_ber.specs.Values.{Part, part_of, SpellAll, part_in, prepend_values, with_front, values_within, values_in, only_one, value_in, at_most_five, few_in, all_of, each_in}
 use Rattle.bay_ber.proofs.ReadLemmas.{IsBytes, bind-ok, chosen, ok-is, with_tag, with_length, length-takes, tlv-takes, tlv-again}
 
 -- ---- what is read leaves less
@@ -87,7 +87,7 @@ none-left (suc most) = refl
 same-front : (n m : ℕ) (t : Result Reading BerFault)
     → ((r : Reading) → t ≡ Ok r → values_within n r.rest ≡ values_within m r.rest)
     → with_front t (values_within n) ≡ with_front t (values_within m)
-same-front n m (Ok r) same = ap (onto (part_in r ∷ [])) (same r refl)
+same-front n m (Ok r) same = ap (prepend_values (part_in r ∷ [])) (same r refl)
 same-front n m (Err fault) same = refl
 
 enough : (n m : ℕ) (octets : List ℕ) → length octets ≤ n → length octets ≤ m
@@ -108,12 +108,12 @@ unfolding values_in
 no-values = none-left 0
 
 pub values-step : (octets : List ℕ) (r : Reading) → (octets ≡ [] → ⊥) → tlv_at octets ≡ Ok r
-    → values_in octets ≡ onto (part_in r ∷ []) (values_in r.rest)
+    → values_in octets ≡ prepend_values (part_in r ∷ []) (values_in r.rest)
 unfolding values_in values_within
 values-step [] r some e = absurd (some refl)
 values-step (octet ∷ octets) r some e =
     let s = tlv-shorter (octet ∷ octets) r e in
-    rw e (ap (onto (part_in r ∷ []))
+    rw e (ap (prepend_values (part_in r ∷ []))
     (enough (length octets) (length r.rest) r.rest (omega arith) (omega arith)))
 
 pub values-stop : (octets : List ℕ) (fault : BerFault) → (octets ≡ [] → ⊥)
@@ -125,7 +125,8 @@ values-stop (octet ∷ octets) fault some e = rw e refl
 -- ---- the function is the relation
 
 onto-some : (front : List Part) (o : Option (List Part)) (parts : List Part)
-    → onto front o ≡ Some parts → (later : List Part) × (o ≡ Some later) × (parts ≡ front ++ later)
+    → prepend_values front o ≡ Some parts
+    → (later : List Part) × (o ≡ Some later) × (parts ≡ front ++ later)
 onto-some front None parts e = absurd cc
 onto-some front (Some later) parts e =
     (later, refl, let same : front ++ later ≡ parts = cc in sym same)
@@ -179,7 +180,7 @@ values-again octets (part ∷ parts) is =
     tlv-again octets r (record { front = is.0; spelled = is.3; parts = is.2 }) in
     let some : octets ≡ [] → ⊥ = λ none. let s =
     tlv-shorter octets r e in let z : length octets ≡ 0 = ap length none in omega arith in
-    values-step octets r some e ∙ ap (onto (part ∷ [])) (values-again is.1 parts is.4)
+    values-step octets r some e ∙ ap (prepend_values (part ∷ [])) (values-again is.1 parts is.4)
 
 -- ---- the one value, and few
 
@@ -192,11 +193,11 @@ pub one-is : (octets : List ℕ) (r : Reading) → tlv_at octets ≡ Ok r → r.
 one-is octets r e none =
     ap (λ (o : Option (List Part)). o >>= only_one)
     (values-step octets r (tlv-some octets r e) e
-    ∙ ap (λ (xs : List ℕ). onto (part_in r ∷ []) (values_in xs)) none
-    ∙ ap (onto (part_in r ∷ [])) no-values)
+    ∙ ap (λ (xs : List ℕ). prepend_values (part_in r ∷ []) (values_in xs)) none
+    ∙ ap (prepend_values (part_in r ∷ [])) no-values)
 
 not-one : (part : Part) (o : Option (List Part)) → (o ≡ Some [] → ⊥)
-    → (onto (part ∷ []) o >>= only_one) ≡ None
+    → (prepend_values (part ∷ []) o >>= only_one) ≡ None
 not-one part None some = refl
 not-one part (Some []) some = absurd (some refl)
 not-one part (Some (next ∷ later)) some = refl
@@ -236,10 +237,10 @@ nothing-more octets none = ap values_in (is-nothing octets none) ∙ no-values
 pub record Passed {B : Type 0} (f : Part → Option B) (whole rest : List ℕ) (done : List B)
     : Type 0 where
   pub front : List Part
-  pub read : values_in whole ≡ onto front (values_in rest)
+  pub read : values_in whole ≡ prepend_values front (values_in rest)
   pub each : all_of f front ≡ Some done
 
-pub onto-nil : (o : Option (List Part)) → o ≡ onto [] o
+pub onto-nil : (o : Option (List Part)) → o ≡ prepend_values [] o
 onto-nil None = refl
 onto-nil (Some parts) = refl
 
@@ -247,7 +248,7 @@ pub passed-first : {B : Type 0} (f : Part → Option B) (whole : List ℕ) → P
 passed-first f whole = record { front = []; read = onto-nil (values_in whole); each = refl }
 
 pub onto-onto : (front : List Part) (part : Part) (o : Option (List Part))
-    → onto front (onto (part ∷ []) o) ≡ onto (front ++ part ∷ []) o
+    → prepend_values front (prepend_values (part ∷ []) o) ≡ prepend_values (front ++ part ∷ []) o
 onto-onto front part None = refl
 onto-onto front part (Some parts) = ap Some (sym (append_assoc front (part ∷ []) parts))
 
@@ -283,67 +284,69 @@ all_bad f (first ∷ front) part later bad =
 
 pub passed-more : {B : Type 0} (f : Part → Option B) (whole rest new : List ℕ) (done : List B)
     (part : Part) (x : B) → Passed f whole rest done
-    → values_in rest ≡ onto (part ∷ []) (values_in new) → f part ≡ Some x
+    → values_in rest ≡ prepend_values (part ∷ []) (values_in new) → f part ≡ Some x
     → Passed f whole new (done ++ x ∷ [])
 passed-more f whole rest new done part x p step here = record {
   front = p.front ++ part ∷ [];
-  read = p.read ∙ ap (onto p.front) step ∙ onto-onto p.front part (values_in new);
+  read = p.read ∙ ap (prepend_values p.front) step ∙ onto-onto p.front part (values_in new);
   each = all-more f p.front part done x p.each here;
 }
 
 pub passed-end : {B : Type 0} (f : Part → Option B) (whole rest : List ℕ) (done : List B)
     → Passed f whole rest done → values_in rest ≡ Some [] → each_in f whole ≡ Some done
 passed-end f whole rest done p last =
-    let read : values_in whole ≡ Some (p.front ++ []) = p.read ∙ ap (onto p.front) last in
+    let read : values_in whole ≡ Some (p.front ++ []) = p.read ∙ ap (prepend_values p.front) last in
     ap (λ (o : Option (List Part)). o >>= all_of f) read ∙ ap (all_of f) (append-nil p.front)
     ∙ p.each
 
 bad-at : {B : Type 0} (f : Part → Option B) (front : List Part) (part : Part)
-    (o : Option (List Part)) → f part ≡ None → (onto front (onto (part ∷ []) o) >>= all_of f) ≡ None
+    (o : Option (List Part)) → f part ≡ None
+    → (prepend_values front (prepend_values (part ∷ []) o) >>= all_of f) ≡ None
 bad-at f front part None bad = refl
 bad-at f front part (Some later) bad = all_bad f front part later bad
 
 pub passed-bad : {B : Type 0} (f : Part → Option B) (whole rest new : List ℕ) (done : List B)
-    (part : Part) → Passed f whole rest done → values_in rest ≡ onto (part ∷ []) (values_in new)
+    (part : Part) → Passed f whole rest done
+    → values_in rest ≡ prepend_values (part ∷ []) (values_in new)
     → f part ≡ None → each_in f whole ≡ None
 passed-bad f whole rest new done part p step bad =
-    ap (λ (o : Option (List Part)). o >>= all_of f) (p.read ∙ ap (onto p.front) step)
+    ap (λ (o : Option (List Part)). o >>= all_of f) (p.read ∙ ap (prepend_values p.front) step)
     ∙ bad-at f p.front part (values_in new) bad
 
 pub passed-stop : {B : Type 0} (f : Part → Option B) (whole rest : List ℕ) (done : List B)
     → Passed f whole rest done → values_in rest ≡ None → each_in f whole ≡ None
 passed-stop f whole rest done p stop =
-    ap (λ (o : Option (List Part)). o >>= all_of f) (p.read ∙ ap (onto p.front) stop)
+    ap (λ (o : Option (List Part)). o >>= all_of f) (p.read ∙ ap (prepend_values p.front) stop)
 
 -- ---- few values
 
 -- values at the front, as they are
 pub record Stored (whole rest : List ℕ) (front : List Part) : Type 0 where
-  pub read : values_in whole ≡ onto front (values_in rest)
+  pub read : values_in whole ≡ prepend_values front (values_in rest)
   pub few : length front ≤ 5
 
 pub stored-first : (whole : List ℕ) → Stored whole whole []
 stored-first whole = record { read = onto-nil (values_in whole); few = omega arith }
 
 pub stored-more : (whole rest new : List ℕ) (front more : List Part) (part : Part)
-    → Stored whole rest front → values_in rest ≡ onto (part ∷ []) (values_in new)
+    → Stored whole rest front → values_in rest ≡ prepend_values (part ∷ []) (values_in new)
     → more ≡ front ++ part ∷ [] → length front < 5 → Stored whole new more
 stored-more whole rest new front more part p step is room = record {
-  read = p.read ∙ ap (onto front) step ∙ onto-onto front part (values_in new)
-      ∙ ap (λ (xs : List Part). onto xs (values_in new)) (sym is);
+  read = p.read ∙ ap (prepend_values front) step ∙ onto-onto front part (values_in new)
+      ∙ ap (λ (xs : List Part). prepend_values xs (values_in new)) (sym is);
   few = omega (arith, ap length is, length-append front (part ∷ []));
 }
 
 pub stored-end : (whole rest : List ℕ) (front : List Part) → Stored whole rest front
     → values_in rest ≡ Some [] → few_in whole ≡ Some front
 stored-end whole rest front p last =
-    let read : values_in whole ≡ Some (front ++ []) = p.read ∙ ap (onto front) last in
+    let read : values_in whole ≡ Some (front ++ []) = p.read ∙ ap (prepend_values front) last in
     let short : ltb (length front) 6 ≡ true = lt-ltb _ _ (let f = p.few in omega arith) in
     ap (λ (o : Option (List Part)). o >>= at_most_five) read ∙ ap at_most_five (append-nil front)
     ∙ rw short refl
 
 full-at : (front : List Part) (part : Part) (o : Option (List Part)) → 5 ≤ length front
-    → (onto front (onto (part ∷ []) o) >>= at_most_five) ≡ None
+    → (prepend_values front (prepend_values (part ∷ []) o) >>= at_most_five) ≡ None
 full-at front part None full = refl
 full-at front part (Some later) full =
     let long : ltb (length (front ++ part ∷ later)) 6 ≡ false =
@@ -351,16 +354,17 @@ full-at front part (Some later) full =
     rw long refl
 
 pub stored-full : (whole rest new : List ℕ) (front : List Part) (part : Part)
-    → Stored whole rest front → values_in rest ≡ onto (part ∷ []) (values_in new) → 5 ≤ length front
+    → Stored whole rest front → values_in rest ≡ prepend_values (part ∷ []) (values_in new)
+    → 5 ≤ length front
     → few_in whole ≡ None
 stored-full whole rest new front part p step full =
-    ap (λ (o : Option (List Part)). o >>= at_most_five) (p.read ∙ ap (onto front) step)
+    ap (λ (o : Option (List Part)). o >>= at_most_five) (p.read ∙ ap (prepend_values front) step)
     ∙ full-at front part (values_in new) full
 
 pub stored-stop : (whole rest : List ℕ) (front : List Part) → Stored whole rest front
     → values_in rest ≡ None → few_in whole ≡ None
 stored-stop whole rest front p stop =
-    ap (λ (o : Option (List Part)). o >>= at_most_five) (p.read ∙ ap (onto front) stop)
+    ap (λ (o : Option (List Part)). o >>= at_most_five) (p.read ∙ ap (prepend_values front) stop)
 
 pub is_full : (values : List Value) (count : ℕ) (now : List Part)
     → map part_of (take count values) ≡ now → length values ≡ 5 → count ≡ 5 → 5 ≤ length now

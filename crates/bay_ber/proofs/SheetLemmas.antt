@@ -10,14 +10,15 @@ use Rattle.std.specs.Option.{option_map}
 use Rattle.bay_ber.specs.declared.tag.Tag.{Tag}
 use Rattle.bay_ber.specs.Spelling.{octet_of}
 use Rattle.bay_ber.specs.Writing.{octets_needed, length_octets, element}
-use Rattle.bay_ber.specs.EncoderBuffers.{EncoderBuffer, short_value, empty, within, text_with, sheet_with, rewritten, close_sheet, message, value_around, behind, IsLength, IsEnd, HasTwoAt, IsOpen}
+use Rattle.bay_ber.specs.EncoderBuffers.{EncoderBuffer, short_value, empty, text_within_limit, text_with, sheet_with, wrap_as_value, close_sheet, message, value_around, with_headers, IsLength, IsEnd, HasTwoAt, IsOpen}
 
 -- a text longer than the limit is none
-pub past : (limit : ℕ) (text : List ℕ) → limit < length text → within limit text ≡ None
+pub past : (limit : ℕ) (text : List ℕ) → limit < length text → text_within_limit limit text ≡ None
 past limit text lt = rw (lt-ltb limit (length text) lt) refl
 
 -- a text within the limit stays as it is
-pub fits : (limit : ℕ) (text : List ℕ) → length text ≤ limit → within limit text ≡ Some text
+pub fits : (limit : ℕ) (text : List ℕ) → length text ≤ limit
+    → text_within_limit limit text ≡ Some text
 fits limit text le = rw (le-ltb limit (length text) le) refl
 
 -- ---- octets one behind another
@@ -91,7 +92,7 @@ length-tagged tag content =
 
 rewritten-joined : (limit : ℕ) (text : Option (List ℕ)) (start tag : ℕ) (content : List ℕ)
     → IsLength start text
-    → rewritten limit (text_with limit text (tag ∷ 0 ∷ content)) start
+    → wrap_as_value limit (text_with limit text (tag ∷ 0 ∷ content)) start
     ≡ text_with limit text (short_value tag content)
 rewritten-joined limit None start tag content at = refl
 rewritten-joined limit (Some text) start tag content at =
@@ -233,18 +234,19 @@ pub ruleset sheet_rules = (put-put, closed-put, is_open-put, put-item, closed-it
 
 -- ---- what an empty writer holds behind a text
 
-no-heads : (text : Option (List ℕ)) → behind [] text ≡ text
+no-heads : (text : Option (List ℕ)) → with_headers [] text ≡ text
 no-heads None = refl
 no-heads (Some text) = refl
 
-from-none : (limit : ℕ) (text : List ℕ) → text_with limit (Some []) text ≡ within limit text
+from-none : (limit : ℕ) (text : List ℕ)
+    → text_with limit (Some []) text ≡ text_within_limit limit text
 from-none limit text =
     let e : limit - 0 ≡ limit = omega arith in
     rw e refl
 
 -- of an empty writer
 pub message_put : (limit : ℕ) (text : List ℕ)
-    → message (sheet_with (empty limit) text) ≡ within limit text
+    → message (sheet_with (empty limit) text) ≡ text_within_limit limit text
 unfolding sheet_with message
 message_put limit text = no-heads (text_with limit (Some []) text) ∙ from-none limit text
 
@@ -266,7 +268,8 @@ limit-put sheet text = refl
 -- a value of what is within the limit, if that is
 pub within-longer : (f : List ℕ → List ℕ) (limit : ℕ) (text : List ℕ)
     → length text ≤ length (f text)
-    → (within limit text >>= λ octets. within limit (f octets)) ≡ within limit (f text)
+    → (text_within_limit limit text >>= λ octets. text_within_limit limit (f octets))
+    ≡ text_within_limit limit (f text)
 within-longer f limit text longer =
     elim (cases_lt limit (length text)) [
       | inl lt ↦ rw (past limit text lt) (sym (past limit (f text) (omega arith)))
@@ -276,7 +279,8 @@ within-longer f limit text longer =
 -- ---- heads
 
 front_of : (head heads : List ℕ) (text : Option (List ℕ))
-    → behind (head ++ heads) text ≡ option_map (λ octets. head ++ octets) (behind heads text)
+    → with_headers (head ++ heads) text
+    ≡ option_map (λ octets. head ++ octets) (with_headers heads text)
 front_of head heads None = refl
 front_of head heads (Some text) = ap (λ (ys : List ℕ). Some ys) (append_assoc head heads text)
 

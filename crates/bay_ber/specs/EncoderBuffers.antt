@@ -18,8 +18,8 @@ abbrev pub empty : ℕ → EncoderBuffer
 empty limit = record { limit = limit; heads = []; text = Some [] }
 
 -- a text, or None if it is longer than the limit
-abbrev pub within : ℕ → List ℕ → Option (List ℕ)
-within limit text = if nat_lt limit (length text) then None else Some text
+abbrev pub text_within_limit : ℕ → List ℕ → Option (List ℕ)
+text_within_limit limit text = if nat_lt limit (length text) then None else Some text
 
 -- a text with octets appended, or None if it gets longer than the limit
 abbrev pub text_with : ℕ → Option (List ℕ) → List ℕ → Option (List ℕ)
@@ -42,10 +42,11 @@ short_value octet content = octet ∷ (length_octets (length content) ++ content
 
 -- the text with the octets after position `start + 2` as the content of the value whose tag octet
 -- is at `start`; None if that is longer than the limit
-abbrev pub rewritten : ℕ → Option (List ℕ) → ℕ → Option (List ℕ)
-rewritten limit None start = None
-rewritten limit (Some text) start =
-    within limit (take start text ++ short_value (get_or text start 0) (drop (start + 2) text))
+abbrev pub wrap_as_value : ℕ → Option (List ℕ) → ℕ → Option (List ℕ)
+wrap_as_value limit None start = None
+wrap_as_value limit (Some text) start =
+    text_within_limit limit (take start text
+    ++ short_value (get_or text start 0) (drop (start + 2) text))
 
 -- the buffer with the value at `start` closed: all octets after its tag and the placeholder of its
 -- length become its content
@@ -54,7 +55,7 @@ close_sheet sheet start =
     record {
       limit = sheet.limit;
       heads = sheet.heads;
-      text = rewritten sheet.limit sheet.text start;
+      text = wrap_as_value sheet.limit sheet.text start;
     }
 
 -- the position is the length of the text, if there is one
@@ -76,17 +77,17 @@ unfoldable pub IsOpen : ℕ → EncoderBuffer → Type 0
 IsOpen place sheet = HasTwoAt place sheet.text
 
 -- the text after the headers, if there is one
-abbrev pub behind : List ℕ → Option (List ℕ) → Option (List ℕ)
-behind heads None = None
-behind heads (Some text) = Some (heads ++ text)
+abbrev pub with_headers : List ℕ → Option (List ℕ) → Option (List ℕ)
+with_headers heads None = None
+with_headers heads (Some text) = Some (heads ++ text)
 
 -- the message: the headers followed by the text, if there is one
 unfoldable pub message : EncoderBuffer → Option (List ℕ)
-message sheet = behind sheet.heads sheet.text
+message sheet = with_headers sheet.heads sheet.text
 
 -- a message as the content of a value, or None if that is longer than the limit
 abbrev pub value_around : Tag → ℕ → Option (List ℕ) → Option (List ℕ)
-value_around tag limit text = text >>= λ octets. within limit (element tag octets)
+value_around tag limit text = text >>= λ octets. text_within_limit limit (element tag octets)
 
 -- the text, or None if it got too long
 abbrev pub held_text : Bool → List ℕ → Option (List ℕ)

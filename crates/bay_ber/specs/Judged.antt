@@ -19,8 +19,8 @@ or_fault fault (Some x) = Ok x
 or_fault fault None = Err fault
 
 -- the verdict of a form: an input that spells nothing is refused with this fault
-abbrev pub wanted : {S A E : Type 0} → E → Form S A → S → Verdict A E
-wanted fault f s = record {
+abbrev pub form_verdict : {S A E : Type 0} → E → Form S A → S → Verdict A E
+form_verdict fault f s = record {
   answers = or_fault fault (f.reads s);
   Spells = f.Spells s;
   Refuses = λ e. (e ≡ fault) × ((x : _) → f.Spells s x → ⊥);

@@ -48,12 +48,12 @@ abbrev pub part_in : Reading → Part
 part_in r = record { tag = r.tag; content = r.content }
 
 -- values before others, if there are others (None stays None)
-abbrev pub onto : List Part → Option (List Part) → Option (List Part)
-onto front = option_map (λ parts. front ++ parts)
+abbrev pub prepend_values : List Part → Option (List Part) → Option (List Part)
+prepend_values front = option_map (λ parts. front ++ parts)
 
 -- a value that was read, before those in the rest, if the rest are values
 abbrev pub with_front : Result Reading BerFault → (List ℕ → Option (List Part)) → Option (List Part)
-with_front (Ok r) rest = onto (part_in r ∷ []) (rest r.rest)
+with_front (Ok r) rest = prepend_values (part_in r ∷ []) (rest r.rest)
 with_front (Err fault) rest = None
 
 -- the values that the octets encode, if there are at most `most`
@@ -86,17 +86,18 @@ abbrev pub few_in : List ℕ → Option (List Part)
 few_in octets = values_in octets >>= at_most_five
 
 -- whether the value's tag is one of these
-abbrev pub is_known : List Tag → Part → Bool
-is_known tags part = list_any (λ tag. same_tag part.tag tag) tags
+abbrev pub has_tag_among : List Tag → Part → Bool
+has_tag_among tags part = list_any (λ tag. same_tag part.tag tag) tags
 
 -- the known values with this one appended, if its tag is one of these
-abbrev pub with_known : List Tag → List Part → Part → List Part
-with_known tags known part = if is_known tags part then known ++ part ∷ [] else known
+abbrev pub append_if_tagged : List Tag → List Part → Part → List Part
+append_if_tagged tags known part = if has_tag_among tags part then known ++ part ∷ [] else known
 
 -- of the values that the octets encode, those whose tags are among these, in order, if they are at
 -- most five
-unfoldable pub known_in : List Tag → List ℕ → Option (List Part)
-known_in tags octets = values_in octets >>= λ parts. at_most_five (filter (is_known tags) parts)
+unfoldable pub values_with_tags : List Tag → List ℕ → Option (List Part)
+values_with_tags tags octets =
+    values_in octets >>= λ parts. at_most_five (filter (has_tag_among tags) parts)
 
 -- the results of reading each value, or None if one can't be read
 abbrev pub all_of : {B : Type 0} → (Part → Option B) → List Part → Option (List B)
@@ -108,15 +109,16 @@ abbrev pub each_in : {B : Type 0} → (Part → Option B) → List ℕ → Optio
 each_in f octets = values_in octets >>= all_of f
 
 -- the content of a value, if the value has this tag (X.690 8.14)
-abbrev pub under : Tag → Part → Option (List ℕ)
-under tag part = if same_tag part.tag tag then Some part.content else None
+abbrev pub content_with_tag : Tag → Part → Option (List ℕ)
+content_with_tag tag part = if same_tag part.tag tag then Some part.content else None
 
 -- the integer of a value, if the value has this tag
 unfoldable pub integer_under : Tag → Part → Option ℤ
-integer_under tag part = under tag part >>= integer_in
+integer_under tag part = content_with_tag tag part >>= integer_in
 
 -- the result of reading the next value, and the octets left, by the function `values_in`
 abbrev pub NextIn : List ℕ → Result (Option Value) BerFault → List ℕ → Type 0
 NextIn old (Ok None) new = values_in old ≡ Some []
-NextIn old (Ok (Some value)) new = values_in old ≡ onto (part_of value ∷ []) (values_in new)
+NextIn old (Ok (Some value)) new =
+    values_in old ≡ prepend_values (part_of value ∷ []) (values_in new)
 NextIn old (Err fault) new = values_in old ≡ None

@@ -1,14 +1,14 @@
 // Selecting the values with known tags from consecutive values.
 ghost use Rattle.std.specs.Prelude.{◌≡◌, ◌≤◌, true, length, OnSome, IfNone};
-ghost use Rattle.bay_ber.specs.Values.{part_of, with_known, known_in};
+ghost use Rattle.bay_ber.specs.Values.{part_of, append_if_tagged, values_with_tags};
 ghost use Rattle.bay_ber.specs.Values as spec;
 
 use crate::tag::Tag;
 use crate::values::{Few, Value, Values};
 
 // Returns whether a value has one of these tags.
-fn is_known(value: &Value<'_>, tags: &[Tag]) -> bool
-    ensures { result ≡ spec.is_known tags.now (part_of value.now) }
+fn has_tag_among(value: &Value<'_>, tags: &[Tag]) -> bool
+    ensures { result ≡ spec.has_tag_among tags.now (part_of value.now) }
 {
     tags.iter().any(|tag| value.tag.is(*tag))
 }
@@ -18,12 +18,12 @@ fn is_known(value: &Value<'_>, tags: &[Tag]) -> bool
 fn add_known<'a>(known: &mut Few<'a>, value: Value<'a>, tags: &[Tag]) -> Option<()>
     requires { length known.old ≤ 5 }
     ensures some { OnSome result
-        ((known.new ≡ with_known tags.now known.old (part_of value.entry))
+        ((known.new ≡ append_if_tagged tags.now known.old (part_of value.entry))
         × (length known.new ≤ 5)) }
     ensures none { IfNone result
-        ((spec.is_known tags.now (part_of value.entry) ≡ true) × (5 ≤ length known.old)) }
+        ((spec.has_tag_among tags.now (part_of value.entry) ≡ true) × (5 ≤ length known.old)) }
 {
-    if is_known(&value, tags) {
+    if has_tag_among(&value, tags) {
         known.push(value)?;
     }
     Some(())
@@ -33,7 +33,7 @@ fn add_known<'a>(known: &mut Few<'a>, value: Value<'a>, tags: &[Tag]) -> Option<
 /// other values may have any tags (X.690 8.11). Returns `None` if the octets are not consecutive
 /// values, or if more than five values have one of the tags.
 pub fn known_values<'a>(octets: &'a [u8], tags: &[Tag]) -> Option<Few<'a>>
-    ensures { result ≡ known_in tags.now octets.now }
+    ensures { result ≡ values_with_tags tags.now octets.now }
 {
     let mut known = Few::new();
     let mut values = Values::new(octets);

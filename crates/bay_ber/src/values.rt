@@ -23,7 +23,8 @@ pub struct Value<'a> {
 impl<'a> Value<'a> {
     /// Returns the content if the value has this tag, and else `None`.
     pub fn content_with_tag(&self, tag: Tag) -> Option<&'a [u8]>
-        ensures { option_map (λ content. content.now) result ≡ spec.under tag (part_of self.now) }
+        ensures { option_map (λ content. content.now) result
+            ≡ spec.content_with_tag tag (part_of self.now) }
     {
         if self.tag.is(tag) {
             Some(self.content)

@@ -107,11 +107,11 @@ connection_after t octets = (connection_step t octets).left
 
 -- the octets to send for a PDU of MMS: a TSDU in the context of MMS, in data TPDUs of the agreed
 -- size
-abbrev pub sending_in : Option ℕ → Option AssociationTerms → List ℕ → List ℕ
-sending_in size None pdu = []
-sending_in size (Some terms) pdu =
+abbrev pub octets_to_send_in : Option ℕ → Option AssociationTerms → List ℕ → List ℕ
+octets_to_send_in size None pdu = []
+octets_to_send_in size (Some terms) pdu =
     data_tpdus size (transfer_text (user_text terms.contexts.mms pdu))
 
 -- the octets to send for a PDU of MMS on these terms
-abbrev pub sending : Terms → List ℕ → List ℕ
-sending terms pdu = sending_in terms.size (association_terms terms.phase) pdu
+abbrev pub octets_to_send : Terms → List ℕ → List ℕ
+octets_to_send terms pdu = octets_to_send_in terms.size (association_terms terms.phase) pdu

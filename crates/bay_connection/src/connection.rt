@@ -4,7 +4,7 @@ ghost use Rattle.bay_transport.specs.Doings.{start};
 ghost use Rattle.bay_transport.specs.Feeding.{IsGoing, size_agreed};
 ghost use Rattle.bay_mms_initiate.specs.Sizes.{IsPduSize};
 ghost use Rattle.bay_assoc.specs.Receives.{association_terms};
-ghost use Rattle.bay_connection.specs.ConnectionStates.{over_state, terms_of, data_tpdus, connection_after, sending};
+ghost use Rattle.bay_connection.specs.ConnectionStates.{over_state, terms_of, data_tpdus, connection_after, octets_to_send};
 ghost use Rattle.bay_connection.specs.Feeding.{Feeds, indication_of, IsOpenFor, LendsOnly};
 
 use crate::indication::FeedResult;
@@ -137,7 +137,7 @@ impl Connection {
     /// The association must be open. Fails only if an allocation fails.
     pub fn send(&self, mut pdu: Outgoing) -> Result<Outgoing, AllocError>
         requires { IsSome (association_terms self.now.talk.phase) }
-        ensures { IfOk result (λ octets. octets ≡ sending (terms_of self.now.talk) pdu) }
+        ensures { IfOk result (λ octets. octets ≡ octets_to_send (terms_of self.now.talk) pdu) }
     {
         let front = self.stack.assoc.data_prefix(pdu.as_slice());
         if pdu.front(front.as_slice()) {

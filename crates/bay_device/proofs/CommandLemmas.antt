@@ -5,7 +5,7 @@ use Rattle.bay_tree.specs.declared.leaf.Dbpos.{Dbpos}
 use Rattle.bay_nodes.specs.declared.switch.Switch.{Switch}
 use Rattle.bay_base.specs.declared.point.MeterField.{MeterField}
 use Rattle.bay_control.specs.Decisions as control
-use Rattle.bay_connection.specs.ConnectionStates.{Indication, answers, tells, releases, ends as ends-heard, fails, ConnectionState, Terms, indications, sending}
+use Rattle.bay_connection.specs.ConnectionStates.{Indication, answers, tells, releases, ends as ends-heard, fails, ConnectionState, Terms, indications, octets_to_send}
 use Rattle.bay_mms_services.specs.Answers.{pdu_answer}
 use Rattle.bay_mms_services.specs.Released.{AreTimed, Leaves}
 use Rattle.bay_mms_services.specs.Released as services
@@ -105,7 +105,8 @@ makes-said now a terms pdu s d makes =
           joined now s d.commands (pdu_answer c pdu b).commands makes.released
           (all-before now a terms s d (pdu_answer c pdu b).commands makes (commands-each c pdu b));
       replied =
-          λ some. not-empty (λ x. sent_on a (sending terms x)) d.sent (pdu_answer c pdu b).sent
+          λ some. not-empty (λ x. sent_on a (octets_to_send terms x)) d.sent
+          (pdu_answer c pdu b).sent
           (answer-sent c pdu b);
       sole = λ timed. sole-said c pdu b d.commands (makes.sole timed);
     }

@@ -14,7 +14,7 @@ use Rattle.bay_control.proofs.LeadsLemmas.{none-leads, two-lead}
 use Rattle.bay_connection.specs.ConnectionStates.{Indication, ConnectionState, answers, tells, releases, ends as ends-heard, fails, indications, connection_after}
 use Rattle.bay_mms_services.proofs.EntryLemmas.{request-leads}
 use Rattle.bay_mms_services.specs.Entries.{entries_in}
-use Rattle.bay_device.specs.Device.{State, device_at, bay_of, contact_taken}
+use Rattle.bay_device.specs.Device.{State, device_at, bay_of, device_after_contact}
 use Rattle.bay_device.specs.Entries.{Leading, entries_at, entries_close, entries_closed, entries_heard, entries_octets, entries_of_event, entries_on, entries_open, entries_recv, opens, entries_of_act}
 use Rattle.bay_device.specs.Receiving.{Done, ReceiveResult, client_at, after_indications, on_indication, after_pdu}
 use Rattle.bay_device.specs.Outcomes.{Outcome, close_outcome, without_connection, connection_at, contact_outcome, doubt_outcome, event_outcome, initial_connection, input_outcome, last_moment, lost_outcome, measure_outcome, nothing_done, octets_outcome, open_outcome, outcome, place_of, refusal_of, recv_after, recv_outcome, with_connection, without_owner}
@@ -168,10 +168,10 @@ led-advanced now s =
     refl
 
 led-contact : (now k : ℕ) (switch : Switch) (position : Dbpos) (s : State)
-    → Led [] s (contact_taken now k switch position s)
+    → Led [] s (device_after_contact now k switch position s)
 led-contact now k switch position s =
-    called (call.Contact k position) now s (contact_taken now k switch position s) refl refl
-    (λ a. opens-same s (contact_taken now k switch position s) a refl) refl
+    called (call.Contact k position) now s (device_after_contact now k switch position s) refl refl
+    (λ a. opens-same s (device_after_contact now k switch position s) a refl) refl
 
 -- ---- associations are opened and closed
 
@@ -371,7 +371,8 @@ module _ (now : ℕ) (s : State) (sized : length s.connections ≡ 8) where
       → Led [] s (contact_outcome now k position s o).after
   led-contacted k position None = nothing s
   led-contacted k position (Some switch) =
-      behind [] [] s (device_at now s) (contact_taken now k switch position (device_at now s))
+      behind [] [] s (device_at now s)
+      (device_after_contact now k switch position (device_at now s))
       (led-advanced now s) (led-contact now k switch position (device_at now s))
 
   -- what leaves controls and connections

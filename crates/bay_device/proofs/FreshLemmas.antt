@@ -23,7 +23,7 @@ use Rattle.bay_tree.specs.declared.leaf.Dbpos.TheVariants.{Bad}
 use Rattle.bay_tree.specs.declared.leaf.Leaf.TheVariants as leaf
 use Rattle.bay_tree.specs.declared.leaf.Quality.TheVariants.{Good, Invalid}
 use Rattle.bay_device.specs.Commands.{AreCommanded, IsReleasedAt}
-use Rattle.bay_device.specs.Device.{State, contact_taken, device_at, doubt_taken, inputs_lost, inputs_of, lost_taken, is_fresh, is_recent, point_value, after_scan}
+use Rattle.bay_device.specs.Device.{State, device_after_contact, device_at, device_after_bad_measure, inputs_lost, inputs_of, device_after_loss, is_fresh, is_recent, point_value, after_scan}
 use Rattle.bay_device.specs.Fresh.{Came, FreshAt, HasScan, IsFresh, IsSameProcess, Past, is_heard_after, is_heard}
 use Rattle.bay_device.specs.Outcomes.{Outcome, contact_outcome, doubt_outcome, event_outcome, input_outcome, last_moment, measure_outcome, outcome, refusal_of}
 use Rattle.bay_device.specs.Steps.{OfAssociation, Steps}
@@ -173,16 +173,16 @@ still-inputs s =
           all-false s.input_values (found-none _ _ (or_parts s.is_stale some h).1);
     }
 
-pub still-lost : (now : ℕ) (s : State) → Still s (lost_taken now s)
+pub still-lost : (now : ℕ) (s : State) → Still s (device_after_loss now s)
 still-lost now s =
     loss-passes (Still s) now
     (λ k switch t p.
     let w = still-contact now t k Bad (Some switch) in
-    still-then s t (contact_taken now k switch Bad t) p
+    still-then s t (device_after_contact now k switch Bad t) p
     (record { scans = w.scans; stale = w.stale; rows = w.rows; inputs = w.inputs }))
     (λ k field t p.
     let w = still-doubt now t k field (Some []) in
-    still-then s t (doubt_taken now k field t) p
+    still-then s t (device_after_bad_measure now k field t) p
     (record { scans = w.scans; stale = w.stale; rows = w.rows; inputs = w.inputs }))
     (λ t p. still-then s t (inputs_lost t) p (still-inputs t))
     (λ t p. record { scans = p.scans; stale = p.stale; rows = p.rows; inputs = p.inputs }) s

@@ -18,18 +18,21 @@ use Rattle.bay_control.specs.Requests.{is_reached}
 use Rattle.bay_control.specs.declared.selection.Execution.{Execution}
 use Rattle.bay_connection.specs.ConnectionStates.{ConnectionState}
 use Rattle.il_scan.specs.Scans.{Held}
-use Rattle.bay_device.specs.Device.{State, contact_taken, doubt_taken, inputs_lost, lost_taken, measures_lost, meter_lost, positions_lost}
+use Rattle.bay_device.specs.Device.{State, device_after_contact, device_after_bad_measure, inputs_lost, device_after_loss, measures_lost, meter_lost, positions_lost}
 use Rattle.bay_device.specs.declared.termination.PendingTermination.{PendingTermination}
 
 -- What a bad position, inputs that become FALSE and a doubt pass on, the loss passes on.
 module _ (P : State → Type 0) (now : ℕ)
-    (contact : (k : ℕ) (switch : Switch) (s : State) → P s → P (contact_taken now k switch Bad s))
-    (doubt : (k : ℕ) (field : MeterField) (s : State) → P s → P (doubt_taken now k field s)) where
+    (contact : (k : ℕ) (switch : Switch) (s : State) → P s
+    → P (device_after_contact now k switch Bad s))
+    (doubt : (k : ℕ) (field : MeterField) (s : State) → P s
+    → P (device_after_bad_measure now k field s)) where
   pub positions-pass : (k : ℕ) (switches : List Switch) (s : State) → P s
       → P (positions_lost now k switches s)
   positions-pass k [] s p = p
   positions-pass k (switch ∷ switches) s p =
-      positions-pass (k + 1) switches (contact_taken now k switch Bad s) (contact k switch s p)
+      positions-pass (k + 1) switches (device_after_contact now k switch Bad s)
+      (contact k switch s p)
 
   meter-passes : (k : ℕ) (s : State) → P s → P (meter_lost now k s)
   meter-passes k s p =
@@ -44,7 +47,7 @@ module _ (P : State → Type 0) (now : ℕ)
 
   pub loss-passes : ((s : State) → P s → P (inputs_lost s))
       → ((s : State) → P s → P (record s { is_lost = true })) → (s : State) → P s
-      → P (lost_taken now s)
+      → P (device_after_loss now s)
   loss-passes inputs noted s p =
       noted _ (measures-pass 0 s.meters _ (inputs _ (positions-pass 0 s.switches s p)))
 
@@ -91,13 +94,13 @@ positions-fixed now s k switches =
     positions-pass (λ t. fixed_of t ≡ fixed_of s) now (λ j switch t p. p) (λ j field t p. p) k
     switches s refl
 
-pub lost-fixed : (now : ℕ) (s : State) → fixed_of (lost_taken now s) ≡ fixed_of s
+pub lost-fixed : (now : ℕ) (s : State) → fixed_of (device_after_loss now s) ≡ fixed_of s
 lost-fixed now s =
     loss-passes (λ t. fixed_of t ≡ fixed_of s) now (λ k switch t p. p) (λ k field t p. p)
     (λ t p. p) (λ t p. p) s refl
 
 -- the interlocking values stay
-pub lost-keeps : (now : ℕ) (s : State) → Keeps s.rows (lost_taken now s).rows
+pub lost-keeps : (now : ℕ) (s : State) → Keeps s.rows (device_after_loss now s).rows
 lost-keeps now s =
     loss-passes (λ t. Keeps s.rows t.rows) now
     (λ k switch t p i x. keeps-contact t.switches k switch Bad now t.rows i x ∙ p i x)
@@ -124,7 +127,7 @@ abbrev pub operating_of : State → Operating
 operating_of s = record { controls = s.controls; due = s.due }
 
 still-operating : (now k : ℕ) (switch : Switch) (s : State)
-    → operating_of (contact_taken now k switch Bad s) ≡ operating_of s
+    → operating_of (device_after_contact now k switch Bad s) ≡ operating_of s
 still-operating now k switch s =
     ap (λ (b : Bool). let o : Operating = record {
       controls = record s.controls {
@@ -133,7 +136,7 @@ still-operating now k switch s =
       due = cond b None s.due;
     } in o) (never-done k s.controls.execution)
 
-pub lost-operating : (now : ℕ) (s : State) → operating_of (lost_taken now s) ≡ operating_of s
+pub lost-operating : (now : ℕ) (s : State) → operating_of (device_after_loss now s) ≡ operating_of s
 lost-operating now s =
     loss-passes (λ t. operating_of t ≡ operating_of s) now
     (λ k switch t p. still-operating now k switch t ∙ p) (λ k field t p. p) (λ t p. p) (λ t p. p)

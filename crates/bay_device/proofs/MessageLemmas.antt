@@ -2,7 +2,7 @@
 use Rattle.std.proofs.Common.{◌≡◌, ℕ, List, [], ◌∷◌, ◌++◌, length, map, take, Option, Some, None, IsSome, IfSome, Result, Ok, Err, refl, ap, ap₂, ◌∙◌}
 use Rattle.std.specs.Result.{IfOk, OnOk}
 use Rattle.bay_assoc.specs.declared.receive.AssociationTerms.{AssociationTerms}
-use Rattle.bay_connection.specs.ConnectionStates.{Terms, sending}
+use Rattle.bay_connection.specs.ConnectionStates.{Terms, octets_to_send}
 use Rattle.bay_mms_services.specs.Answers.{Answered}
 use Rattle.bay_mms_services.specs.Bay.{Bay}
 use Rattle.bay_mms_services.specs.declared.answer.Command.{Command}
@@ -40,7 +40,7 @@ pub answered-done : (a : ℕ) (terms : Terms) (x : Answered) (s : State) (sent m
     (commands obeyed : List Command) (before decisions : List ControlDecision) (b : Bay)
     (due : Option PendingTermination) → b ≡ x.after
     → due ≡ later_due s.due (due_if a terms x.ending)
-    → made ≡ sent ++ map (λ pdu. sent_on a (sending terms pdu)) x.sent
+    → made ≡ sent ++ map (λ pdu. sent_on a (octets_to_send terms pdu)) x.sent
     → obeyed ≡ commands ++ x.commands → decisions ≡ before ++ x.decisions
     → done (record (with_bay b s) { due = due }) made obeyed decisions
     ≡ answered_with a terms x (done s sent commands before)
@@ -54,7 +54,7 @@ answered-done a terms x s sent made commands obeyed before decisions b due after
     (record (with_bay x.after s) { due = later_due s.due (due_if a terms x.ending) }) y obeyed
     decisions) sends
     ∙ ap₂ (done (record (with_bay x.after s) { due = later_due s.due (due_if a terms x.ending) })
-    (sent ++ map (λ pdu. sent_on a (sending terms pdu)) x.sent)) does decides
+    (sent ++ map (λ pdu. sent_on a (octets_to_send terms pdu)) x.sent)) does decides
 
 pub all-ok : {T E : Type 0} (r : Result T E) (P R : T → Type 0) (S U V : Type 0) → IfOk r P
     → OnOk r S → OnOk r U → OnOk r V → ((x : T) → P x → S → U → V → R x) → IfOk r R

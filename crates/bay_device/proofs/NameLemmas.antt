@@ -19,7 +19,7 @@ use Rattle.bay_process.specs.Names.{field_names}
 use Rattle.bay_process.specs.Values.{with_count, is_operation, operation_counted, output_of, position_quality, rows_after_change, rows_after_contact, rows_after_doubt, rows_after_measure, has_position, tells_doubt, tells_measure, with_enabled, with_output, with_outputs, with_status}
 use Rattle.bay_mms_services.specs.Accepted.{AreNamedAlike}
 use Rattle.bay_mms_services.specs.Bay.{Bay}
-use Rattle.bay_device.specs.Device.{State, bay_of, lost_taken}
+use Rattle.bay_device.specs.Device.{State, bay_of, device_after_loss}
 use Rattle.bay_device.proofs.LostLemmas.{loss-passes}
 
 leaf-if : (b : Bool) (r : Row) (v : Leaf)
@@ -104,7 +104,7 @@ doubt-names names now rows =
 
 -- nor does the loss of the process
 pub alike-lost : (n : Bay) (now : ℕ) (s : State) → AreNamedAlike n (bay_of s)
-    → AreNamedAlike n (bay_of (lost_taken now s))
+    → AreNamedAlike n (bay_of (device_after_loss now s))
 alike-lost n now s alike =
     loss-passes (λ t. AreNamedAlike n (bay_of t)) now
     (λ k switch t p. record {

@@ -20,7 +20,7 @@ use Rattle.bay_device.specs.Receiving.{Done, ReceiveResult, client_at, after_ind
 use Rattle.bay_device.specs.Operates.{AreOperates, AreReplied, AreRepliedAt, IsReplied}
 use Rattle.bay_device.specs.Outcomes.{Outcome, close_outcome, connection_at, contact_outcome, doubt_outcome, event_outcome, input_outcome, last_moment, measure_outcome, nothing_done, octets_outcome, open_outcome, outcome, place_of, recv_outcome, refusal_of}
 use Rattle.bay_device.specs.Steps.{Steps}
-use Rattle.bay_device.specs.EntriesTold.{AreAgreed, behind_one, of_answer, pdus_in, connection_state_at, entries_of_close, entries_of_pdus, entries_of_recv, entries_of_step}
+use Rattle.bay_device.specs.EntriesTold.{AreAgreed, pdus_after_first, of_answer, pdus_in, connection_state_at, entries_of_close, entries_of_pdus, entries_of_recv, entries_of_step}
 use Rattle.bay_device.specs.declared.event.Event.{Event}
 use Rattle.bay_device.specs.declared.event.Event.TheVariants.{Open, Recv, Close, Contact, Input, Measure, BadMeasure, Lost, Scan}
 use Rattle.bay_device.specs.declared.event.Step.{Step}
@@ -195,7 +195,7 @@ behind-in reports [] x found = absurd (none-in x found)
 behind-in reports (pdu ∷ pdus) x found =
     behind-if reports pdu pdus (reports && is_report pdu) x (behind-in reports pdus x) found
 
-behind-one-in : (pdus : List (List ℕ)) (x : List ℕ) → Contains (behind_one pdus) x
+behind-one-in : (pdus : List (List ℕ)) (x : List ℕ) → Contains (pdus_after_first pdus) x
     → Contains pdus x
 behind-one-in [] x found = absurd (none-in x found)
 behind-one-in (pdu ∷ pdus) x found = Contains-append_right (pdu ∷ []) pdus x found
@@ -236,8 +236,8 @@ replied-heard : (now a : ℕ) (n : Bay) (is : List Indication) (pdus : List (Lis
     → Contains (operates_in (entries_of_pdus now a n is pdus)) x → IsReplied now a n is pdus x
 replied-heard now a n [] pdus x found = absurd (none-in x found)
 replied-heard now a n (answers octets ∷ is) pdus x found =
-    replied-later now a n (answers octets) is (behind_one pdus) pdus x (behind-one-in pdus)
-    (replied-heard now a n is (behind_one pdus) x found)
+    replied-later now a n (answers octets) is (pdus_after_first pdus) pdus x (behind-one-in pdus)
+    (replied-heard now a n is (pdus_after_first pdus) x found)
 replied-heard now a n (tells terms pdu ∷ is) pdus x found =
     let may : Bool = may_be_reported (answer_to pdu) in
     let response = first_response may pdus in

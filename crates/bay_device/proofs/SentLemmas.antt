@@ -1,7 +1,7 @@
 -- The PDU of MMS that is read in octets that are sent is the one that they send.
 use Rattle.std.proofs.Common.{◌≡◌, ◌≤◌, ◌<◌, ◌-◌, ℕ, pos, List, [], ◌∷◌, ◌++◌, length, Option, Some, None, IsSome, unwrap_or, refl, ap, sym, ◌∙◌, arith, append-nil, length-append}
 use Rattle.bay_base.specs.Options.{◌>>=◌}
-use Rattle.bay_ber.specs.Values.{Part, under, value, value_in, values_in}
+use Rattle.bay_ber.specs.Values.{Part, content_with_tag, value, value_in, values_in}
 use Rattle.bay_ber.specs.Writing.{element, integer_octets}
 use Rattle.bay_ber.specs.declared.tag.Tag.{Tag}
 use Rattle.bay_ber.proofs.BackLemmas.{one-read}
@@ -18,8 +18,8 @@ use Rattle.bay_assoc.specs.Tags.{application}
 use Rattle.bay_assoc.specs.Texts.{transfer_text, user_text}
 use Rattle.bay_assoc.specs.declared.receive.Phase.{Phase}
 use Rattle.bay_assoc.specs.declared.receive.Phase.TheVariants.{Idle, Open, Over, Failed}
-use Rattle.bay_connection.specs.ConnectionStates.{Terms, sending, sending_in}
-use Rattle.bay_mms_services.specs.Accepted.{behind_id}
+use Rattle.bay_connection.specs.ConnectionStates.{Terms, octets_to_send, octets_to_send_in}
+use Rattle.bay_mms_services.specs.Accepted.{part_after_id}
 use Rattle.bay_device.specs.EntriesTold.{only_tsdu, pdu_in, tsdu_in, user_data, value_of}
 use Rattle.bay_device.proofs.TalkLemmas.{IsOpen}
 
@@ -76,12 +76,14 @@ value-read id pdu short =
       length-element (constructed 0) pdu,
     ) in
     let some : length middle < 200000 = omega (arith, size, length-element sequence inner) in
-    ap (λ (o : Option Part). o >>= under (application 1) >>= value_in >>= under sequence
-    >>= values_in >>= behind_id >>= under (constructed 0))
+    ap (λ (o : Option Part). o >>= content_with_tag (application 1) >>= value_in
+    >>= content_with_tag sequence
+    >>= values_in >>= part_after_id >>= content_with_tag (constructed 0))
     (one-value (application 1) middle (omega arith) (omega (arith, some)))
-    ∙ ap (λ (o : Option Part). o >>= under sequence >>= values_in >>= behind_id
-    >>= under (constructed 0)) (one-value sequence inner (omega arith) (omega (arith, size)))
-    ∙ ap (λ (o : Option (List Part)). o >>= behind_id >>= under (constructed 0))
+    ∙ ap (λ (o : Option Part). o >>= content_with_tag sequence >>= values_in >>= part_after_id
+    >>= content_with_tag (constructed 0))
+    (one-value sequence inner (omega arith) (omega (arith, size)))
+    ∙ ap (λ (o : Option (List Part)). o >>= part_after_id >>= content_with_tag (constructed 0))
     (two-values int_tag (constructed 0) number pdu (omega arith) (omega arith) (omega (arith, n))
     (omega (arith, short)))
 
@@ -103,7 +105,7 @@ text-size id pdu short =
     )
 
 read-in : (size : Option ℕ) (phase : Phase) (pdu : List ℕ) → IsSome size → IsOpen phase
-    → length pdu ≤ 65000 → pdu_in (sending_in size (association_terms phase) pdu) ≡ pdu
+    → length pdu ≤ 65000 → pdu_in (octets_to_send_in size (association_terms phase) pdu) ≡ pdu
 read-in None phase pdu some is short = absurd (cc)
 read-in (Some n) Idle pdu some is short = absurd is
 read-in (Some n) (Open terms) pdu some is short =
@@ -116,5 +118,5 @@ read-in (Some n) Over pdu some is short = absurd is
 read-in (Some n) Failed pdu some is short = absurd is
 
 pub read-back : (terms : Terms) (pdu : List ℕ) → IsSome terms.size → IsOpen terms.phase
-    → length pdu ≤ 65000 → pdu_in (sending terms pdu) ≡ pdu
+    → length pdu ≤ 65000 → pdu_in (octets_to_send terms pdu) ≡ pdu
 read-back terms pdu some is short = read-in terms.size terms.phase pdu some is short

@@ -2,7 +2,7 @@
 use Rattle.std.specs.Prelude.{replicate}
 use Rattle.std.proofs.Common.{◌≡◌, ◌≤◌, ℕ, zero, suc, ℤ, Bool, true, false, cond, nat_lt, List, [], ◌∷◌, ◌++◌, map, slice_get, slice_set, Option, None, Some, IsSome, unwrap_or, Result, Ok, Err, refl, ap, ap₂, sym, ◌∙◌, subst, arith, append-nil, append_assoc}
 use Rattle.bay_base.specs.Options.{◌>>=◌}
-use Rattle.bay_ber.specs.Values.{Part, only_one, under, value_in, values_in}
+use Rattle.bay_ber.specs.Values.{Part, only_one, content_with_tag, value_in, values_in}
 use Rattle.bay_ber.proofs.ListingLemmas.{no-values}
 use Rattle.bay_nodes.specs.declared.switch.Switch.{Switch}
 use Rattle.bay_nodes.specs.Names.{switch_names, meter_names}
@@ -18,19 +18,19 @@ use Rattle.bay_assoc.specs.Receives.{association_terms}
 use Rattle.bay_assoc.specs.Sized.{IsSized}
 use Rattle.bay_assoc.specs.declared.receive.Phase.{Phase}
 use Rattle.bay_assoc.specs.declared.receive.Phase.TheVariants as phases
-use Rattle.bay_connection.specs.ConnectionStates.{Indication, ConnectionState, Terms, answers, tells, releases, ends as ends-heard, fails, indications, connection_after, sending}
+use Rattle.bay_connection.specs.ConnectionStates.{Indication, ConnectionState, Terms, answers, tells, releases, ends as ends-heard, fails, indications, connection_after, octets_to_send}
 use Rattle.bay_control.specs.Acts.{Entry}
 use Rattle.bay_control.specs.Decisions as control
 use Rattle.bay_control.specs.Decisions.{without_association}
 use Rattle.bay_control.specs.Happenings.{Leads}
-use Rattle.bay_mms_services.specs.Accepted.{AreNamedAlike, accepted_in, behind_id, first_response, may_be_reported, message_accepted, read_accepted, read_results, write_accepted, write_results}
+use Rattle.bay_mms_services.specs.Accepted.{AreNamedAlike, accepted_in, part_after_id, first_response, may_be_reported, message_accepted, read_accepted, read_results, write_accepted, write_results}
 use Rattle.bay_mms_services.specs.Answers.{Answered, pdu_answer}
 use Rattle.bay_mms_services.specs.Bay.{Bay}
 use Rattle.bay_mms_services.specs.Entries.{entries_in}
 use Rattle.bay_mms_services.specs.declared.client.ClientContext.{ClientContext}
 use Rattle.bay_mms_services.proofs.AcceptedLemmas.{alike-after, alike-still, none-read, none-written, response-tells}
 use Rattle.bay_mms_services.proofs.ShortLemmas.{AreShort, answer-short}
-use Rattle.bay_device.specs.Device.{State, device_at, bay_of, lost_taken, ran_at}
+use Rattle.bay_device.specs.Device.{State, device_at, bay_of, device_after_loss, ran_at}
 use Rattle.bay_device.specs.Entries.{IsIdle, Leading, opens, entries_at, entries_close, entries_closed, entries_heard, entries_octets, entries_of_event, entries_on, entries_open, entries_recv}
 use Rattle.bay_device.specs.Receiving.{Done, ReceiveResult, client_at, after_indications, on_indication, after_pdu, sent_on, size_of, with_sent}
 use Rattle.bay_device.specs.Outcomes.{Outcome, close_outcome, without_connection, closed_by, connection_at, contact_outcome, doubt_outcome, event_outcome, initial_connection, input_outcome, last_moment, lost_outcome, measure_outcome, nothing_done, octets_outcome, open_outcome, outcome, place_of, refusal_of, recv_after, recv_outcome, with_connection, without_owner}
@@ -55,13 +55,14 @@ no-value = ap (λ (o : Option (List Part)). o >>= only_one) no-values
 
 none-read-in : read_results [] ≡ None
 none-read-in =
-    ap (λ (o : Option Part). o >>= under (constructed 1) >>= values_in >>= behind_id
-    >>= under (constructed 4) >>= value_in >>= under (constructed 1) >>= values_in) no-value
+    ap (λ (o : Option Part). o >>= content_with_tag (constructed 1) >>= values_in >>= part_after_id
+    >>= content_with_tag (constructed 4) >>= value_in >>= content_with_tag (constructed 1)
+    >>= values_in) no-value
 
 none-written-in : write_results [] ≡ None
 none-written-in =
-    ap (λ (o : Option Part). o >>= under (constructed 1) >>= values_in >>= behind_id
-    >>= under (constructed 5) >>= values_in) no-value
+    ap (λ (o : Option Part). o >>= content_with_tag (constructed 1) >>= values_in >>= part_after_id
+    >>= content_with_tag (constructed 5) >>= values_in) no-value
 
 pub none-accepted : (now a : ℕ) (n : Bay) (m : Result Message MmsFault)
     → message_accepted now a n m [] ≡ []
@@ -98,7 +99,8 @@ size-small phases.Failed is = absurd is
 
 pdus-back : (a : ℕ) (terms : Terms) (pdus : List (List ℕ)) (later : List Sent) → IsSome terms.size
     → IsOpen terms.phase → AreShort pdus
-    → pdus_in (map (λ pdu. sent_on a (sending terms pdu)) pdus ++ later) ≡ pdus ++ pdus_in later
+    → pdus_in (map (λ pdu. sent_on a (octets_to_send terms pdu)) pdus ++ later)
+    ≡ pdus ++ pdus_in later
 pdus-back a terms [] later some is short = refl
 pdus-back a terms (pdu ∷ pdus) later some is short =
     ap₂ (λ (p : List ℕ) (ps : List (List ℕ)). p ∷ ps)
@@ -132,7 +134,7 @@ on-walks now a n (tells terms pdu) is d later entries can alike rest =
     let b : Bay = bay_of d.state in
     let x : Answered = pdu_answer c pdu b in
     let e : Done = after_pdu now a terms pdu d in
-    let sents : List Sent = map (λ p. sent_on a (sending terms p)) x.sent in
+    let sents : List Sent = map (λ p. sent_on a (octets_to_send terms p)) x.sent in
     let w : Walks now a n is (later e) e (entries e) = rest e (alike-after n c pdu b alike) in
     let small : c.size ≤ 65000 = size-small terms.phase can.1 in
     let back : pdus_in (sents ++ w.more) ≡ x.sent ++ pdus_in w.more =
@@ -449,7 +451,7 @@ module _ (n : Bay) (now : ℕ) (s : State) (alike : AreNamedAlike n (bay_of s))
       (lost_outcome now s) []
   lost-told =
       let t : State = device_at now s in
-      let left : (lost_taken now t).connections ≡ talks =
+      let left : (device_after_loss now t).connections ≡ talks =
       ap (λ (f : Fixed). f.connections) (lost-fixed now t) in
       record {
         told = refl;

@@ -3,7 +3,7 @@ use Rattle.std.specs.Prelude.{ℕ, ◌≡◌, ◌≢◌, ◌≤◌, true, false,
 use Rattle.bay_tree.specs.Rows.{leaf_of}
 use Rattle.bay_process.specs.Values.{is_truth}
 use Rattle.bay_control.specs.Decisions as control
-use Rattle.bay_mms_services.specs.Released.{releasing}
+use Rattle.bay_mms_services.specs.Released.{enable_name}
 use Rattle.bay_mms_services.specs.declared.answer.Command.{Command}
 use Rattle.bay_device.specs.Device.{State, is_fresh}
 use Rattle.bay_device.specs.declared.event.Event.{Event}
@@ -16,7 +16,7 @@ use Rattle.bay_device.specs.declared.fault.StepFault.{StepFault}
 pub record IsReleasedAt (now : ℕ) (s : State) (command : Command) : Type 0 where
   pub heard : s.is_lost ≡ false
   pub fresh : is_fresh now s ≡ true
-  pub enabled : is_truth true (leaf_of (releasing command.switch command.operation) s.rows) ≡ true
+  pub enabled : is_truth true (leaf_of (enable_name command.switch command.operation) s.rows) ≡ true
   pub idle : (control.controls_at now s.controls).execution ≡ None
 
 -- The commands of a step are released so, and a step with a command also sends something.

@@ -135,8 +135,8 @@ ended_at now s = missed_if (over_at now s) s.due
 -- scan stale, and after each of them the process is not lost
 
 -- the device after a reported position; if the switch's execution leads to this position, it ends
-abbrev pub contact_taken : ℕ → ℕ → Switch → Dbpos → State → State
-contact_taken now k switch position s =
+abbrev pub device_after_contact : ℕ → ℕ → Switch → Dbpos → State → State
+device_after_contact now k switch position s =
     let names = switch_names s.switches k switch in
     record s {
       rows = rows_after_contact names position now s.rows;
@@ -152,8 +152,8 @@ reached_at k position s =
     if is_done k position s.controls.execution then reached_report s.due else None
 
 -- the device after a reported value of an input; if it is another value, the last scan is stale
-abbrev pub input_taken : ℕ → Bool → Bool → State → State
-input_taken k value before s =
+abbrev pub device_after_input : ℕ → Bool → Bool → State → State
+device_after_input k value before s =
     record s {
       input_values = slice_set s.input_values k value;
       is_stale = s.is_stale || not (beq value before);
@@ -161,8 +161,8 @@ input_taken k value before s =
     }
 
 -- the device after a measured value of a meter
-abbrev pub measure_taken : ℕ → ℕ → MeterField → ℤ → State → State
-measure_taken now k field value s =
+abbrev pub device_after_measure : ℕ → ℕ → MeterField → ℤ → State → State
+device_after_measure now k field value s =
     let names = field_names field (meter_names k) in
     record s {
       rows = rows_after_measure names value now s.rows;
@@ -171,8 +171,8 @@ measure_taken now k field value s =
     }
 
 -- the device after the report that a measured value of a meter is invalid
-abbrev pub doubt_taken : ℕ → ℕ → MeterField → State → State
-doubt_taken now k field s =
+abbrev pub device_after_bad_measure : ℕ → ℕ → MeterField → State → State
+device_after_bad_measure now k field s =
     let names = field_names field (meter_names k) in
     record s {
       rows = rows_after_doubt names now s.rows;
@@ -186,7 +186,7 @@ doubt_taken now k field s =
 abbrev pub positions_lost : ℕ → ℕ → List Switch → State → State
 positions_lost now k [] s = s
 positions_lost now k (switch ∷ switches) s =
-    positions_lost now (k + 1) switches (contact_taken now k switch Bad s)
+    positions_lost now (k + 1) switches (device_after_contact now k switch Bad s)
 
 -- the device with all inputs FALSE; if one was TRUE, the last scan is stale
 abbrev pub inputs_lost : State → State
@@ -199,8 +199,10 @@ inputs_lost s =
 -- the device with all measured values of a meter invalid
 abbrev pub meter_lost : ℕ → ℕ → State → State
 meter_lost now k s =
-    doubt_taken now k PhaseC (doubt_taken now k PhaseB (doubt_taken now k PhaseA
-    (doubt_taken now k Hz (doubt_taken now k TotVAr (doubt_taken now k TotW s)))))
+    device_after_bad_measure now k PhaseC
+    (device_after_bad_measure now k PhaseB (device_after_bad_measure now k PhaseA
+    (device_after_bad_measure now k Hz
+    (device_after_bad_measure now k TotVAr (device_after_bad_measure now k TotW s)))))
 
 -- the device with all measured values of the meters invalid, the first of which has index k
 abbrev pub measures_lost : ℕ → ℕ → List (List ℕ) → State → State
@@ -208,8 +210,8 @@ measures_lost now k [] s = s
 measures_lost now k (id ∷ ids) s = measures_lost now (k + 1) ids (meter_lost now k s)
 
 -- Each position is bad, each input FALSE and each measured value invalid, and the process is lost.
-abbrev pub lost_taken : ℕ → State → State
-lost_taken now s =
+abbrev pub device_after_loss : ℕ → State → State
+device_after_loss now s =
     record (measures_lost now 0 s.meters (inputs_lost (positions_lost now 0 s.switches s)))
     { is_lost = true }
 

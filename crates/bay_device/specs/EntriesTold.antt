@@ -3,7 +3,7 @@
 -- of the device.
 use Rattle.std.specs.Prelude.{ℕ, ◌≡◌, Bool, List, [], ◌∷◌, ◌++◌, map, slice_get, slice_set, unwrap_or, Option, None, Some, Result, Ok, Err}
 use Rattle.bay_base.specs.Options.{◌>>=◌}
-use Rattle.bay_ber.specs.Values.{under, value_in, values_in}
+use Rattle.bay_ber.specs.Values.{content_with_tag, value_in, values_in}
 use Rattle.bay_mms.specs.Grammar.{answer_to}
 use Rattle.bay_ber.specs.Tags.{constructed, sequence}
 use Rattle.bay_transport.specs.Doings.{Doing, Answers, Delivers, Ends, Fails, Going, run_of}
@@ -14,7 +14,7 @@ use Rattle.bay_connection.specs.ConnectionStates.{Indication, ConnectionState, a
 use Rattle.bay_control.specs.Acts.{Opened, Closed, Entry}
 use Rattle.bay_control.specs.Decisions as control
 use Rattle.bay_control.specs.Happenings.{Leads}
-use Rattle.bay_mms_services.specs.Accepted.{AreNamedAlike, accepted_in, behind_id, first_response, may_be_reported}
+use Rattle.bay_mms_services.specs.Accepted.{AreNamedAlike, accepted_in, part_after_id, first_response, may_be_reported}
 use Rattle.bay_mms_services.specs.Bay.{Bay}
 use Rattle.bay_device.specs.Device.{State, bay_of}
 use Rattle.bay_device.specs.Entries.{opens, entries_of_act}
@@ -54,8 +54,9 @@ user_data (transfer user) = Some user
 -- the value in a presentation context
 abbrev pub value_of : List ℕ → Option (List ℕ)
 value_of user =
-    value_in user >>= under (application 1) >>= value_in >>= under sequence >>= values_in
-    >>= behind_id >>= under (constructed 0)
+    value_in user >>= content_with_tag (application 1) >>= value_in >>= content_with_tag sequence
+    >>= values_in
+    >>= part_after_id >>= content_with_tag (constructed 0)
 
 -- the PDU of MMS in octets; empty if there is none
 abbrev pub pdu_in : List ℕ → List ℕ
@@ -68,16 +69,16 @@ pdus_in sent = map (λ s. pdu_in s.octets) sent
 -- ---- octets received
 
 -- the PDUs after the first
-abbrev pub behind_one : List (List ℕ) → List (List ℕ)
-behind_one [] = []
-behind_one (pdu ∷ pdus) = pdus
+abbrev pub pdus_after_first : List (List ℕ) → List (List ℕ)
+pdus_after_first [] = []
+pdus_after_first (pdu ∷ pdus) = pdus
 
 -- The entries of the indications, in their order, with the PDUs that were sent: each request and
 -- each PDU of MMS has its answer among them. If nothing was sent, nothing was accepted.
 abbrev pub entries_of_pdus : ℕ → ℕ → Bay → List Indication → List (List ℕ) → List Entry
 entries_of_pdus now a names [] pdus = []
 entries_of_pdus now a names (answers octets ∷ is) pdus =
-    entries_of_pdus now a names is (behind_one pdus)
+    entries_of_pdus now a names is (pdus_after_first pdus)
 entries_of_pdus now a names (tells terms pdu ∷ is) pdus =
     let response = first_response (may_be_reported (answer_to pdu)) pdus in
     accepted_in now a pdu names response.0 ++ entries_of_pdus now a names is response.1

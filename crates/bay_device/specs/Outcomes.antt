@@ -7,7 +7,7 @@ use Rattle.bay_transport.specs.Doings.{start}
 use Rattle.bay_assoc.specs.declared.receive.Phase.TheVariants.{Idle}
 use Rattle.bay_control.specs.Decisions.{without_association}
 use Rattle.bay_connection.specs.ConnectionStates.{ConnectionState, indications, connection_after}
-use Rattle.bay_device.specs.Device.{State, device_at, contact_taken, doubt_taken, ended_at, input_taken, lost_taken, measure_taken, ran_at, reached_at, after_scan}
+use Rattle.bay_device.specs.Device.{State, device_at, device_after_contact, device_after_bad_measure, ended_at, device_after_input, device_after_loss, device_after_measure, ran_at, reached_at, after_scan}
 use Rattle.bay_device.specs.Receiving.{Done, ReceiveResult, after_indications}
 use Rattle.bay_device.specs.declared.termination.PendingTermination.{PendingTermination}
 use Rattle.bay_device.specs.declared.event.Event.{Event}
@@ -54,26 +54,26 @@ abbrev pub contact_outcome : ℕ → ℕ → Dbpos → State → Option Switch �
 contact_outcome now k position s None = refusal_of NoSuchPoint s
 contact_outcome now k position s (Some switch) =
     quiet (or_else (ended_at now s) (reached_at k position (device_at now s)))
-    (contact_taken now k switch position (device_at now s))
+    (device_after_contact now k switch position (device_at now s))
 
 abbrev pub input_outcome : ℕ → ℕ → Bool → State → Option Bool → Outcome
 input_outcome now k value s None = refusal_of NoSuchPoint s
 input_outcome now k value s (Some before) =
-    quiet (ended_at now s) (input_taken k value before (device_at now s))
+    quiet (ended_at now s) (device_after_input k value before (device_at now s))
 
 abbrev pub measure_outcome : ℕ → ℕ → MeterField → ℤ → State → Option (List ℕ) → Outcome
 measure_outcome now k field value s None = refusal_of NoSuchPoint s
 measure_outcome now k field value s (Some id) =
-    quiet (ended_at now s) (measure_taken now k field value (device_at now s))
+    quiet (ended_at now s) (device_after_measure now k field value (device_at now s))
 
 abbrev pub doubt_outcome : ℕ → ℕ → MeterField → State → Option (List ℕ) → Outcome
 doubt_outcome now k field s None = refusal_of NoSuchPoint s
 doubt_outcome now k field s (Some id) =
-    quiet (ended_at now s) (doubt_taken now k field (device_at now s))
+    quiet (ended_at now s) (device_after_bad_measure now k field (device_at now s))
 
 -- the outcome of the loss of the process
 abbrev pub lost_outcome : ℕ → State → Outcome
-lost_outcome now s = quiet (ended_at now s) (lost_taken now (device_at now s))
+lost_outcome now s = quiet (ended_at now s) (device_after_loss now (device_at now s))
 
 -- the answer of a scan, with its number of steps
 abbrev pub scan_step : Scanned → Step

@@ -2,7 +2,7 @@
 use Rattle.std.specs.Prelude.{ℕ, zero, suc, List, [], ◌∷◌, ◌++◌, map, Option, None, Some}
 use Rattle.bay_assoc.specs.Receives.{association_terms}
 use Rattle.bay_assoc.specs.declared.receive.AssociationTerms.{AssociationTerms}
-use Rattle.bay_connection.specs.ConnectionStates.{Indication, answers, tells, releases, ends, fails, Terms, sending}
+use Rattle.bay_connection.specs.ConnectionStates.{Indication, answers, tells, releases, ends, fails, Terms, octets_to_send}
 use Rattle.bay_mms_services.specs.Answers.{Answered, pdu_answer}
 use Rattle.bay_mms_services.specs.declared.answer.Command.{Command}
 use Rattle.bay_mms_services.specs.declared.answer.ControlDecision.{ControlDecision}
@@ -48,7 +48,7 @@ client_at now a terms s =
 -- the octets that carry a report, if there is one
 abbrev pub sending_if : Terms → Option (List ℕ) → Option (List ℕ)
 sending_if terms None = None
-sending_if terms (Some pdu) = Some (sending terms pdu)
+sending_if terms (Some pdu) = Some (octets_to_send terms pdu)
 
 -- the pending reports for the end of an operate
 abbrev pub due_of : ℕ → Terms → TerminationReports → PendingTermination
@@ -74,7 +74,7 @@ abbrev pub answered_with : ℕ → Terms → Answered → Done → Done
 answered_with a terms x d = record {
   state = record (with_bay x.after d.state)
       { due = later_due d.state.due (due_if a terms x.ending) };
-  sent = d.sent ++ map (λ pdu. sent_on a (sending terms pdu)) x.sent;
+  sent = d.sent ++ map (λ pdu. sent_on a (octets_to_send terms pdu)) x.sent;
   commands = d.commands ++ x.commands;
   decisions = d.decisions ++ x.decisions;
 }

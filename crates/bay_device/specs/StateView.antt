@@ -1,7 +1,7 @@
 -- The state of the definitions for a state of the code, apart from its clients.
 use Rattle.std.specs.Prelude.{List, Option}
 use Rattle.bay_connection.specs.ConnectionStates.{ConnectionState}
-use Rattle.bay_mms_services.specs.Views.{controls_left}
+use Rattle.bay_mms_services.specs.Views.{controls_view}
 use Rattle.bay_device.specs.Device.{State}
 use Rattle.bay_process.specs.Layout.{switches_of, meters_of}
 use Rattle.bay_device.specs.declared.state.DeviceState.{DeviceState}
@@ -26,7 +26,7 @@ state_view connections d = record {
   last_scan = d.last_scan;
   is_stale = d.is_stale;
   is_lost = d.is_lost;
-  controls = controls_left d.bay d.bay.controls;
+  controls = controls_view d.bay d.bay.controls;
   due = d.due;
   connections = connections;
 }

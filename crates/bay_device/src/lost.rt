@@ -2,7 +2,7 @@
 ghost use Rattle.std.specs.Prelude.{◌≡◌, ◌<◌, List, Option, length};
 ghost use Rattle.bay_connection.specs.ConnectionStates.{ConnectionState};
 ghost use Rattle.bay_process.specs.Layout.{meters_of, switches_of};
-ghost use Rattle.bay_device.specs.Device.{device_at, doubt_taken, ended_at, lost_taken, measures_lost, meter_lost, positions_lost};
+ghost use Rattle.bay_device.specs.Device.{device_at, device_after_bad_measure, ended_at, device_after_loss, measures_lost, meter_lost, positions_lost};
 ghost use Rattle.bay_device.specs.StateView.{state_view};
 
 use crate::event::Sent;
@@ -17,7 +17,7 @@ impl DeviceState {
         requires { meter < length self.old.meters }
         ensures after { (connections : List (Option ConnectionState))
             → state_view connections self.new
-            ≡ doubt_taken now meter field (state_view connections self.old) }
+            ≡ device_after_bad_measure now meter field (state_view connections self.old) }
         ensures meters { self.new.meters ≡ self.old.meters }
     {
         let rows = self.meters.as_slice()[meter].rows;
@@ -73,7 +73,7 @@ impl DeviceState {
             → result ≡ ended_at now (state_view connections self.old) }
         ensures after { (connections : List (Option ConnectionState))
             → state_view connections self.new
-            ≡ lost_taken now (device_at now (state_view connections self.old)) }
+            ≡ device_after_loss now (device_at now (state_view connections self.old)) }
     {
         let over = self.advance(now);
         self.lose_positions(now);

@@ -1,7 +1,7 @@
 // Answers a PDU of a client. Its effects take place once the whole answer is built.
 ghost use Rattle.std.specs.Prelude.{◌≡◌, ◌≤◌, ◌++◌, List, Option, [], All, IfOk, IfSome, IsSome, OnErr, OnOk, length, map, take};
 ghost use Rattle.bay_assoc.specs.Receives.{association_terms};
-ghost use Rattle.bay_connection.specs.ConnectionStates.{ConnectionState, sending, terms_of};
+ghost use Rattle.bay_connection.specs.ConnectionStates.{ConnectionState, octets_to_send, terms_of};
 ghost use Rattle.bay_mms_initiate.specs.Sizes.{IsPduSize};
 ghost use Rattle.bay_mms_services.specs.Answers.{pdu_answer};
 ghost use Rattle.bay_device.specs.Device.{bay_of};
@@ -117,7 +117,8 @@ fn send_all(
     requires { IsSome (association_terms connection.now.talk.phase) }
     ensures ok { OnOk result
         (sent.new.items ≡ sent.old.items
-        ++ map (λ pdu. sent_on association (sending (terms_of connection.now.talk) pdu)) pdus.items) }
+        ++ map (λ pdu. sent_on association (octets_to_send (terms_of connection.now.talk) pdu))
+        pdus.items) }
     ensures kept { take (length sent.old.items) sent.new.items ≡ sent.old.items }
 {
     for pdu in pdus {
@@ -144,7 +145,7 @@ fn reply(
         (λ due. due ≡ spec.due_if association (terms_of connection.now.talk) answer.ending) }
     ensures sent { OnOk result
         (made.new.sent.items ≡ made.old.sent.items
-        ++ map (λ pdu. sent_on association (sending (terms_of connection.now.talk) pdu))
+        ++ map (λ pdu. sent_on association (octets_to_send (terms_of connection.now.talk) pdu))
         answer.sent.items) }
     ensures commands { OnOk result
         (made.new.commands.items ≡ made.old.commands.items ++ answer.commands.items) }

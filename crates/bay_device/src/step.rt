@@ -7,7 +7,7 @@ ghost use Rattle.bay_nodes.specs.declared.switch.Switch.{Switch};
 ghost use Rattle.bay_process.specs.Layout.{AreLeafTyped, AreMetersLeafTyped, layout_of, switches_of};
 ghost use Rattle.bay_process.specs.Scans.{bound_value};
 ghost use Rattle.bay_process.specs.Sources.{type_of_source};
-ghost use Rattle.bay_device.specs.Device.{device_at, contact_taken, ended_at, ran_at, reached_at, after_scan};
+ghost use Rattle.bay_device.specs.Device.{device_at, device_after_contact, ended_at, ran_at, reached_at, after_scan};
 ghost use Rattle.bay_device.specs.Device as spec;
 ghost use Rattle.bay_device.specs.Meaning.{Halts};
 ghost use Rattle.bay_device.specs.Outcomes.{event_outcome, without_owner};
@@ -116,7 +116,7 @@ impl DeviceState {
         ensures after { (connections : List (Option ConnectionState)) (s : Switch)
             → slice_get (switches_of self.old.bay.switches) switch ≡ Some s
             → state_view connections self.new
-            ≡ contact_taken now switch s position (state_view connections self.old) }
+            ≡ device_after_contact now switch s position (state_view connections self.old) }
     {
         let changed = process::contact(&mut self.bay, now, switch, position);
         self.unread = self.unread.with(self.spans.as_slice()[switch]);

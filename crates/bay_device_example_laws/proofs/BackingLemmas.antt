@@ -6,7 +6,7 @@ use Rattle.std.proofs.lemmas.List.Sums.{AllPass-from_list_all}
 use Rattle.bay_control.specs.Acts.{Closed, Entry, Opened, Select, SelectWith}
 use Rattle.bay_control.specs.Backing.{IsBacked, choice_of, grants, undoes}
 use Rattle.bay_control.specs.declared.control.SwitchControl.{SwitchControl}
-use Rattle.bay_device_example_laws.specs.Selects.{IsBackedBehind, IsMatchedBehind, accepted, cancelled, enhanced_switch, leaving, one_switch, operated, refused, selected_by, selected_with}
+use Rattle.bay_device_example_laws.specs.Selects.{IsBackedBehind, IsMatchedBehind, accepted_entry, cancel_entry, enhanced_switch, unrelated_entries, one_switch, operate_entry, refused_select, selected_by, selected_with}
 use Rattle.bay_device_example_laws.proofs.SplitLemmas.{none-there, one-there, two-there}
 use Rattle.bay_control.specs.declared.request.Choice.{Choice}
 
@@ -23,16 +23,17 @@ own-backs choice = record {
 }
 
 -- none of these undoes the select
-stays : (choice : Choice) → All (λ (e : Entry). undoes 1 0 e ≡ false) (leaving choice)
+stays : (choice : Choice) → All (λ (e : Entry). undoes 1 0 e ≡ false) (unrelated_entries choice)
 stays choice k d lt = not-true _
-    (AllPass-from_list_all (λ (e : Entry). not (undoes 1 0 e)) (leaving choice) refl k d lt)
+    (AllPass-from_list_all (λ (e : Entry). not (undoes 1 0 e)) (unrelated_entries choice) refl k d
+    lt)
 
 pub left-backs : (choice : Choice)
-    → IsBackedBehind choice 1999 (selected_by 1 ∷ leaving choice)
+    → IsBackedBehind choice 1999 (selected_by 1 ∷ unrelated_entries choice)
 left-backs choice = record {
   earlier = [];
   select = selected_by 1;
-  between = leaving choice;
+  between = unrelated_entries choice;
   split = refl;
   granted = refl;
   stands = stays choice;
@@ -50,9 +51,10 @@ over-backs-none choice h =
 pub nothing-backs : (choice : Choice) → IsBackedBehind choice 1999 [] → ⊥
 nothing-backs choice h = none-there h.earlier h.between h.select h.split
 
-pub refused-backs-none : (choice : Choice) → IsBackedBehind choice 1999 (refused ∷ []) → ⊥
+pub refused-backs-none : (choice : Choice) → IsBackedBehind choice 1999 (refused_select ∷ []) → ⊥
 refused-backs-none choice h =
-    let same : h.select ≡ refused = one-there refused h.earlier h.between h.select h.split in
+    let same : h.select ≡ refused_select =
+    one-there refused_select h.earlier h.between h.select h.split in
     let own : false ≡ true = subst (λ (e : Entry). grants 1 0 e ≡ true) same h.granted in
     absurd cc
 
@@ -78,23 +80,24 @@ undone controls choice now e f undoing other h =
     (two-there e f h.earlier h.between h.select h.split)
 
 pub cancelled-backs-none : (choice : Choice)
-    → IsBackedBehind choice 1999 (selected_by 1 ∷ cancelled ∷ []) → ⊥
-cancelled-backs-none choice h = undone one_switch choice 1999 (selected_by 1) cancelled refl refl h
+    → IsBackedBehind choice 1999 (selected_by 1 ∷ cancel_entry ∷ []) → ⊥
+cancelled-backs-none choice h =
+    undone one_switch choice 1999 (selected_by 1) cancel_entry refl refl h
 
 pub used-backs-none : (choice : Choice)
-    → IsBackedBehind choice 1999 (selected_by 1 ∷ operated choice ∷ []) → ⊥
+    → IsBackedBehind choice 1999 (selected_by 1 ∷ operate_entry choice ∷ []) → ⊥
 used-backs-none choice h =
-    undone one_switch choice 1999 (selected_by 1) (operated choice) refl refl h
+    undone one_switch choice 1999 (selected_by 1) (operate_entry choice) refl refl h
 
 pub closed-backs-none : (choice : Choice)
-    → IsBackedBehind choice 1999 (selected_by 1 ∷ accepted (Closed 1) ∷ []) → ⊥
+    → IsBackedBehind choice 1999 (selected_by 1 ∷ accepted_entry (Closed 1) ∷ []) → ⊥
 closed-backs-none choice h =
-    undone one_switch choice 1999 (selected_by 1) (accepted (Closed 1)) refl refl h
+    undone one_switch choice 1999 (selected_by 1) (accepted_entry (Closed 1)) refl refl h
 
 pub opened-backs-none : (choice : Choice)
-    → IsBackedBehind choice 1999 (selected_by 1 ∷ accepted (Opened 1) ∷ []) → ⊥
+    → IsBackedBehind choice 1999 (selected_by 1 ∷ accepted_entry (Opened 1) ∷ []) → ⊥
 opened-backs-none choice h =
-    undone one_switch choice 1999 (selected_by 1) (accepted (Opened 1)) refl refl h
+    undone one_switch choice 1999 (selected_by 1) (accepted_entry (Opened 1)) refl refl h
 
 pub taken-backs-none : (choice : Choice)
     → IsBackedBehind choice 1999 (selected_by 1 ∷ selected_by 2 ∷ []) → ⊥
@@ -102,9 +105,9 @@ taken-backs-none choice h =
     undone one_switch choice 1999 (selected_by 1) (selected_by 2) refl refl h
 
 pub moved-backs-none : (choice : Choice)
-    → IsBackedBehind choice 1999 (selected_by 1 ∷ accepted (Select 1 1) ∷ []) → ⊥
+    → IsBackedBehind choice 1999 (selected_by 1 ∷ accepted_entry (Select 1 1) ∷ []) → ⊥
 moved-backs-none choice h =
-    undone one_switch choice 1999 (selected_by 1) (accepted (Select 1 1)) refl refl h
+    undone one_switch choice 1999 (selected_by 1) (accepted_entry (Select 1 1)) refl refl h
 
 -- ---- enhanced security
 
@@ -156,23 +159,27 @@ earlier-backs-none asked choice differs h =
     (two-there (selected_with choice) (selected_with asked) h.earlier h.between h.select h.split)
 
 pub taken-matches-none : (choice : Choice)
-    → IsMatchedBehind choice (selected_with choice ∷ accepted (SelectWith 2 0 choice) ∷ []) → ⊥
+    → IsMatchedBehind choice (selected_with choice ∷ accepted_entry (SelectWith 2 0 choice) ∷ [])
+    → ⊥
 taken-matches-none choice h =
-    undone enhanced_switch choice 1999 (selected_with choice) (accepted (SelectWith 2 0 choice))
+    undone enhanced_switch choice 1999 (selected_with choice)
+    (accepted_entry (SelectWith 2 0 choice))
     refl
     refl h
 
 pub moved-matches-none : (choice : Choice)
-    → IsMatchedBehind choice (selected_with choice ∷ accepted (SelectWith 1 1 choice) ∷ []) → ⊥
+    → IsMatchedBehind choice (selected_with choice ∷ accepted_entry (SelectWith 1 1 choice) ∷ [])
+    → ⊥
 moved-matches-none choice h =
-    undone enhanced_switch choice 1999 (selected_with choice) (accepted (SelectWith 1 1 choice))
+    undone enhanced_switch choice 1999 (selected_with choice)
+    (accepted_entry (SelectWith 1 1 choice))
     refl
     refl h
 
 pub another-matches-none : (choice : Choice)
-    → IsMatchedBehind choice (accepted (SelectWith 2 0 choice) ∷ []) → ⊥
+    → IsMatchedBehind choice (accepted_entry (SelectWith 2 0 choice) ∷ []) → ⊥
 another-matches-none choice h =
-    let same : h.select ≡ accepted (SelectWith 2 0 choice) =
-    one-there (accepted (SelectWith 2 0 choice)) h.earlier h.between h.select h.split in
+    let same : h.select ≡ accepted_entry (SelectWith 2 0 choice) =
+    one-there (accepted_entry (SelectWith 2 0 choice)) h.earlier h.between h.select h.split in
     let own : false ≡ true = subst (λ (e : Entry). grants 1 0 e ≡ true) same h.granted in
     absurd cc

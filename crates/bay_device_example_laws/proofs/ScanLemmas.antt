@@ -15,7 +15,7 @@ use Rattle.bay_device.specs.declared.event.Step.{Step}
 use Rattle.bay_device.specs.declared.fault.StepFault.{StepFault}
 use Rattle.bay_tree.specs.declared.row.Row.{Row}
 use Rattle.bay_tree.specs.declared.leaf.Dbpos.TheVariants.{Off}
-use Rattle.bay_device_example_laws.specs.Scans.{contact_past, halting, lost_past, nothing, refused_past, scan_past, with_code, with_slot}
+use Rattle.bay_device_example_laws.specs.Scans.{contact_past, halting_device, lost_past, empty_program, refused_past, scan_past, with_code, with_slot}
 use Rattle.bay_device_example_laws.proofs.SplitLemmas.{all-one, none-there, one-there, two-there}
 
 pub recent-stands : (s : State) (step : Step) (age : ℕ) → HasScan age age (scan_past s step ∷ [])
@@ -89,7 +89,7 @@ pub lost-falls : (s t : State) (step : Step) (age : ℕ)
 lost-falls s t step age h = let no : false ≡ true = h.heard in absurd cc
 
 pub one-step : (s : State) (step : Step)
-    → HaltsAt 0 Scan (halting s) (Ok (record step { scan = Some 1 })) (halting s)
+    → HaltsAt 0 Scan (halting_device s) (Ok (record step { scan = Some 1 })) (halting_device s)
 unfolding run_from act is_place instr_at instr_from opcode_of
 one-step s step = λ _ _. record {
   halts = refl;
@@ -97,18 +97,18 @@ one-step s step = λ _ _. record {
 }
 
 pub no-step : (s : State) (step : Step)
-    → HaltsAt 0 Scan (halting s) (Ok (record step { scan = None })) (halting s) → ⊥
+    → HaltsAt 0 Scan (halting_device s) (Ok (record step { scan = None })) (halting_device s) → ⊥
 no-step s step h = h refl refl
 
 pub two-steps : (s : State) (step : Step)
-    → HaltsAt 0 Scan (halting s) (Ok (record step { scan = Some 2 })) (halting s) → ⊥
+    → HaltsAt 0 Scan (halting_device s) (Ok (record step { scan = Some 2 })) (halting_device s) → ⊥
 unfolding run_from act is_place instr_at instr_from opcode_of
 two-steps s step h =
     let no : (let e : Ending = Halted [] [] 1 in e) ≡ Halted [] [] 2 =
     (h refl refl).halts in absurd cc
 
 pub no-refusal : (s : State) (fault : StepFault)
-    → HaltsAt 0 Scan (halting s) (Err fault) (halting s) → ⊥
+    → HaltsAt 0 Scan (halting_device s) (Err fault) (halting_device s) → ⊥
 no-refusal s fault h = h refl refl
 
 never-ends : (s : State) (scan : Option ℕ)
@@ -123,22 +123,23 @@ pub no-end : (s : State) (step : Step)
 no-end s step h = never-ends s step.scan (h refl refl)
 
 pub same-means : (s : State) (step : Step)
-    → MeansAt nothing 0 Scan (halting s) (Ok step) (halting s)
+    → MeansAt empty_program 0 Scan (halting_device s) (Ok step) (halting_device s)
 same-means s step = λ _. record {
-  after = memory_of nothing [] [];
+  after = memory_of empty_program [] [];
   is = refl;
   keeps = refl;
   rows = refl;
 }
 
 pub no-slot : (s : State) (step : Step)
-    → MeansAt nothing 0 Scan (halting s) (Ok step) (with_slot s) → ⊥
+    → MeansAt empty_program 0 Scan (halting_device s) (Ok step) (with_slot s) → ⊥
 no-slot s step h =
-    let is : Some (memory_of nothing [] []) ≡ Some (h refl).after = (h refl).is in
-    let keeps : memory_of nothing (Truth true ∷ []) [] ≡ (h refl).after = (h refl).keeps in
-    let same : memory_of nothing (Truth true ∷ []) [] ≡ memory_of nothing [] [] = cc in
+    let is : Some (memory_of empty_program [] []) ≡ Some (h refl).after = (h refl).is in
+    let keeps : memory_of empty_program (Truth true ∷ []) [] ≡ (h refl).after = (h refl).keeps in
+    let same : memory_of empty_program (Truth true ∷ []) [] ≡ memory_of empty_program [] [] = cc in
     let no : Truth true ∷ [] ≡ [] = ap (λ (m : Memory). m.variables) same in absurd cc
 
 pub no-rows : (s : State) (step : Step) (rows : List Row) → rows ≢ s.rows
-    → MeansAt nothing 0 Scan (halting s) (Ok step) (record (halting s) { rows = rows }) → ⊥
+    → MeansAt empty_program 0 Scan (halting_device s) (Ok step)
+    (record (halting_device s) { rows = rows }) → ⊥
 no-rows s step rows other h = other (h refl).rows

@@ -9,12 +9,12 @@ use Rattle.bay_device.specs.Device.{State}
 use Rattle.bay_device.specs.declared.event.Step.{Step}
 
 -- the command to open switch 0
-abbrev pub opens : Command
-opens = record { switch = 0; operation = Open }
+abbrev pub open_command : Command
+open_command = record { switch = 0; operation = Open }
 
 -- the command to close switch 0
-abbrev pub closes : Command
-closes = record { switch = 0; operation = Close }
+abbrev pub close_command : Command
+close_command = record { switch = 0; operation = Close }
 
 -- the step has this command and no other, and sends something
 pub record Tells (command : Command) (step : Step) : Type 0 where
@@ -23,8 +23,8 @@ pub record Tells (command : Command) (step : Step) : Type 0 where
 
 -- a scan at time 5, whose maximum age is one second, has set EnaOpn of switch 0, and no switch
 -- operates
-abbrev pub released : State → State
-released s = record s {
+abbrev pub released_state : State → State
+released_state s = record s {
   scan_max_age_ms = 1000;
   last_scan = Some 5;
   is_stale = false;
@@ -34,8 +34,8 @@ released s = record s {
 }
 
 -- the same, but switch 0 began at time 5 to open, which takes half a second
-abbrev pub operating : State → State
-operating s = record (released s) {
+abbrev pub operating_state : State → State
+operating_state s = record (released_state s) {
   controls = record {
     controls = record { model = Direct; sbo_timeout_ms = 0; travel_ms = 500 } ∷ [];
     selection = None;
@@ -43,9 +43,10 @@ operating s = record (released s) {
   };
 }
 
--- as `released`, but with these two values below this node CILO, by the names that PROTOCOL gives
-abbrev pub interlocked : List ℕ → Bool → Bool → State → State
-interlocked node opn cls s = record (released s) {
+-- as `released_state`, but with these two values below this node CILO, by the names that PROTOCOL
+-- gives
+abbrev pub interlocked_state : List ℕ → Bool → Bool → State → State
+interlocked_state node opn cls s = record (released_state s) {
   rows = record { name = node ++ codes "$ST$EnaOpn$stVal"; leaf = Some (leaf.Truth opn) }
       ∷ record { name = node ++ codes "$ST$EnaCls$stVal"; leaf = Some (leaf.Truth cls) }
       ∷ [];

@@ -12,20 +12,20 @@ use Rattle.bay_device.specs.EntriesTold.{pdus_in, entries_of_step}
 use Rattle.bay_device.specs.declared.event.Event.{Event}
 use Rattle.bay_device.specs.declared.event.Event.TheVariants.{Recv}
 use Rattle.bay_device.specs.declared.event.Step.{Step}
-use Rattle.bay_device_example_laws.specs.Commands.{opens}
+use Rattle.bay_device_example_laws.specs.Commands.{open_command}
 
 -- the step, but with these commands
-abbrev pub telling : List Command → Step → Step
-telling commands step = record step { commands = commands }
+abbrev pub step_with_commands : List Command → Step → Step
+step_with_commands commands step = record step { commands = commands }
 
 -- the first octets of association 1 request to open switch 0, a response of the step accepts this,
 -- and the step accepts no other operate
 pub record IsAccepted (now : ℕ) (names : Bay) (octets : Bor (List ℕ)) (step : Step) : Type 0 where
   pub told : operates_in (entries_of_step now (Recv 1 octets) names
       (Some (initial_connection 1) ∷ []) step)
-      ≡ opens ∷ []
+      ≡ open_command ∷ []
   pub replied : AreReplied now 1 names octets.now (Some (initial_connection 1))
-      (telling (opens ∷ []) step)
+      (step_with_commands (open_command ∷ []) step)
 
 -- no response of the step accepts an operate of association 1
 abbrev pub IsRefused : ℕ → Bay → Step → Type 0

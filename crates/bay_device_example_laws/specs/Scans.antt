@@ -29,8 +29,8 @@ lost_past s step = record { now = 0; event = Lost; answer = Ok step; after = s }
 
 -- the device after a process reported a position of a breaker, an input and a measured value, the
 -- position and the measured value with a quality, by the names that PROTOCOL gives
-abbrev pub telling_process : Leaf → Leaf → Bool → Leaf → Leaf → State → State
-telling_process position quality input power doubt s = record s {
+abbrev pub state_after_reports : Leaf → Leaf → Bool → Leaf → Leaf → State → State
+state_after_reports position quality input power doubt s = record s {
   rows = record { name = codes "XCBR1$ST$Pos$stVal"; leaf = Some position }
       ∷ record { name = codes "XCBR1$ST$Pos$q"; leaf = Some quality }
       ∷ record { name = codes "MMXU1$MX$TotW$mag$i"; leaf = Some power }
@@ -40,8 +40,8 @@ telling_process position quality input power doubt s = record s {
 }
 
 -- whether the process is heard after its loss and this event
-abbrev pub is_heard_behind : Event → Result Step StepFault → State → Step → Bool
-is_heard_behind event answer s step =
+abbrev pub is_heard_after_loss : Event → Result Step StepFault → State → Step → Bool
+is_heard_after_loss event answer s step =
     is_heard (record { now = 0; event = event; answer = answer; after = s } ∷ lost_past s step ∷ [])
 
 -- the device with this code, without switches, points, variables and timers
@@ -58,15 +58,15 @@ with_code code s = record s {
 }
 
 -- the device with a program of HALT alone
-abbrev pub halting : State → State
-halting s = with_code (1 ∷ []) s
+abbrev pub halting_device : State → State
+halting_device s = with_code (1 ∷ []) s
 
 -- the device with a program of HALT alone, and with a slot that the program does not declare
 abbrev pub with_slot : State → State
-with_slot s = record (halting s) {
-  machine = record (halting s).machine { slots = Truth true ∷ [] };
+with_slot s = record (halting_device s) {
+  machine = record (halting_device s).machine { slots = Truth true ∷ [] };
 }
 
 -- the program of a text without declarations and lines
-abbrev pub nothing : Checked
-nothing = record { externals = []; variables = []; timers = []; items = [] }
+abbrev pub empty_program : Checked
+empty_program = record { externals = []; variables = []; timers = []; items = [] }

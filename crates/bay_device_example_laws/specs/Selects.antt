@@ -11,8 +11,8 @@ abbrev pub one_switch : List SwitchControl
 one_switch = record { model = Sbo; sbo_timeout_ms = 2000; travel_ms = 500 } ∷ []
 
 -- an act that was accepted at time 0
-abbrev pub accepted : Act → Entry
-accepted act = record { now = 0; act = act; is_accepted = true }
+abbrev pub accepted_entry : Act → Entry
+accepted_entry act = record { now = 0; act = act; is_accepted = true }
 
 -- an operate of that switch by association 1 at a time, after these acts, is backed
 abbrev pub IsBackedBehind : Choice → ℕ → List Entry → Type 0
@@ -20,25 +20,27 @@ IsBackedBehind choice now before = IsBacked one_switch 1 0 choice now before
 
 -- a select of the switch by an association
 abbrev pub selected_by : ℕ → Entry
-selected_by a = accepted (Select a 0)
+selected_by a = accepted_entry (Select a 0)
 
 -- a select that was refused
-abbrev pub refused : Entry
-refused = record (selected_by 1) { is_accepted = false }
+abbrev pub refused_select : Entry
+refused_select = record (selected_by 1) { is_accepted = false }
 
 -- a cancel, and an operate, of the switch by association 1
-abbrev pub cancelled : Entry
-cancelled = accepted (Cancel 1 0)
+abbrev pub cancel_entry : Entry
+cancel_entry = accepted_entry (Cancel 1 0)
 
-abbrev pub operated : Choice → Entry
-operated choice = accepted (Operate 1 0 choice)
+abbrev pub operate_entry : Choice → Entry
+operate_entry choice = accepted_entry (Operate 1 0 choice)
 
 -- acts that do not undo that select: acts of association 2 and on another switch, and a refused
 -- cancel
-abbrev pub leaving : Choice → List Entry
-leaving choice = accepted (Opened 2) ∷ accepted (Closed 2) ∷ accepted (Operate 2 0 choice)
-    ∷ accepted (Operate 1 1 choice) ∷ accepted (Cancel 2 0) ∷ accepted (Cancel 1 1)
-    ∷ record cancelled { is_accepted = false }
+abbrev pub unrelated_entries : Choice → List Entry
+unrelated_entries choice =
+    accepted_entry (Opened 2) ∷ accepted_entry (Closed 2) ∷ accepted_entry (Operate 2 0 choice)
+    ∷ accepted_entry (Operate 1 1 choice) ∷ accepted_entry (Cancel 2 0)
+    ∷ accepted_entry (Cancel 1 1)
+    ∷ record cancel_entry { is_accepted = false }
     ∷ record (selected_by 2) { is_accepted = false }
     ∷ []
 
@@ -47,7 +49,7 @@ abbrev pub enhanced_switch : List SwitchControl
 enhanced_switch = record { model = SboEnhanced; sbo_timeout_ms = 2000; travel_ms = 500 } ∷ []
 
 abbrev pub selected_with : Choice → Entry
-selected_with choice = accepted (SelectWith 1 0 choice)
+selected_with choice = accepted_entry (SelectWith 1 0 choice)
 
 -- an operate of that switch by association 1 in time, after these acts, is backed
 abbrev pub IsMatchedBehind : Choice → List Entry → Type 0

@@ -18,10 +18,10 @@ ghost use Rattle.bay_device.specs.declared.event.Event.{Event};
 ghost use Rattle.bay_device.specs.declared.event.Event.TheVariants.{BadMeasure, Close, Contact, Input, Lost, Measure, Open, Recv, Scan};
 ghost use Rattle.bay_device.specs.declared.event.Step.{Step};
 ghost use Rattle.bay_device.specs.declared.fault.StepFault.{StepFault};
-ghost use Rattle.bay_device_example_laws.specs.Commands.{Tells, closes, interlocked, opens, operating, released};
-ghost use Rattle.bay_device_example_laws.specs.Operates.{IsAccepted, IsOther, IsRefused, telling};
-ghost use Rattle.bay_device_example_laws.specs.Scans.{contact_past, halting, is_heard_behind, lost_past, nothing, refused_past, scan_past, telling_process, with_code, with_slot};
-ghost use Rattle.bay_device_example_laws.specs.Selects.{IsBackedBehind, IsMatchedBehind, accepted, cancelled, leaving, operated, refused, selected_by, selected_with};
+ghost use Rattle.bay_device_example_laws.specs.Commands.{Tells, close_command, interlocked_state, open_command, operating_state, released_state};
+ghost use Rattle.bay_device_example_laws.specs.Operates.{IsAccepted, IsOther, IsRefused, step_with_commands};
+ghost use Rattle.bay_device_example_laws.specs.Scans.{contact_past, halting_device, is_heard_after_loss, lost_past, empty_program, refused_past, scan_past, state_after_reports, with_code, with_slot};
+ghost use Rattle.bay_device_example_laws.specs.Selects.{IsBackedBehind, IsMatchedBehind, accepted_entry, cancel_entry, unrelated_entries, operate_entry, refused_select, selected_by, selected_with};
 
 /// A select backs an operate of the same switch by the same association until it expires after two
 /// seconds, also if other associations act, requests are refused or another switch is operated in
@@ -32,25 +32,26 @@ pub fn a_select_backs_its_own_operate()
     ensures backed { (choice : Choice)
         → IsBackedBehind choice 1999 (selected_by 1 ∷ []) }
     ensures left { (choice : Choice)
-        → IsBackedBehind choice 1999 (selected_by 1 ∷ leaving choice) }
+        → IsBackedBehind choice 1999 (selected_by 1 ∷ unrelated_entries choice) }
     ensures over { (choice : Choice)
         → IsBackedBehind choice 2000 (selected_by 1 ∷ []) → ⊥ }
     ensures missing { (choice : Choice) → IsBackedBehind choice 1999 [] → ⊥ }
     ensures of_another { (choice : Choice)
         → IsBackedBehind choice 1999 (selected_by 2 ∷ []) → ⊥ }
-    ensures cancelled { (choice : Choice)
-        → IsBackedBehind choice 1999 (selected_by 1 ∷ cancelled ∷ []) → ⊥ }
+    ensures cancel_entry { (choice : Choice)
+        → IsBackedBehind choice 1999 (selected_by 1 ∷ cancel_entry ∷ []) → ⊥ }
     ensures used { (choice : Choice)
-        → IsBackedBehind choice 1999 (selected_by 1 ∷ operated choice ∷ []) → ⊥ }
-    ensures refused { (choice : Choice) → IsBackedBehind choice 1999 (refused ∷ []) → ⊥ }
+        → IsBackedBehind choice 1999 (selected_by 1 ∷ operate_entry choice ∷ []) → ⊥ }
+    ensures refused_select { (choice : Choice) → IsBackedBehind choice 1999 (refused_select ∷ [])
+        → ⊥ }
     ensures closed { (choice : Choice)
-        → IsBackedBehind choice 1999 (selected_by 1 ∷ accepted (Closed 1) ∷ []) → ⊥ }
+        → IsBackedBehind choice 1999 (selected_by 1 ∷ accepted_entry (Closed 1) ∷ []) → ⊥ }
     ensures opened { (choice : Choice)
-        → IsBackedBehind choice 1999 (selected_by 1 ∷ accepted (Opened 1) ∷ []) → ⊥ }
+        → IsBackedBehind choice 1999 (selected_by 1 ∷ accepted_entry (Opened 1) ∷ []) → ⊥ }
     ensures taken { (choice : Choice)
         → IsBackedBehind choice 1999 (selected_by 1 ∷ selected_by 2 ∷ []) → ⊥ }
     ensures moved { (choice : Choice)
-        → IsBackedBehind choice 1999 (selected_by 1 ∷ accepted (Select 1 1) ∷ []) → ⊥ }
+        → IsBackedBehind choice 1999 (selected_by 1 ∷ accepted_entry (Select 1 1) ∷ []) → ⊥ }
 {}
 
 /// With enhanced security a select with value backs an operate with the same operation and
@@ -62,15 +63,17 @@ pub fn a_select_with_value_backs_what_it_asked_for()
     ensures other { (asked choice : Choice) → asked ≢ choice
         → IsMatchedBehind choice (selected_with asked ∷ []) → ⊥ }
     ensures of_another { (choice : Choice)
-        → IsMatchedBehind choice (accepted (SelectWith 2 0 choice) ∷ []) → ⊥ }
+        → IsMatchedBehind choice (accepted_entry (SelectWith 2 0 choice) ∷ []) → ⊥ }
     ensures plain { (choice : Choice) → IsMatchedBehind choice (selected_by 1 ∷ []) → ⊥ }
     ensures earlier { (asked choice : Choice) → asked ≢ choice
         → IsMatchedBehind choice (selected_with choice ∷ selected_with asked ∷ []) → ⊥ }
     ensures taken { (choice : Choice)
-        → IsMatchedBehind choice (selected_with choice ∷ accepted (SelectWith 2 0 choice) ∷ [])
+        → IsMatchedBehind choice
+        (selected_with choice ∷ accepted_entry (SelectWith 2 0 choice) ∷ [])
         → ⊥ }
     ensures moved { (choice : Choice)
-        → IsMatchedBehind choice (selected_with choice ∷ accepted (SelectWith 1 1 choice) ∷ [])
+        → IsMatchedBehind choice
+        (selected_with choice ∷ accepted_entry (SelectWith 1 1 choice) ∷ [])
         → ⊥ }
 {}
 
@@ -78,74 +81,81 @@ pub fn a_select_with_value_backs_what_it_asked_for()
 /// thing differs: there is no scan, the scan is too old or stale, the process is lost, the switch
 /// is not released, a switch is operating, or the step sends nothing.
 pub fn a_command_needs_each_of_its_parts()
-    ensures commanded { (s t : State) (event : Event) (step : Step) → Tells opens step
-        → CommandedAt 5 event (released s) (Ok step) t }
-    ensures unscanned { (s t : State) (event : Event) (step : Step) → Tells opens step
-        → CommandedAt 5 event (record (released s) { last_scan = None }) (Ok step) t → ⊥ }
-    ensures old { (s t : State) (event : Event) (step : Step) → Tells opens step
-        → CommandedAt 1006 event (released s) (Ok step) t → ⊥ }
-    ensures stale { (s t : State) (event : Event) (step : Step) → Tells opens step
-        → CommandedAt 5 event (record (released s) { is_stale = true }) (Ok step) t → ⊥ }
-    ensures lost { (s t : State) (event : Event) (step : Step) → Tells opens step
-        → CommandedAt 5 event (record (released s) { is_lost = true }) (Ok step) t → ⊥ }
-    ensures blocked { (s t : State) (event : Event) (step : Step) → Tells opens step
-        → CommandedAt 5 event (record (released s) { rows = [] }) (Ok step) t → ⊥ }
-    ensures busy { (s t : State) (event : Event) (step : Step) → Tells opens step
-        → CommandedAt 5 event (operating s) (Ok step) t → ⊥ }
-    ensures silent { (s t : State) (event : Event) (step : Step) → Tells opens step
-        → CommandedAt 5 event (released s) (Ok (record step { sent = [] })) t → ⊥ }
+    ensures commanded { (s t : State) (event : Event) (step : Step) → Tells open_command step
+        → CommandedAt 5 event (released_state s) (Ok step) t }
+    ensures unscanned { (s t : State) (event : Event) (step : Step) → Tells open_command step
+        → CommandedAt 5 event (record (released_state s) { last_scan = None }) (Ok step) t → ⊥ }
+    ensures old { (s t : State) (event : Event) (step : Step) → Tells open_command step
+        → CommandedAt 1006 event (released_state s) (Ok step) t → ⊥ }
+    ensures stale { (s t : State) (event : Event) (step : Step) → Tells open_command step
+        → CommandedAt 5 event (record (released_state s) { is_stale = true }) (Ok step) t → ⊥ }
+    ensures lost { (s t : State) (event : Event) (step : Step) → Tells open_command step
+        → CommandedAt 5 event (record (released_state s) { is_lost = true }) (Ok step) t → ⊥ }
+    ensures blocked { (s t : State) (event : Event) (step : Step) → Tells open_command step
+        → CommandedAt 5 event (record (released_state s) { rows = [] }) (Ok step) t → ⊥ }
+    ensures busy { (s t : State) (event : Event) (step : Step) → Tells open_command step
+        → CommandedAt 5 event (operating_state s) (Ok step) t → ⊥ }
+    ensures silent { (s t : State) (event : Event) (step : Step) → Tells open_command step
+        → CommandedAt 5 event (released_state s) (Ok (record step { sent = [] })) t → ⊥ }
 {}
 
 /// Each operation needs its own value: EnaCls of the switch releases a close whatever the value of
 /// EnaOpn, and EnaOpn an open whatever the value of EnaCls. A value that is FALSE releases nothing,
 /// and the values of another switch release nothing. CILO1 is the node of switch 0.
 pub fn a_close_needs_its_own_release()
-    ensures close { (opn : Bool) (s t : State) (event : Event) (step : Step) → Tells closes step
-        → CommandedAt 5 event (interlocked (codes "CILO1") opn true s) (Ok step) t }
-    ensures open { (cls : Bool) (s t : State) (event : Event) (step : Step) → Tells opens step
-        → CommandedAt 5 event (interlocked (codes "CILO1") true cls s) (Ok step) t }
-    ensures no_close { (opn : Bool) (s t : State) (event : Event) (step : Step) → Tells closes step
-        → CommandedAt 5 event (interlocked (codes "CILO1") opn false s) (Ok step) t → ⊥ }
-    ensures no_open { (cls : Bool) (s t : State) (event : Event) (step : Step) → Tells opens step
-        → CommandedAt 5 event (interlocked (codes "CILO1") false cls s) (Ok step) t → ⊥ }
-    ensures other_close { (s t : State) (event : Event) (step : Step) → Tells closes step
-        → CommandedAt 5 event (interlocked (codes "CILO2") true true s) (Ok step) t → ⊥ }
-    ensures other_open { (s t : State) (event : Event) (step : Step) → Tells opens step
-        → CommandedAt 5 event (interlocked (codes "CILO2") true true s) (Ok step) t → ⊥ }
+    ensures close { (opn : Bool) (s t : State) (event : Event) (step : Step)
+        → Tells close_command step
+        → CommandedAt 5 event (interlocked_state (codes "CILO1") opn true s) (Ok step) t }
+    ensures open { (cls : Bool) (s t : State) (event : Event) (step : Step)
+        → Tells open_command step
+        → CommandedAt 5 event (interlocked_state (codes "CILO1") true cls s) (Ok step) t }
+    ensures no_close { (opn : Bool) (s t : State) (event : Event) (step : Step)
+        → Tells close_command step
+        → CommandedAt 5 event (interlocked_state (codes "CILO1") opn false s) (Ok step) t → ⊥ }
+    ensures no_open { (cls : Bool) (s t : State) (event : Event) (step : Step)
+        → Tells open_command step
+        → CommandedAt 5 event (interlocked_state (codes "CILO1") false cls s) (Ok step) t → ⊥ }
+    ensures other_close { (s t : State) (event : Event) (step : Step) → Tells close_command step
+        → CommandedAt 5 event (interlocked_state (codes "CILO2") true true s) (Ok step) t → ⊥ }
+    ensures other_open { (s t : State) (event : Event) (step : Step) → Tells open_command step
+        → CommandedAt 5 event (interlocked_state (codes "CILO2") true true s) (Ok step) t → ⊥ }
 {}
 
 /// A step has a command if octets on an open association requested it and a response accepts it.
 /// The command is neither left out nor doubled, and no other takes its place. No other event has a
 /// command. The association is one that has just been opened.
 pub fn a_command_is_of_octets_that_asked_for_it()
-    ensures accepted { (now : ℕ) (names : Bay) (octets : Bor (List ℕ)) (step : Step)
+    ensures accepted_entry { (now : ℕ) (names : Bay) (octets : Bor (List ℕ)) (step : Step)
         → IsAccepted now names octets step → AreOperates now (Recv 1 octets) names
-        (Some (initial_connection 1) ∷ []) (telling (opens ∷ []) step) }
+        (Some (initial_connection 1) ∷ []) (step_with_commands (open_command ∷ []) step) }
     ensures left_out { (now : ℕ) (names : Bay) (octets : Bor (List ℕ)) (step : Step)
         → IsAccepted now names octets step → AreOperates now (Recv 1 octets) names
-        (Some (initial_connection 1) ∷ []) (telling [] step) → ⊥ }
+        (Some (initial_connection 1) ∷ []) (step_with_commands [] step) → ⊥ }
     ensures doubled { (now : ℕ) (names : Bay) (octets : Bor (List ℕ)) (step : Step)
         → IsAccepted now names octets step → AreOperates now (Recv 1 octets) names
-        (Some (initial_connection 1) ∷ []) (telling (opens ∷ opens ∷ []) step) → ⊥ }
+        (Some (initial_connection 1) ∷ [])
+        (step_with_commands (open_command ∷ open_command ∷ []) step) → ⊥ }
     ensures exchanged { (now : ℕ) (names : Bay) (octets : Bor (List ℕ)) (step : Step)
         → IsAccepted now names octets step → AreOperates now (Recv 1 octets) names
-        (Some (initial_connection 1) ∷ []) (telling (closes ∷ []) step) → ⊥ }
+        (Some (initial_connection 1) ∷ []) (step_with_commands (close_command ∷ []) step) → ⊥ }
     ensures silent { (now : ℕ) (names : Bay) (octets : Bor (List ℕ)) (step : Step)
         → AreRepliedAt now (Recv 1 octets) names (Some (initial_connection 1) ∷ [])
-        (record (telling (opens ∷ []) step) { sent = [] }) → ⊥ }
+        (record (step_with_commands (open_command ∷ []) step) { sent = [] }) → ⊥ }
     ensures unasked { (now : ℕ) (names : Bay) (octets : Bor (List ℕ)) (step : Step)
         → octets.now ≡ [] → AreRepliedAt now (Recv 1 octets) names
-        (Some (initial_connection 1) ∷ []) (telling (opens ∷ []) step) → ⊥ }
-    ensures refused { (now : ℕ) (names : Bay) (octets : Bor (List ℕ)) (step : Step)
+        (Some (initial_connection 1) ∷ []) (step_with_commands (open_command ∷ []) step) → ⊥ }
+    ensures refused_select { (now : ℕ) (names : Bay) (octets : Bor (List ℕ)) (step : Step)
         → IsRefused now names step → AreRepliedAt now (Recv 1 octets) names
-        (Some (initial_connection 1) ∷ []) (telling (opens ∷ []) step) → ⊥ }
+        (Some (initial_connection 1) ∷ []) (step_with_commands (open_command ∷ []) step) → ⊥ }
     ensures closed { (now : ℕ) (names : Bay) (octets : Bor (List ℕ)) (step : Step)
-        → AreRepliedAt now (Recv 1 octets) names (None ∷ []) (telling (opens ∷ []) step) → ⊥ }
+        → AreRepliedAt now (Recv 1 octets) names (None ∷ [])
+        (step_with_commands (open_command ∷ []) step) → ⊥ }
     ensures elsewhere { (now : ℕ) (event : Event) (names : Bay) (s : State) (step : Step)
         → IsOther event
-        → AreRepliedAt now event names s.connections (telling (opens ∷ []) step) → ⊥ }
-    ensures nothing { (now : ℕ) (event : Event) (names : Bay) (s : State) (step : Step)
-        → IsOther event → AreOperates now event names s.connections (telling [] step) }
+        → AreRepliedAt now event names s.connections (step_with_commands (open_command ∷ []) step)
+        → ⊥ }
+    ensures empty_program { (now : ℕ) (event : Event) (names : Bay) (s : State) (step : Step)
+        → IsOther event → AreOperates now event names s.connections (step_with_commands [] step) }
 {}
 
 /// In a run, a step has a command for octets of an association that an earlier event opened; not
@@ -154,18 +164,20 @@ pub fn a_command_is_of_an_association_that_was_opened()
     ensures opened { (now : ℕ) (names : Bay) (octets : Bor (List ℕ)) (step : Step)
         → IsAccepted now names octets step
         → AllOperate names (None ∷ []) ((now, Open 1) ∷ (now, Recv 1 octets) ∷ [])
-        (Ok (telling [] step) ∷ Ok (telling (opens ∷ []) step) ∷ []) }
+        (Ok (step_with_commands [] step) ∷ Ok (step_with_commands (open_command ∷ []) step) ∷ []) }
     ensures unopened { (now : ℕ) (names : Bay) (octets : Bor (List ℕ)) (step : Step)
         → AllOperate names (None ∷ []) ((now, Scan) ∷ (now, Recv 1 octets) ∷ [])
-        (Ok (telling [] step) ∷ Ok (telling (opens ∷ []) step) ∷ []) → ⊥ }
-    ensures refused { (now : ℕ) (names : Bay) (octets : Bor (List ℕ)) (fault : StepFault)
+        (Ok (step_with_commands [] step) ∷ Ok (step_with_commands (open_command ∷ []) step) ∷ [])
+        → ⊥ }
+    ensures refused_select { (now : ℕ) (names : Bay) (octets : Bor (List ℕ)) (fault : StepFault)
         (step : Step)
         → AllOperate names (None ∷ []) ((now, Open 1) ∷ (now, Recv 1 octets) ∷ [])
-        (Err fault ∷ Ok (telling (opens ∷ []) step) ∷ []) → ⊥ }
+        (Err fault ∷ Ok (step_with_commands (open_command ∷ []) step) ∷ []) → ⊥ }
     ensures closed { (now : ℕ) (names : Bay) (octets : Bor (List ℕ)) (step : Step)
         → AllOperate names (Some (initial_connection 1) ∷ [])
         ((now, Close 1) ∷ (now, Recv 1 octets) ∷ [])
-        (Ok (telling [] step) ∷ Ok (telling (opens ∷ []) step) ∷ []) → ⊥ }
+        (Ok (step_with_commands [] step) ∷ Ok (step_with_commands (open_command ∷ []) step) ∷ [])
+        → ⊥ }
 {}
 
 /// A scan can precede a command up to its maximum age, also after the report of an unchanged
@@ -179,7 +191,7 @@ pub fn a_scan_stands_until_something_changes()
     ensures missing { (now age : ℕ) → HasScan now age [] → ⊥ }
     ensures other { (s : State) (step : Step) (age : ℕ)
         → HasScan age age (contact_past s step ∷ []) → ⊥ }
-    ensures refused { (s : State) (fault : StepFault) (age : ℕ)
+    ensures refused_select { (s : State) (fault : StepFault) (age : ℕ)
         → HasScan age age (refused_past s fault ∷ []) → ⊥ }
     ensures unchanged { (s t : State) (step : Step) (age : ℕ) → IsSameProcess s t
         → HasScan age age (contact_past t step ∷ scan_past s step ∷ []) }
@@ -194,20 +206,20 @@ pub fn a_scan_stands_until_something_changes()
 pub fn a_process_tells_the_same_until_something_changes()
     ensures same { (s : State) → IsSameProcess s s }
     ensures position { (a b quality power doubt : Leaf) (input : Bool) (s : State) → a ≢ b
-        → IsSameProcess (telling_process a quality input power doubt s)
-        (telling_process b quality input power doubt s) → ⊥ }
+        → IsSameProcess (state_after_reports a quality input power doubt s)
+        (state_after_reports b quality input power doubt s) → ⊥ }
     ensures quality { (a b position power doubt : Leaf) (input : Bool) (s : State) → a ≢ b
-        → IsSameProcess (telling_process position a input power doubt s)
-        (telling_process position b input power doubt s) → ⊥ }
+        → IsSameProcess (state_after_reports position a input power doubt s)
+        (state_after_reports position b input power doubt s) → ⊥ }
     ensures input { (position quality power doubt : Leaf) (a b : Bool) (s : State) → a ≢ b
-        → IsSameProcess (telling_process position quality a power doubt s)
-        (telling_process position quality b power doubt s) → ⊥ }
+        → IsSameProcess (state_after_reports position quality a power doubt s)
+        (state_after_reports position quality b power doubt s) → ⊥ }
     ensures measure { (a b position quality doubt : Leaf) (input : Bool) (s : State) → a ≢ b
-        → IsSameProcess (telling_process position quality input a doubt s)
-        (telling_process position quality input b doubt s) → ⊥ }
+        → IsSameProcess (state_after_reports position quality input a doubt s)
+        (state_after_reports position quality input b doubt s) → ⊥ }
     ensures doubt { (a b position quality power : Leaf) (input : Bool) (s : State) → a ≢ b
-        → IsSameProcess (telling_process position quality input power a s)
-        (telling_process position quality input power b s) → ⊥ }
+        → IsSameProcess (state_after_reports position quality input power a s)
+        (state_after_reports position quality input power b s) → ⊥ }
 {}
 
 /// A lost process is heard again after it reports a position, an input, or a measured value or its
@@ -215,22 +227,22 @@ pub fn a_process_tells_the_same_until_something_changes()
 /// or another loss.
 pub fn a_loss_lasts_until_the_process_is_heard()
     ensures contact { (k : ℕ) (position : Dbpos) (s : State) (step : Step)
-        → is_heard_behind (Contact k position) (Ok step) s step ≡ true }
+        → is_heard_after_loss (Contact k position) (Ok step) s step ≡ true }
     ensures input { (k : ℕ) (value : Bool) (s : State) (step : Step)
-        → is_heard_behind (Input k value) (Ok step) s step ≡ true }
+        → is_heard_after_loss (Input k value) (Ok step) s step ≡ true }
     ensures measure { (k : ℕ) (field : MeterField) (value : ℤ) (s : State) (step : Step)
-        → is_heard_behind (Measure k field value) (Ok step) s step ≡ true }
+        → is_heard_after_loss (Measure k field value) (Ok step) s step ≡ true }
     ensures doubt { (k : ℕ) (field : MeterField) (s : State) (step : Step)
-        → is_heard_behind (BadMeasure k field) (Ok step) s step ≡ true }
-    ensures refused { (event : Event) (fault : StepFault) (s : State) (step : Step)
-        → is_heard_behind event (Err fault) s step ≡ false }
+        → is_heard_after_loss (BadMeasure k field) (Ok step) s step ≡ true }
+    ensures refused_select { (event : Event) (fault : StepFault) (s : State) (step : Step)
+        → is_heard_after_loss event (Err fault) s step ≡ false }
     ensures client { (a : ℕ) (octets : Bor (List ℕ)) (s : State) (step : Step)
-        → is_heard_behind (Open a) (Ok step) s step ≡ false
-        × is_heard_behind (Recv a octets) (Ok step) s step ≡ false
-        × is_heard_behind (Close a) (Ok step) s step ≡ false }
-    ensures scan { (s : State) (step : Step) → is_heard_behind Scan (Ok step) s step ≡ false }
+        → is_heard_after_loss (Open a) (Ok step) s step ≡ false
+        × is_heard_after_loss (Recv a octets) (Ok step) s step ≡ false
+        × is_heard_after_loss (Close a) (Ok step) s step ≡ false }
+    ensures scan { (s : State) (step : Step) → is_heard_after_loss Scan (Ok step) s step ≡ false }
     ensures again { (s : State) (step : Step)
-        → is_heard_behind Lost (Ok step) s step ≡ false }
+        → is_heard_after_loss Lost (Ok step) s step ≡ false }
 {}
 
 /// A command of a device implies that such a scan precedes it among the events since load, no older
@@ -238,27 +250,30 @@ pub fn a_loss_lasts_until_the_process_is_heard()
 /// that was just loaded has no such command.
 pub fn a_command_says_that_a_scan_is_behind_it()
     ensures says { (now : ℕ) (event : Event) (s t : State) (step : Step) (past : List Past)
-        → Tells opens step → Came past s → FreshAt now event s (Ok step) t
+        → Tells open_command step → Came past s → FreshAt now event s (Ok step) t
         → HasScan now s.scan_max_age_ms past }
     ensures silent { (now : ℕ) (event : Event) (s t : State) (step : Step)
-        → FreshAt now event s (Ok (telling [] step)) t }
-    ensures refused { (now : ℕ) (event : Event) (s t : State) (fault : StepFault)
+        → FreshAt now event s (Ok (step_with_commands [] step)) t }
+    ensures refused_select { (now : ℕ) (event : Event) (s t : State) (fault : StepFault)
         → FreshAt now event s (Err fault) t }
     ensures loaded { (now : ℕ) (event : Event) (s t : State) (step : Step)
-        → Tells opens step → Came [] s → FreshAt now event s (Ok step) t → ⊥ }
+        → Tells open_command step → Came [] s → FreshAt now event s (Ok step) t → ⊥ }
 {}
 
 /// The scan of a program of HALT alone takes one step, neither none nor two, and is not refused; a
 /// scan of a program without HALT does not halt.
 pub fn a_program_of_halt_takes_one_step()
     ensures one { (s : State) (step : Step)
-        → HaltsAt 0 Scan (halting s) (Ok (record step { scan = Some 1 })) (halting s) }
+        → HaltsAt 0 Scan (halting_device s) (Ok (record step { scan = Some 1 }))
+        (halting_device s) }
     ensures none { (s : State) (step : Step)
-        → HaltsAt 0 Scan (halting s) (Ok (record step { scan = None })) (halting s) → ⊥ }
+        → HaltsAt 0 Scan (halting_device s) (Ok (record step { scan = None })) (halting_device s)
+        → ⊥ }
     ensures two { (s : State) (step : Step)
-        → HaltsAt 0 Scan (halting s) (Ok (record step { scan = Some 2 })) (halting s) → ⊥ }
-    ensures refused { (s : State) (fault : StepFault)
-        → HaltsAt 0 Scan (halting s) (Err fault) (halting s) → ⊥ }
+        → HaltsAt 0 Scan (halting_device s) (Ok (record step { scan = Some 2 })) (halting_device s)
+        → ⊥ }
+    ensures refused_select { (s : State) (fault : StepFault)
+        → HaltsAt 0 Scan (halting_device s) (Err fault) (halting_device s) → ⊥ }
     ensures trapped { (s : State) (step : Step)
         → HaltsAt 0 Scan (with_code [] s) (Ok step) (with_code [] s) → ⊥ }
 {}
@@ -267,9 +282,10 @@ pub fn a_program_of_halt_takes_one_step()
 /// has the values that this program means.
 pub fn a_program_of_nothing_changes_nothing()
     ensures same { (s : State) (step : Step)
-        → MeansAt nothing 0 Scan (halting s) (Ok step) (halting s) }
+        → MeansAt empty_program 0 Scan (halting_device s) (Ok step) (halting_device s) }
     ensures slots { (s : State) (step : Step)
-        → MeansAt nothing 0 Scan (halting s) (Ok step) (with_slot s) → ⊥ }
+        → MeansAt empty_program 0 Scan (halting_device s) (Ok step) (with_slot s) → ⊥ }
     ensures rows { (s : State) (step : Step) (rows : List Row) → rows ≢ s.rows
-        → MeansAt nothing 0 Scan (halting s) (Ok step) (record (halting s) { rows = rows }) → ⊥ }
+        → MeansAt empty_program 0 Scan (halting_device s) (Ok step)
+        (record (halting_device s) { rows = rows }) → ⊥ }
 {}

@@ -69,7 +69,8 @@ FollowsTry (Err e) next mid new fault = (new ≡ mid) × (fault ≡ Some e)
 unfoldable pub WritesWhole : {F : Type 0}
     → FileWrites F → ℕ → ℕ → List ℕ
     → List ℕ → F → F → Option FileFault → Type 0
-WritesWhole writes zero number name octets old new fault = (new ≡ old) × (fault ≡ Some (Failed kind.Other))
+WritesWhole writes zero number name octets old new fault =
+    (new ≡ old) × (fault ≡ Some (Failed kind.Other))
 WritesWhole {F} writes (suc left) number name octets old new fault =
     (outcome : Result Bool FileFault) × (mid : F)
     × writes old name number octets outcome mid

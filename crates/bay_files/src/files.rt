@@ -32,7 +32,8 @@ const LINKS: u32 = 40;
 #[derive(Clone, Copy, Debug, Error)]
 pub enum FileFault {
     /// The name leads to something other than a regular file, no file can be created, or a write
-    /// failed, for this reason: `InvalidInput` if the name leads to anything but a regular file, and
+    /// failed, for this reason: `InvalidInput` if the name leads to anything but a regular file,
+    /// and
     /// `Other` if all names beside the file are taken.
     #[error("the file can't be written")]
     Failed(ErrorKind),

@@ -80,8 +80,8 @@ fn digit(number: u64, unit: u64) -> u8
     b'0' + (number / unit % 10) as u8
 }
 
-/// Returns a moment in milliseconds since 1970 as `YYYY-MM-DDThh:mm:ss.mmmZ` (ISO 8601, in UTC). For
-/// a moment after the year 9999 it returns the last millisecond of that year.
+/// Returns a moment in milliseconds since 1970 as `YYYY-MM-DDThh:mm:ss.mmmZ` (ISO 8601, in UTC).
+/// For a moment after the year 9999 it returns the last millisecond of that year.
 #[tactic(auto, unfolding(crate::specs::Moments::utc_text))]
 pub fn utc_text(moment: u64) -> [u8; 24]
     ensures { result ≡ spec.utc_text moment }

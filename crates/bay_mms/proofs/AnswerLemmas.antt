@@ -5,7 +5,7 @@ use Rattle.bay_base.specs.Exact.{Gives}
 use Rattle.bay_ber.specs.Forms.{one}
 use Rattle.bay_ber.specs.Values.{Part}
 use Rattle.bay_ber.proofs.ReadLemmas.{IsBytes}
-use Rattle.bay_mms.specs.RequestViews.{message}
+use Rattle.bay_mms.specs.RequestViews.{request_view}
 use Rattle.bay_mms.specs.Grammar.{answer_to}
 use Rattle.bay_mms.specs.Answers.{list_pdu, TakesMemory, IsAnswer}
 use Rattle.bay_mms.specs.declared.request.Request.{Request}
@@ -26,9 +26,10 @@ memory-taken octets b some = pick ((one list_pdu).reads octets) refl some
 -- ---- the answer
 
 pub answer-is : (octets : List ℕ) (r : Result Request MmsFault) → IsBytes octets
-    → Gives OutOfMemory message r (answer_to octets) → (IsErrOf r OutOfMemory → TakesMemory octets)
+    → Gives OutOfMemory request_view r (answer_to octets)
+    → (IsErrOf r OutOfMemory → TakesMemory octets)
     → IsAnswer octets r
-answer-is octets (Ok request) b held memory = asked-back octets (message request) b held
+answer-is octets (Ok request) b held memory = asked-back octets (request_view request) b held
 answer-is octets (Err OutOfMemory) b held memory = memory refl
 answer-is octets (Err (UnknownService id)) b (inl none) memory = absurd cc
 answer-is octets (Err (UnknownService id)) b (inr is) memory = (unknown-is octets id b).0 is
@@ -39,8 +40,8 @@ answer-is octets (Err (BadPdu known)) b (inr is) memory = (bad-is octets known b
 
 -- and the other way: the answer is the one of the function that goes the reader's way
 pub answer-held : (octets : List ℕ) (r : Result Request MmsFault) → IsBytes octets
-    → IsAnswer octets r → Gives OutOfMemory message r (answer_to octets)
-answer-held octets (Ok request) b is = asked-read octets (message request) is
+    → IsAnswer octets r → Gives OutOfMemory request_view r (answer_to octets)
+answer-held octets (Ok request) b is = asked-read octets (request_view request) is
 answer-held octets (Err OutOfMemory) b is = inl refl
 answer-held octets (Err (UnknownService id)) b is = inr ((unknown-is octets id b).1 is)
 answer-held octets (Err (TooMany id)) b is = inr ((many-is octets id b).1 is)

@@ -3,7 +3,7 @@ use Rattle.std.proofs.Common.{◌≡◌, ℕ, List, Option, Some, None, Result, 
 use Rattle.std.specs.Prelude.{◌↔◌}
 use Rattle.bay_ber.proofs.ReadLemmas.{IsBytes}
 use Rattle.bay_mms.specs.Requests.{Message, Denial, unknown, many}
-use Rattle.bay_mms.specs.Grammar.{request, front_id, told, answer_to}
+use Rattle.bay_mms.specs.Grammar.{request, front_id, request_or_fault, answer_to}
 use Rattle.bay_mms.specs.RequestRelations.{Asks, AsksUnknown, AsksMany, IsIdOf, AsksNothing}
 use Rattle.bay_mms.specs.declared.fault.MmsFault.{MmsFault}
 use Rattle.bay_mms.specs.declared.fault.MmsFault.TheVariants as fault
@@ -11,9 +11,10 @@ use Rattle.bay_mms.proofs.GrammarLemmas.{request-exact, front_id-exact}
 
 -- what is spelled is answered
 told-read : (octets : List ℕ) (r : Result Message Denial) → request.Spells octets r
-    → answer_to octets ≡ told (front_id.reads octets) (Some r)
+    → answer_to octets ≡ request_or_fault (front_id.reads octets) (Some r)
 unfolding answer_to
-told-read octets r is = ap (told (front_id.reads octets)) (request-exact.read octets r is)
+told-read octets r is =
+    ap (request_or_fault (front_id.reads octets)) (request-exact.read octets r is)
 
 pub asked-read : (octets : List ℕ) (m : Message) → Asks m octets → answer_to octets ≡ Ok m
 asked-read octets m is = told-read octets (Ok m) is
@@ -59,7 +60,7 @@ unfolding answer_to
 answer-says octets b = pick (request.reads octets) refl
   where
     pick : (o : Option (Result Message Denial)) → request.reads octets ≡ o
-        → Says octets (told (front_id.reads octets) o)
+        → Says octets (request_or_fault (front_id.reads octets) o)
     pick None e = refl
     pick (Some (Ok m)) e = request-exact.back octets (Ok m) b e
     pick (Some (Err (unknown id))) e = request-exact.back octets (Err (unknown id)) b e

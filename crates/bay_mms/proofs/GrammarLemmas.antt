@@ -2,7 +2,7 @@
 use Rattle.std.proofs.Common.{ℕ, zero, suc}
 use Rattle.bay_ber.proofs.FormLemmas.{ExactIn, ExactAs, none-exact, made-exact, each-exact, choice-exact, front-exact, exacts}
 use Rattle.bay_mms_initiate.proofs.InitiateLemmas.{proposal-exact}
-use Rattle.bay_mms.specs.Grammar.{domain_parts, name, variable_parts, variable, access, string, simple, datum_at, scope, class_part, scope_part, listing_parts, listing, attributes_by, read_parts, write_parts, service_request, invoke_id, confirmed_parts, pdu, request, front_id}
+use Rattle.bay_mms.specs.Grammar.{domain_parts, name, variable_parts, variable, access, string, simple, datum_at, scope, class_part, scope_part, get_name_list_parts, get_name_list, attributes_request, read_parts, write_parts, service_request, invoke_id, confirmed_parts, pdu, request, front_id}
 use Rattle.bay_mms.specs.Answers.{list_parts, list_pdu}
 use Rattle.bay_ber.specs.Forms.{one}
 
@@ -14,8 +14,8 @@ access-exact : ExactAs access
 unfolding access variable variable_parts
 access-exact = search (exacts, name-exact) depth 20
 
-listing-exact : ExactIn listing
-unfolding listing listing_parts class_part scope_part scope
+listing-exact : ExactIn get_name_list
+unfolding get_name_list get_name_list_parts class_part scope_part scope
 listing-exact = search exacts depth 20
 
 simple-exact : ExactAs simple
@@ -29,7 +29,7 @@ datum-exact (suc depth) =
     choice-exact _ (made-exact _ (each-exact (datum-exact depth))) simple-exact
 
 service-exact : ExactAs service_request
-unfolding service_request attributes_by read_parts write_parts
+unfolding service_request attributes_request read_parts write_parts
 service-exact = search (exacts, name-exact, access-exact, listing-exact, datum-exact) depth 20
 
 id-exact : ExactAs invoke_id

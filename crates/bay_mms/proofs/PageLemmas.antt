@@ -5,7 +5,7 @@ use Rattle.std.proofs.lemmas.Bool.Decides.{nat_tests}
 use Rattle.std.proofs.lemmas.List.{append_assoc, length-append, length-drop, length-map, drop-map}
 use Rattle.std.proofs.Math.Seq.{drop-append_seam, take-append_seam}
 use Rattle.bay_ber.specs.Writing.{element, element_length, integer_octets}
-use Rattle.bay_ber.specs.EncoderBuffers.{within}
+use Rattle.bay_ber.specs.EncoderBuffers.{text_within_limit}
 use Rattle.bay_ber.proofs.SizeLemmas.{length-integer_octets}
 use Rattle.bay_tree.specs.declared.row.Row.{Row}
 use Rattle.bay_tree.specs.Rows.{names_of}

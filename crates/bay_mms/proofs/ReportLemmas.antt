@@ -5,7 +5,7 @@ use Rattle.bay_mms.specs.declared.control.OperateData.{OperateData}
 use Rattle.bay_mms.specs.declared.report.LastApplError.{LastApplError}
 use Rattle.bay_mms.specs.Data.{Datum, no_data, datum, datum_text}
 use Rattle.bay_mms.specs.Controls.{operate_datum}
-use Rattle.bay_mms.specs.ControlViews.{operating}
+use Rattle.bay_mms.specs.ControlViews.{operate_view}
 use Rattle.bay_mms.specs.Reports.{variable_text, report_text, failure_name, item_name, failure_datum, failure_data, operate_text, failure_text, termination_text, failed_text}
 use Rattle.bay_ber.specs.Tags.{constructed}
 use Rattle.bay_ber.specs.EncoderBuffers.{EncoderBuffer, sheet_with, close_sheet, IsEnd}
@@ -18,7 +18,7 @@ report_of names values =
     element (constructed 3) (element (constructed 0)
     (element (constructed 0) names ++ element (constructed 0) values))
 
-pub operate-is : (o : OperateData) → datum_text (operate_datum (operating o)) ≡ operate_text o
+pub operate-is : (o : OperateData) → datum_text (operate_datum (operate_view o)) ≡ operate_text o
 operate-is o = simp (append-nil, append_assoc)
 
 pub failure-is : (e : LastApplError) → datum_text (failure_datum e) ≡ failure_data e
@@ -47,7 +47,7 @@ pub ended-is : (domain item : List ℕ) (o : OperateData)
     → report_of (variable_text (item_name domain item)) (operate_text o)
     ≡ termination_text domain item o
 ended-is domain item o =
-    sym (one-report (item_name domain item) (operate_text o) (operate_datum (operating o))
+    sym (one-report (item_name domain item) (operate_text o) (operate_datum (operate_view o))
     (operate-is o))
 
 pub failed_is : (e : LastApplError) (domain item : List ℕ) (o : OperateData)
@@ -55,7 +55,7 @@ pub failed_is : (e : LastApplError) (domain item : List ℕ) (o : OperateData)
     (failure_data e ++ operate_text o) ≡ failed_text e domain item o
 failed_is e domain item o =
     sym (two-reports failure_name (item_name domain item) (failure_data e) (operate_text o)
-    (failure_datum e) (operate_datum (operating o)) (failure-is e) (operate-is o))
+    (failure_datum e) (operate_datum (operate_view o)) (failure-is e) (operate-is o))
 
 -- ---- a report that was opened, written and closed
 

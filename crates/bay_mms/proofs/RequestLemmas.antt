@@ -9,7 +9,7 @@ use Rattle.bay_base.specs.Options.{◌>>=◌}
 use Rattle.bay_ber.specs.Forms.{answer, or_bad, map_form, each}
 use Rattle.bay_ber.specs.Judged.{or_fault}
 use Rattle.bay_ber.specs.Tags.{same_tag, constructed}
-use Rattle.bay_ber.specs.Values.{Part, values_in, onto, all_of, each_in}
+use Rattle.bay_ber.specs.Values.{Part, values_in, prepend_values, all_of, each_in}
 use Rattle.bay_ber.proofs.ListingLemmas.{Passed, passed-more, bind-some}
 use Rattle.bay_mms.specs.Answers.{names_none}
 use Rattle.bay_mms.specs.Data as mms
@@ -17,12 +17,12 @@ use Rattle.bay_mms.specs.Data.{Datum}
 use Rattle.bay_mms.specs.Views.{data_before, datum_of, data_in}
 use Rattle.bay_mms.specs.declared.data.Data as given
 use Rattle.bay_mms.specs.Requests.{Naming, VariableSpecification, variables}
-use Rattle.bay_mms.specs.RequestViews.{naming, variable as view}
+use Rattle.bay_mms.specs.RequestViews.{object_name_view, variable_view as view}
 use Rattle.bay_mms.specs.declared.access.VariableSpecification as code
 use Rattle.bay_mms.specs.declared.request.ObjectName.{ObjectName}
 use Rattle.bay_mms.specs.declared.fault.Refusal.{Refusal}
 use Rattle.bay_mms.specs.declared.fault.Refusal.TheVariants.{Bad, Unknown, Many, OutOfMemory}
-use Rattle.bay_mms.specs.Grammar.{variable, any_alternate, are_as_many, counted_names, names_asked, simple, datum_at}
+use Rattle.bay_mms.specs.Grammar.{variable, any_alternate, are_as_many, counted_names, requested_names, simple, datum_at}
 
 -- ---- lists of variables
 
@@ -31,18 +31,19 @@ pub record Listing (octets rest : List ℕ) (names : List ObjectName) (alternate
     : Type 0 where
   pub vs : List VariableSpecification
   pub passed : Passed variable.reads octets rest vs
-  pub are : map naming names ≡ map (λ v. v.name) vs
+  pub are : map object_name_view names ≡ map (λ v. v.name) vs
   pub any : alternate ≡ any_alternate vs
 
 pub listing-more : (octets rest new : List ℕ) (names more : List ObjectName) (alternate both : Bool)
     (part : Part) (one : code.VariableSpecification) → Listing octets rest names alternate
-    → values_in rest ≡ onto (part ∷ []) (values_in new) → variable.reads part ≡ Some (view one)
-    → map naming more ≡ map naming names ++ naming one.name ∷ []
+    → values_in rest ≡ prepend_values (part ∷ []) (values_in new)
+    → variable.reads part ≡ Some (view one)
+    → map object_name_view more ≡ map object_name_view names ++ object_name_view one.name ∷ []
     → both ≡ (alternate || one.is_alternate) → Listing octets new more both
 listing-more octets rest new names more alternate both part one l step is are any = record {
   vs = l.vs ++ view one ∷ [];
   passed = passed-more variable.reads octets rest new l.vs part (view one) l.passed step is;
-  are = are ∙ ap (λ (ns : List Naming). ns ++ naming one.name ∷ []) l.are
+  are = are ∙ ap (λ (ns : List Naming). ns ++ object_name_view one.name ∷ []) l.are
       ∙ sym (map-append (λ (v : VariableSpecification). v.name) l.vs (view one ∷ []));
   any = any ∙ ap (λ (b : Bool). b || one.is_alternate) l.any
       ∙ sym (list_any-append (λ (v : VariableSpecification). v.is_alternate) l.vs
@@ -55,19 +56,20 @@ listing-more octets rest new names more alternate both part one l step is are an
     one-any false false = refl
 
 pub listing-bad : (count : Option ℕ) (octets : List ℕ) → each_in variable.reads octets ≡ None
-    → answer Bad (map_form (λ vs. names_asked count (variables vs)) (each variable)) octets
+    → answer Bad (map_form (λ vs. requested_names count (variables vs)) (each variable)) octets
     ≡ Err Bad
 listing-bad count octets bad = rw bad refl
 
 pub counted_is : (count : Option ℕ) (names : List ObjectName) (alternate : Bool)
-    → counted_names count (map naming names) alternate
+    → counted_names count (map object_name_view names) alternate
     ≡ cond (are_as_many count (length names)) (cond alternate (Err Unknown)
-    (cond (ltb 32 (length names)) (Err Many) (Ok (map naming names)))) (Err Bad)
-counted_is count names alternate = rw (length-map names naming) refl
+    (cond (ltb 32 (length names)) (Err Many) (Ok (map object_name_view names)))) (Err Bad)
+counted_is count names alternate = rw (length-map names object_name_view) refl
 
 -- where a value stands, no list of them is read as empty
 not-nil : {B : Type 0} (f : Part → Option B) (front : List Part) (part : Part)
-    (o : Option (List Part)) → (onto front (onto (part ∷ []) o) >>= all_of f) ≡ Some [] → ⊥
+    (o : Option (List Part))
+    → (prepend_values front (prepend_values (part ∷ []) o) >>= all_of f) ≡ Some [] → ⊥
 not-nil f front part None e = cc
 not-nil f [] part (Some later) e =
     let x = bind-some (f part) _ [] e in
@@ -79,14 +81,16 @@ not-nil f (first ∷ front) part (Some later) e =
     let no : x.0 ∷ y.0 ≡ [] = same_Some _ _ y.2 in cc
 
 pub some-value : {B : Type 0} (f : Part → Option B) (whole rest new : List ℕ) (done : List B)
-    (part : Part) → Passed f whole rest done → values_in rest ≡ onto (part ∷ []) (values_in new)
+    (part : Part) → Passed f whole rest done
+    → values_in rest ≡ prepend_values (part ∷ []) (values_in new)
     → each_in f whole ≡ Some [] → ⊥
 some-value f whole rest new done part p step e =
     not-nil f p.front part (values_in new)
-    (sym (ap (λ (o : Option (List Part)). o >>= all_of f) (p.read ∙ ap (onto p.front) step)) ∙ e)
+    (sym (ap (λ (o : Option (List Part)). o >>= all_of f)
+    (p.read ∙ ap (prepend_values p.front) step)) ∙ e)
 
 names-some : (vs : List VariableSpecification) (count : Option ℕ) → (vs ≡ [] → ⊥)
-    → names_none (names_asked count (variables vs)) ≡ false
+    → names_none (requested_names count (variables vs)) ≡ false
 names-some [] count some = absurd (some refl)
 names-some (v ∷ vs) count some = pick (are_as_many count (suc (length (map (λ w. w.name) vs))))
     (v.is_alternate || any_alternate vs) (ltb 32 (suc (length (map (λ w. w.name) vs))))
@@ -100,12 +104,13 @@ names-some (v ∷ vs) count some = pick (are_as_many count (suc (length (map (λ
 
 pub listing-some : (count : Option ℕ) (octets : List ℕ)
     → (each_in variable.reads octets ≡ Some [] → ⊥)
-    → names_none (answer Bad (map_form (λ vs. names_asked count (variables vs)) (each variable))
+    → names_none (answer Bad (map_form (λ vs. requested_names count (variables vs)) (each variable))
     octets) ≡ false
 listing-some count octets some = pick (each_in variable.reads octets) refl
   where
     pick : (o : Option (List VariableSpecification)) → each_in variable.reads octets ≡ o
-        → names_none (or_bad Bad (option_map (λ vs. names_asked count (variables vs)) o)) ≡ false
+        → names_none (or_bad Bad (option_map (λ vs. requested_names count (variables vs)) o))
+        ≡ false
     pick None e = refl
     pick (Some vs) e = names-some vs count (λ none. some (e ∙ ap Some none))
 

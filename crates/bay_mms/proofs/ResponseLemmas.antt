@@ -4,7 +4,7 @@ use Rattle.std.proofs.lemmas.Bool.{cases_lt}
 use Rattle.std.proofs.lemmas.List.{drop_all, drop_more, length-append}
 use Rattle.std.specs.Option.{option_map}
 use Rattle.bay_base.specs.Options.{◌>>=◌}
-use Rattle.bay_ber.specs.EncoderBuffers.{EncoderBuffer, within, text_with, sheet_with, message, value_around}
+use Rattle.bay_ber.specs.EncoderBuffers.{EncoderBuffer, text_within_limit, text_with, sheet_with, message, value_around}
 use Rattle.bay_ber.specs.Writing.{element, element_length, integer_octets, truth_octets}
 use Rattle.bay_ber.specs.declared.tag.Tag.{Tag}
 use Rattle.bay_ber.proofs.SheetLemmas.{no-room, room, put_nil, put-put, heads-put, limit-put, message-front, within-longer}
@@ -157,16 +157,17 @@ pub read-is : (id size : ℕ) (octets : List ℕ) (first second third last : Opt
     → second ≡ value_around (constructed 4) size first
     → third ≡ option_map (λ t. element int_tag (integer_octets (pos id)) ++ t) second
     → last ≡ value_around (constructed 1) size third
-    → last ≡ within size (read_text id octets)
+    → last ≡ text_within_limit size (read_text id octets)
 read-is id size octets first second third last f s t l =
     let list = element (constructed 1) octets in
     let service = element (constructed 4) list in
     let number = element int_tag (integer_octets (pos id)) in
     let less = content-less (constructed 4) list in
-    let two : second ≡ within size service =
+    let two : second ≡ text_within_limit size service =
     s ∙ rw f (within-longer (element (constructed 4)) size list (omega arith)) in
-    l ∙ rw (t, two) (map-then (λ u. number ++ u) (λ u. within size (element (constructed 1) u))
-    (within size service)
+    l ∙ rw (t, two) (map-then (λ u. number ++ u)
+    (λ u. text_within_limit size (element (constructed 1) u))
+    (text_within_limit size service)
     ∙ within-longer (λ u. element (constructed 1) (number ++ u)) size service (longer id service))
 
 pub number-few : (old new : EncoderBuffer) (tag : Tag) (value : ℤ)
@@ -192,7 +193,7 @@ pub response-is : (id : ℕ) (old one four numbered whole : EncoderBuffer) → H
       text = four.text;
     }
     → message whole ≡ value_around (constructed 1) numbered.limit (message numbered)
-    → message whole ≡ within old.limit (read_text id (octets_in old.text))
+    → message whole ≡ text_within_limit old.limit (read_text id (octets_in old.text))
 response-is id old one four numbered whole holds one_limit is_one four_limit is_four is_numbered
     is_whole =
     let number = element int_tag (integer_octets (pos id)) in

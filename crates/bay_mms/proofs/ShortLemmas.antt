@@ -2,7 +2,7 @@
 use Rattle.std.proofs.Common.{◌≡◌, ℕ, pos, ◌≤◌, Option, Some, None, ◌++◌, length, refl, arith}
 use Rattle.std.proofs.lemmas.List.{length-append}
 use Rattle.bay_ber.specs.Writing.{element, integer_octets, length_octets}
-use Rattle.bay_ber.specs.EncoderBuffers.{within}
+use Rattle.bay_ber.specs.EncoderBuffers.{text_within_limit}
 use Rattle.bay_ber.proofs.SheetLemmas.{fits}
 use Rattle.bay_ber.proofs.SizeLemmas.{length-element, length-integer}
 use Rattle.bay_ber.specs.Tags.{context, constructed}
@@ -52,13 +52,13 @@ reject_short id reason =
 -- ---- so they are held
 
 pub error_within : (id : ℕ) (class : ErrorClass)
-    → within 60 (error_text id class) ≡ Some (error_text id class)
+    → text_within_limit 60 (error_text id class) ≡ Some (error_text id class)
 error_within id class = fits 60 (error_text id class) (error_short id class)
 
 pub reject_within : (id : Option ℕ) (reason : RejectReason)
-    → within 60 (reject_text id reason) ≡ Some (reject_text id reason)
+    → text_within_limit 60 (reject_text id reason) ≡ Some (reject_text id reason)
 reject_within id reason = fits 60 (reject_text id reason) (reject_short id reason)
 
-pub concluded_within : within 2 concluded_text ≡ Some concluded_text
+pub concluded_within : text_within_limit 2 concluded_text ≡ Some concluded_text
 unfolding element length_octets
 concluded_within = refl

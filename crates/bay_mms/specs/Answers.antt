@@ -2,12 +2,12 @@
 use Rattle.std.specs.Prelude.{ℕ, Bool, true, false, not, ◌&&◌, ◌||◌, List, [], Option, Some, None, Result, Ok, Err, if◌then◌else◌}
 use Rattle.bay_ber.specs.Tags.{same_tag, constructed}
 use Rattle.bay_ber.specs.Values.{Part}
-use Rattle.bay_ber.specs.Forms.{Form, such, answer, one, fields, whole, under, done, next}
+use Rattle.bay_ber.specs.Forms.{Form, try_map_form, answer, one, fields, whole, tagged, done, value_then}
 use Rattle.bay_mms.specs.Requests.{Naming, Asking, read, write}
 use Rattle.bay_mms.specs.Grammar.{service_request}
 use Rattle.bay_mms.specs.declared.fault.Refusal.{Refusal}
 use Rattle.bay_mms.specs.declared.fault.Refusal.TheVariants.{Bad}
-use Rattle.bay_mms.specs.RequestViews.{message}
+use Rattle.bay_mms.specs.RequestViews.{request_view}
 use Rattle.bay_mms.specs.RequestRelations.{Asks, AsksUnknown, AsksMany, AsksNothing}
 use Rattle.bay_mms.specs.declared.request.Request.{Request}
 use Rattle.bay_mms.specs.declared.fault.MmsFault.{MmsFault}
@@ -34,11 +34,11 @@ list_of service =
 
 -- an invoke id, followed by such a service
 unfoldable pub list_parts : Form (List Part) (Part × (Unit {0} × Unit {0}))
-list_parts = next whole (next (such list_of whole) done)
+list_parts = value_then whole (value_then (try_map_form list_of whole) done)
 
 -- a confirmed request for such a service
 unfoldable pub list_pdu : Form Part (Part × (Unit {0} × Unit {0}))
-list_pdu = under (constructed 0) (fields list_parts)
+list_pdu = tagged (constructed 0) (fields list_parts)
 
 -- Reading the octets allocates: they are a confirmed request for a read or a write, not of no
 -- variables.
@@ -49,7 +49,7 @@ TakesMemory octets = (x : Part × (Unit {0} × Unit {0})) × (one list_pdu).Spel
 -- served, or have too many variables; or, if neither is so, a bad PDU, with the invoke id if they
 -- begin with one. `OutOfMemory` occurs only if reading them allocates.
 abbrev pub IsAnswer : List ℕ → Result Request MmsFault → Type 0
-IsAnswer octets (Ok request) = Asks (message request) octets
+IsAnswer octets (Ok request) = Asks (request_view request) octets
 IsAnswer octets (Err (UnknownService id)) = AsksUnknown id octets
 IsAnswer octets (Err (TooMany id)) = AsksMany id octets
 IsAnswer octets (Err (BadPdu known)) = AsksNothing octets known

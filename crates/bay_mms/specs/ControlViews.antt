@@ -10,27 +10,27 @@ use Rattle.bay_mms.specs.Controls.{Origin, Control, Operate}
 -- ---- own: views of the code
 
 -- the view of an originator
-abbrev pub originating : origin.Origin → Origin
-originating o = record { or_cat = o.or_cat; or_ident = o.or_ident.now }
+abbrev pub origin_view : origin.Origin → Origin
+origin_view o = record { or_cat = o.or_cat; or_ident = o.or_ident.now }
 
 -- the view of a cancel
-abbrev pub cancelling : cancel.CancelData → Control
-cancelling c =
+abbrev pub cancel_view : cancel.CancelData → Control
+cancel_view c =
     record {
       ctl_val = c.ctl_val;
-      origin = originating c.origin;
+      origin = origin_view c.origin;
       ctl_num = pos c.ctl_num;
       t = c.t;
       test = c.test;
     }
 
 -- the view of an operate, or of a select with value
-abbrev pub operating : operate.OperateData → Operate
-operating o = record { control = cancelling o.control; check = o.check }
+abbrev pub operate_view : operate.OperateData → Operate
+operate_view o = record { control = cancel_view o.control; check = o.check }
 
 -- the view of a control that was read, in any range
-abbrev pub shaping : Shape → Control
-shaping s =
+abbrev pub shape_view : Shape → Control
+shape_view s =
     record {
       ctl_val = s.ctl_val;
       origin = record { or_cat = s.or_cat; or_ident = s.or_ident.now };

@@ -189,14 +189,15 @@ is_in_range c =
     is_number c.ctl_num && (is_category c.origin.or_cat && nat_lt (length c.origin.or_ident) 65)
 
 -- The control, if it is in range. A wrong shape is reported before a wrong range.
-abbrev pub within : {A : Type 0} → (A → Control) → Option A → Result A DataAccessError
-within control None = Err TypeInconsistent
-within control (Some x) = if is_in_range (control x) then Ok x else Err ObjectValueInvalid
+abbrev pub in_range_or_error : {A : Type 0} → (A → Control) → Option A → Result A DataAccessError
+in_range_or_error control None = Err TypeInconsistent
+in_range_or_error control (Some x) =
+    if is_in_range (control x) then Ok x else Err ObjectValueInvalid
 
 -- the operate that data are read as, or why they are none
 abbrev pub operate_in : Datum → Result Operate DataAccessError
-operate_in d = within (λ o. o.control) (operate_as d)
+operate_in d = in_range_or_error (λ o. o.control) (operate_as d)
 
 -- the cancel that data are read as, or why they are none
 abbrev pub cancel_in : Datum → Result Control DataAccessError
-cancel_in d = within (λ c. c) (cancel_as d)
+cancel_in d = in_range_or_error (λ c. c) (cancel_as d)

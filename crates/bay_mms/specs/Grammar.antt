@@ -7,7 +7,7 @@ use Rattle.bay_ber.specs.declared.tag.Class.TheVariants.{ContextSpecific}
 use Rattle.bay_ber.specs.declared.tag.Tag.{Tag}
 use Rattle.bay_ber.specs.Tags.{same_class, context, constructed, sequence, int_tag, visible_tag}
 use Rattle.bay_ber.specs.Values.{Part}
-use Rattle.bay_ber.specs.Forms.{Form, map_form, such, integer, truth, bits, octets, anything, empty, one, first_form, fields, each, whole, none, under, choice, done, next, maybe}
+use Rattle.bay_ber.specs.Forms.{Form, map_form, try_map_form, integer, truth, bits, octets, any_octets, empty, one, first_form, fields, each, whole, none, tagged, choice, done, value_then, maybe}
 use Rattle.bay_mms_initiate.specs.Initiate.{proposal}
 use Rattle.bay_mms.specs.Data as mms
 use Rattle.bay_mms.specs.Data.{Datum}
@@ -22,14 +22,14 @@ use Rattle.bay_mms.specs.declared.fault.MmsFault.TheVariants as fault
 
 -- domain-specific: a domain, and an item of it
 unfoldable pub domain_parts : Form (List Part) (List ℕ × (List ℕ × Unit {0}))
-domain_parts = next (under visible_tag octets) (next (under visible_tag octets) done)
+domain_parts = value_then (tagged visible_tag octets) (value_then (tagged visible_tag octets) done)
 
 -- ObjectName: vmd-specific, domain-specific or aa-specific
 unfoldable pub name : Form Part Naming
 name =
     choice (context 0) (map_form vmd octets)
     (choice (constructed 1) (map_form (λ x. domain x.0 x.1.0) (fields domain_parts))
-    (under (context 2) (map_form association octets)))
+    (tagged (context 2) (map_form association octets)))
 
 -- ---- ISO 9506-2 VariableAccessSpecification: variables
 
@@ -39,22 +39,24 @@ is_there (Some x) = true
 is_there None = false
 
 -- a variable, from the parts that were read
-abbrev pub variable_by : Naming × (Option (Unit {0}) × Unit {0}) → VariableSpecification
-variable_by x = record { name = x.0; is_alternate = is_there x.1.0 }
+abbrev pub specification_from_parts : Naming × (Option (Unit {0}) × Unit {0})
+    → VariableSpecification
+specification_from_parts x = record { name = x.0; is_alternate = is_there x.1.0 }
 
 -- variableSpecification, a name, and alternateAccess, which is optional and not read
 unfoldable pub variable_parts : Form (List Part) (Naming × (Option (Unit {0}) × Unit {0}))
-variable_parts = next (under (constructed 0) (one name)) (maybe (constructed 5) anything done)
+variable_parts =
+    value_then (tagged (constructed 0) (one name)) (maybe (constructed 5) any_octets done)
 
 -- an item of listOfVariable
 unfoldable pub variable : Form Part VariableSpecification
-variable = under sequence (map_form variable_by (fields variable_parts))
+variable = tagged sequence (map_form specification_from_parts (fields variable_parts))
 
 -- VariableAccessSpecification: listOfVariable, or variableListName
 unfoldable pub access : Form Part Access
 access =
     choice (constructed 0) (map_form variables (each variable))
-    (under (constructed 1) (map_form (λ n. named_list) (one name)))
+    (tagged (constructed 1) (map_form (λ n. named_list) (one name)))
 
 -- ---- own: which names are served
 
@@ -79,9 +81,9 @@ counted_names count ns alternate =
 
 -- The requested names, `count` of them if a count is given; a named list of variables is not
 -- served.
-abbrev pub names_asked : Option ℕ → Access → Result (List Naming) Refusal
-names_asked count named_list = Err Unknown
-names_asked count (variables vs) = counted_names count (map (λ v. v.name) vs) (any_alternate vs)
+abbrev pub requested_names : Option ℕ → Access → Result (List Naming) Refusal
+requested_names count named_list = Err Unknown
+requested_names count (variables vs) = counted_names count (map (λ v. v.name) vs) (any_alternate vs)
 
 -- ---- ISO 9506-2 Data: data
 
@@ -120,56 +122,56 @@ unfoldable pub scope : Form Part Place
 scope =
     choice (context 0) (map_form (λ x. whole_vmd) empty)
     (choice (context 1) (map_form in_domain octets)
-    (under (context 2) (map_form (λ x. of_association) empty)))
+    (tagged (context 2) (map_form (λ x. of_association) empty)))
 
 -- objectClass, and objectScope, each with its tag
 unfoldable pub class_part : Form Part ℤ
-class_part = under (constructed 0) (one (under (context 0) integer))
+class_part = tagged (constructed 0) (one (tagged (context 0) integer))
 
 unfoldable pub scope_part : Form Part Place
-scope_part = under (constructed 1) (one scope)
+scope_part = tagged (constructed 1) (one scope)
 
 -- the request for names, from the parts that were read
-abbrev pub names_by : ℤ × (Place × (Option (List ℕ) × Unit {0})) → Asking
-names_by x = names x.0 x.1.0 x.1.1.0
+abbrev pub names_from_parts : ℤ × (Place × (Option (List ℕ) × Unit {0})) → Asking
+names_from_parts x = names x.0 x.1.0 x.1.1.0
 
 -- objectClass, objectScope, and continueAfter, which is optional
-unfoldable pub listing_parts : Form (List Part) (ℤ × (Place × (Option (List ℕ) × Unit {0})))
-listing_parts = next class_part (next scope_part (maybe (context 2) octets done))
+unfoldable pub get_name_list_parts : Form (List Part) (ℤ × (Place × (Option (List ℕ) × Unit {0})))
+get_name_list_parts = value_then class_part (value_then scope_part (maybe (context 2) octets done))
 
 -- GetNameList-Request
-unfoldable pub listing : Form (List ℕ) Asking
-listing = map_form names_by (fields listing_parts)
+unfoldable pub get_name_list : Form (List ℕ) Asking
+get_name_list = map_form names_from_parts (fields get_name_list_parts)
 
 -- ---- ISO 9506-2 GetVariableAccessAttributes-Request: the requested type
 
 -- GetVariableAccessAttributes-Request: by the name of a variable; by the name of a list it is not
 -- served
-unfoldable pub attributes_by : Form Part (Result Asking Refusal)
-attributes_by =
+unfoldable pub attributes_request : Form Part (Result Asking Refusal)
+attributes_request =
     choice (constructed 0) (map_form (λ n. Ok (attributes n)) (one name))
-    (under (constructed 1) (map_form (λ n. Err Unknown) (one name)))
+    (tagged (constructed 1) (map_form (λ n. Err Unknown) (one name)))
 
 -- ---- ISO 9506-2 Read-Request: variables that are read
 
 -- the read of these variables
-unfoldable pub reading : Access → Result Asking Refusal
-reading vs = names_asked None vs >> λ ns. Ok (read ns)
+unfoldable pub read_service : Access → Result Asking Refusal
+read_service vs = requested_names None vs >> λ ns. Ok (read ns)
 
 -- Read-Request: specificationWithResult, which is optional and not read, and
 -- variableAccessSpecification
 unfoldable pub read_parts : Form (List Part) (Option (Unit {0}) × (Access × Unit {0}))
-read_parts = maybe (context 0) anything (next (under (constructed 1) (one access)) done)
+read_parts = maybe (context 0) any_octets (value_then (tagged (constructed 1) (one access)) done)
 
 -- ---- ISO 9506-2 Write-Request: variables that are written
 
 -- the write of these data to as many variables
-unfoldable pub writing : Access × (List Datum × Unit {0}) → Result Asking Refusal
-writing x = names_asked (Some (length x.1.0)) x.0 >> λ ns. Ok (write ns x.1.0)
+unfoldable pub write_service : Access × (List Datum × Unit {0}) → Result Asking Refusal
+write_service x = requested_names (Some (length x.1.0)) x.0 >> λ ns. Ok (write ns x.1.0)
 
 -- Write-Request: variableAccessSpecification and listOfData, each at most 10 deep
 unfoldable pub write_parts : Form (List Part) (Access × (List Datum × Unit {0}))
-write_parts = next access (next (under (constructed 0) (each (datum_at 10))) done)
+write_parts = value_then access (value_then (tagged (constructed 0) (each (datum_at 10))) done)
 
 -- ---- ISO 9506-2 ConfirmedServiceRequest: services
 
@@ -181,18 +183,18 @@ is_unlisted tag =
     || ((tag.number == 2) || ((tag.number == 4) || ((tag.number == 5) || (tag.number == 6)))))
 
 -- the refusal of a service that is not read here
-abbrev pub unlisted : Part → Option (Result Asking Refusal)
-unlisted part = if is_unlisted part.tag then Some (Err Unknown) else None
+abbrev pub refuse_unlisted : Part → Option (Result Asking Refusal)
+refuse_unlisted part = if is_unlisted part.tag then Some (Err Unknown) else None
 
 -- ConfirmedServiceRequest: getNameList, identify, read, write, getVariableAccessAttributes, and
 -- others
 unfoldable pub service_request : Form Part (Result Asking Refusal)
 service_request =
-    choice (constructed 1) (map_form (λ x. Ok x) listing)
+    choice (constructed 1) (map_form (λ x. Ok x) get_name_list)
     (choice (context 2) (map_form (λ x. Ok identify) empty)
-    (choice (constructed 4) (map_form (λ x. reading x.1.0) (fields read_parts))
-    (choice (constructed 5) (map_form writing (fields write_parts))
-    (choice (constructed 6) (one attributes_by) (such unlisted whole)))))
+    (choice (constructed 4) (map_form (λ x. read_service x.1.0) (fields read_parts))
+    (choice (constructed 5) (map_form write_service (fields write_parts))
+    (choice (constructed 6) (one attributes_request) (try_map_form refuse_unlisted whole)))))
 
 -- ---- ISO 9506-2 MMSpdu: the request
 
@@ -203,11 +205,11 @@ id_of (negsuc n) = None
 
 -- invokeID
 unfoldable pub invoke_id : Form Part ℕ
-invoke_id = under int_tag (such id_of integer)
+invoke_id = tagged int_tag (try_map_form id_of integer)
 
 -- invokeID and ConfirmedServiceRequest (ISO 9506-2, Confirmed-RequestPDU)
 unfoldable pub confirmed_parts : Form (List Part) (ℕ × (Result Asking Refusal × Unit {0}))
-confirmed_parts = next invoke_id (next service_request done)
+confirmed_parts = value_then invoke_id (value_then service_request done)
 
 -- the request for a service with an invoke id, or why it is refused; None if the service is
 -- malformed (own)
@@ -220,9 +222,9 @@ under_id id (Err refusal) = None
 -- MMSpdu: confirmed-RequestPDU, initiate-RequestPDU or conclude-RequestPDU
 unfoldable pub pdu : Form Part (Result Message Denial)
 pdu =
-    choice (constructed 0) (such (λ x. under_id x.0 x.1.0) (fields confirmed_parts))
+    choice (constructed 0) (try_map_form (λ x. under_id x.0 x.1.0) (fields confirmed_parts))
     (choice (constructed 8) (map_form (λ p. Ok (initiate p)) proposal)
-    (under (context 11) (map_form (λ x. Ok conclude) empty)))
+    (tagged (context 11) (map_form (λ x. Ok conclude) empty)))
 
 -- a request
 unfoldable pub request : Form (List ℕ) (Result Message Denial)
@@ -233,16 +235,16 @@ request = one pdu
 -- the invoke id, if the octets begin with a value of a confirmed request whose content begins with
 -- an id
 unfoldable pub front_id : Form (List ℕ) ℕ
-front_id = first_form (under (constructed 0) (first_form invoke_id))
+front_id = first_form (tagged (constructed 0) (first_form invoke_id))
 
 -- the result for a request that was read, or for none: then a bad PDU, with the invoke id if it can
 -- be read
-abbrev pub told : Option ℕ → Option (Result Message Denial) → Result Message MmsFault
-told known (Some (Ok message)) = Ok message
-told known (Some (Err (unknown id))) = Err (fault.UnknownService id)
-told known (Some (Err (many id))) = Err (fault.TooMany id)
-told known None = Err (fault.BadPdu known)
+abbrev pub request_or_fault : Option ℕ → Option (Result Message Denial) → Result Message MmsFault
+request_or_fault known (Some (Ok message)) = Ok message
+request_or_fault known (Some (Err (unknown id))) = Err (fault.UnknownService id)
+request_or_fault known (Some (Err (many id))) = Err (fault.TooMany id)
+request_or_fault known None = Err (fault.BadPdu known)
 
 -- the request that octets are read as, or their fault
 unfoldable pub answer_to : List ℕ → Result Message MmsFault
-answer_to octets = told (front_id.reads octets) (request.reads octets)
+answer_to octets = request_or_fault (front_id.reads octets) (request.reads octets)

@@ -7,7 +7,7 @@ use Rattle.bay_mms.specs.declared.control.OperateData.{OperateData}
 use Rattle.bay_mms.specs.declared.report.LastApplError.{LastApplError}
 use Rattle.bay_mms.specs.Data.{Datum, Data, structure, integer, unsigned, text, no_data, datum, data_text}
 use Rattle.bay_mms.specs.Controls.{origin_datum, check_octet, operate_datum}
-use Rattle.bay_mms.specs.ControlViews.{originating, operating}
+use Rattle.bay_mms.specs.ControlViews.{origin_view, operate_view}
 use Rattle.bay_ber.specs.Tags.{context, constructed, sequence, visible_tag}
 
 -- ---- ISO 9506-2 InformationReport: a report of variables
@@ -43,7 +43,7 @@ abbrev pub failure_datum : LastApplError → Datum
 failure_datum e =
     structure (datum (text e.object.now)
     (datum (integer (pos 0))
-    (datum (origin_datum (originating e.origin))
+    (datum (origin_datum (origin_view e.origin))
     (datum (unsigned (pos e.ctl_num)) (datum (integer (pos e.add_cause)) no_data)))))
 
 -- the report that a control was refused (IEC 61850-8-1, LastApplError)
@@ -54,13 +54,13 @@ failure_text e = report_text (failure_name ∷ []) (datum (failure_datum e) no_d
 -- 61850-8-1, CommandTermination)
 abbrev pub termination_text : List ℕ → List ℕ → OperateData → List ℕ
 termination_text domain item o =
-    report_text (item_name domain item ∷ []) (datum (operate_datum (operating o)) no_data)
+    report_text (item_name domain item ∷ []) (datum (operate_datum (operate_view o)) no_data)
 
 -- the report that a control has failed: why, and then the operate
 abbrev pub failed_text : LastApplError → List ℕ → List ℕ → OperateData → List ℕ
 failed_text e domain item o =
     report_text (failure_name ∷ item_name domain item ∷ [])
-    (datum (failure_datum e) (datum (operate_datum (operating o)) no_data))
+    (datum (failure_datum e) (datum (operate_datum (operate_view o)) no_data))
 
 -- ---- IEC 61850-8-1 LastApplError, Oper: the texts of their parts
 

@@ -15,31 +15,32 @@ use Rattle.bay_mms.specs.Requests.{Naming, vmd, domain, association, Place, whol
 -- ---- own: views of the code
 
 -- the view of the name of an object
-abbrev pub naming : ObjectName → Naming
-naming (name.Vmd text) = vmd text.now
-naming (name.Domain d item) = domain d.now item.now
-naming (name.Association text) = association text.now
+abbrev pub object_name_view : ObjectName → Naming
+object_name_view (name.Vmd text) = vmd text.now
+object_name_view (name.Domain d item) = domain d.now item.now
+object_name_view (name.Association text) = association text.now
 
 -- the view of the scope of names
-abbrev pub place : Scope → Place
-place scope.Vmd = whole_vmd
-place (scope.Domain d) = in_domain d.now
-place scope.Association = of_association
+abbrev pub scope_view : Scope → Place
+scope_view scope.Vmd = whole_vmd
+scope_view (scope.Domain d) = in_domain d.now
+scope_view scope.Association = of_association
 
 -- the view of a named variable
-abbrev pub variable : code.VariableSpecification → VariableSpecification
-variable v = record { name = naming v.name; is_alternate = v.is_alternate }
+abbrev pub variable_view : code.VariableSpecification → VariableSpecification
+variable_view v = record { name = object_name_view v.name; is_alternate = v.is_alternate }
 
 -- the view of a service with its arguments
-abbrev pub asking : Call → Asking
-asking call.Identify = identify
-asking (call.Names class s after) = names class (place s) (option_map (λ text. text.now) after)
-asking (call.Attributes n) = attributes (naming n)
-asking (call.Read ns) = read (map naming ns.items)
-asking (call.Write ns values) = write (map naming ns.items) (data_in values.items)
+abbrev pub call_view : Call → Asking
+call_view call.Identify = identify
+call_view (call.Names class s after) =
+    names class (scope_view s) (option_map (λ text. text.now) after)
+call_view (call.Attributes n) = attributes (object_name_view n)
+call_view (call.Read ns) = read (map object_name_view ns.items)
+call_view (call.Write ns values) = write (map object_name_view ns.items) (data_in values.items)
 
 -- the view of a request
-abbrev pub message : Request → Message
-message (request.Initiate proposal) = initiate proposal
-message request.Conclude = conclude
-message (request.Confirmed id service) = confirmed id (asking service)
+abbrev pub request_view : Request → Message
+request_view (request.Initiate proposal) = initiate proposal
+request_view request.Conclude = conclude
+request_view (request.Confirmed id service) = confirmed id (call_view service)

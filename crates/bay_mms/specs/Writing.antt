@@ -1,6 +1,6 @@
 -- The results of calls that write.
 use Rattle.std.specs.Prelude.{ℕ, ◌≡◌, ◌<◌, true, false, Option, Some, None, is_none, List, [], ◌++◌, length, Result, Ok, Err}
-use Rattle.bay_ber.specs.EncoderBuffers.{EncoderBuffer, empty, within}
+use Rattle.bay_ber.specs.EncoderBuffers.{EncoderBuffer, empty, text_within_limit}
 use Rattle.bay_mms.specs.declared.fault.EncodeFault.{EncodeFault}
 use Rattle.bay_mms.specs.declared.fault.EncodeFault.TheVariants.{TooLong, OutOfMemory}
 
@@ -13,7 +13,7 @@ or_long (Some text) = Ok text
 
 -- the text, if it has at most `size` octets
 abbrev pub text_within : ℕ → List ℕ → Result (List ℕ) EncodeFault
-text_within size text = or_long (within size text)
+text_within size text = or_long (text_within_limit size text)
 
 -- The text was appended; or the octets with the text would be more than the size; or an allocation
 -- failed.

@@ -7,9 +7,9 @@ ghost use Rattle.bay_ber.specs.Forms.{answer, map_form, one, each};
 ghost use Rattle.bay_ber.specs.Values.{part_of};
 ghost use Rattle.bay_mms.specs.Answers.{names_none};
 ghost use Rattle.bay_mms.specs.Grammar as spec;
-ghost use Rattle.bay_mms.specs.Grammar.{domain_parts, name, variable_by, variable_parts, variable, access, names_asked};
+ghost use Rattle.bay_mms.specs.Grammar.{domain_parts, name, specification_from_parts, variable_parts, variable, access, requested_names};
 ghost use Rattle.bay_mms.specs.Requests.{domain, variables};
-ghost use Rattle.bay_mms.specs.RequestViews.{naming, variable as view};
+ghost use Rattle.bay_mms.specs.RequestViews.{object_name_view, variable_view as view};
 
 use crate::fault::Refusal;
 use crate::request::ObjectName;
@@ -30,7 +30,7 @@ pub struct VariableSpecification<'a> {
 // Reads the two parts of a name of an item in a domain.
 #[tactic(auto, unfolding(crate::specs::Grammar::domain_parts))]
 fn domain_name<'a>(parts: &[Value<'a>]) -> Option<ObjectName<'a>>
-    ensures { option_map naming result
+    ensures { option_map object_name_view result
         ≡ option_map (λ x. domain x.0 x.1.0) (domain_parts.reads (map part_of parts.now)) }
 {
     match parts {
@@ -46,7 +46,7 @@ fn domain_name<'a>(parts: &[Value<'a>]) -> Option<ObjectName<'a>>
 // Reads a value as a name.
 #[tactic(auto, unfolding(crate::specs::Grammar::name))]
 fn name_from_value<'a>(value: &Value<'a>) -> Option<ObjectName<'a>>
-    ensures { option_map naming result ≡ name.reads (part_of value.now) }
+    ensures { option_map object_name_view result ≡ name.reads (part_of value.now) }
 {
     if value.tag.is(Tag::context(0)) {
         Some(ObjectName::Vmd(value.content))
@@ -62,7 +62,7 @@ fn name_from_value<'a>(value: &Value<'a>) -> Option<ObjectName<'a>>
 
 /// Reads octets as a name.
 pub(crate) fn parse_name(octets: &[u8]) -> Option<ObjectName<'_>>
-    ensures { option_map naming result ≡ (one name).reads octets.now }
+    ensures { option_map object_name_view result ≡ (one name).reads octets.now }
 {
     let value = whole_value(octets)?;
     name_from_value(&value)
@@ -72,7 +72,7 @@ pub(crate) fn parse_name(octets: &[u8]) -> Option<ObjectName<'_>>
 #[tactic(auto, unfolding(crate::specs::Grammar::variable_parts))]
 fn variable_from_parts<'a>(parts: &[Value<'a>]) -> Option<VariableSpecification<'a>>
     ensures { option_map view result
-        ≡ option_map variable_by (variable_parts.reads (map part_of parts.now)) }
+        ≡ option_map specification_from_parts (variable_parts.reads (map part_of parts.now)) }
 {
     let (name, is_alternate) = match parts {
         [name] => (name, false),
@@ -97,8 +97,8 @@ fn variable_from_value<'a>(value: &Value<'a>) -> Option<VariableSpecification<'a
 
 // Appends a name; with the first one, allocates room for as many names as are served.
 fn push_name<'a>(names: &mut Vec<ObjectName<'a>>, name: ObjectName<'a>) -> Result<(), AllocError>
-    ensures { OnOk result (map naming names.new.items
-        ≡ map naming names.old.items ++ naming name.entry ∷ []) }
+    ensures { OnOk result (map object_name_view names.new.items
+        ≡ map object_name_view names.old.items ++ object_name_view name.entry ∷ []) }
 {
     if names.is_empty() {
         names.reserve(VARIABLES_MAX)?;
@@ -126,8 +126,8 @@ fn counted<'a>(
     names: Vec<ObjectName<'a>>,
     is_alternate: bool,
 ) -> Result<Vec<ObjectName<'a>>, Refusal>
-    ensures { IsRead (λ v. map naming v.items) result
-        (spec.counted_names count (map naming names.entry.items) is_alternate) }
+    ensures { IsRead (λ v. map object_name_view v.items) result
+        (spec.counted_names count (map object_name_view names.entry.items) is_alternate) }
 {
     if !are_as_many(count, names.len()) {
         Err(Refusal::Bad)
@@ -146,12 +146,13 @@ fn listed<'a>(
     count: Option<usize>,
     octets: &'a [u8],
 ) -> Result<Vec<ObjectName<'a>>, Refusal>
-    ensures asked { Gives Refusal.OutOfMemory (λ v. map naming v.items) result
-        (answer Refusal.Bad (map_form (λ vs. names_asked count (variables vs)) (each variable))
+    ensures asked { Gives Refusal.OutOfMemory (λ v. map object_name_view v.items) result
+        (answer Refusal.Bad (map_form (λ vs. requested_names count (variables vs)) (each variable))
         octets.now) }
     ensures memory { IsErrOf result Refusal.OutOfMemory
         → names_none (answer Refusal.Bad
-        (map_form (λ vs. names_asked count (variables vs)) (each variable)) octets.now) ≡ false }
+        (map_form (λ vs. requested_names count (variables vs)) (each variable)) octets.now)
+        ≡ false }
 {
     let mut names = Vec::new(alloc);
     let mut is_alternate = false;
@@ -179,10 +180,11 @@ pub(crate) fn names_from_value<'a>(
     count: Option<usize>,
     value: &Value<'a>,
 ) -> Result<Vec<ObjectName<'a>>, Refusal>
-    ensures asked { Gives Refusal.OutOfMemory (λ v. map naming v.items) result
-        (answer Refusal.Bad (map_form (names_asked count) access) (part_of value.now)) }
+    ensures asked { Gives Refusal.OutOfMemory (λ v. map object_name_view v.items) result
+        (answer Refusal.Bad (map_form (requested_names count) access) (part_of value.now)) }
     ensures memory { IsErrOf result Refusal.OutOfMemory
-        → names_none (answer Refusal.Bad (map_form (names_asked count) access) (part_of value.now))
+        → names_none (answer Refusal.Bad (map_form (requested_names count) access)
+        (part_of value.now))
         ≡ false }
 {
     if value.tag.is(Tag::context_constructed(0)) {

@@ -2,7 +2,7 @@
 ghost use Rattle.std.specs.Prelude.{◌≡◌, option_map, Some, None, if◌then◌else◌};
 ghost use Rattle.bay_mms.specs.Views.{datum_of};
 ghost use Rattle.bay_mms.specs.Controls.{is_in_range, operate_in, cancel_in};
-ghost use Rattle.bay_mms.specs.ControlViews.{cancelling, operating, shaping, result_view};
+ghost use Rattle.bay_mms.specs.ControlViews.{cancel_view, operate_view, shape_view, result_view};
 
 use crate::data::Data;
 use crate::fault::DataAccessError;
@@ -49,8 +49,8 @@ pub struct CancelData<'a> {
 
 // Returns the control with this shape, if its numbers and its identity are in range.
 fn in_range<'a>(shape: &Shape<'a>) -> Option<CancelData<'a>>
-    ensures { option_map cancelling result
-        ≡ (if is_in_range (shaping shape.now) then Some (shaping shape.now) else None) }
+    ensures { option_map cancel_view result
+        ≡ (if is_in_range (shape_view shape.now) then Some (shape_view shape.now) else None) }
 {
     let ctl_num = u8::try_from(shape.ctl_num).ok()?;
     let or_cat = i8::try_from(shape.or_cat).ok()?;
@@ -74,7 +74,7 @@ fn in_range<'a>(shape: &Shape<'a>) -> Option<CancelData<'a>>
 /// without two bits. Otherwise fails with `ObjectValueInvalid` if ctlNum is outside 0 to 255, orCat
 /// is outside -128 to 127, or orIdent is longer than 64 octets.
 pub fn operate_of<'a>(given: &Data<'a>) -> Result<OperateData<'a>, DataAccessError>
-    ensures { result_view operating result ≡ operate_in (datum_of given.now) }
+    ensures { result_view operate_view result ≡ operate_in (datum_of given.now) }
 {
     let (shape, check) = operate_from_data(given).ok_or(DataAccessError::TypeInconsistent)?;
     let control = in_range(&shape).ok_or(DataAccessError::ObjectValueInvalid)?;
@@ -84,7 +84,7 @@ pub fn operate_of<'a>(given: &Data<'a>) -> Result<OperateData<'a>, DataAccessErr
 /// Reads data as a cancel. Fails like `operate_of`. A cancel has five parts, because it has no
 /// Check.
 pub fn cancel_of<'a>(given: &Data<'a>) -> Result<CancelData<'a>, DataAccessError>
-    ensures { result_view cancelling result ≡ cancel_in (datum_of given.now) }
+    ensures { result_view cancel_view result ≡ cancel_in (datum_of given.now) }
 {
     let shape = cancel_from_data(given).ok_or(DataAccessError::TypeInconsistent)?;
     in_range(&shape).ok_or(DataAccessError::ObjectValueInvalid)

@@ -17,7 +17,7 @@ ghost use Rattle.bay_ber.specs.Values.{value};
 ghost use Rattle.bay_mms.specs.Controls.{Control, Operate, IsOperate, operate_datum, cancel_datum, operate_as, cancel_as, is_in_range, operate_in};
 ghost use Rattle.bay_mms.specs.Laws.{IsPlain, IsOneValue, datum_tag, datum_content, depth_of};
 ghost use Rattle.bay_mms.specs.Requests.{Message};
-ghost use Rattle.bay_mms.specs.RequestViews.{message};
+ghost use Rattle.bay_mms.specs.RequestViews.{request_view};
 ghost use Rattle.bay_mms.specs.declared.fault.MmsFault.{MmsFault};
 ghost use Rattle.bay_mms.specs.declared.request.Request.{Request};
 ghost use Rattle.bay_mms.specs.declared.fault.MmsFault.TheVariants as MmsFault;
@@ -62,7 +62,8 @@ pub fn one_request()
     ensures one { (octets : List ℕ) (first second : Message) → Asks first octets
         → Asks second octets → first ≡ second }
     ensures answer { (octets : List ℕ) (answer : Result Request MmsFault) → AreOctets octets
-        → IsAnswer octets answer → Gives MmsFault.OutOfMemory message answer (answer_to octets) }
+        → IsAnswer octets answer
+        → Gives MmsFault.OutOfMemory request_view answer (answer_to octets) }
     ensures initiate { (octets : List ℕ) (proposal : Proposal) → AreOctets octets
         → (initiate_in octets ≡ Some proposal) ↔ IsInitiate octets proposal }
 {}

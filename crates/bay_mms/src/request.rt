@@ -1,14 +1,14 @@
 // Reading requests of clients.
 ghost use Rattle.std.specs.Prelude.{◌≡◌, IsSome, IsErrOf, map, option_map};
 ghost use Rattle.bay_base.specs.Exact.{Gives};
-ghost use Rattle.bay_ber.specs.Forms.{such, one};
+ghost use Rattle.bay_ber.specs.Forms.{try_map_form, one};
 ghost use Rattle.bay_ber.specs.Forms as forms;
 ghost use Rattle.bay_ber.specs.Reading.{tlv_at};
 ghost use Rattle.bay_ber.specs.Values.{part_of};
 ghost use Rattle.bay_mms.specs.Answers.{IsAnswer, list_of, list_parts, list_pdu};
-ghost use Rattle.bay_mms.specs.Grammar.{service_request, invoke_id, confirmed_parts, under_id, pdu, front_id, told};
+ghost use Rattle.bay_mms.specs.Grammar.{service_request, invoke_id, confirmed_parts, under_id, pdu, front_id, request_or_fault};
 ghost use Rattle.bay_mms.specs.Grammar as spec;
-ghost use Rattle.bay_mms.specs.RequestViews.{message};
+ghost use Rattle.bay_mms.specs.RequestViews.{request_view};
 
 use crate::data::Data;
 use crate::fault::{MmsFault, Refusal};
@@ -123,8 +123,9 @@ fn with_id<'a>(
     id: u32,
     service: &Value<'a>,
 ) -> Result<Request<'a>, MmsFault>
-    ensures asked { Gives MmsFault.OutOfMemory message result (told (front_id.reads octets.now)
-        ((such (under_id id) service_request).reads (part_of service.now))) }
+    ensures asked { Gives MmsFault.OutOfMemory request_view result
+        (request_or_fault (front_id.reads octets.now)
+        ((try_map_form (under_id id) service_request).reads (part_of service.now))) }
     ensures memory { IsErrOf result MmsFault.OutOfMemory → IsSome (list_of (part_of service.now)) }
 {
     match service_from_value(alloc, service) {
@@ -143,8 +144,9 @@ fn confirmed_from_parts<'a>(
     octets: &[u8],
     parts: &[Value<'a>],
 ) -> Result<Request<'a>, MmsFault>
-    ensures asked { Gives MmsFault.OutOfMemory message result (told (front_id.reads octets.now)
-        ((such (λ x. under_id x.0 x.1.0) confirmed_parts).reads (map part_of parts.now))) }
+    ensures asked { Gives MmsFault.OutOfMemory request_view result
+        (request_or_fault (front_id.reads octets.now)
+        ((try_map_form (λ x. under_id x.0 x.1.0) confirmed_parts).reads (map part_of parts.now))) }
     ensures memory { IsErrOf result MmsFault.OutOfMemory
         → IsSome (list_parts.reads (map part_of parts.now)) }
 {
@@ -164,8 +166,8 @@ fn pdu_from_value<'a>(
     octets: &[u8],
     value: &Value<'a>,
 ) -> Result<Request<'a>, MmsFault>
-    ensures asked { Gives MmsFault.OutOfMemory message result
-        (told (front_id.reads octets.now) (pdu.reads (part_of value.now))) }
+    ensures asked { Gives MmsFault.OutOfMemory request_view result
+        (request_or_fault (front_id.reads octets.now) (pdu.reads (part_of value.now))) }
     ensures memory { IsErrOf result MmsFault.OutOfMemory
         → IsSome (list_pdu.reads (part_of value.now)) }
 {
@@ -187,7 +189,7 @@ fn pdu_from_value<'a>(
 // Reads octets as a request.
 #[tactic(auto, unfolding(crate::specs::Grammar::request, crate::specs::Grammar::answer_to))]
 fn answer_to<'a>(alloc: Global, octets: &'a [u8]) -> Result<Request<'a>, MmsFault>
-    ensures asked { Gives MmsFault.OutOfMemory message result (spec.answer_to octets.now) }
+    ensures asked { Gives MmsFault.OutOfMemory request_view result (spec.answer_to octets.now) }
     ensures memory { IsErrOf result MmsFault.OutOfMemory
         → IsSome ((one list_pdu).reads octets.now) }
 {

@@ -1,14 +1,14 @@
 // Reading the requested service (ISO 9506-2, ConfirmedServiceRequest).
 ghost use Rattle.std.specs.Prelude.{◌≡◌, false, [], ◌∷◌, IsSome, IsErrOf, map, option_map};
 ghost use Rattle.bay_base.specs.Exact.{Gives};
-ghost use Rattle.bay_ber.specs.Forms.{answer, map_form, such, empty, one, whole, under};
+ghost use Rattle.bay_ber.specs.Forms.{answer, map_form, try_map_form, empty, one, whole, tagged};
 ghost use Rattle.bay_ber.specs.Tags.{constructed};
 ghost use Rattle.bay_ber.specs.Values.{part_of};
 ghost use Rattle.bay_mms.specs.Answers.{is_empty, list_of};
 ghost use Rattle.bay_mms.specs.Requests as asked;
-ghost use Rattle.bay_mms.specs.Grammar.{access, scope, class_part, scope_part, names_by, listing_parts, attributes_by, reading, read_parts, writing, write_parts, service_request};
+ghost use Rattle.bay_mms.specs.Grammar.{access, scope, class_part, scope_part, names_from_parts, get_name_list_parts, attributes_request, read_service, read_parts, write_service, write_parts, service_request};
 ghost use Rattle.bay_mms.specs.Grammar as spec;
-ghost use Rattle.bay_mms.specs.RequestViews.{place, asking};
+ghost use Rattle.bay_mms.specs.RequestViews.{scope_view, call_view};
 
 use crate::access::{names_from_value, parse_name};
 use crate::data_parser::read_data;
@@ -23,7 +23,7 @@ const DEPTH_MAX: u8 = 10;
 
 // Returns the one value inside a value with this tag.
 fn inner_value<'a>(tag: Tag, value: &Value<'a>) -> Option<Value<'a>>
-    ensures { option_map part_of result ≡ (under tag (one whole)).reads (part_of value.now) }
+    ensures { option_map part_of result ≡ (tagged tag (one whole)).reads (part_of value.now) }
 {
     whole_value(value.content_with_tag(tag)?)
 }
@@ -31,7 +31,7 @@ fn inner_value<'a>(tag: Tag, value: &Value<'a>) -> Option<Value<'a>>
 // Reads the scope of names, by its tag: the device (VMD), a domain, or the association.
 #[tactic(auto, unfolding(crate::specs::Grammar::scope))]
 fn scope_from_value<'a>(value: &Value<'a>) -> Option<Scope<'a>>
-    ensures { option_map place result ≡ scope.reads (part_of value.now) }
+    ensures { option_map scope_view result ≡ scope.reads (part_of value.now) }
 {
     if value.tag.is(Tag::context(0)) {
         if value.content.is_empty() {
@@ -64,17 +64,17 @@ fn class_of(value: &Value<'_>) -> Option<i64>
 // Reads the scope of names, inside its outer tag.
 #[tactic(auto, unfolding(crate::specs::Grammar::scope_part))]
 fn scope_of<'a>(value: &Value<'a>) -> Option<Scope<'a>>
-    ensures { option_map place result ≡ scope_part.reads (part_of value.now) }
+    ensures { option_map scope_view result ≡ scope_part.reads (part_of value.now) }
 {
     let scope = inner_value(Tag::context_constructed(1), value)?;
     scope_from_value(&scope)
 }
 
 // Reads the parts of a request for names (ISO 9506-2, GetNameList).
-#[tactic(auto, unfolding(crate::specs::Grammar::listing_parts))]
+#[tactic(auto, unfolding(crate::specs::Grammar::get_name_list_parts))]
 fn name_list_from_parts<'a>(parts: &[Value<'a>]) -> Option<Call<'a>>
-    ensures { option_map asking result
-        ≡ option_map names_by (listing_parts.reads (map part_of parts.now)) }
+    ensures { option_map call_view result
+        ≡ option_map names_from_parts (get_name_list_parts.reads (map part_of parts.now)) }
 {
     let (class, scope, after) = match parts {
         [class, scope] => (class, scope, None),
@@ -91,10 +91,10 @@ fn name_list_from_parts<'a>(parts: &[Value<'a>]) -> Option<Call<'a>>
 }
 
 // Reads the name of the variable whose type is requested (ISO 9506-2, GetVariableAccessAttributes).
-#[tactic(auto, unfolding(crate::specs::Grammar::attributes_by))]
+#[tactic(auto, unfolding(crate::specs::Grammar::attributes_request))]
 fn attributes_from_value<'a>(value: &Value<'a>) -> Result<Call<'a>, Refusal>
-    ensures asked { Gives Refusal.OutOfMemory asking result
-        (answer Refusal.Bad attributes_by (part_of value.now)) }
+    ensures asked { Gives Refusal.OutOfMemory call_view result
+        (answer Refusal.Bad attributes_request (part_of value.now)) }
     ensures memory { IsErrOf result Refusal.OutOfMemory → ⊥ }
 {
     match parse_name(value.content) {
@@ -105,13 +105,13 @@ fn attributes_from_value<'a>(value: &Value<'a>) -> Result<Call<'a>, Refusal>
 }
 
 // Reads the access specification of a read.
-#[tactic(auto, unfolding(crate::specs::Grammar::reading))]
+#[tactic(auto, unfolding(crate::specs::Grammar::read_service))]
 fn read_from_value<'a>(alloc: Global, value: &Value<'a>) -> Result<Call<'a>, Refusal>
-    ensures asked { Gives Refusal.OutOfMemory asking result
-        (answer Refusal.Bad (map_form reading (under (constructed 1) (one access)))
+    ensures asked { Gives Refusal.OutOfMemory call_view result
+        (answer Refusal.Bad (map_form read_service (tagged (constructed 1) (one access)))
         (part_of value.now)) }
     ensures memory { IsErrOf result Refusal.OutOfMemory
-        → is_empty (answer Refusal.Bad (map_form reading (under (constructed 1) (one access)))
+        → is_empty (answer Refusal.Bad (map_form read_service (tagged (constructed 1) (one access)))
         (part_of value.now)) ≡ false }
 {
     let spec = inner_value(Tag::context_constructed(1), value).ok_or(Refusal::Bad)?;
@@ -122,10 +122,10 @@ fn read_from_value<'a>(alloc: Global, value: &Value<'a>) -> Result<Call<'a>, Ref
 // Reads the parts of a read.
 #[tactic(auto, unfolding(crate::specs::Grammar::read_parts))]
 fn read_from_parts<'a>(alloc: Global, parts: &[Value<'a>]) -> Result<Call<'a>, Refusal>
-    ensures asked { Gives Refusal.OutOfMemory asking result
-        (answer Refusal.Bad (map_form (λ x. reading x.1.0) read_parts) (map part_of parts.now)) }
+    ensures asked { Gives Refusal.OutOfMemory call_view result
+        (answer Refusal.Bad (map_form (λ x. read_service x.1.0) read_parts) (map part_of parts.now)) }
     ensures memory { IsErrOf result Refusal.OutOfMemory
-        → is_empty (answer Refusal.Bad (map_form (λ x. reading x.1.0) read_parts)
+        → is_empty (answer Refusal.Bad (map_form (λ x. read_service x.1.0) read_parts)
         (map part_of parts.now)) ≡ false }
 {
     match parts {
@@ -136,16 +136,16 @@ fn read_from_parts<'a>(alloc: Global, parts: &[Value<'a>]) -> Result<Call<'a>, R
 }
 
 // Reads the access specification of a write, and its data, one for each variable.
-#[tactic(auto, unfolding(crate::specs::Grammar::write_parts, crate::specs::Grammar::writing))]
+#[tactic(auto, unfolding(crate::specs::Grammar::write_parts, crate::specs::Grammar::write_service))]
 fn write_from_values<'a>(
     alloc: Global,
     spec: &Value<'a>,
     list: &Value<'a>,
 ) -> Result<Call<'a>, Refusal>
-    ensures asked { Gives Refusal.OutOfMemory asking result (answer Refusal.Bad
-        (map_form writing write_parts) (part_of spec.now ∷ part_of list.now ∷ [])) }
+    ensures asked { Gives Refusal.OutOfMemory call_view result (answer Refusal.Bad
+        (map_form write_service write_parts) (part_of spec.now ∷ part_of list.now ∷ [])) }
     ensures memory { IsErrOf result Refusal.OutOfMemory → is_empty (answer Refusal.Bad
-        (map_form writing write_parts) (part_of spec.now ∷ part_of list.now ∷ [])) ≡ false }
+        (map_form write_service write_parts) (part_of spec.now ∷ part_of list.now ∷ [])) ≡ false }
 {
     let octets = list
         .content_with_tag(Tag::context_constructed(0))
@@ -158,10 +158,10 @@ fn write_from_values<'a>(
 // Reads the parts of a write.
 #[tactic(auto, unfolding(crate::specs::Grammar::write_parts))]
 fn write_from_parts<'a>(alloc: Global, parts: &[Value<'a>]) -> Result<Call<'a>, Refusal>
-    ensures asked { Gives Refusal.OutOfMemory asking result
-        (answer Refusal.Bad (map_form writing write_parts) (map part_of parts.now)) }
+    ensures asked { Gives Refusal.OutOfMemory call_view result
+        (answer Refusal.Bad (map_form write_service write_parts) (map part_of parts.now)) }
     ensures memory { IsErrOf result Refusal.OutOfMemory
-        → is_empty (answer Refusal.Bad (map_form writing write_parts) (map part_of parts.now))
+        → is_empty (answer Refusal.Bad (map_form write_service write_parts) (map part_of parts.now))
         ≡ false }
 {
     match parts {
@@ -183,8 +183,8 @@ fn is_unlisted(tag: Tag) -> bool
 // Refuses a value that is none of the services read here: as `Unknown` if it has the tag of another
 // service, and else as `Bad`.
 fn other_from_value<'a>(value: &Value<'a>) -> Result<Call<'a>, Refusal>
-    ensures asked { Gives Refusal.OutOfMemory asking result
-        (answer Refusal.Bad (such spec.unlisted whole) (part_of value.now)) }
+    ensures asked { Gives Refusal.OutOfMemory call_view result
+        (answer Refusal.Bad (try_map_form spec.refuse_unlisted whole) (part_of value.now)) }
     ensures memory { IsErrOf result Refusal.OutOfMemory → ⊥ }
 {
     if is_unlisted(value.tag) {
@@ -196,7 +196,8 @@ fn other_from_value<'a>(value: &Value<'a>) -> Result<Call<'a>, Refusal>
 
 // Reads an identify, which has no content.
 fn identify(content: &[u8]) -> Option<Call<'_>>
-    ensures { option_map asking result ≡ (map_form (λ x. asked.identify) empty).reads content.now }
+    ensures { option_map call_view result
+        ≡ (map_form (λ x. asked.identify) empty).reads content.now }
 {
     if content.is_empty() {
         Some(Call::Identify)
@@ -206,9 +207,9 @@ fn identify(content: &[u8]) -> Option<Call<'_>>
 }
 
 // Reads the content of a request for names.
-#[tactic(auto, unfolding(crate::specs::Grammar::listing))]
-fn listing(content: &[u8]) -> Option<Call<'_>>
-    ensures { option_map asking result ≡ spec.listing.reads content.now }
+#[tactic(auto, unfolding(crate::specs::Grammar::get_name_list))]
+fn get_name_list(content: &[u8]) -> Option<Call<'_>>
+    ensures { option_map call_view result ≡ spec.get_name_list.reads content.now }
 {
     let parts = few_values(content)?;
     name_list_from_parts(parts.as_slice())
@@ -218,12 +219,12 @@ fn listing(content: &[u8]) -> Option<Call<'_>>
 /// of no variables.
 #[tactic(auto, unfolding(crate::specs::Grammar::service_request))]
 pub(crate) fn service_from_value<'a>(alloc: Global, value: &Value<'a>) -> Result<Call<'a>, Refusal>
-    ensures asked { Gives Refusal.OutOfMemory asking result
+    ensures asked { Gives Refusal.OutOfMemory call_view result
         (answer Refusal.Bad service_request (part_of value.now)) }
     ensures memory { IsErrOf result Refusal.OutOfMemory → IsSome (list_of (part_of value.now)) }
 {
     if value.tag.is(Tag::context_constructed(1)) {
-        listing(value.content).ok_or(Refusal::Bad)
+        get_name_list(value.content).ok_or(Refusal::Bad)
     } else if value.tag.is(Tag::context(2)) {
         identify(value.content).ok_or(Refusal::Bad)
     } else if value.tag.is(Tag::context_constructed(4)) {

@@ -3,7 +3,7 @@ ghost use Rattle.std.specs.Prelude.{◌≡◌, option_map, Some, None};
 ghost use Rattle.bay_mms.specs.Views.{datum_of, data_in};
 ghost use Rattle.bay_mms.specs.Controls.{Operate};
 ghost use Rattle.bay_mms.specs.Controls as spec;
-ghost use Rattle.bay_mms.specs.ControlViews.{shaping};
+ghost use Rattle.bay_mms.specs.ControlViews.{shape_view};
 
 use crate::control::Check;
 use crate::data::Data;
@@ -133,7 +133,7 @@ fn control_of<'a>(
     moment: &Data<'a>,
     test: &Data<'a>,
 ) -> Option<Shape<'a>>
-    ensures { option_map shaping result
+    ensures { option_map shape_view result
         ≡ spec.control_of (datum_of value.now) (datum_of origin.now) (datum_of number.now)
         (datum_of moment.now) (datum_of test.now) }
 {
@@ -154,7 +154,7 @@ fn control_of<'a>(
 
 // Returns the control of a Cancel, which has these five components in this order.
 fn cancel_from_parts<'a>(parts: &[Data<'a>]) -> Option<Shape<'a>>
-    ensures { option_map shaping result ≡ spec.cancel_of (data_in parts.now) }
+    ensures { option_map shape_view result ≡ spec.cancel_of (data_in parts.now) }
 {
     match parts {
         [value, origin, number, moment, test] => control_of(value, origin, number, moment, test),
@@ -165,7 +165,7 @@ fn cancel_from_parts<'a>(parts: &[Data<'a>]) -> Option<Shape<'a>>
 // Returns the control of an Oper, which has the five components of a Cancel, followed by its
 // checks.
 fn operate_from_parts<'a>(parts: &[Data<'a>]) -> Option<(Shape<'a>, Check)>
-    ensures { option_map (λ found. record { control = shaping found.0; check = found.1 }) result
+    ensures { option_map (λ found. record { control = shape_view found.0; check = found.1 }) result
         ≡ spec.operate_of (data_in parts.now) }
 {
     match parts {
@@ -181,7 +181,7 @@ fn operate_from_parts<'a>(parts: &[Data<'a>]) -> Option<(Shape<'a>, Check)>
 /// Reads the control in data with the shape of a Cancel.
 #[tactic(auto, unfolding(crate::specs::Controls::cancel_as))]
 pub(crate) fn cancel_from_data<'a>(given: &Data<'a>) -> Option<Shape<'a>>
-    ensures { option_map shaping result ≡ spec.cancel_as (datum_of given.now) }
+    ensures { option_map shape_view result ≡ spec.cancel_as (datum_of given.now) }
 {
     cancel_from_parts(parts_from_data(given)?)
 }
@@ -189,7 +189,7 @@ pub(crate) fn cancel_from_data<'a>(given: &Data<'a>) -> Option<Shape<'a>>
 /// Reads the control and its checks in data with the shape of an Oper.
 #[tactic(auto, unfolding(crate::specs::Controls::operate_as))]
 pub(crate) fn operate_from_data<'a>(given: &Data<'a>) -> Option<(Shape<'a>, Check)>
-    ensures { option_map (λ found. record { control = shaping found.0; check = found.1 }) result
+    ensures { option_map (λ found. record { control = shape_view found.0; check = found.1 }) result
         ≡ spec.operate_as (datum_of given.now) }
 {
     operate_from_parts(parts_from_data(given)?)

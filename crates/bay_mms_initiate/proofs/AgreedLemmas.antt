@@ -3,7 +3,7 @@ use Rattle.std.proofs.Common.{◌≡◌, ℕ, ℤ, pos, ◌+◌, ◌*◌, ◌/�
 use Rattle.std.proofs.lemmas.List.{length-append}
 use Rattle.bay_ber.specs.declared.tag.Tag.{Tag}
 use Rattle.bay_ber.specs.Writing.{element, integer_octets, bit_string_octets}
-use Rattle.bay_ber.specs.EncoderBuffers.{within}
+use Rattle.bay_ber.specs.EncoderBuffers.{text_within_limit}
 use Rattle.bay_ber.proofs.SheetLemmas.{fits}
 use Rattle.bay_ber.proofs.SizeLemmas.{length-element, length-integer, length-bit_octets}
 use Rattle.bay_mms_initiate.specs.declared.initiate.Agreed.{Agreed}
@@ -73,5 +73,5 @@ agreed_short a =
       detail-short a.parameters,
     )
 
-pub agreed_within : (a : Agreed) → within 200 (agreed_text a) ≡ Some (agreed_text a)
+pub agreed_within : (a : Agreed) → text_within_limit 200 (agreed_text a) ≡ Some (agreed_text a)
 agreed_within a = fits 200 (agreed_text a) (agreed_short a)

@@ -1,7 +1,7 @@
 -- The encoding of the request that opens an association (ISO 9506-2, InitiateRequestPDU), as forms.
 use Rattle.std.specs.Prelude.{ℕ, zero, suc, ℤ, pos, negsuc, ◌*◌, ◌/◌, Option, Some, None, List, [], ◌∷◌, nat_lt, if◌then◌else◌}
 use Rattle.bay_ber.specs.Content.{BitString}
-use Rattle.bay_ber.specs.Forms.{Form, map_form, such, integer, bits, one, fields, known, under, done, next, maybe}
+use Rattle.bay_ber.specs.Forms.{Form, map_form, try_map_form, integer, bits, one, fields, fields_with_tags, tagged, done, value_then, maybe}
 use Rattle.bay_ber.specs.Tags.{context, constructed}
 use Rattle.bay_ber.specs.Values.{Part}
 use Rattle.bay_mms_initiate.specs.declared.initiate.Proposal.{Proposal}
@@ -19,19 +19,21 @@ parameters_of b = if nat_lt b.count 3 then None else three_bits b.octets
 
 -- proposedParameterCBB: the first three parameter conformance blocks
 unfoldable pub parameters : Form Part ℕ
-parameters = under (context 1) (such parameters_of bits)
+parameters = tagged (context 1) (try_map_form parameters_of bits)
 
 -- servicesSupportedCalling
 unfoldable pub services : Form Part BitString
-services = under (context 2) bits
+services = tagged (context 2) bits
 
 -- proposedVersionNumber, proposedParameterCBB and servicesSupportedCalling
 unfoldable pub detail_parts : Form (List Part) (ℤ × (ℕ × (BitString × Unit {0})))
-detail_parts = next (under (context 0) integer) (next parameters (next services done))
+detail_parts =
+    value_then (tagged (context 0) integer) (value_then parameters (value_then services done))
 
 -- the three known fields, in their order, with other fields anywhere among them
 unfoldable pub detail : Form (List ℕ) ℕ
-detail = map_form (λ x. x.1.0) (known (context 0 ∷ context 1 ∷ context 2 ∷ []) detail_parts)
+detail =
+    map_form (λ x. x.1.0) (fields_with_tags (context 0 ∷ context 1 ∷ context 2 ∷ []) detail_parts)
 
 -- ---- the request
 
@@ -43,7 +45,7 @@ some_of (negsuc n) = None
 
 -- a number of outstanding requests, 1 or more, with this tag
 unfoldable pub outstanding : ℕ → Form Part ℤ
-outstanding number = under (context number) (such some_of integer)
+outstanding number = tagged (context number) (try_map_form some_of integer)
 
 -- the deepest nesting of data, if proposed, and the parameters of the detail
 abbrev pub Nested : Type 0
@@ -51,11 +53,11 @@ Nested = Option ℤ × (ℕ × Unit {0})
 
 -- proposedDataStructureNestingLevel, which is optional, and initRequestDetail
 unfoldable pub nested_parts : Form (List Part) Nested
-nested_parts = maybe (context 3) integer (next (under (constructed 4) detail) done)
+nested_parts = maybe (context 3) integer (value_then (tagged (constructed 4) detail) done)
 
 -- proposedMaxServOutstandingCalling and proposedMaxServOutstandingCalled, followed by these
 unfoldable pub outstanding_parts : Form (List Part) (ℤ × (ℤ × Nested))
-outstanding_parts = next (outstanding 1) (next (outstanding 2) nested_parts)
+outstanding_parts = value_then (outstanding 1) (value_then (outstanding 2) nested_parts)
 
 -- localDetailCalling, the size of a PDU, which is optional, followed by these
 unfoldable pub proposal_parts : Form (List Part) (Option ℤ × (ℤ × (ℤ × Nested)))
@@ -77,7 +79,7 @@ proposal = map_form proposal_by (fields proposal_parts)
 
 -- InitiateRequestPDU
 unfoldable pub initiate : Form (List ℕ) Proposal
-initiate = one (under (constructed 8) proposal)
+initiate = one (tagged (constructed 8) proposal)
 
 -- the proposal that octets are read as, and the relation of its encoding
 abbrev pub initiate_in : List ℕ → Option Proposal

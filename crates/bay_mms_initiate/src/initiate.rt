@@ -3,7 +3,7 @@
 ghost use Rattle.std.specs.Prelude.{◌≡◌, ◌≤◌, ◌<◌, length, map, option_map, pos, IfOk, IfSome};
 ghost use Rattle.bay_ber.specs.Content.{bits_of};
 ghost use Rattle.bay_ber.specs.EncoderBuffers.{sheet_with};
-ghost use Rattle.bay_ber.specs.Forms.{under, next, done};
+ghost use Rattle.bay_ber.specs.Forms.{tagged, value_then, done};
 ghost use Rattle.bay_ber.specs.Tags.{context, constructed};
 ghost use Rattle.bay_ber.specs.Values.{part_of};
 ghost use Rattle.bay_ber.specs.Writing.{element, integer_octets};
@@ -113,7 +113,7 @@ fn parse_detail(octets: &[u8]) -> Option<u8>
 // Reads the detail, which must be the last value, and returns its parameters.
 fn last_of(parts: &[Value<'_>]) -> Option<u8>
     ensures { result ≡ option_map (λ x. x.0)
-        ((next (under (constructed 4) detail) done).reads (map part_of parts.now)) }
+        ((value_then (tagged (constructed 4) detail) done).reads (map part_of parts.now)) }
 {
     match parts {
         [detail] => parse_detail(detail.content_with_tag(Tag::context_constructed(4))?),

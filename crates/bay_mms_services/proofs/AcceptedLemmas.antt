@@ -4,7 +4,7 @@ use Rattle.std.proofs.lemmas.Bool.{leb-true}
 use Rattle.std.specs.Prelude.{pos, is_some, option_to_list}
 use Rattle.bay_base.specs.Options.{◌>>=◌}
 use Rattle.bay_ber.specs.Tags.{same_tag, context, constructed, int_tag}
-use Rattle.bay_ber.specs.Values.{Part, SpellAll, under, value, value_in, values_in}
+use Rattle.bay_ber.specs.Values.{Part, SpellAll, content_with_tag, value, value_in, values_in}
 use Rattle.bay_ber.specs.Writing.{element, integer_octets}
 use Rattle.bay_ber.specs.declared.tag.Tag.{Tag}
 use Rattle.bay_ber.proofs.BackLemmas.{one-read}
@@ -22,13 +22,13 @@ use Rattle.bay_mms.specs.Responses.{class_text, error_text, read_text, write_tex
 use Rattle.bay_mms.specs.declared.fault.MmsFault.{MmsFault}
 use Rattle.bay_mms.specs.declared.fault.MmsFault.TheVariants.{BadPdu, UnknownService, TooMany, OutOfMemory}
 use Rattle.bay_mms.specs.declared.response.ErrorClass.TheVariants.{NoSuchObject, Resource}
-use Rattle.bay_mms_services.specs.Accepted.{AreNamedAlike, accepted_in, behind_id, first_response, is_report, may_be_reported, message_accepted, read_accepted, read_results, service_in, write_accepted, write_results}
+use Rattle.bay_mms_services.specs.Accepted.{AreNamedAlike, accepted_in, part_after_id, first_response, is_report, may_be_reported, message_accepted, read_accepted, read_results, service_in, write_accepted, write_results}
 use Rattle.bay_mms_services.specs.Answers.{answer_of, pdu_answer, attributes_at, plain_answer, service_answer}
 use Rattle.bay_mms_services.specs.Bay.{Bay, with_controls}
 use Rattle.bay_mms_services.specs.Controls.{ask_of, has_reports, object_of, refusal_report, refusal_reports, view_of}
 use Rattle.bay_mms_services.specs.Entries.{entries_in, message_entries, read_entries, service_entries, write_entries}
 use Rattle.bay_mms_services.specs.Reads.{nothing_read, read_all}
-use Rattle.bay_mms_services.specs.Replies.{fitting}
+use Rattle.bay_mms_services.specs.Replies.{pdu_within_size}
 use Rattle.bay_mms_services.specs.Rows.{row_named}
 use Rattle.bay_mms_services.specs.Writes.{Writing, after_decision, nothing_written, write_all, write_one, write_row}
 use Rattle.bay_mms_services.specs.declared.client.ClientContext.{ClientContext}
@@ -60,9 +60,9 @@ service-read n id content small same short =
       spells-element int_tag number (omega arith) (omega (arith, within, size, short)),
       spell-one (constructed n) content small (omega (arith, within, size, short)),
     ) in
-    ap (λ (o : Option Part). o >>= under (constructed 1) >>= values_in >>= behind_id
-    >>= under (constructed n)) outer
-    ∙ ap (λ (o : Option (List Part)). o >>= behind_id >>= under (constructed n)) both
+    ap (λ (o : Option Part). o >>= content_with_tag (constructed 1) >>= values_in >>= part_after_id
+    >>= content_with_tag (constructed n)) outer
+    ∙ ap (λ (o : Option (List Part)). o >>= part_after_id >>= content_with_tag (constructed n)) both
     ∙ ap (λ (b : Bool). cond b (Some content) None) same
 
 read-back : (id : ℕ) (results : List ℕ) (parts : List Part)
@@ -85,8 +85,9 @@ read-back id results parts short spelled =
     let list : value_in content ≡ Some (value (constructed 1) results) =
     one-read content (value (constructed 1) results)
     (spell-one (constructed 1) results (omega arith) size) in
-    ap (λ (o : Option (List ℕ)). o >>= value_in >>= under (constructed 1) >>= values_in) service
-    ∙ ap (λ (o : Option Part). o >>= under (constructed 1) >>= values_in) list
+    ap (λ (o : Option (List ℕ)). o >>= value_in >>= content_with_tag (constructed 1) >>= values_in)
+    service
+    ∙ ap (λ (o : Option Part). o >>= content_with_tag (constructed 1) >>= values_in) list
     ∙ values-again results parts spelled
 
 write-back : (id : ℕ) (results : List ℕ) (parts : List Part)
@@ -133,14 +134,14 @@ no-service n id =
     let inside : List ℕ =
     element (context 0) (integer_octets (pos id))
     ++ element (constructed 2) (element (constructed 0) (class_text Resource)) in
-    ap (λ (o : Option Part). o >>= under (constructed 1) >>= values_in >>= behind_id
-    >>= under (constructed n))
+    ap (λ (o : Option Part). o >>= content_with_tag (constructed 1) >>= values_in >>= part_after_id
+    >>= content_with_tag (constructed n))
     (one-read (element (constructed 2) inside) (value (constructed 2) inside)
     (spell-one (constructed 2) inside (omega arith) (error-short id)))
 
 no-read : (id : ℕ) → read_results (error_text id Resource) ≡ None
 no-read id =
-    ap (λ (o : Option (List ℕ)). o >>= value_in >>= under (constructed 1) >>= values_in)
+    ap (λ (o : Option (List ℕ)). o >>= value_in >>= content_with_tag (constructed 1) >>= values_in)
     (no-service 4 id)
 
 no-write : (id : ℕ) → write_results (error_text id Resource) ≡ None
@@ -162,14 +163,14 @@ none-written now a b (name ∷ ns) (given ∷ values) = refl
 not-report : (tag : Tag) (content : List ℕ) → tag.number < 31 → same_tag tag (constructed 3) ≡ false
     → length (element tag content) < 4294967296 → is_report (element tag content) ≡ false
 not-report tag content small other short =
-    ap (λ (o : Option Part). is_some (o >>= under (constructed 3)))
+    ap (λ (o : Option Part). is_some (o >>= content_with_tag (constructed 3)))
     (one-read (element tag content) (value tag content) (spell-one tag content small short))
     ∙ ap (λ (b : Bool). is_some (cond b (Some content) None)) other
 
 a-report : (content : List ℕ) → length (element (constructed 3) content) < 4294967296
     → is_report (element (constructed 3) content) ≡ true
 a-report content short =
-    ap (λ (o : Option Part). is_some (o >>= under (constructed 3)))
+    ap (λ (o : Option Part). is_some (o >>= content_with_tag (constructed 3)))
     (one-read (element (constructed 3) content) (value (constructed 3) content)
     (spell-one (constructed 3) content (omega arith) short))
 
@@ -198,7 +199,7 @@ fitting-if false pdu is = tt
 
 reports-if : (c : ClientContext) (has : Bool) (pdu : List ℕ)
     → (nat_le (length pdu) c.size ≡ true → is_report pdu ≡ true)
-    → AreReports (cond has (option_to_list (fitting c.size pdu)) [])
+    → AreReports (cond has (option_to_list (pdu_within_size c.size pdu)) [])
 reports-if c true pdu is = fitting-if (nat_le (length pdu) c.size) pdu is
 reports-if c false pdu is = tt
 

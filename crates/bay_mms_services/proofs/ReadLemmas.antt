@@ -6,7 +6,7 @@ use Rattle.bay_control.specs.declared.cause.AddCause.{AddCause}
 use Rattle.bay_control.specs.Decisions.{Outcome, State}
 use Rattle.bay_mms_services.specs.Bay.{Bay}
 use Rattle.bay_mms_services.specs.Controls.{object_of, read_decision}
-use Rattle.bay_mms.specs.RequestViews.{naming}
+use Rattle.bay_mms.specs.RequestViews.{object_name_view}
 use Rattle.bay_mms.specs.Requests.{Naming}
 use Rattle.bay_mms.specs.declared.request.ObjectName.{ObjectName}
 use Rattle.bay_mms_services.specs.Reads.{Reading, read_all, read_one, read_row, select_done, selected_text}
@@ -56,16 +56,18 @@ module _ (c : ClientContext) (b : Bay) where
   -- a variable whose results are too long makes all too long
   pub long-all : (size : ℕ) (names : List ObjectName) (i : ℕ) (d : ObjectName)
       (first r : Reading)
-      → read_all c b (map naming names) first ≡ read_all c b (map naming (drop i names)) r
+      → read_all c b (map object_name_view names) first
+      ≡ read_all c b (map object_name_view (drop i names)) r
       → i < length names
-      → size < length (read_one c b (naming (get_or names i d)) r).results
-      → size < length (read_all c b (map naming names) first).results
+      → size < length (read_one c b (object_name_view (get_or names i d)) r).results
+      → size < length (read_all c b (map object_name_view names) first).results
   long-all size names i d first r so within long =
-      let name = naming (get_or names i d) in
-      let rest = map naming (drop (i + 1) names) in
-      let is : map naming (drop i names) ≡ name ∷ rest =
-      rw add-one (ap (map naming) (drop-cons names i d within)) in
-      let whole : read_all c b (map naming names) first ≡ read_all c b rest (read_one c b name r) =
+      let name = object_name_view (get_or names i d) in
+      let rest = map object_name_view (drop (i + 1) names) in
+      let is : map object_name_view (drop i names) ≡ name ∷ rest =
+      rw add-one (ap (map object_name_view) (drop-cons names i d within)) in
+      let whole : read_all c b (map object_name_view names) first
+      ≡ read_all c b rest (read_one c b name r) =
       so ∙ ap (λ (ns : List Naming). read_all c b ns r) is in
       omega (
         arith,

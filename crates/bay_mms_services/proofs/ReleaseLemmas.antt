@@ -25,9 +25,9 @@ use Rattle.bay_mms_services.specs.Answers.{Answered, answer_of as answer-of, pdu
 use Rattle.bay_mms_services.specs.Bay.{Bay, with_controls}
 use Rattle.bay_mms_services.specs.Controls.{ask_of, operation_of, view_of}
 use Rattle.bay_mms_services.specs.Reads.{Reading, nothing_read, read_all, read_one, read_row}
-use Rattle.bay_mms_services.specs.Released.{AreTimed, IsReleased, Leaves, releasing}
+use Rattle.bay_mms_services.specs.Released.{AreTimed, IsReleased, Leaves, enable_name}
 use Rattle.bay_mms_services.specs.Rows.{row_named}
-use Rattle.bay_mms_services.specs.Writes.{Writing, nothing_written, commands_for, after_decision, operate_asked, write_all, write_one, write_row}
+use Rattle.bay_mms_services.specs.Writes.{Writing, nothing_written, commands_for, after_decision, write_operate, write_all, write_one, write_row}
 use Rattle.bay_mms_services.specs.declared.answer.Command.{Command}
 use Rattle.bay_mms_services.specs.declared.client.ClientContext.{ClientContext}
 use Rattle.bay_mms_services.proofs.WalkLemmas.{answer-by, read-by, write-by}
@@ -238,7 +238,7 @@ both c b (x ∷ first) more p q = (p.0, both c b first more p.1 q)
 -- what a decision saw released stands in the tree
 enabled-now : (c : ClientContext) (b : Bay) (k : ℕ) (operation : Operation)
     → is_released operation (view_of c k b) ≡ true
-    → is_truth true (leaf_of (releasing k operation) b.rows) ≡ true
+    → is_truth true (leaf_of (enable_name k operation) b.rows) ≡ true
 enabled-now c b k Open h = h
 enabled-now c b k Close h = h
 
@@ -321,7 +321,7 @@ kept-decided c b k part item control o w same kept busy = record {
 
 kept-operate : (c : ClientContext) (b : Bay) (k : ℕ) (item : List ℕ) (w : Writing)
     (o : asked.Operate)
-    → Kept c b w → Kept c b (operate_asked c b k item w (Ok o))
+    → Kept c b w → Kept c b (write_operate c b k item w (Ok o))
 unfolding outcome
 kept-operate c b k item w o kept =
     let out = operate_outcome c.association k (ask_of o) (view_of c k b) c.now w.controls in

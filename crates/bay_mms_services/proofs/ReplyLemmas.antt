@@ -15,11 +15,11 @@ use Rattle.bay_mms.specs.declared.fault.EncodeFault.{EncodeFault}
 use Rattle.bay_mms.specs.declared.fault.EncodeFault.TheVariants.{TooLong, OutOfMemory}
 use Rattle.bay_mms.specs.declared.response.ErrorClass.TheVariants.{Resource}
 use Rattle.bay_mms.specs.Writing.{Adds, text_within}
-use Rattle.bay_mms_services.specs.Answers.{Answered, read_done, response_answer, plain_answer, told_answer, within, write_done}
+use Rattle.bay_mms_services.specs.Answers.{Answered, answer_from_reading, response_answer, plain_answer, one_pdu_answer, answer_within_size, answer_from_writing}
 use Rattle.bay_control.specs.Decisions.{State}
 use Rattle.bay_mms_services.specs.Bay.{Bay, with_controls}
 use Rattle.bay_mms_services.specs.Reads.{Reading}
-use Rattle.bay_mms_services.specs.Replies.{fitting}
+use Rattle.bay_mms_services.specs.Replies.{pdu_within_size}
 use Rattle.bay_mms_services.specs.Views.{AnswersAs}
 use Rattle.bay_mms_services.specs.Writes.{Writing}
 use Rattle.bay_mms_services.specs.declared.answer.PduAnswer.{PduAnswer}
@@ -37,34 +37,36 @@ over-if : (b : Bool) (pdu : List ℕ) → cond b (Some pdu) None ≡ None → b 
 over-if true pdu is = absurd cc
 over-if false pdu is = refl
 
-pub fits : (size : ℕ) (pdu found : List ℕ) → fitting size pdu ≡ Some found
+pub fits : (size : ℕ) (pdu found : List ℕ) → pdu_within_size size pdu ≡ Some found
     → (nat_le (length pdu) size ≡ true) × (found ≡ pdu)
 fits size pdu found is = fits-if (nat_le (length pdu) size) pdu found is
 
-pub over : (size : ℕ) (pdu : List ℕ) → fitting size pdu ≡ None → nat_le (length pdu) size ≡ false
+pub over : (size : ℕ) (pdu : List ℕ) → pdu_within_size size pdu ≡ None
+    → nat_le (length pdu) size ≡ false
 over size pdu is = over-if (nat_le (length pdu) size) pdu is
 
 pub within-fits : (c : ClientContext) (id : ℕ) (b : Bay) (response found : List ℕ)
     (answer : Answered)
-    → fitting c.size response ≡ Some found → within c id b response answer ≡ answer
+    → pdu_within_size c.size response ≡ Some found
+    → answer_within_size c id b response answer ≡ answer
 within-fits c id b response found answer is =
     ap (λ t. cond t answer (plain_answer (error_text id Resource) b))
     (fits c.size response found is).0
 
 pub within-over : (c : ClientContext) (id : ℕ) (b : Bay) (response : List ℕ) (answer : Answered)
-    → fitting c.size response ≡ None
-    → within c id b response answer ≡ plain_answer (error_text id Resource) b
+    → pdu_within_size c.size response ≡ None
+    → answer_within_size c id b response answer ≡ plain_answer (error_text id Resource) b
 within-over c id b response answer is =
     ap (λ t. cond t answer (plain_answer (error_text id Resource) b)) (over c.size response is)
 
 pub read-over : (c : ClientContext) (id : ℕ) (b : Bay) (r : Reading) (was : Option (List ℕ))
-    → was ≡ fitting c.size (read_text id r.results) → was ≡ None
-    → read_done c id b r ≡ plain_answer (error_text id Resource) b
+    → was ≡ pdu_within_size c.size (read_text id r.results) → was ≡ None
+    → answer_from_reading c id b r ≡ plain_answer (error_text id Resource) b
 read-over c id b r was is none = within-over c id b (read_text id r.results) _ (sym is ∙ none)
 
 pub write-over : (c : ClientContext) (id : ℕ) (b : Bay) (w : Writing) (was : Option (List ℕ))
-    → was ≡ fitting c.size (write_text id w.results) → was ≡ None
-    → write_done c id b w ≡ plain_answer (error_text id Resource) b
+    → was ≡ pdu_within_size c.size (write_text id w.results) → was ≡ None
+    → answer_from_writing c id b w ≡ plain_answer (error_text id Resource) b
 write-over c id b w was is none = within-over c id b (write_text id w.results) _ (sym is ∙ none)
 
 -- ---- answers
@@ -78,8 +80,8 @@ said_as (Err e) p b x told is = tt
 pub said-with : (r : Result PduAnswer AllocError) (p : List ℕ) (ds : List ControlDecision)
     (o : State)
     (b : Bay) (x : Answered)
-    → IfOk r (λ a. (d : Bay) → AnswersAs a d.controls d (told_answer p ds d))
-    → x ≡ told_answer p ds (with_controls o b)
+    → IfOk r (λ a. (d : Bay) → AnswersAs a d.controls d (one_pdu_answer p ds d))
+    → x ≡ one_pdu_answer p ds (with_controls o b)
     → IfOk r (λ a. AnswersAs a o b x)
 said-with (Ok a) p ds o b x told is =
     let plain = told b in
@@ -101,7 +103,7 @@ said_alike r p q is told =
 
 pub responded-fits : (c : ClientContext) (id : ℕ) (b : Bay) (pdu found : List ℕ)
     (was : Option (List ℕ))
-    → was ≡ fitting c.size pdu → was ≡ Some found
+    → was ≡ pdu_within_size c.size pdu → was ≡ Some found
     → response_answer c id b pdu ≡ plain_answer found b
 responded-fits c id b pdu found was is some =
     let fit = sym is ∙ some in
@@ -109,17 +111,18 @@ responded-fits c id b pdu found was is some =
     ∙ ap (λ p. plain_answer p b) (sym (fits c.size pdu found fit).1)
 
 pub responded-over : (c : ClientContext) (id : ℕ) (b : Bay) (pdu : List ℕ) (was : Option (List ℕ))
-    → was ≡ fitting c.size pdu → was ≡ None
+    → was ≡ pdu_within_size c.size pdu → was ≡ None
     → response_answer c id b pdu ≡ plain_answer (error_text id Resource) b
 responded-over c id b pdu was is none = within-over c id b pdu (plain_answer pdu b) (sym is ∙ none)
 
 pub read-fits : (c : ClientContext) (id : ℕ) (b : Bay) (r : Reading) (found : List ℕ)
-    (was : Option (List ℕ)) → was ≡ fitting c.size (read_text id r.results) → was ≡ Some found
-    → read_done c id b r ≡ told_answer found r.decisions (with_controls r.controls b)
+    (was : Option (List ℕ)) → was ≡ pdu_within_size c.size (read_text id r.results)
+    → was ≡ Some found
+    → answer_from_reading c id b r ≡ one_pdu_answer found r.decisions (with_controls r.controls b)
 read-fits c id b r found was is some =
     let fit = sym is ∙ some in
     within-fits c id b (read_text id r.results) found _ fit
-    ∙ ap (λ p. told_answer p r.decisions (with_controls r.controls b))
+    ∙ ap (λ p. one_pdu_answer p r.decisions (with_controls r.controls b))
     (sym (fits c.size (read_text id r.results) found fit).1)
 
 -- ---- results of calls
@@ -161,7 +164,7 @@ fault-told TooLong size text long = inr (over-written size text (long refl))
 fault-told OutOfMemory size text long = inl refl
 
 pub fits-given : (size : ℕ) (pdu octets : List ℕ) → text_within size pdu ≡ Ok octets
-    → fitting size pdu ≡ Some octets
+    → pdu_within_size size pdu ≡ Some octets
 fits-given size pdu octets is =
     elim (cases_lt size (length pdu)) [
       | inl long ↦ let e : Err TooLong ≡ Ok octets = sym (over-written size pdu long) ∙ is in cc
@@ -172,7 +175,8 @@ fits-given size pdu octets is =
     ]
 
 long-given : (size : ℕ) (pdu : List ℕ)
-    → (TooLong ≡ OutOfMemory) ⊎ (text_within size pdu ≡ Err TooLong) → fitting size pdu ≡ None
+    → (TooLong ≡ OutOfMemory) ⊎ (text_within size pdu ≡ Err TooLong)
+    → pdu_within_size size pdu ≡ None
 long-given size pdu (inl memory) = cc
 long-given size pdu (inr is) =
     elim (cases_lt size (length pdu)) [
@@ -183,14 +187,14 @@ long-given size pdu (inr is) =
 long-told : (made : Result (List ℕ) EncodeFault) (e : EncodeFault) (size : ℕ)
     (pdu : List ℕ) → made ≡ Err e → e ≡ TooLong
     → Gives OutOfMemory (λ (octets : List ℕ). octets) made (text_within size pdu)
-    → fitting size pdu ≡ None
+    → pdu_within_size size pdu ≡ None
 long-told made e size pdu is told gives = long-given size pdu (rw (is, told) at gives)
 
 pub lost-told : (r : Result (Option (List ℕ)) AllocError) (made : Result (List ℕ) EncodeFault)
     (e : EncodeFault) (size : ℕ) (pdu : List ℕ) → made ≡ Err e
     → IfOk r (λ found. (found ≡ None) × (e ≡ TooLong))
     → Gives OutOfMemory (λ (octets : List ℕ). octets) made (text_within size pdu)
-    → IfOk r (λ found. found ≡ fitting size pdu)
+    → IfOk r (λ found. found ≡ pdu_within_size size pdu)
 lost-told (Ok found) made e size pdu is h gives =
     h.0 ∙ sym (long-told made e size pdu is h.1 gives)
 lost-told (Err none) made e size pdu is h gives = tt

@@ -13,9 +13,9 @@ use Rattle.bay_mms_services.specs.Answers.{Answered, answer_of}
 use Rattle.bay_mms_services.specs.Bay.{Bay}
 use Rattle.bay_mms_services.specs.Controls as controls
 use Rattle.bay_mms_services.specs.Controls.{IsShort, ask_of, ending_of, endings, failed_report, has_reports, object_of, refusal_report, refusal_reports, termination_report, view_of}
-use Rattle.bay_mms_services.specs.Replies.{fitting}
+use Rattle.bay_mms_services.specs.Replies.{pdu_within_size}
 use Rattle.bay_mms_services.specs.Rows.{row_named}
-use Rattle.bay_mms_services.specs.Writes.{Writing, after_decision, later_ending, nothing_written, operate_asked, write_all, write_one, write_row}
+use Rattle.bay_mms_services.specs.Writes.{Writing, after_decision, later_ending, nothing_written, write_operate, write_all, write_one, write_row}
 use Rattle.bay_mms_services.specs.declared.answer.TerminationReports.{TerminationReports}
 use Rattle.bay_mms_services.specs.declared.client.ClientContext.{ClientContext}
 use Rattle.bay_mms_services.proofs.WalkLemmas.{answer-by, fits-size, write-by}
@@ -44,7 +44,7 @@ fitting-if size pdu true is most = one-short pdu (fits-size size pdu most is)
 fitting-if size pdu false is most = none-long
 
 report-if : (c : ClientContext) (pdu : List ℕ) (t : Bool) → c.size ≤ 65000
-    → AreShort (cond t (option_to_list (fitting c.size pdu)) [])
+    → AreShort (cond t (option_to_list (pdu_within_size c.size pdu)) [])
 report-if c pdu true most = fitting-if c.size pdu (nat_le (length pdu) c.size) refl most
 report-if c pdu false most = none-long
 
@@ -104,7 +104,7 @@ module _ (c : ClientContext) (b : Bay) (most : c.size ≤ 65000) where
   )
 
   operate-short : (k : ℕ) (item : List ℕ) (w : Writing) (o : asked.Operate)
-      → IsFit w → IsFit (operate_asked c b k item w (Ok o))
+      → IsFit w → IsFit (write_operate c b k item w (Ok o))
   operate-short k item w o short =
       let out = operate_outcome c.association k (ask_of o) (view_of c k b) c.now w.controls in (
         (decided-short k Operate item o.control out w short).0,

@@ -35,7 +35,7 @@ use Rattle.bay_mms_services.specs.Entries.{call_of_read, call_of_write, read_ent
 use Rattle.bay_mms_services.specs.Reads.{Reading, read_all, read_one, read_row, selected_text, value_read}
 use Rattle.bay_mms_services.specs.Rows.{row_named}
 use Rattle.bay_mms_services.specs.Targets.{target_of}
-use Rattle.bay_mms_services.specs.Writes.{Writing, cancel_asked, decision_result, operate_asked, select_with_asked, write_all, write_failed, write_one, write_row}
+use Rattle.bay_mms_services.specs.Writes.{Writing, write_cancel, decision_result, write_operate, write_select_with, write_all, write_failed, write_one, write_row}
 use Rattle.bay_mms_services.specs.declared.client.ClientContext.{ClientContext}
 use Rattle.bay_mms_services.proofs.ReplyLemmas.{element-more}
 use Rattle.bay_mms_services.proofs.WalkLemmas.{read-by, write-by}
@@ -286,9 +286,9 @@ write-row-is : (c : ClientContext) (b : Bay) (given : Datum) (w : Writing) (row 
 write-row-is c b given w row =
     write-by c b w (λ asks asked next. OneWritten c asks asked w next)
     (λ error. nothing-done c error w)
-    (λ k item o. decided-is c _ _ w (select_with_asked c b k item w (Ok o)) refl refl)
-    (λ k item o. decided-is c _ _ w (operate_asked c b k item w (Ok o)) refl refl)
-    (λ k item control. decided-is c _ _ w (cancel_asked c b k item w (Ok control)) refl refl)
+    (λ k item o. decided-is c _ _ w (write_select_with c b k item w (Ok o)) refl refl)
+    (λ k item o. decided-is c _ _ w (write_operate c b k item w (Ok o)) refl refl)
+    (λ k item control. decided-is c _ _ w (write_cancel c b k item w (Ok control)) refl refl)
     given row
 
 -- ---- all variables that are written

@@ -25,13 +25,13 @@ use Rattle.bay_mms.specs.declared.response.RejectReason.{RejectReason}
 use Rattle.bay_mms.specs.declared.response.RejectReason.TheVariants.{UnrecognizedService, InvalidPdu}
 use Rattle.bay_mms.proofs.ShortLemmas.{error_short, reject_short}
 use Rattle.bay_mms_services.specs.Accepted.{act_of_read, act_of_write, cancel_act, operate_act, read_act, select_with_act, write_act}
-use Rattle.bay_mms_services.specs.Answers.{Answered, answer_of, attributes_at, plain_answer, service_answer, told_answer}
+use Rattle.bay_mms_services.specs.Answers.{Answered, answer_of, attributes_at, plain_answer, service_answer, one_pdu_answer}
 use Rattle.bay_mms_services.specs.Bay.{Bay, with_controls}
 use Rattle.bay_mms_services.specs.Controls.{ask_of, view_of}
 use Rattle.bay_mms_services.specs.Entries.{call_of_read, call_of_write, cancel_call, message_entries, operate_call, read_call, read_entries, select_with_call, service_entries, target_at, write_call, write_entries}
 use Rattle.bay_mms_services.specs.Reads.{Reading, nothing_read, read_all, read_part, read_row, read_target, select_done, value_read}
 use Rattle.bay_mms_services.specs.Rows.{row_named}
-use Rattle.bay_mms_services.specs.Writes.{Writing, cancel_asked, nothing_written, operate_asked, select_with_asked, write_all, write_failed, write_part, write_row, write_target}
+use Rattle.bay_mms_services.specs.Writes.{Writing, write_cancel, nothing_written, write_operate, write_select_with, write_all, write_failed, write_part, write_row, write_target}
 use Rattle.bay_mms_services.specs.declared.client.ClientContext.{ClientContext}
 use Rattle.bay_mms_services.specs.declared.target.ControlPart.{ControlPart}
 use Rattle.bay_mms_services.specs.declared.target.ControlPart.TheVariants.{Select, SelectWith, Operate, Cancel}
@@ -70,26 +70,26 @@ module _ (c : ClientContext) (b : Bay) (w : Writing)
     (failed : (error : DataAccessError) → P None None (write_failed error w))
     (selects : (k : ℕ) (item : List ℕ) (o : asked.Operate)
     → P (Some (act.SelectWith c.association k (asked_choice (ask_of o))))
-    (Some (call.SelectWith c.association k (ask_of o))) (select_with_asked c b k item w (Ok o)))
+    (Some (call.SelectWith c.association k (ask_of o))) (write_select_with c b k item w (Ok o)))
     (operates : (k : ℕ) (item : List ℕ) (o : asked.Operate)
     → P (Some (act.Operate c.association k (asked_choice (ask_of o))))
     (Some (call.Operate c.association k (ask_of o) (view_of c k b)))
-    (operate_asked c b k item w (Ok o)))
+    (write_operate c b k item w (Ok o)))
     (cancels : (k : ℕ) (item : List ℕ) (control : Control) → P (Some (act.Cancel c.association k))
-    (Some (call.Cancel c.association k)) (cancel_asked c b k item w (Ok control))) where
+    (Some (call.Cancel c.association k)) (write_cancel c b k item w (Ok control))) where
   select-with-by : (k : ℕ) (item : List ℕ) (o : Result asked.Operate DataAccessError)
       → P (select_with_act c.association k o) (select_with_call c k o)
-      (select_with_asked c b k item w o)
+      (write_select_with c b k item w o)
   select-with-by k item (Ok o) = selects k item o
   select-with-by k item (Err error) = failed error
 
   operate-by : (k : ℕ) (item : List ℕ) (o : Result asked.Operate DataAccessError)
-      → P (operate_act c.association k o) (operate_call c k b o) (operate_asked c b k item w o)
+      → P (operate_act c.association k o) (operate_call c k b o) (write_operate c b k item w o)
   operate-by k item (Ok o) = operates k item o
   operate-by k item (Err error) = failed error
 
   cancel-by : (k : ℕ) (item : List ℕ) (o : Result Control DataAccessError)
-      → P (cancel_act c.association k o) (cancel_call c k o) (cancel_asked c b k item w o)
+      → P (cancel_act c.association k o) (cancel_call c k o) (write_cancel c b k item w o)
   cancel-by k item (Ok control) = cancels k item control
   cancel-by k item (Err error) = failed error
 
@@ -117,7 +117,7 @@ module _ (c : ClientContext) (b : Bay) (w : Writing)
 -- what is sent and done of a read and of a write whose responses fit
 abbrev pub read_sent : ℕ → Bay → Reading → Answered
 read_sent id b r =
-    told_answer (read_text id r.results) r.decisions (with_controls r.controls b)
+    one_pdu_answer (read_text id r.results) r.decisions (with_controls r.controls b)
 
 abbrev pub write_sent : ℕ → Bay → Writing → Answered
 write_sent id b w = record {

@@ -4,7 +4,7 @@
 use Rattle.std.specs.Prelude.{ℕ, ◌≡◌, Bool, true, false, ◌&&◌, List, [], ◌∷◌, ◌++◌, Option, Some, None, is_some, if◌then◌else◌, unwrap_or, Result, Ok, Err}
 use Rattle.bay_base.specs.Options.{◌>>=◌}
 use Rattle.bay_ber.specs.Tags.{same_tag, context, constructed}
-use Rattle.bay_ber.specs.Values.{Part, under, value_in, values_in}
+use Rattle.bay_ber.specs.Values.{Part, content_with_tag, value_in, values_in}
 use Rattle.bay_tree.specs.Rows.{names_of}
 use Rattle.bay_control.specs.Acts as act
 use Rattle.bay_control.specs.Acts.{Act, Entry}
@@ -89,21 +89,21 @@ is_success result = same_tag result.tag (context 1)
 -- ---- the results in a response
 
 -- the part after the invoke id
-abbrev pub behind_id : List Part → Option Part
-behind_id [] = None
-behind_id (id ∷ []) = None
-behind_id (id ∷ service ∷ []) = Some service
-behind_id (id ∷ service ∷ more ∷ parts) = None
+abbrev pub part_after_id : List Part → Option Part
+part_after_id [] = None
+part_after_id (id ∷ []) = None
+part_after_id (id ∷ service ∷ []) = Some service
+part_after_id (id ∷ service ∷ more ∷ parts) = None
 
 -- the contents of a service's tag in a confirmed response
 abbrev pub service_in : ℕ → List ℕ → Option (List ℕ)
 service_in number pdu =
-    value_in pdu >>= under (constructed 1) >>= values_in >>= behind_id
-    >>= under (constructed number)
+    value_in pdu >>= content_with_tag (constructed 1) >>= values_in >>= part_after_id
+    >>= content_with_tag (constructed number)
 
 -- the results of a response to a read
 abbrev pub read_results : List ℕ → Option (List Part)
-read_results pdu = service_in 4 pdu >>= value_in >>= under (constructed 1) >>= values_in
+read_results pdu = service_in 4 pdu >>= value_in >>= content_with_tag (constructed 1) >>= values_in
 
 -- the results of a response to a write
 abbrev pub write_results : List ℕ → Option (List Part)
@@ -155,7 +155,7 @@ accepted_in now a pdu b response = message_accepted now a b (answer_to pdu) resp
 
 -- a report is an unconfirmed PDU
 abbrev pub is_report : List ℕ → Bool
-is_report pdu = is_some (value_in pdu >>= under (constructed 3))
+is_report pdu = is_some (value_in pdu >>= content_with_tag (constructed 3))
 
 -- reports come only before the response to a write
 abbrev pub may_report : Asking → Bool

@@ -15,7 +15,7 @@ use Rattle.bay_mms.specs.declared.response.ErrorClass.TheVariants.{NoSuchObject,
 use Rattle.bay_mms.specs.declared.response.RejectReason.{RejectReason}
 use Rattle.bay_mms.specs.declared.response.RejectReason.TheVariants.{UnrecognizedService, InvalidPdu}
 use Rattle.bay_mms_services.specs.Bay.{Bay, with_controls}
-use Rattle.bay_mms_services.specs.Names.{listing}
+use Rattle.bay_mms_services.specs.Names.{name_list_text}
 use Rattle.bay_mms_services.specs.Reads.{Reading, nothing_read, read_all}
 use Rattle.bay_mms_services.specs.Rows.{row_named}
 use Rattle.bay_mms_services.specs.Writes.{Writing, nothing_written, write_all}
@@ -34,8 +34,8 @@ pub record Answered : Type 0 where
   pub after : Bay
 
 -- an answer of one PDU, with decisions and without commands
-abbrev pub told_answer : List ℕ → List ControlDecision → Bay → Answered
-told_answer pdu decisions b = record {
+abbrev pub one_pdu_answer : List ℕ → List ControlDecision → Bay → Answered
+one_pdu_answer pdu decisions b = record {
   sent = pdu ∷ [];
   commands = [];
   decisions = decisions;
@@ -45,17 +45,17 @@ told_answer pdu decisions b = record {
 
 -- an answer with no effect
 abbrev pub plain_answer : List ℕ → Bay → Answered
-plain_answer pdu b = told_answer pdu [] b
+plain_answer pdu b = one_pdu_answer pdu [] b
 
 -- If a response has more octets than agreed, the answer is an error of the class resource, with no
 -- effect.
-abbrev pub within : ClientContext → ℕ → Bay → List ℕ → Answered → Answered
-within c id b response answer =
+abbrev pub answer_within_size : ClientContext → ℕ → Bay → List ℕ → Answered → Answered
+answer_within_size c id b response answer =
     if nat_le (length response) c.size then answer else plain_answer (error_text id Resource) b
 
 -- an answer with a response and no effect
 abbrev pub response_answer : ClientContext → ℕ → Bay → List ℕ → Answered
-response_answer c id b response = within c id b response (plain_answer response b)
+response_answer c id b response = answer_within_size c id b response (plain_answer response b)
 
 -- ---- the services
 
@@ -74,17 +74,17 @@ attributes_at c id b (Some place) =
     ++ element (constructed 2) (type_text (type_at b.rows place)))))
 
 -- the answer to a read, if its response fits
-abbrev pub read_done : ClientContext → ℕ → Bay → Reading → Answered
-read_done c id b r =
-    within c id b (read_text id r.results)
-    (told_answer (read_text id r.results) r.decisions (with_controls r.controls b))
+abbrev pub answer_from_reading : ClientContext → ℕ → Bay → Reading → Answered
+answer_from_reading c id b r =
+    answer_within_size c id b (read_text id r.results)
+    (one_pdu_answer (read_text id r.results) r.decisions (with_controls r.controls b))
 
-abbrev pub read_asked : ClientContext → ℕ → Bay → List Naming → Answered
-read_asked c id b ns = read_done c id b (read_all c b ns (nothing_read b))
+abbrev pub read_answer : ClientContext → ℕ → Bay → List Naming → Answered
+read_answer c id b ns = answer_from_reading c id b (read_all c b ns (nothing_read b))
 
 -- the answer to a write, if its response fits; the reports of refusals come before the response
-abbrev pub write_done : ClientContext → ℕ → Bay → Writing → Answered
-write_done c id b w = within c id b (write_text id w.results)
+abbrev pub answer_from_writing : ClientContext → ℕ → Bay → Writing → Answered
+answer_from_writing c id b w = answer_within_size c id b (write_text id w.results)
     (record {
       sent = w.reports ++ write_text id w.results ∷ [];
       commands = w.commands;
@@ -93,18 +93,18 @@ write_done c id b w = within c id b (write_text id w.results)
       after = with_controls w.controls b;
     })
 
-abbrev pub write_asked : ClientContext → ℕ → Bay → List Naming → List Datum → Answered
-write_asked c id b ns values =
-    write_done c id b (write_all c b ns values (nothing_written b))
+abbrev pub write_answer : ClientContext → ℕ → Bay → List Naming → List Datum → Answered
+write_answer c id b ns values =
+    answer_from_writing c id b (write_all c b ns values (nothing_written b))
 
 -- the answer to a confirmed request
 abbrev pub service_answer : ClientContext → ℕ → Bay → Asking → Answered
 service_answer c id b identify = identify_answer c id b
 service_answer c id b (names class place after) =
-    response_answer c id b (listing c id class place after b)
+    response_answer c id b (name_list_text c id class place after b)
 service_answer c id b (attributes name) = attributes_at c id b (row_named b name)
-service_answer c id b (read ns) = read_asked c id b ns
-service_answer c id b (write ns values) = write_asked c id b ns values
+service_answer c id b (read ns) = read_answer c id b ns
+service_answer c id b (write ns values) = write_answer c id b ns values
 
 -- ---- the PDUs
 

@@ -22,7 +22,7 @@ use Rattle.bay_mms.specs.Controls.{Control, Operate, Origin, origin_datum, opera
 use Rattle.bay_mms.specs.Reports.{report_text, failure_name, item_name}
 use Rattle.bay_mms_initiate.specs.Sizes.{longest_pdu}
 use Rattle.bay_mms_services.specs.Bay.{Bay}
-use Rattle.bay_mms_services.specs.Replies.{fitting}
+use Rattle.bay_mms_services.specs.Replies.{pdu_within_size}
 use Rattle.bay_mms_services.specs.declared.answer.ControlDecision.{ControlDecision}
 use Rattle.bay_mms_services.specs.declared.answer.TerminationReports.{TerminationReports}
 use Rattle.bay_mms_services.specs.declared.client.ClientContext.{ClientContext}
@@ -132,13 +132,13 @@ abbrev pub refusal_reports : ClientContext → ℕ → List ℕ → Control → 
 refusal_reports c k item control b (Ok done) = []
 refusal_reports c k item control b (Err why) =
     if has_reports b k then option_to_list
-    (fitting c.size (refusal_report (object_of b item) control why)) else []
+    (pdu_within_size c.size (refusal_report (object_of b item) control why)) else []
 
 -- the two reports for the end of an operate, each if it fits
 abbrev pub ending_of : ClientContext → List ℕ → Operate → Bay → TerminationReports
 ending_of c item o b = record {
-  positive = fitting c.size (termination_report b.domain item o);
-  negative = fitting c.size (failed_report (object_of b item) b.domain item o);
+  positive = pdu_within_size c.size (termination_report b.domain item o);
+  negative = pdu_within_size c.size (failed_report (object_of b item) b.domain item o);
 }
 
 -- the reports for the end of an accepted operate, if the switch has enhanced security

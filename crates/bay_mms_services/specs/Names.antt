@@ -35,11 +35,11 @@ domain_names id b (Some name) =
 
 -- The names of a class: class 0 in the domain has the names of its variables, class 9 of the whole
 -- device has the domain; all other lists are empty. A domain that does not exist is an error.
-abbrev pub listing : ClientContext → ℕ → ℤ → Place → Option (List ℕ) → Bay → List ℕ
-listing c id class whole_vmd after b =
+abbrev pub name_list_text : ClientContext → ℕ → ℤ → Place → Option (List ℕ) → Bay → List ℕ
+name_list_text c id class whole_vmd after b =
     if int_eq class (pos 9) then domain_names id b after else no_names id after
-listing c id class (in_domain d) after b =
+name_list_text c id class (in_domain d) after b =
     if bytes_eq d b.domain
     then (if int_eq class (pos 0) then variable_names c id b after else no_names id after)
     else error_text id NoSuchObject
-listing c id class of_association after b = no_names id after
+name_list_text c id class of_association after b = no_names id after

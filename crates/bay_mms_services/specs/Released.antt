@@ -14,16 +14,16 @@ use Rattle.bay_mms_services.specs.declared.answer.Command.{Command}
 use Rattle.bay_mms_services.specs.declared.client.ClientContext.{ClientContext}
 
 -- the name of the value that releases an operation: EnaOpn for Open, EnaCls for Close
-abbrev pub releasing : ℕ → Operation → List ℕ
-releasing k Open = (opening_of k).value
-releasing k Close = (closing_of k).value
+abbrev pub enable_name : ℕ → Operation → List ℕ
+enable_name k Open = (opening_of k).value
+enable_name k Close = (closing_of k).value
 
 -- A command is issued only while the process is not lost, the last scan is fresh, the interlocking
 -- value of the operation is TRUE in the tree, and no switch of the bay is operating.
 pub record IsReleased (c : ClientContext) (b : Bay) (command : Command) : Type 0 where
   pub heard : c.lost ≡ false
   pub fresh : c.fresh ≡ true
-  pub enabled : is_truth true (leaf_of (releasing command.switch command.operation) b.rows) ≡ true
+  pub enabled : is_truth true (leaf_of (enable_name command.switch command.operation) b.rows) ≡ true
   pub idle : (controls_at c.now b.controls).execution ≡ None
 
 -- A client changes no value of the tree, and no execution that has not expired.

@@ -1,6 +1,6 @@
 -- Maps the code's values to those of the definitions.
 use Rattle.std.specs.Prelude.{ℕ, ◌≡◌, List, Result, Ok, Err}
-use Rattle.bay_mms.specs.RequestViews.{message}
+use Rattle.bay_mms.specs.RequestViews.{request_view}
 use Rattle.bay_mms.specs.Requests.{Message}
 use Rattle.bay_mms.specs.declared.fault.MmsFault.{MmsFault}
 use Rattle.bay_mms.specs.declared.request.Request.{Request}
@@ -18,8 +18,8 @@ use Rattle.bay_mms_services.specs.declared.invocation.Invocation.{Invocation}
 use Rattle.bay_mms_services.specs.declared.writing.Written.{Written}
 
 -- the state of the controls of a bay, with this selection and execution
-abbrev pub controls_left : ServedBay → Controls → State
-controls_left b controls = state_of b.control_table controls
+abbrev pub controls_view : ServedBay → Controls → State
+controls_view b controls = state_of b.control_table controls
 
 -- the bay of the definitions for a served bay
 abbrev pub bay_view : ServedBay → Bay
@@ -30,7 +30,7 @@ bay_view b = record {
   revision = b.revision;
   switches = switches_of b.switches;
   rows = b.tree;
-  controls = controls_left b b.controls;
+  controls = controls_view b b.controls;
 }
 
 -- the bay that receives a request
@@ -38,17 +38,17 @@ abbrev pub bay_of : Invocation → Bay
 bay_of i = bay_view i.bay.now
 
 -- a read and a write after some of their variables, with the controls after these
-abbrev pub reading : ServedBay → Controls → List ControlDecision → List ℕ → Reading
-reading b controls decisions results = record {
-  controls = controls_left b controls;
+abbrev pub reading_view : ServedBay → Controls → List ControlDecision → List ℕ → Reading
+reading_view b controls decisions results = record {
+  controls = controls_view b controls;
   decisions = decisions;
   results = results;
 }
 
-abbrev pub writing : ServedBay → Controls → Written → Writing
-writing b controls w =
+abbrev pub writing_view : ServedBay → Controls → Written → Writing
+writing_view b controls w =
     record {
-      controls = controls_left b controls;
+      controls = controls_view b controls;
       results = w.response;
       reports = w.reports.items;
       commands = w.commands.items;
@@ -66,6 +66,6 @@ pub record AnswersAs (answer : PduAnswer) (controls : State) (before : Bay) (ans
   pub left : with_controls controls before ≡ answered.after
 
 -- a parsed PDU, or its fault
-abbrev pub read_as : Result Request MmsFault → Result Message MmsFault
-read_as (Ok request) = Ok (message request)
-read_as (Err fault) = Err fault
+abbrev pub request_result_view : Result Request MmsFault → Result Message MmsFault
+request_result_view (Ok request) = Ok (request_view request)
+request_result_view (Err fault) = Err fault

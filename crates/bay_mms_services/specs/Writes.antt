@@ -84,34 +84,34 @@ after_operate c b k item o outcome w =
       ending = later_ending w.ending (endings c k item o b outcome.answer);
     }
 
-abbrev pub select_with_asked : ClientContext → Bay → ℕ → List ℕ → Writing
+abbrev pub write_select_with : ClientContext → Bay → ℕ → List ℕ → Writing
     → Result asked.Operate DataAccessError → Writing
-select_with_asked c b k item w (Err error) = write_failed error w
-select_with_asked c b k item w (Ok o) =
+write_select_with c b k item w (Err error) = write_failed error w
+write_select_with c b k item w (Ok o) =
     after_decision c b k SelectWith item o.control
     (select_with_outcome c.association k (ask_of o) c.now w.controls)
     w
 
-abbrev pub operate_asked : ClientContext → Bay → ℕ → List ℕ → Writing
+abbrev pub write_operate : ClientContext → Bay → ℕ → List ℕ → Writing
     → Result asked.Operate DataAccessError → Writing
-operate_asked c b k item w (Err error) = write_failed error w
-operate_asked c b k item w (Ok o) =
+write_operate c b k item w (Err error) = write_failed error w
+write_operate c b k item w (Ok o) =
     after_operate c b k item o
     (operate_outcome c.association k (ask_of o) (view_of c k b) c.now w.controls) w
 
-abbrev pub cancel_asked : ClientContext → Bay → ℕ → List ℕ → Writing
+abbrev pub write_cancel : ClientContext → Bay → ℕ → List ℕ → Writing
     → Result Control DataAccessError
     → Writing
-cancel_asked c b k item w (Err error) = write_failed error w
-cancel_asked c b k item w (Ok control) =
+write_cancel c b k item w (Err error) = write_failed error w
+write_cancel c b k item w (Ok control) =
     after_decision c b k Cancel item control (cancel_outcome c.association k c.now w.controls) w
 
 -- a write to a part of a control; SBO can only be read
 abbrev pub write_part : ClientContext → Bay → ℕ → List ℕ → Datum → Writing → ControlPart → Writing
 write_part c b k item given w Select = write_failed ObjectAccessDenied w
-write_part c b k item given w SelectWith = select_with_asked c b k item w (operate_in given)
-write_part c b k item given w Operate = operate_asked c b k item w (operate_in given)
-write_part c b k item given w Cancel = cancel_asked c b k item w (cancel_in given)
+write_part c b k item given w SelectWith = write_select_with c b k item w (operate_in given)
+write_part c b k item given w Operate = write_operate c b k item w (operate_in given)
+write_part c b k item given w Cancel = write_cancel c b k item w (cancel_in given)
 
 abbrev pub write_target : ClientContext → Bay → List ℕ → Datum → Writing → Option Target → Writing
 write_target c b item given w None = write_failed ObjectAccessDenied w

@@ -5,7 +5,7 @@ ghost use Rattle.bay_process.specs.Layout.{layout_of};
 ghost use Rattle.bay_mms_services.specs.Bay.{rows_with_selection, client_rows};
 ghost use Rattle.bay_mms_services.specs.Controls.{view_of};
 ghost use Rattle.bay_mms_services.specs.Places.{marked_row};
-ghost use Rattle.bay_mms_services.specs.Views.{bay_view, controls_left};
+ghost use Rattle.bay_mms_services.specs.Views.{bay_view, controls_view};
 
 use crate::bay::ServedBay;
 use crate::client::ClientContext;
@@ -42,7 +42,7 @@ impl ServedBay {
     /// switch (IEC 61850-7-3).
     pub(crate) fn seen(&self, controls: &Controls) -> ClientView<'_>
         ensures rows { result ≡ client_rows (bay_view self.now)
-            (controls_left self.now controls.now) }
+            (controls_view self.now controls.now) }
         ensures handles { length result ≡ length self.now.tree }
     {
         self.tree.are_a_tree();

@@ -2,13 +2,13 @@
 ghost use Rattle.std.specs.Prelude.{◌≡◌, ◌≤◌, false};
 ghost use Rattle.std.specs.Option.{option_copied};
 ghost use Rattle.bay_base.specs.Exact.{Gives};
-ghost use Rattle.bay_mms.specs.RequestViews.{place};
+ghost use Rattle.bay_mms.specs.RequestViews.{scope_view};
 ghost use Rattle.bay_mms.specs.Requests.{in_domain};
 ghost use Rattle.bay_mms.specs.Responses.{error_text, page_text};
 ghost use Rattle.bay_mms.specs.declared.response.ErrorClass.TheVariants.{NoSuchObject};
 ghost use Rattle.bay_mms_initiate.specs.Sizes.{IsPduSize};
 ghost use Rattle.bay_mms.specs.Writing.{text_within};
-ghost use Rattle.bay_mms_services.specs.Names.{domain_names, listing, no_names, variable_names};
+ghost use Rattle.bay_mms_services.specs.Names.{domain_names, name_list_text, no_names, variable_names};
 ghost use Rattle.bay_mms_services.specs.Views.{bay_of};
 
 use crate::invocation::Invocation;
@@ -105,7 +105,7 @@ impl Invocation<'_> {
         requires { IsPduSize self.now.client.size }
         ensures { Gives EncodeFault.OutOfMemory (λ octets. octets) result
             (text_within self.now.client.size
-            (listing self.now.client self.now.id class (in_domain domain.now)
+            (name_list_text self.now.client self.now.id class (in_domain domain.now)
             (option_copied after.entry) (bay_of self.now))) }
     {
         if domain != self.bay.domain.as_str().as_bytes() {
@@ -129,7 +129,7 @@ impl Invocation<'_> {
         requires { IsPduSize self.now.client.size }
         ensures { Gives EncodeFault.OutOfMemory (λ octets. octets) result
             (text_within self.now.client.size
-            (listing self.now.client self.now.id class.now (place scope.now)
+            (name_list_text self.now.client self.now.id class.now (scope_view scope.now)
             (option_copied after.entry) (bay_of self.now))) }
     {
         let class = *class;

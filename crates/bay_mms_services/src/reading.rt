@@ -1,6 +1,6 @@
 // The variables of a read, one after the other.
 ghost use Rattle.std.specs.Prelude.{◌≡◌, ◌≤◌, ◌<◌, ◌++◌, ◌∷◌, [], Some, map, length, IfErr, IfSome, OnOk};
-ghost use Rattle.bay_mms.specs.RequestViews.{naming};
+ghost use Rattle.bay_mms.specs.RequestViews.{object_name_view};
 ghost use Rattle.bay_mms.specs.declared.fault.EncodeFault.TheVariants.{TooLong};
 ghost use Rattle.bay_control.specs.Decisions.{select_outcome};
 ghost use Rattle.bay_tree.specs.Rows.{IsHandle, name_at};
@@ -10,7 +10,7 @@ ghost use Rattle.bay_mms_services.specs.Reads.{select_done};
 ghost use Rattle.bay_mms_services.specs.Reads as spec;
 ghost use Rattle.bay_mms_services.specs.Rows as spec_rows;
 ghost use Rattle.bay_mms_services.specs.Targets.{target_of};
-ghost use Rattle.bay_mms_services.specs.Views.{bay_of, bay_view, controls_left, reading};
+ghost use Rattle.bay_mms_services.specs.Views.{bay_of, bay_view, controls_view, reading_view};
 
 use crate::answer::ControlDecision;
 use crate::bay::ServedBay;
@@ -49,7 +49,7 @@ impl ServedBay {
     /// Returns the row of the variable with this name; `None` if it is not a variable of the bay's
     /// domain.
     pub(crate) fn row_named(&self, name: &ObjectName<'_>) -> Option<Handle>
-        ensures row { result ≡ spec_rows.row_named (bay_view self.now) (naming name.now) }
+        ensures row { result ≡ spec_rows.row_named (bay_view self.now) (object_name_view name.now) }
         ensures found { IfSome result (IsFound self.now.tree) }
     {
         match name {
@@ -94,18 +94,18 @@ impl Invocation<'_> {
     ) -> Result<(), EncodeFault>
         requires { IsHandle self.now.bay.now.tree row }
         ensures ok { OnOk result
-            (reading self.now.bay.now controls.new decisions.new.items response.new.octets
+            (reading_view self.now.bay.now controls.new decisions.new.items response.new.octets
             ≡ select_done self.now.client (bay_of self.now) switch
             (name_at self.now.bay.now.tree row)
-            (reading self.now.bay.now controls.old decisions.old.items response.old.octets)
+            (reading_view self.now.bay.now controls.old decisions.old.items response.old.octets)
             (select_outcome self.now.client.association switch self.now.client.now
-            (controls_left self.now.bay.now controls.old))) }
+            (controls_view self.now.bay.now controls.old))) }
         ensures long { IfErr result (λ fault. fault ≡ TooLong
             → response.old.size < length (select_done self.now.client (bay_of self.now) switch
             (name_at self.now.bay.now.tree row)
-            (reading self.now.bay.now controls.old decisions.old.items response.old.octets)
+            (reading_view self.now.bay.now controls.old decisions.old.items response.old.octets)
             (select_outcome self.now.client.association switch self.now.client.now
-            (controls_left self.now.bay.now controls.old))).results) }
+            (controls_view self.now.bay.now controls.old))).results) }
         ensures size { response.new.size ≡ response.old.size }
     {
         let table = &self.bay.control_table;
@@ -131,15 +131,15 @@ impl Invocation<'_> {
     ) -> Result<(), EncodeFault>
         requires { IsFound self.now.bay.now.tree row }
         ensures ok { OnOk result
-            (reading self.now.bay.now controls.new decisions.new.items response.new.octets
+            (reading_view self.now.bay.now controls.new decisions.new.items response.new.octets
             ≡ spec.read_row self.now.client (bay_of self.now)
-            (reading self.now.bay.now controls.old decisions.old.items response.old.octets)
+            (reading_view self.now.bay.now controls.old decisions.old.items response.old.octets)
             (Some row)) }
         ensures long { IfErr result
             (λ fault. fault ≡ TooLong
             → response.old.size < length
             (spec.read_row self.now.client (bay_of self.now)
-            (reading self.now.bay.now controls.old decisions.old.items response.old.octets)
+            (reading_view self.now.bay.now controls.old decisions.old.items response.old.octets)
             (Some row)).results) }
         ensures size { response.new.size ≡ response.old.size }
     {
@@ -163,13 +163,14 @@ impl Invocation<'_> {
         response: &mut ReadResponse,
     ) -> Result<(), EncodeFault>
         ensures ok { OnOk result
-            (reading self.now.bay.now controls.new decisions.new.items response.new.octets
-            ≡ spec.read_one self.now.client (bay_of self.now) (naming name.now)
-            (reading self.now.bay.now controls.old decisions.old.items response.old.octets)) }
+            (reading_view self.now.bay.now controls.new decisions.new.items response.new.octets
+            ≡ spec.read_one self.now.client (bay_of self.now) (object_name_view name.now)
+            (reading_view self.now.bay.now controls.old decisions.old.items response.old.octets)) }
         ensures long { IfErr result
             (λ fault. fault ≡ TooLong
             → response.old.size < length (spec.read_one self.now.client (bay_of self.now)
-            (naming name.now) (reading self.now.bay.now controls.old decisions.old.items
+            (object_name_view name.now)
+            (reading_view self.now.bay.now controls.old decisions.old.items
             response.old.octets)).results) }
         ensures size { response.new.size ≡ response.old.size }
     {
@@ -189,14 +190,14 @@ impl Invocation<'_> {
         response: &mut ReadResponse,
     ) -> Result<(), EncodeFault>
         ensures ok { OnOk result
-            (reading self.now.bay.now controls.new decisions.new.items response.new.octets
-            ≡ spec.read_all self.now.client (bay_of self.now) (map naming names.now)
-            (reading self.now.bay.now controls.old decisions.old.items response.old.octets)) }
+            (reading_view self.now.bay.now controls.new decisions.new.items response.new.octets
+            ≡ spec.read_all self.now.client (bay_of self.now) (map object_name_view names.now)
+            (reading_view self.now.bay.now controls.old decisions.old.items response.old.octets)) }
         ensures long { IfErr result
             (λ fault. fault ≡ TooLong
             → response.old.size < length (spec.read_all self.now.client (bay_of self.now)
-            (map naming names.now)
-            (reading self.now.bay.now controls.old decisions.old.items
+            (map object_name_view names.now)
+            (reading_view self.now.bay.now controls.old decisions.old.items
             response.old.octets)).results) }
         ensures size { response.new.size ≡ response.old.size }
     {

@@ -23,7 +23,7 @@ fn no_pdu(fault: EncodeFault) -> Result<Option<Outgoing>, AllocError>
 pub fn pdu_if_fits(made: Result<Outgoing, EncodeFault>) -> Result<Option<Outgoing>, AllocError>
     ensures pdu { (size : ℕ) (pdu : List ℕ)
         → Gives EncodeFault.OutOfMemory (λ octets. octets) made (text_within size pdu)
-        → IfOk result (λ found. found ≡ spec.fitting size pdu) }
+        → IfOk result (λ found. found ≡ spec.pdu_within_size size pdu) }
     ensures made { IfOk result (λ found. IfSome found (λ _. is_ok made ≡ true)) }
 {
     match made {

@@ -1,19 +1,19 @@
 // Answers a PDU of a client, and carries it out.
 ghost use Rattle.std.specs.Prelude.{◌≡◌, ◌≢◌, ◌≤◌, ◌∷◌, [], All, List, ℕ, length, map, option_map, IfOk, OnOk, None, Some, Err};
 ghost use Rattle.bay_base.specs.Exact.{Gives};
-ghost use Rattle.bay_mms.specs.RequestViews.{asking, naming};
+ghost use Rattle.bay_mms.specs.RequestViews.{call_view, object_name_view};
 ghost use Rattle.bay_mms.specs.Responses.{concluded_text, error_text, read_text};
 ghost use Rattle.bay_mms_initiate.specs.Sizes.{IsPduSize, longest_pdu};
 ghost use Rattle.bay_mms.specs.Views.{data_in};
 ghost use Rattle.bay_mms.specs.Writing.{text_within};
-ghost use Rattle.bay_mms_services.specs.Answers.{Answered, answer_of, pdu_answer, attributes_at, identify_answer, read_asked, service_answer, write_asked};
+ghost use Rattle.bay_mms_services.specs.Answers.{Answered, answer_of, pdu_answer, attributes_at, identify_answer, read_answer, service_answer, write_answer};
 ghost use Rattle.bay_mms_services.specs.Answers as spec;
 ghost use Rattle.bay_mms_services.specs.Bay.{Bay};
 ghost use Rattle.bay_mms_services.specs.Rows.{row_named};
 ghost use Rattle.bay_mms.specs.declared.fault.MmsFault.TheVariants as MmsFault;
 ghost use Rattle.bay_mms_services.specs.Controls.{IsShort};
 ghost use Rattle.bay_mms_services.specs.Reads.{read_all};
-ghost use Rattle.bay_mms_services.specs.Views.{bay_of, bay_view, controls_left, read_as, reading, AnswersAs};
+ghost use Rattle.bay_mms_services.specs.Views.{bay_of, bay_view, controls_view, request_result_view, reading_view, AnswersAs};
 
 use crate::answer::{ControlDecision, PduAnswer};
 use crate::bay::ServedBay;
@@ -40,7 +40,7 @@ fn answer_with_decisions(
     decisions: Vec<ControlDecision>,
 ) -> Result<PduAnswer, AllocError>
     ensures { IfOk result (λ answer. (b : Bay)
-        → AnswersAs answer b.controls b (spec.told_answer pdu decisions.items b)) }
+        → AnswersAs answer b.controls b (spec.one_pdu_answer pdu decisions.items b)) }
 {
     Ok(PduAnswer {
         sent: vec![in alloc; pdu]?,
@@ -142,7 +142,7 @@ impl Invocation<'_> {
         ensures { IfOk result (λ answer. AnswersAs answer (bay_of self.now).controls
             (bay_of self.now)
             (attributes_at self.now.client self.now.id (bay_of self.now)
-            (row_named (bay_of self.now) (naming name.now)))) }
+            (row_named (bay_of self.now) (object_name_view name.now)))) }
     {
         match self.bay.row_named(name) {
             Some(handle) => {
@@ -164,16 +164,16 @@ impl Invocation<'_> {
     ) -> Result<Outgoing, EncodeFault>
         ensures response { Gives EncodeFault.OutOfMemory (λ octets. octets) result
             (text_within self.now.client.size (read_text self.now.id
-            (read_all self.now.client (bay_of self.now) (map naming names.now)
-            (reading self.now.bay.now controls.old decisions.old.items [])).results)) }
+            (read_all self.now.client (bay_of self.now) (map object_name_view names.now)
+            (reading_view self.now.bay.now controls.old decisions.old.items [])).results)) }
         ensures after { OnOk result
-            (controls_left self.now.bay.now controls.new
-            ≡ (read_all self.now.client (bay_of self.now) (map naming names.now)
-            (reading self.now.bay.now controls.old decisions.old.items [])).controls) }
+            (controls_view self.now.bay.now controls.new
+            ≡ (read_all self.now.client (bay_of self.now) (map object_name_view names.now)
+            (reading_view self.now.bay.now controls.old decisions.old.items [])).controls) }
         ensures decisions { OnOk result
             (decisions.new.items
-            ≡ (read_all self.now.client (bay_of self.now) (map naming names.now)
-            (reading self.now.bay.now controls.old decisions.old.items [])).decisions) }
+            ≡ (read_all self.now.client (bay_of self.now) (map object_name_view names.now)
+            (reading_view self.now.bay.now controls.old decisions.old.items [])).decisions) }
     {
         let mut response = ReadResponse::new(self.alloc, self.client.size)?;
         self.read_all(names, controls, decisions, &mut response)?;
@@ -189,9 +189,9 @@ impl Invocation<'_> {
     ) -> Result<PduAnswer, AllocError>
         requires { controls.old ≡ self.now.bay.now.controls }
         ensures { IfOk result (λ answer. AnswersAs answer
-            (controls_left self.now.bay.now controls.new) (bay_of self.now)
-            (read_asked self.now.client self.now.id (bay_of self.now)
-            (map naming names.now))) }
+            (controls_view self.now.bay.now controls.new) (bay_of self.now)
+            (read_answer self.now.client self.now.id (bay_of self.now)
+            (map object_name_view names.now))) }
     {
         let mut decisions = Vec::new(self.alloc);
         let response = self.read_response(names, controls, &mut decisions);
@@ -214,9 +214,9 @@ impl Invocation<'_> {
     ) -> Result<PduAnswer, AllocError>
         requires { controls.old ≡ self.now.bay.now.controls }
         ensures { IfOk result (λ answer. AnswersAs answer
-            (controls_left self.now.bay.now controls.new) (bay_of self.now)
-            (write_asked self.now.client self.now.id (bay_of self.now)
-            (map naming names.now) (data_in values.now))) }
+            (controls_view self.now.bay.now controls.new) (bay_of self.now)
+            (write_answer self.now.client self.now.id (bay_of self.now)
+            (map object_name_view names.now) (data_in values.now))) }
     {
         let mut done = Written {
             response: WriteResponse::new(self.alloc),
@@ -255,9 +255,9 @@ impl Invocation<'_> {
         requires sized { IsPduSize self.now.client.size }
         requires first { controls.old ≡ self.now.bay.now.controls }
         ensures { IfOk result (λ answer. AnswersAs answer
-            (controls_left self.now.bay.now controls.new)
+            (controls_view self.now.bay.now controls.new)
             (bay_of self.now)
-            (service_answer self.now.client self.now.id (bay_of self.now) (asking call.now))) }
+            (service_answer self.now.client self.now.id (bay_of self.now) (call_view call.now))) }
     {
         match call {
             Call::Identify => self.identify(),
@@ -288,8 +288,8 @@ impl ServedBay {
         requires sized { IsPduSize client.size }
         requires first { controls.old ≡ self.now.controls }
         ensures ok { IfOk result
-            (λ answer. AnswersAs answer (controls_left self.now controls.new) (bay_view self.now)
-            (answer_of client (bay_view self.now) (read_as request.entry))) }
+            (λ answer. AnswersAs answer (controls_view self.now controls.new) (bay_view self.now)
+            (answer_of client (bay_view self.now) (request_result_view request.entry))) }
         ensures memory { IfOk result (λ _. request.entry ≢ Err MmsFault.OutOfMemory) }
     {
         match request {
@@ -324,7 +324,7 @@ impl ServedBay {
     ) -> Result<PduAnswer, AllocError>
         requires { IsPduSize client.size }
         ensures ok { IfOk result
-            (λ answer. AnswersAs answer (controls_left self.now controls.new) (bay_view self.now)
+            (λ answer. AnswersAs answer (controls_view self.now controls.new) (bay_view self.now)
             (pdu_answer client pdu.now (bay_view self.now))) }
         ensures short { IfOk result
             (λ answer. All (λ pdu. length pdu ≤ longest_pdu) answer.sent.items) }

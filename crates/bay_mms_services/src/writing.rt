@@ -1,18 +1,18 @@
 // The variables of a write, one after the other.
 ghost use Rattle.std.specs.Prelude.{◌≡◌, ◌≤◌, ◌<◌, ◌++◌, ◌∷◌, [], Some, Ok, Err, map, length, IfOk, OnOk};
-ghost use Rattle.bay_mms.specs.ControlViews.{cancelling, operating};
+ghost use Rattle.bay_mms.specs.ControlViews.{cancel_view, operate_view};
 ghost use Rattle.bay_mms.specs.Controls.{cancel_in, operate_in};
 ghost use Rattle.bay_tree.specs.Rows.{IsHandle, name_at};
-ghost use Rattle.bay_mms.specs.ControlViews.{originating};
+ghost use Rattle.bay_mms.specs.ControlViews.{origin_view};
 ghost use Rattle.bay_mms_services.specs.Controls.{ending_of, endings, object_of, refusal_reports, written_decision};
 ghost use Rattle.bay_mms_services.specs.Controls as spec_controls;
-ghost use Rattle.bay_mms_services.specs.Writes.{cancel_asked, commands_for, decision_result, later_ending, operate_asked, select_with_asked};
+ghost use Rattle.bay_mms_services.specs.Writes.{write_cancel, commands_for, decision_result, later_ending, write_operate, write_select_with};
 ghost use Rattle.bay_mms_services.specs.Writes as spec;
-ghost use Rattle.bay_mms.specs.RequestViews.{naming};
+ghost use Rattle.bay_mms.specs.RequestViews.{object_name_view};
 ghost use Rattle.bay_mms.specs.Responses.{failure_result};
 ghost use Rattle.bay_mms.specs.declared.fault.DataAccessError.TheVariants.{ObjectAccessDenied};
 ghost use Rattle.bay_mms.specs.Views.{data_in, datum_of};
-ghost use Rattle.bay_mms_services.specs.Views.{bay_of, bay_view, writing};
+ghost use Rattle.bay_mms_services.specs.Views.{bay_of, bay_view, writing_view};
 
 use crate::answer::{Command, ControlDecision, ControlRequest, TerminationReports};
 use crate::bay::ServedBay;
@@ -75,7 +75,7 @@ fn operation_of(ctl_val: bool) -> Operation
 // Returns the originator of a request.
 fn origin_of(origin: &Origin<'_>) -> Originator
     requires { length origin.now.or_ident.now ≤ 64 }
-    ensures { result ≡ spec_controls.origin_of (originating origin.now) }
+    ensures { result ≡ spec_controls.origin_of (origin_view origin.now) }
 {
     Originator {
         cat: origin.or_cat,
@@ -86,7 +86,7 @@ fn origin_of(origin: &Origin<'_>) -> Originator
 // Returns the request to the controls.
 fn ask_of(operate: &OperateData<'_>) -> Ask
     requires { length operate.now.control.origin.or_ident.now ≤ 64 }
-    ensures { result ≡ spec_controls.ask_of (operating operate.now) }
+    ensures { result ≡ spec_controls.ask_of (operate_view operate.now) }
 {
     let control = &operate.control;
     Ask {
@@ -107,7 +107,7 @@ fn put_written(
 ) -> Result<(), AllocError>
     requires { length control.now.origin.or_ident.now ≤ 64 }
     ensures { OnOk result (decisions.new.items ≡ decisions.old.items
-        ++ written_decision client switch part (cancelling control.now) answer ∷ []) }
+        ++ written_decision client switch part (cancel_view control.now) answer ∷ []) }
 {
     decisions.push(ControlDecision {
         association: client.association,
@@ -156,7 +156,7 @@ impl Invocation<'_> {
         requires { IsHandle self.now.bay.now.tree part.row }
         ensures { OnOk result (reports.new.items
             ≡ reports.old.items ++ refusal_reports self.now.client part.switch
-            (name_at self.now.bay.now.tree part.row) (cancelling control.now)
+            (name_at self.now.bay.now.tree part.row) (cancel_view control.now)
             (bay_of self.now) (Err why)) }
     {
         if !self.bay.has_reports(part.switch) {
@@ -192,7 +192,7 @@ impl Invocation<'_> {
             (written.new.response ≡ written.old.response ++ failure_result ObjectAccessDenied) }
         ensures reports { OnOk result (written.new.reports.items
             ≡ written.old.reports.items ++ refusal_reports self.now.client part.switch
-            (name_at self.now.bay.now.tree part.row) (cancelling control.now) (bay_of self.now)
+            (name_at self.now.bay.now.tree part.row) (cancel_view control.now) (bay_of self.now)
             (Err why)) }
         ensures commands { written.new.commands ≡ written.old.commands }
         ensures decisions { written.new.decisions ≡ written.old.decisions }
@@ -217,11 +217,11 @@ impl Invocation<'_> {
             (written.new.response ≡ written.old.response ++ decision_result answer) }
         ensures reports { OnOk result (written.new.reports.items
             ≡ written.old.reports.items ++ refusal_reports self.now.client part.switch
-            (name_at self.now.bay.now.tree part.row) (cancelling control.now)
+            (name_at self.now.bay.now.tree part.row) (cancel_view control.now)
             (bay_of self.now) answer) }
         ensures decisions { OnOk result (written.new.decisions.items
             ≡ written.old.decisions.items ++ written_decision self.now.client part.switch written_to
-            (cancelling control.now) answer ∷ []) }
+            (cancel_view control.now) answer ∷ []) }
         ensures commands { written.new.commands ≡ written.old.commands }
         ensures ending { written.new.ending ≡ written.old.ending }
     {
@@ -243,10 +243,11 @@ impl Invocation<'_> {
         written: &mut Written,
     ) -> Result<(), AllocError>
         requires { IsHandle self.now.bay.now.tree part.row }
-        ensures { OnOk result (writing self.now.bay.now controls.new written.new
-            ≡ select_with_asked self.now.client (bay_of self.now) part.switch
+        ensures { OnOk result (writing_view self.now.bay.now controls.new written.new
+            ≡ write_select_with self.now.client (bay_of self.now) part.switch
             (name_at self.now.bay.now.tree part.row)
-            (writing self.now.bay.now controls.old written.old) (operate_in (datum_of given.now))) }
+            (writing_view self.now.bay.now controls.old written.old)
+            (operate_in (datum_of given.now))) }
     {
         let operate = match operate_of(given) {
             Ok(operate) => operate,
@@ -273,10 +274,11 @@ impl Invocation<'_> {
     ) -> Result<(), AllocError>
         requires { IsHandle self.now.bay.now.tree part.row }
         ensures { OnOk result
-            (writing self.now.bay.now controls.new written.new
-            ≡ cancel_asked self.now.client (bay_of self.now) part.switch
+            (writing_view self.now.bay.now controls.new written.new
+            ≡ write_cancel self.now.client (bay_of self.now) part.switch
             (name_at self.now.bay.now.tree part.row)
-            (writing self.now.bay.now controls.old written.old) (cancel_in (datum_of given.now))) }
+            (writing_view self.now.bay.now controls.old written.old)
+            (cancel_in (datum_of given.now))) }
     {
         let cancel = match cancel_of(given) {
             Ok(cancel) => cancel,
@@ -297,7 +299,8 @@ impl Invocation<'_> {
     ) -> Result<TerminationReports, AllocError>
         requires { IsHandle self.now.bay.now.tree row }
         ensures { IfOk result (λ ending. ending
-            ≡ ending_of self.now.client (name_at self.now.bay.now.tree row) (operating operate.now)
+            ≡ ending_of self.now.client (name_at self.now.bay.now.tree row)
+            (operate_view operate.now)
             (bay_of self.now)) }
     {
         let (alloc, size) = (self.alloc, self.client.size);
@@ -334,11 +337,11 @@ impl Invocation<'_> {
         ensures commands { OnOk result
             (written.new.commands.items
             ≡ written.old.commands.items
-            ++ commands_for switch (operating operate.now) answer) }
+            ++ commands_for switch (operate_view operate.now) answer) }
         ensures ending { OnOk result (written.new.ending
             ≡ later_ending written.old.ending
             (endings self.now.client switch (name_at self.now.bay.now.tree row)
-            (operating operate.now) (bay_of self.now) answer)) }
+            (operate_view operate.now) (bay_of self.now) answer)) }
     {
         if let Err(_) = answer {
             return Ok(());
@@ -365,10 +368,11 @@ impl Invocation<'_> {
         requires there { IsHandle self.now.bay.now.tree part.row }
         requires switch { part.switch < length self.now.bay.now.switches }
         ensures { OnOk result
-            (writing self.now.bay.now controls.new written.new
-            ≡ operate_asked self.now.client (bay_of self.now) part.switch
+            (writing_view self.now.bay.now controls.new written.new
+            ≡ write_operate self.now.client (bay_of self.now) part.switch
             (name_at self.now.bay.now.tree part.row)
-            (writing self.now.bay.now controls.old written.old) (operate_in (datum_of given.now))) }
+            (writing_view self.now.bay.now controls.old written.old)
+            (operate_in (datum_of given.now))) }
     {
         let operate = match operate_of(given) {
             Ok(operate) => operate,
@@ -398,10 +402,10 @@ impl Invocation<'_> {
         written: &mut Written,
     ) -> Result<(), AllocError>
         ensures { OnOk result
-            (writing self.now.bay.now controls.new written.new
-            ≡ spec.write_one self.now.client (bay_of self.now) (naming name.now)
+            (writing_view self.now.bay.now controls.new written.new
+            ≡ spec.write_one self.now.client (bay_of self.now) (object_name_view name.now)
             (datum_of given.now)
-            (writing self.now.bay.now controls.old written.old)) }
+            (writing_view self.now.bay.now controls.old written.old)) }
     {
         let Some(row) = self.bay.row_named(name) else {
             return written.response.failure(DataAccessError::ObjectNonExistent);
@@ -428,10 +432,10 @@ impl Invocation<'_> {
         written: &mut Written,
     ) -> Result<(), AllocError>
         ensures { OnOk result
-            (writing self.now.bay.now controls.new written.new
-            ≡ spec.write_all self.now.client (bay_of self.now) (map naming names.now)
+            (writing_view self.now.bay.now controls.new written.new
+            ≡ spec.write_all self.now.client (bay_of self.now) (map object_name_view names.now)
             (data_in values.now)
-            (writing self.now.bay.now controls.old written.old)) }
+            (writing_view self.now.bay.now controls.old written.old)) }
     {
         for i in 0..names.len().min(values.len()) {
             self.write_one(&names[i], &values[i], controls, written)?;

@@ -16,8 +16,8 @@ use std::time::{Clock, Instant};
 // The number of seconds for which a connection may send nothing at all before it counts as failed.
 const SILENCE: u64 = 10;
 
-// An accepted connection; since when it has sent nothing, if that is limited: since it was accepted,
-// or since its last octets came; and for how many seconds it may send nothing.
+// An accepted connection; since when it has sent nothing, if that is limited: since it was
+// accepted, or since its last octets came; and for how many seconds it may send nothing.
 #[derive(Drop)]
 struct Peer {
     stream: TcpStream,

@@ -9,7 +9,7 @@ use Rattle.bay_nodes.specs.Names.{SwitchNames, closing_of, interlocking_of, open
 use Rattle.bay_nodes.specs.declared.switch.Switch.{Switch}
 use Rattle.il_image.proofs.SetLemmas.{set-elsewhere, set-here}
 use Rattle.bay_process.specs.Layout.{switches_of}
-use Rattle.bay_process.specs.Releases.{Shows, digit, digit_of, digits_from, lead, released_text, switch_text}
+use Rattle.bay_process.specs.Releases.{Shows, digit_octet, digit_text, digits_from, text_before_digits, released_text, switch_text}
 use Rattle.bay_process.specs.ReportedRows.{AreKept, HoldsRelease, enabled_at, enabled_from}
 use Rattle.bay_process.specs.Values.{is_truth, with_enabled, with_output}
 use Rattle.bay_process.specs.declared.releases.Releases.{Releases}
@@ -199,15 +199,16 @@ rest-text rows k bs = released_text (switches_of bs) (enabled_from rows k (switc
 
 -- one switch more is told
 added : (t id : List ℕ) (o c : Bool)
-    → ((t ++ (32 ∷ [])) ++ id) ++ (61 ∷ digit o ∷ digit c ∷ []) ≡ t ++ switch_text id o c
+    → ((t ++ (32 ∷ [])) ++ id) ++ (61 ∷ digit_octet o ∷ digit_octet c ∷ [])
+    ≡ t ++ switch_text id o c
 added t id o c =
-    append_assoc (t ++ (32 ∷ [])) id (61 ∷ digit o ∷ digit c ∷ [])
-    ∙ append_assoc t (32 ∷ []) (id ++ (61 ∷ digit o ∷ digit c ∷ []))
-    ∙ ap (λ u. t ++ (32 ∷ u)) (sym (append_assoc id (61 ∷ []) (digit o ∷ digit c ∷ []))
+    append_assoc (t ++ (32 ∷ [])) id (61 ∷ digit_octet o ∷ digit_octet c ∷ [])
+    ∙ append_assoc t (32 ∷ []) (id ++ (61 ∷ digit_octet o ∷ digit_octet c ∷ []))
+    ∙ ap (λ u. t ++ (32 ∷ u)) (sym (append_assoc id (61 ∷ []) (digit_octet o ∷ digit_octet c ∷ []))
     ∙ by-digits o c)
   where
-    by-digits : (o c : Bool) → (id ++ (61 ∷ [])) ++ (digit o ∷ digit c ∷ [])
-        ≡ (id ++ (61 ∷ [])) ++ (digit_of o ++ digit_of c)
+    by-digits : (o c : Bool) → (id ++ (61 ∷ [])) ++ (digit_octet o ∷ digit_octet c ∷ [])
+        ≡ (id ++ (61 ∷ [])) ++ (digit_text o ++ digit_text c)
     by-digits true true = refl
     by-digits true false = refl
     by-digits false true = refl
@@ -218,7 +219,7 @@ module _ (rows : List Row) (bs : List BoundSwitch) (i : ℕ) (b : BoundSwitch)
     (opens : o ≡ is_truth true (leaf_of (opening_of i).value rows))
     (closes : c ≡ is_truth true (leaf_of (closing_of i).value rows)) where
   abbrev more : List ℕ
-  more = ((t ++ (32 ∷ [])) ++ b.switch.id) ++ (61 ∷ digit o ∷ digit c ∷ [])
+  more = ((t ++ (32 ∷ [])) ++ b.switch.id) ++ (61 ∷ digit_octet o ∷ digit_octet c ∷ [])
 
   pub text-turn : t ++ rest-text rows i (drop i bs)
       ≡ more ++ rest-text rows (i + 1) (drop (i + 1) bs)
@@ -240,12 +241,19 @@ module _ (rows : List Row) (bs : List BoundSwitch) (i : ℕ) (b : BoundSwitch)
       let rest = switches_of (drop (i + 1) bs) in
       let before : length ((t ++ (32 ∷ [])) ++ id) ≡ length t + 1 + length id =
       omega (arith, length-append (t ++ (32 ∷ [])) id, length-append t (32 ∷ [])) in
-      let first : length t + length (lead b.switch) ≡ length ((t ++ (32 ∷ [])) ++ id) + 1 =
+      let first : length t + length (text_before_digits b.switch)
+      ≡ length ((t ++ (32 ∷ [])) ++ id) + 1 =
       omega (arith, before, length-append (codes " " ++ id) (codes "=")) in
-      let after : length t + length (lead b.switch) + 2 ≡ length more =
-      omega (arith, first, length-append ((t ++ (32 ∷ [])) ++ id) (61 ∷ digit o ∷ digit c ∷ [])) in
+      let after : length t + length (text_before_digits b.switch) + 2 ≡ length more =
+      omega (
+        arith,
+        first,
+        length-append ((t ++ (32 ∷ [])) ++ id)
+            (61 ∷ digit_octet o ∷ digit_octet c ∷ []),
+      ) in
       ap (λ xs. places ++ digits_from (length t) (switches_of xs)) next
-      ∙ ap (λ n. places ++ (n ∷ digits_from (length t + length (lead b.switch) + 2) rest)) first
+      ∙ ap (λ n. places ++ (n
+      ∷ digits_from (length t + length (text_before_digits b.switch) + 2) rest)) first
       ∙ ap (λ n. places ++ ((length ((t ++ (32 ∷ [])) ++ id) + 1) ∷ digits_from n rest)) after
       ∙ sym (append_assoc places ((length ((t ++ (32 ∷ [])) ++ id) + 1) ∷ [])
       (digits_from (length more) rest))

@@ -3,7 +3,7 @@ use Rattle.std.proofs.Common.{◌≡◌, ℕ, zero, suc, Bool, true, false, Some
 use Rattle.std.proofs.lemmas.List.{length-set}
 use Rattle.std.specs.Prelude.{slice_index_or, slice_set}
 use Rattle.bay_nodes.specs.declared.switch.Switch.{Switch}
-use Rattle.bay_process.specs.Releases.{Shows, digit, digit_of, digits_from, lead, released_text, switch_text}
+use Rattle.bay_process.specs.Releases.{Shows, digit_octet, digit_text, digits_from, text_before_digits, released_text, switch_text}
 use Rattle.bay_process.specs.declared.switch.Enabled.{Enabled}
 
 -- ---- the text by octets, with what stands behind it
@@ -11,20 +11,21 @@ use Rattle.bay_process.specs.declared.switch.Enabled.{Enabled}
 abbrev plain : List ℕ → List Switch → List Enabled → List ℕ
 plain end [] told = end
 plain end (s ∷ ss) [] = end
-plain end (s ∷ ss) (e ∷ told) = lead s ++ (digit e.may_open ∷ digit e.may_close ∷ plain end ss told)
+plain end (s ∷ ss) (e ∷ told) =
+    text_before_digits s ++ (digit_octet e.may_open ∷ digit_octet e.may_close ∷ plain end ss told)
 
 two-digits : (o c : Bool) (rest : List ℕ)
-    → (digit_of o ++ digit_of c) ++ rest ≡ digit o ∷ digit c ∷ rest
+    → (digit_text o ++ digit_text c) ++ rest ≡ digit_octet o ∷ digit_octet c ∷ rest
 two-digits true true rest = refl
 two-digits true false rest = refl
 two-digits false true rest = refl
 two-digits false false rest = refl
 
 part-plain : (s : Switch) (o c : Bool) (rest : List ℕ)
-    → switch_text s.id o c ++ rest ≡ lead s ++ (digit o ∷ digit c ∷ rest)
+    → switch_text s.id o c ++ rest ≡ text_before_digits s ++ (digit_octet o ∷ digit_octet c ∷ rest)
 part-plain s o c rest =
-    append_assoc (lead s) (digit_of o ++ digit_of c) rest
-    ∙ ap (λ t. lead s ++ t) (two-digits o c rest)
+    append_assoc (text_before_digits s) (digit_text o ++ digit_text c) rest
+    ∙ ap (λ t. text_before_digits s ++ t) (two-digits o c rest)
 
 is-plain : (end : List ℕ) (ss : List Switch) (told : List Enabled) → length told ≡ length ss
     → released_text ss told ++ end ≡ plain end ss told
@@ -77,27 +78,30 @@ module _ (end : List ℕ) where
   patched : (front : List ℕ) (ss : List Switch) (told : List Enabled) (k : ℕ) (new : Enabled)
       (n : ℕ) (text : List ℕ) → n ≡ length front → text ≡ front ++ plain end ss told
       → length told ≡ length ss → k < length ss
-      → slice_set (slice_set text (slice_index_or (digits_from n ss) k 0) (digit new.may_open))
-      (suc (slice_index_or (digits_from n ss) k 0)) (digit new.may_close)
+      → slice_set (slice_set text (slice_index_or (digits_from n ss) k 0)
+      (digit_octet new.may_open))
+      (suc (slice_index_or (digits_from n ss) k 0)) (digit_octet new.may_close)
       ≡ front ++ plain end ss (slice_set told k new)
   patched front [] told k new n text e is sized within = absurd (omega (arith, within))
   patched front (s ∷ ss) [] k new n text e is sized within = absurd (omega (arith, sized))
   patched front (s ∷ ss) (old ∷ told) zero new n text e is sized within =
-      two-set (front ++ lead s) (digit old.may_open) (digit old.may_close)
-      (digit new.may_open) (digit new.may_close) (plain end ss told) text
-      (n + length (lead s)) (omega (arith, e, length-append front (lead s)))
-      (is ∙ sym (append_assoc front (lead s)
-      (digit old.may_open ∷ digit old.may_close ∷ plain end ss told)))
-      ∙ append_assoc front (lead s)
-      (digit new.may_open ∷ digit new.may_close ∷ plain end ss told)
+      two-set (front ++ text_before_digits s) (digit_octet old.may_open) (digit_octet old.may_close)
+      (digit_octet new.may_open) (digit_octet new.may_close) (plain end ss told) text
+      (n + length (text_before_digits s))
+      (omega (arith, e, length-append front (text_before_digits s)))
+      (is ∙ sym (append_assoc front (text_before_digits s)
+      (digit_octet old.may_open ∷ digit_octet old.may_close ∷ plain end ss told)))
+      ∙ append_assoc front (text_before_digits s)
+      (digit_octet new.may_open ∷ digit_octet new.may_close ∷ plain end ss told)
   patched front (s ∷ ss) (old ∷ told) (suc k) new n text e is sized within =
-      let x = digit old.may_open in
-      let y = digit old.may_close in
-      patched (front ++ (lead s ++ (x ∷ y ∷ []))) ss told k new (n + length (lead s) + 2) text
-      (seam-length front (lead s) x y n e)
-      (is ∙ sym (seam front (lead s) x y (plain end ss told)))
+      let x = digit_octet old.may_open in
+      let y = digit_octet old.may_close in
+      patched (front ++ (text_before_digits s ++ (x ∷ y ∷ []))) ss told k new
+      (n + length (text_before_digits s) + 2) text
+      (seam-length front (text_before_digits s) x y n e)
+      (is ∙ sym (seam front (text_before_digits s) x y (plain end ss told)))
       (omega (arith, sized)) (omega (arith, within))
-      ∙ seam front (lead s) x y (plain end ss (slice_set told k new))
+      ∙ seam front (text_before_digits s) x y (plain end ss (slice_set told k new))
 
   placed : (ss : List Switch) (told : List Enabled) (k n : ℕ) → length told ≡ length ss
       → k < length ss
@@ -105,47 +109,51 @@ module _ (end : List ℕ) where
   placed [] told k n sized within = absurd (omega (arith, within))
   placed (s ∷ ss) [] k n sized within = absurd (omega (arith, sized))
   placed (s ∷ ss) (old ∷ told) zero n sized within =
-      let x = digit old.may_open in
-      let y = digit old.may_close in
-      omega (arith, length-append (lead s) (x ∷ y ∷ plain end ss told))
+      let x = digit_octet old.may_open in
+      let y = digit_octet old.may_close in
+      omega (arith, length-append (text_before_digits s) (x ∷ y ∷ plain end ss told))
   placed (s ∷ ss) (old ∷ told) (suc k) n sized within =
-      let x = digit old.may_open in
-      let y = digit old.may_close in
+      let x = digit_octet old.may_open in
+      let y = digit_octet old.may_close in
       omega (
         arith,
-        placed ss told k (n + length (lead s) + 2) (omega (arith, sized))
+        placed ss told k (n + length (text_before_digits s) + 2) (omega (arith, sized))
             (omega (arith, within)),
-        length-append (lead s) (x ∷ y ∷ plain end ss told),
+        length-append (text_before_digits s) (x ∷ y ∷ plain end ss told),
       )
 
   read : (front : List ℕ) (ss : List Switch) (told : List Enabled) (k n : ℕ) (text : List ℕ)
       → n ≡ length front → text ≡ front ++ plain end ss told → length told ≡ length ss
       → k < length ss
       → (e : Enabled) × (slice_get told k ≡ Some e)
-      × (slice_index_or text (slice_index_or (digits_from n ss) k 0) 0 ≡ digit e.may_open)
-      × (slice_index_or text (suc (slice_index_or (digits_from n ss) k 0)) 0 ≡ digit e.may_close)
+      × (slice_index_or text (slice_index_or (digits_from n ss) k 0) 0 ≡ digit_octet e.may_open)
+      × (slice_index_or text (suc (slice_index_or (digits_from n ss) k 0)) 0
+      ≡ digit_octet e.may_close)
   read front [] told k n text e is sized within = absurd (omega (arith, within))
   read front (s ∷ ss) [] k n text e is sized within = absurd (omega (arith, sized))
   read front (s ∷ ss) (old ∷ told) zero n text e is sized within =
       let both =
-      two-read (front ++ lead s) (digit old.may_open) (digit old.may_close) (plain end ss told) text
-      (n + length (lead s)) (omega (arith, e, length-append front (lead s)))
-      (is ∙ sym (append_assoc front (lead s)
-      (digit old.may_open ∷ digit old.may_close ∷ plain end ss told))) in
+      two-read (front ++ text_before_digits s) (digit_octet old.may_open)
+      (digit_octet old.may_close) (plain end ss told) text
+      (n + length (text_before_digits s))
+      (omega (arith, e, length-append front (text_before_digits s)))
+      (is ∙ sym (append_assoc front (text_before_digits s)
+      (digit_octet old.may_open ∷ digit_octet old.may_close ∷ plain end ss told))) in
       (old, refl, both.0, both.1)
   read front (s ∷ ss) (old ∷ told) (suc k) n text e is sized within =
-      let x = digit old.may_open in
-      let y = digit old.may_close in
-      read (front ++ (lead s ++ (x ∷ y ∷ []))) ss told k (n + length (lead s) + 2) text
-      (seam-length front (lead s) x y n e)
-      (is ∙ sym (seam front (lead s) x y (plain end ss told)))
+      let x = digit_octet old.may_open in
+      let y = digit_octet old.may_close in
+      read (front ++ (text_before_digits s ++ (x ∷ y ∷ []))) ss told k
+      (n + length (text_before_digits s) + 2) text
+      (seam-length front (text_before_digits s) x y n e)
+      (is ∙ sym (seam front (text_before_digits s) x y (plain end ss told)))
       (omega (arith, sized)) (omega (arith, within))
 
 digits-length : (n : ℕ) (ss : List Switch) → length (digits_from n ss) ≡ length ss
 digits-length n [] = refl
-digits-length n (s ∷ ss) = ap suc (digits-length (n + length (lead s) + 2) ss)
+digits-length n (s ∷ ss) = ap suc (digits-length (n + length (text_before_digits s) + 2) ss)
 
-pub digit-is : (b : Bool) (x : ℕ) → x ≡ digit b → nat_eq x 49 ≡ b
+pub digit-is : (b : Bool) (x : ℕ) → x ≡ digit_octet b → nat_eq x 49 ≡ b
 digit-is true x e = rw e refl
 digit-is false x e = rw e refl
 
@@ -173,16 +181,16 @@ module _ (ss : List Switch) (told : List Enabled) (text places : List ℕ)
         )
 
     pub told-there : (e : Enabled) × (slice_get told k ≡ Some e)
-        × (slice_index_or text (slice_index_or places k 0) 0 ≡ digit e.may_open)
-        × (slice_index_or text (slice_index_or places k 0 + 1) 0 ≡ digit e.may_close)
+        × (slice_index_or text (slice_index_or places k 0) 0 ≡ digit_octet e.may_open)
+        × (slice_index_or text (slice_index_or places k 0 + 1) 0 ≡ digit_octet e.may_close)
     told-there =
         rw s.places_are (rw (add-one (slice_index_or (digits_from 0 ss) k 0))
         (read (codes "\n") [] ss told k 0 text refl text-plain s.sized k-within))
 
     pub told-new : (new : Enabled)
         → Shows ss (slice_set told k new)
-        (slice_set (slice_set text (slice_index_or places k 0) (digit new.may_open))
-        (slice_index_or places k 0 + 1) (digit new.may_close)) places
+        (slice_set (slice_set text (slice_index_or places k 0) (digit_octet new.may_open))
+        (slice_index_or places k 0 + 1) (digit_octet new.may_close)) places
     told-new new =
         let sized = length-set told k new ∙ s.sized in
         record {

@@ -4,17 +4,17 @@ use Rattle.bay_nodes.specs.declared.switch.Switch.{Switch}
 use Rattle.bay_process.specs.declared.switch.Enabled.{Enabled}
 
 -- the octet of a digit: `1` for TRUE, `0` for FALSE
-abbrev pub digit : Bool → ℕ
-digit b = if b then 49 else 48
+abbrev pub digit_octet : Bool → ℕ
+digit_octet b = if b then 49 else 48
 
 -- the text of a digit: `1` for TRUE, `0` for FALSE
-abbrev pub digit_of : Bool → List ℕ
-digit_of b = if b then codes "1" else codes "0"
+abbrev pub digit_text : Bool → List ℕ
+digit_text b = if b then codes "1" else codes "0"
 
 -- a switch's id, and whether it may be opened and closed
 abbrev pub switch_text : List ℕ → Bool → Bool → List ℕ
 switch_text id opens closes =
-    codes " " ++ id ++ codes "=" ++ (digit_of opens ++ digit_of closes)
+    codes " " ++ id ++ codes "=" ++ (digit_text opens ++ digit_text closes)
 
 -- the text of switches with these releases
 abbrev pub released_text : List Switch → List Enabled → List ℕ
@@ -24,13 +24,14 @@ released_text (s ∷ ss) (e ∷ told) =
     switch_text s.id e.may_open e.may_close ++ released_text ss told
 
 -- the text before the digits of a switch
-abbrev pub lead : Switch → List ℕ
-lead s = codes " " ++ s.id ++ codes "="
+abbrev pub text_before_digits : Switch → List ℕ
+text_before_digits s = codes " " ++ s.id ++ codes "="
 
 -- the offsets of the first digits, if the text begins at offset n
 abbrev pub digits_from : ℕ → List Switch → List ℕ
 digits_from n [] = []
-digits_from n (s ∷ ss) = (n + length (lead s)) ∷ digits_from (n + length (lead s) + 2) ss
+digits_from n (s ∷ ss) =
+    (n + length (text_before_digits s)) ∷ digits_from (n + length (text_before_digits s) + 2) ss
 
 -- The text has these releases of these switches, and their first digits are at these offsets.
 pub record Shows (switches : List Switch) (told : List Enabled) (text : List ℕ)

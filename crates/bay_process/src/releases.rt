@@ -25,8 +25,8 @@ pub struct Releases {
 
 // Returns the digit of a truth value.
 #[inline(always)]
-fn digit(truth: bool) -> u8
-    ensures { result ≡ spec.digit truth }
+fn digit_octet(truth: bool) -> u8
+    ensures { result ≡ spec.digit_octet truth }
 {
     b'0' + u8::from(truth)
 }
@@ -61,8 +61,8 @@ impl Releases {
         ensures flag { self.new.is_written ≡ self.old.is_written }
     {
         let at = self.places[place];
-        self.text[at] = digit(enabled.may_open);
-        self.text[at + 1] = digit(enabled.may_close);
+        self.text[at] = digit_octet(enabled.may_open);
+        self.text[at + 1] = digit_octet(enabled.may_close);
     }
 }
 
@@ -80,8 +80,8 @@ pub fn kept_releases(
     let mut places = Vec::new(alloc);
     for place in 0..switches.len() {
         let bound = &switches[place];
-        let opens = digit(is_truth(tree, bound.rows.ena_opn.value, true));
-        let closes = digit(is_truth(tree, bound.rows.ena_cls.value, true));
+        let opens = digit_octet(is_truth(tree, bound.rows.ena_opn.value, true));
+        let closes = digit_octet(is_truth(tree, bound.rows.ena_cls.value, true));
         text.push(b' ')?;
         text.extend_from_slice(bound.switch.id.as_str().as_bytes())?;
         places.push(text.len() + 1)?;

@@ -452,7 +452,8 @@ module _ {L : Type 0} (step : L → Call → L → Type 0) where
         → Attends step (λ script. attendance t s script before) old new after news
     attends-dismissed new why news leaving closes =
         let k : ClosesDismissed step (Dismissed why) old new before after news =
-        subst (λ standing. ClosesDismissed step standing old new before after news) leaving closes in
+        subst (λ standing. ClosesDismissed step standing old new before after news) leaving closes
+        in
         attends-as (λ script. attendance t s script before)
         (λ script. dismissed why before) old new after news
         (λ script. rw leaving refl)

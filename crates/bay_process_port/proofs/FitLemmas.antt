@@ -1,7 +1,7 @@
 -- Lemmas on lines that a turn can take.
 use Rattle.std.proofs.Common.{◌≡◌, ℕ, nat_lt, Bool, true, false, List, [], ◌∷◌, if◌then◌else◌, Option, None, Some, is_some, option_and_then, Result, Ok, Err, refl, sym, ap, ◌∙◌}
 use Rattle.bay_device.specs.Device.{State}
-use Rattle.bay_server_turn.specs.Served.{process_event, reported, event_in_line, understood}
+use Rattle.bay_server_turn.specs.Served.{process_event, report_of_event, event_in_line, input_of_event}
 use Rattle.bay_process_port.specs.Introduction.{introduced_at}
 use Rattle.bay_server_turn.specs.Supervised.{timed_line_of}
 use Rattle.bay_server_turn.specs.declared.process_input.ProcessEvent.{ProcessEvent}
@@ -159,7 +159,7 @@ judged-line watch s now line said e =
     ∙ ap (λ v. if v then Some line else None) (told-some s line)
 
 had-event : (word : ProcessMessage) (line had : List ℕ) → line_in word line ≡ Some had
-    → understood (event_in word) ≡ Ok (reported (event_in word))
+    → input_of_event (event_in word) ≡ Ok (report_of_event (event_in word))
 had-event Blank line had e = absurd cc
 had-event (Reports event) line had e = refl
 had-event Introduces line had e = absurd cc
@@ -174,7 +174,7 @@ had-line Lives line had e = absurd cc
 -- a line that a turn has can be read as what the turn is given
 pub judged-readable : (watch : Option Watched) (s : State) (now : ℕ) (line had : List ℕ)
     (said : TimedMessage) → judged watch s now line ≡ Ok said → line_in said.word line ≡ Some had
-    → understood (event_in_line s had) ≡ Ok (reported (event_in said.word))
+    → input_of_event (event_in_line s had) ≡ Ok (report_of_event (event_in said.word))
 judged-readable watch s now line had said e is =
-    ap (λ l. understood (event_in_line s l)) (sym (had-line said.word line had is))
-    ∙ ap understood (judged-told watch s now line said e) ∙ had-event said.word line had is
+    ap (λ l. input_of_event (event_in_line s l)) (sym (had-line said.word line had is))
+    ∙ ap input_of_event (judged-told watch s now line said e) ∙ had-event said.word line had is

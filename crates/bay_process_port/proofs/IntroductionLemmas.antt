@@ -8,7 +8,7 @@ use Rattle.bay_base.specs.Options.{◌>>=◌}
 use Rattle.bay_device.specs.Device.{State}
 use Rattle.bay_trace.specs.Trace.{event_of, is_space, name_of, named_of}
 use Rattle.bay_server_turn.specs.Served.{event_in_line}
-use Rattle.bay_server_turn.specs.Supervised.{stripped}
+use Rattle.bay_server_turn.specs.Supervised.{text_without_end}
 use Rattle.bay_server_turn.proofs.SupervisedLemmas.{number-digits, stripped-is, unread}
 use Rattle.bay_process_port.specs.Introduction.{introduced_at}
 
@@ -47,7 +47,7 @@ pub introduced-is : (key domain revision line : List ℕ) (moment : ℕ)
     → introduced_at key domain revision line ≡ Some moment
     → Introduces key domain revision line moment
 introduced-is key domain revision line moment e =
-    by1 (stripped revision line) refl e
+    by1 (text_without_end revision line) refl e
   where
     by6 : (a b c d f g : List ℕ) (o : Option ℕ)
         → line ≡ g ++ codes " bay " ++ key ++ codes " " ++ domain ++ codes " " ++ revision
@@ -56,7 +56,7 @@ introduced-is key domain revision line moment e =
 
     by5 : (a b c d f : List ℕ) (o : Option (List ℕ))
         → line ≡ f ++ key ++ codes " " ++ domain ++ codes " " ++ revision
-        → stripped (codes " bay ") f ≡ o → (o >>= read_number) ≡ Some moment
+        → text_without_end (codes " bay ") f ≡ o → (o >>= read_number) ≡ Some moment
         → Introduces key domain revision line moment
     by5 a b c d f None is cut some = absurd cc
     by5 a b c d f (Some g) is cut some =
@@ -66,53 +66,57 @@ introduced-is key domain revision line moment e =
 
     by4 : (a b c d : List ℕ) (o : Option (List ℕ))
         → line ≡ d ++ codes " " ++ domain ++ codes " " ++ revision
-        → stripped key d ≡ o → (o >>= stripped (codes " bay ") >>= read_number) ≡ Some moment
+        → text_without_end key d ≡ o
+        → (o >>= text_without_end (codes " bay ") >>= read_number) ≡ Some moment
         → Introduces key domain revision line moment
     by4 a b c d None is cut some = absurd cc
     by4 a b c d (Some f) is cut some =
-        by5 a b c d f (stripped (codes " bay ") f)
+        by5 a b c d f (text_without_end (codes " bay ") f)
         (is ∙ ap (λ l. l ++ codes " " ++ domain ++ codes " " ++ revision)
         (stripped-is key d f cut)) refl some
 
     by3 : (a b c : List ℕ) (o : Option (List ℕ))
         → line ≡ c ++ domain ++ codes " " ++ revision
-        → stripped (codes " ") c ≡ o
-        → (o >>= stripped key >>= stripped (codes " bay ") >>= read_number) ≡ Some moment
+        → text_without_end (codes " ") c ≡ o
+        → (o >>= text_without_end key >>= text_without_end (codes " bay ") >>= read_number)
+        ≡ Some moment
         → Introduces key domain revision line moment
     by3 a b c None is cut some = absurd cc
     by3 a b c (Some d) is cut some =
-        by4 a b c d (stripped key d)
+        by4 a b c d (text_without_end key d)
         (is ∙ ap (λ l. l ++ domain ++ codes " " ++ revision)
         (stripped-is (codes " ") c d cut)) refl some
 
     by2 : (a b : List ℕ) (o : Option (List ℕ))
         → line ≡ b ++ codes " " ++ revision
-        → stripped domain b ≡ o
-        → (o >>= stripped (codes " ") >>= stripped key >>= stripped (codes " bay ")
+        → text_without_end domain b ≡ o
+        → (o >>= text_without_end (codes " ") >>= text_without_end key
+        >>= text_without_end (codes " bay ")
         >>= read_number) ≡ Some moment
         → Introduces key domain revision line moment
     by2 a b None is cut some = absurd cc
     by2 a b (Some c) is cut some =
-        by3 a b c (stripped (codes " ") c)
+        by3 a b c (text_without_end (codes " ") c)
         (is ∙ ap (λ l. l ++ codes " " ++ revision) (stripped-is domain b c cut)) refl some
 
     by1b : (a : List ℕ) (o : Option (List ℕ)) → line ≡ a ++ revision
-        → stripped (codes " ") a ≡ o
-        → (o >>= stripped domain >>= stripped (codes " ") >>= stripped key
-        >>= stripped (codes " bay ") >>= read_number) ≡ Some moment
+        → text_without_end (codes " ") a ≡ o
+        → (o >>= text_without_end domain >>= text_without_end (codes " ") >>= text_without_end key
+        >>= text_without_end (codes " bay ") >>= read_number) ≡ Some moment
         → Introduces key domain revision line moment
     by1b a None is cut some = absurd cc
     by1b a (Some b) is cut some =
-        by2 a b (stripped domain b)
+        by2 a b (text_without_end domain b)
         (is ∙ ap (λ l. l ++ revision) (stripped-is (codes " ") a b cut)) refl some
 
-    by1 : (o : Option (List ℕ)) → stripped revision line ≡ o
-        → (o >>= stripped (codes " ") >>= stripped domain >>= stripped (codes " ")
-        >>= stripped key >>= stripped (codes " bay ") >>= read_number) ≡ Some moment
+    by1 : (o : Option (List ℕ)) → text_without_end revision line ≡ o
+        → (o >>= text_without_end (codes " ") >>= text_without_end domain
+        >>= text_without_end (codes " ")
+        >>= text_without_end key >>= text_without_end (codes " bay ") >>= read_number) ≡ Some moment
         → Introduces key domain revision line moment
     by1 None cut some = absurd cc
     by1 (Some a) cut some =
-        by1b a (stripped (codes " ") a) (stripped-is revision line a cut) refl some
+        by1b a (text_without_end (codes " ") a) (stripped-is revision line a cut) refl some
 
 -- it tells of no event
 pub introduced-untold : (s : State) (key domain revision line : List ℕ) (moment : ℕ)

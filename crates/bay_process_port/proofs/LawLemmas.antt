@@ -16,7 +16,7 @@ use Rattle.bay_process_port.specs.declared.port.Presence.{Presence}
 use Rattle.bay_process_port.specs.declared.port.Presence.TheVariants.{Away, Leaving, Dismissed, Here}
 use Rattle.bay_process_port.specs.declared.supervision.TimedMessage.{TimedMessage}
 use Rattle.bay_server_turn.specs.Calls.{Call, Accepts, Reads, Writes, Closes, ReadOutcome, Octets, Silence, Over, Broken}
-use Rattle.bay_server_turn.specs.Served.{reported, event_in_line, understood}
+use Rattle.bay_server_turn.specs.Served.{report_of_event, event_in_line, input_of_event}
 use Rattle.bay_process_port.proofs.AttendLemmas.{greet-calls}
 use Rattle.bay_process_port.proofs.FitLemmas.{judged-readable}
 use Rattle.bay_process_port.proofs.WatchLemmas.{line-judged}
@@ -27,7 +27,7 @@ by-readable : (s : State) (now jump : ℕ) (p : PortData) (line : List ℕ)
     (r : Result (Option TimedMessage) DisconnectReason) (f : LineSearchData)
     → judged_at s now jump p ≡ r → first_line_of p.kept ≡ f
     → (taken_by now r f p).line ≡ Some line
-    → understood (event_in_line s line) ≡ Ok (reported (taken_by now r f p).event)
+    → input_of_event (event_in_line s line) ≡ Ok (report_of_event (taken_by now r f p).event)
 by-readable s now jump p line (Err why) f is there e = absurd cc
 by-readable s now jump p line (Ok None) f is there e = absurd cc
 by-readable s now jump p line (Ok (Some said)) Waiting is there e = absurd cc
@@ -38,7 +38,8 @@ by-readable s now jump p line (Ok (Some said)) (Whole text rest) is there e =
 
 taken-readable : (standing : Presence) (s : State) (now jump : ℕ) (p : PortData) (line : List ℕ)
     → (taken_as standing s now jump p).line ≡ Some line
-    → understood (event_in_line s line) ≡ Ok (reported (taken_as standing s now jump p).event)
+    → input_of_event (event_in_line s line)
+    ≡ Ok (report_of_event (taken_as standing s now jump p).event)
 taken-readable Away s now jump p line e = absurd cc
 taken-readable Leaving s now jump p line e = absurd cc
 taken-readable (Dismissed why) s now jump p line e = absurd cc

@@ -8,7 +8,7 @@ use Rattle.bay_process_port.specs.declared.connection_event.ConnectionEvent.TheV
 use Rattle.bay_process_port.specs.declared.connection_event.DisconnectReason.{DisconnectReason}
 use Rattle.bay_process_port.specs.declared.port.Presence.TheVariants.{Away, Leaving, Dismissed, Here}
 use Rattle.bay_server_turn.specs.Calls.{Call, Accepts, Reads, Writes, Closes, ReadOutcome, Octets, Silence, Over, Broken}
-use Rattle.bay_server_turn.specs.Served.{reported, event_in_line, understood}
+use Rattle.bay_server_turn.specs.Served.{report_of_event, event_in_line, input_of_event}
 
 -- the end of what a process sends, or a failure
 abbrev pub is_end : ReadOutcome → Bool
@@ -27,9 +27,9 @@ hears_end (Closes a ∷ calls) = hears_end calls
 
 -- Of a connected process that is closed after a turn nothing is kept, and nothing counts as
 -- reported to it. The next turn takes from the port that the process is lost, and no line; the link
--- is not called before. A process that a turn dismisses is lost in this turn, which takes no line of
--- it; after the turn its connection is closed for the same reason. Of a process that has gone while
--- it waited nothing is kept or reported.
+-- is not called before. A process that a turn dismisses is lost in this turn, which takes no line
+-- of it; after the turn its connection is closed for the same reason. Of a process that has gone
+-- while it waited nothing is kept or reported.
 pub record IsSilent (t : ReportedTurn) (s : State) (now jump : ℕ) (script : Script) (p : PortData)
     : Type 0 where
   pub closed : (why : DisconnectReason) → p.standing ≡ Here
@@ -49,7 +49,7 @@ pub record IsSilent (t : ReportedTurn) (s : State) (now jump : ℕ) (script : Sc
 -- a line that the port has can be read, and tells of what the turn is given
 abbrev pub IsReadable : State → ℕ → ℕ → PortData → Type 0
 IsReadable s now jump p = (line : List ℕ) → (taken_line s now jump p).line ≡ Some line
-    → understood (event_in_line s line) ≡ Ok (reported (taken_line s now jump p).event)
+    → input_of_event (event_in_line s line) ≡ Ok (report_of_event (taken_line s now jump p).event)
 
 -- the octets that the link took
 abbrev pub taken_of : List Call → List ℕ

@@ -5,7 +5,7 @@ use Rattle.std.specs.List.{range_with_len}
 use Rattle.bay_nodes.specs.declared.switch.Switch.{Switch}
 use Rattle.bay_device.specs.Device.{State}
 use Rattle.bay_device.specs.LookUps.{enabled_of}
-use Rattle.bay_process.specs.Releases.{digit_of}
+use Rattle.bay_process.specs.Releases.{digit_text}
 
 -- whether a switch may be opened, and closed
 abbrev pub Release : Type 0
@@ -44,7 +44,7 @@ nothing_told = replicate 32 None
 -- the line of a release
 abbrev pub release_line : List ℕ → Release → List ℕ
 release_line id release =
-    id ++ codes "=" ++ digit_of release.0 ++ digit_of release.1 ++ codes "\n"
+    id ++ codes "=" ++ digit_text release.0 ++ digit_text release.1 ++ codes "\n"
 
 abbrev pub release_part : Release → Option Switch → List ℕ
 release_part release None = []

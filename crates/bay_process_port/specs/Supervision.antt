@@ -55,8 +55,8 @@ pub record IsOfThisBay (tells : Bool) (duties : SupervisionSettings) (domain rev
 
 -- ---- silence
 
--- The process is connected, it has introduced itself, and its last line counts from a moment that is
--- at most the supervision's milliseconds before this one.
+-- The process is connected, it has introduced itself, and its last line counts from a moment that
+-- is at most the supervision's milliseconds before this one.
 pub record IsLive (now : ℕ) (p : PortData) : Type 0 where
   pub here : p.standing ≡ Here
   pub watch : Watched

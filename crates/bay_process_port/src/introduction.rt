@@ -2,7 +2,7 @@
 ghost use Rattle.std.specs.Prelude.{◌≡◌, nat_eq, length, option_map};
 ghost use Rattle.std.specs.Cmp.Lexicographic.{pointwise};
 ghost use Rattle.bay_process_port.specs.Introduction as spec;
-ghost use Rattle.bay_server_turn.specs.Supervised.{stripped};
+ghost use Rattle.bay_server_turn.specs.Supervised.{text_without_end};
 
 use bay_base::decimal::decimal;
 
@@ -21,7 +21,7 @@ fn is_same_key(given: &[u8], key: &[u8]) -> bool
 
 // Returns the text before a key at its end; `None` if it does not end with the key.
 fn before_key<'a>(text: &'a [u8], key: &[u8]) -> Option<&'a [u8]>
-    ensures { option_map (λ rest. rest.now) result ≡ stripped key.now text.entry.now }
+    ensures { option_map (λ rest. rest.now) result ≡ text_without_end key.now text.entry.now }
 {
     if text.len() < key.len() {
         return None;

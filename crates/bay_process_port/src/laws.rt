@@ -81,14 +81,15 @@ pub fn a_supervised_process_is_of_this_bay()
         (uses : List Use)
         (s : State) (now jump : ℕ) (event : ProcessEvent)
         → StaysHere uses (bare tells (Some duties) Away) → AreOf domain revision uses
-        → (taken_line s now jump (after_uses uses (bare tells (Some duties) Away))).event ≡ Some event
+        → (taken_line s now jump (after_uses uses (bare tells (Some duties) Away))).event
+        ≡ Some event
         → IsOfThisBay tells duties domain revision uses }
 {}
 
 /// A silent process is not believed: a turn begins with the loss of a connected process, unless its
-/// last line, or before the first line its acceptance, counts from a moment at most the milliseconds
-/// for which it may be silent before this very turn, and the system's clock has gone on by no more
-/// than these milliseconds beyond the steady one since the turn before.
+/// last line, or before the first line its acceptance, counts from a moment at most the
+/// milliseconds for which it may be silent before this very turn, and the system's clock has gone
+/// on by no more than these milliseconds beyond the steady one since the turn before.
 pub fn a_silent_process_is_lost()
     ensures { (s : State) (now jump : ℕ) (p : PortData) → IsHeard s now jump p }
 {}

@@ -74,7 +74,8 @@ fn accept<L: Link>(
 
 // Closes the connection of a process that a turn has dismissed, and returns why.
 fn close_dismissed<L: Link>(port: &mut Port, link: &mut L) -> Option<ConnectionEvent>
-    ensures { ClosesDismissed (Called L.does L.failures) port.old.standing link.old link.new port.old
+    ensures { ClosesDismissed (Called L.does L.failures) port.old.standing link.old link.new
+        port.old
         port.new result }
 {
     match port.take_dismissal() {

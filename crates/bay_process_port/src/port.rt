@@ -43,8 +43,8 @@ pub enum Presence {
     /// It has disconnected, or is supervised and has not connected yet, and no turn has handled its
     /// loss.
     Leaving,
-    /// A turn was told that it is lost, since it is believed no more for this reason. Its connection
-    /// is still to be closed.
+    /// A turn was told that it is lost, since it is believed no more for this reason. Its
+    /// connection is still to be closed.
     Dismissed(DisconnectReason),
     /// It is connected.
     Here,
@@ -222,7 +222,8 @@ impl Port {
             ≡ (line_taken now said (first_line_of self.old.kept) self.old).event }
         ensures shown { result.shown
             ≡ shown_line (line_taken now said (first_line_of self.old.kept) self.old).line }
-        ensures port { self.new ≡ (line_taken now said (first_line_of self.old.kept) self.old).port }
+        ensures port { self.new
+            ≡ (line_taken now said (first_line_of self.old.kept) self.old).port }
     {
         match self.found {
             LineSearch::Waiting => PortInput::none(false),

@@ -5,7 +5,7 @@ use Rattle.std.specs.Borrow.{Bor}
 use Rattle.std.specs.Fmt.{decimal}
 use Rattle.std.specs.List.{Contains}
 use Rattle.hex.specs.Hex.{encode_lower}
-use Rattle.bay_connection.specs.ConnectionStates.{Indication, ConnectionState, Terms, answers, ends, fails, indications, releases, sending, tells}
+use Rattle.bay_connection.specs.ConnectionStates.{Indication, ConnectionState, Terms, answers, ends, fails, indications, releases, octets_to_send, tells}
 use Rattle.bay_mms_services.specs.Accepted.{AreNamedAlike, accepted_in}
 use Rattle.bay_mms_services.specs.Bay.{Bay}
 use Rattle.bay_mms_services.specs.Entries.{operates_in}
@@ -134,7 +134,7 @@ module _ (now a : ℕ) where
   AllOn step = All IsOn step.sent
 
   on-pdus : (terms : Terms) (pdus : List (List ℕ))
-      → All IsOn (map (λ pdu. sent_on a (sending terms pdu)) pdus)
+      → All IsOn (map (λ pdu. sent_on a (octets_to_send terms pdu)) pdus)
   on-pdus terms [] = All-nil IsOn
   on-pdus terms (pdu ∷ pdus) = All-cons IsOn _ _ refl (on-pdus terms pdus)
 

@@ -19,7 +19,7 @@ use Rattle.bay_device.specs.declared.fault.StepFault.{StepFault}
 use Rattle.bay_device.specs.declared.report.Report.{Report}
 use Rattle.bay_report.specs.Report.{report_text}
 use Rattle.bay_report.specs.Lines.{closed_text, closing_text, command_line, command_part, commands_text, done_text, ended_text, order_text, ran_text, refusal_line, scan_text, send_text, sends_text, step_text, why_text}
-use Rattle.bay_process.specs.Releases.{digit_of}
+use Rattle.bay_process.specs.Releases.{digit_text}
 use Rattle.bay_replay_laws.specs.Printed.{PrintedSwitch}
 use Rattle.bay_replay_laws.specs.ReadBack.{HaveIds, switches_told}
 use Rattle.cmd_replay.proofs.KeptLemmas.{scan_told}
@@ -68,7 +68,7 @@ told-is s k [] = refl
 told-is s k (switch ∷ switches) =
     let p : PrintedSwitch =
     record { id = switch.id; opens = may_open s k; closes = may_close s k } in
-    word-whole switch.id (digit_of (may_open s k) ++ digit_of (may_close s k))
+    word-whole switch.id (digit_text (may_open s k) ++ digit_text (may_close s k))
     (switches_text s (k + 1) switches)
     ∙ ap (λ t. 32 ∷ (word_of p ++ t)) (told-is s (k + 1) switches)
 

@@ -9,7 +9,7 @@ use Rattle.std.specs.Str.{all_ascii_digits, bytes_eq}
 use Rattle.std.specs.Str.Parse.{digits_value}
 use Rattle.bay_nodes.specs.declared.switch.Operation.{Operation}
 use Rattle.bay_nodes.specs.declared.switch.Operation.TheVariants as operations
-use Rattle.bay_process.specs.Releases.{digit_of}
+use Rattle.bay_process.specs.Releases.{digit_text}
 use Rattle.bay_replay_laws.specs.Printed.{PrintedSwitch, budget_in, command_in, command_of, number_named, number_of, order_of, parts_in, printed_budget, printed_command, printed_scan, printed_send, scan_in, scan_of, send_in, switch_in, switch_told, switches_in, words_in}
 use Rattle.bay_replay_laws.proofs.LineLemmas.{NoDigit, decimal-free, free, free-append, split-at, split-none}
 
@@ -88,14 +88,14 @@ AllPlain [] = Unit {0}
 AllPlain (p ∷ ps) = IsPlain p.id × AllPlain ps
 
 abbrev pub word_of : PrintedSwitch → List ℕ
-word_of p = p.id ++ 61 ∷ (digit_of p.opens ++ digit_of p.closes)
+word_of p = p.id ++ 61 ∷ (digit_text p.opens ++ digit_text p.closes)
 
 abbrev pub told_text : List PrintedSwitch → List ℕ
 told_text [] = []
 told_text (p ∷ ps) = 32 ∷ (word_of p ++ told_text ps)
 
 digits-free : (c : ℕ) (a b : Bool) → free c (codes "01") ≡ true
-    → free c (digit_of a ++ digit_of b) ≡ true
+    → free c (digit_text a ++ digit_text b) ≡ true
 digits-free c true true e = grind arith
 digits-free c true false e = grind arith
 digits-free c false true e = grind arith
@@ -105,7 +105,7 @@ pub word-free : (c : ℕ) (p : PrintedSwitch) → free c p.id ≡ true → free 
     → free c (word_of p) ≡ true
 word-free c p plain e =
     let parts = and_parts (not (61 == c)) (free c (codes "01")) e in
-    free-append c p.id (61 ∷ (digit_of p.opens ++ digit_of p.closes)) plain
+    free-append c p.id (61 ∷ (digit_text p.opens ++ digit_text p.closes)) plain
     (ap₂ (λ a b. a && b) parts.0 (digits-free c p.opens p.closes parts.1))
 
 words-told : (word : List ℕ) (ps : List PrintedSwitch) → free 32 word ≡ true → AllPlain ps
@@ -117,7 +117,8 @@ words-told word (p ∷ ps) plain all =
     ∙ ap (λ ls. word ∷ ls) (words-told (word_of p) ps (word-free 32 p all.0.no_space refl) all.1)
 
 digits-read : (id : List ℕ) (a b : Bool)
-    → switch_told id (digit_of a ++ digit_of b) ≡ Some (record { id = id; opens = a; closes = b })
+    → switch_told id (digit_text a ++ digit_text b)
+    ≡ Some (record { id = id; opens = a; closes = b })
 digits-read id true true = refl
 digits-read id true false = refl
 digits-read id false true = refl
@@ -125,7 +126,7 @@ digits-read id false false = refl
 
 switch-read : (p : PrintedSwitch) → IsPlain p.id → switch_in (parts_in (word_of p)) ≡ Some p
 switch-read p plain =
-    let digits : List ℕ = digit_of p.opens ++ digit_of p.closes in
+    let digits : List ℕ = digit_text p.opens ++ digit_text p.closes in
     ap switch_in (split-at 61 p.id digits plain.no_equals
     ∙ ap (λ ls. p.id ∷ ls) (split-none 61 digits (digits-free 61 p.opens p.closes refl)))
     ∙ digits-read p.id p.opens p.closes

@@ -8,7 +8,7 @@ use Rattle.bay_nodes.specs.declared.switch.Operation.TheVariants as operations
 use Rattle.bay_nodes.specs.declared.switch.Switch.{Switch}
 use Rattle.bay_process.specs.Values.{is_truth}
 use Rattle.bay_process.proofs.ToldLemmas.{Keeps}
-use Rattle.bay_mms_services.specs.Released.{releasing}
+use Rattle.bay_mms_services.specs.Released.{enable_name}
 use Rattle.bay_mms_services.specs.declared.answer.Command.{Command}
 use Rattle.bay_tree.specs.Rows.{leaf_of}
 use Rattle.bay_device.specs.Commands.{AreCommanded, CommandedAt, IsReleasedAt}
@@ -84,7 +84,7 @@ told-first s k switches switch here =
     (told-at s 0 k switches switch here)
 
 released-as : (s t : State) (id : List ℕ) (k : ℕ) (operation : Operation) → Keeps s.rows t.rows
-    → is_truth true (leaf_of (releasing k operation) t.rows) ≡ true
+    → is_truth true (leaf_of (enable_name k operation) t.rows) ≡ true
     → lets operation (record { id = id; opens = may_open s k; closes = may_close s k }) ≡ true
 released-as s t id k operations.Open keeps enabled = ap (is_truth true) (sym (keeps k _)) ∙ enabled
 released-as s t id k operations.Close keeps enabled = ap (is_truth true) (sym (keeps k _)) ∙ enabled

@@ -5,7 +5,7 @@ use Rattle.std.proofs.lemmas.Bool.Decides.{nat_tests}
 use Rattle.std.proofs.lemmas.List.{get_or-drop, take_all}
 use Rattle.std.proofs.lemmas.Slice.Eq.{bytes_eq-Decides}
 use Rattle.std.specs.List.{onto_first, concat}
-use Rattle.bay_report.specs.TextLines.{is_line_feed, pieces, ends_with, without_end, content, CutsLine, lines_of}
+use Rattle.bay_report.specs.TextLines.{is_line_feed, pieces, ends_with, without_end, line_without_end, CutsLine, lines_of}
 
 feed-first : (b : ℕ) (bs : List ℕ) → is_line_feed b ≡ true → pieces (b ∷ bs) ≡ (b ∷ []) ∷ pieces bs
 feed-first b bs e = ap (λ v. cond v ((b ∷ []) ∷ pieces bs) (onto_first b (pieces bs))) e
@@ -35,7 +35,7 @@ pieces-at (b ∷ c ∷ cs) (suc n) w f t =
 pub cuts-line : (xs line : List ℕ) (n : ℕ) → 0 < n → n ≤ length xs
     → ((k : ℕ) → k + 1 < n → is_line_feed (get_or xs k 0) ≡ false)
     → (n < length xs → is_line_feed (get_or xs (n - 1) 0) ≡ true)
-    → line ≡ content (take n xs) → CutsLine xs line (drop n xs)
+    → line ≡ line_without_end (take n xs) → CutsLine xs line (drop n xs)
 cuts-line xs line zero some w f t e = absurd (omega arith)
 cuts-line xs line (suc n) some w f t e =
     record {
@@ -59,17 +59,17 @@ fed-front zs = let n : length (zs ++ 10 ∷ []) - 1 ≡ length zs =
     ap (λ k. take k (zs ++ 10 ∷ [])) n ∙ take-append_seam zs (10 ∷ [])
 
 pub content-fed : (zs : List ℕ) (b : ℕ) → is_line_feed b ≡ true
-    → content (zs ++ b ∷ []) ≡ without_end (13 ∷ []) zs
+    → line_without_end (zs ++ b ∷ []) ≡ without_end (13 ∷ []) zs
 content-fed zs b is =
     let feed : b ≡ 10 = grind (arith, nat_tests) in
     rw (feed, fed-end zs, fed-front zs) refl
 
 -- a line without one is all of it
 pub content-unfed : (xs : List ℕ) → 0 < length xs
-    → is_line_feed (get_or xs (length xs - 1) 0) ≡ false → content xs ≡ xs
+    → is_line_feed (get_or xs (length xs - 1) 0) ≡ false → line_without_end xs ≡ xs
 content-unfed xs some none = by_test (ends_with (10 ∷ []) xs) refl
   where
-    by_test : (v : Bool) → ends_with (10 ∷ []) xs ≡ v → content xs ≡ xs
+    by_test : (v : Bool) → ends_with (10 ∷ []) xs ≡ v → line_without_end xs ≡ xs
     by_test true e =
         let end : drop (length xs - 1) xs ≡ 10 ∷ [] =
         (bytes_eq-Decides (drop (length xs - 1) xs) (10 ∷ [])).0 e in
@@ -93,7 +93,7 @@ cuts-fed xs line at lt before is e =
     let same : at + 1 - 1 ≡ at = omega arith in
     cuts-line xs line (at + 1) (omega arith) (omega (arith, lt))
     (λ k h. before k (omega (arith, h))) (λ h. ap (λ m. is_line_feed (get_or xs m 0)) same ∙ is)
-    (e ∙ sym (ap content front ∙ content-fed (take at xs) (get_or xs at 0) is))
+    (e ∙ sym (ap line_without_end front ∙ content-fed (take at xs) (get_or xs at 0) is))
 
 -- without a line feed there is one line
 pub cuts-unfed : (xs : List ℕ) → 0 < length xs
@@ -104,7 +104,7 @@ cuts-unfed xs some none =
     let last : is_line_feed (get_or xs (length xs - 1) 0) ≡ false =
     none (length xs - 1) (omega (arith, some)) in
     cuts-line xs xs (length xs) some (omega arith) (λ k h. none k (omega (arith, h)))
-    (λ h. absurd (omega (arith, h))) (sym (ap content whole ∙ content-unfed xs some last))
+    (λ h. absurd (omega (arith, h))) (sym (ap line_without_end whole ∙ content-unfed xs some last))
 
 concat-onto_first : (b : ℕ) (ps : List (List ℕ)) → concat (onto_first b ps) ≡ b ∷ concat ps
 concat-onto_first b [] = refl
@@ -122,4 +122,5 @@ concat-pieces (b ∷ bs) = concat-step b bs (is_line_feed b) (concat-pieces bs)
 
 pub lines-cut : (xs line rest : List ℕ) → CutsLine xs line rest
     → lines_of xs ≡ line ∷ lines_of rest
-lines-cut xs line rest c = ap (map content) c.first ∙ ap (λ l. l ∷ lines_of rest) (sym c.line_is)
+lines-cut xs line rest c =
+    ap (map line_without_end) c.first ∙ ap (λ l. l ∷ lines_of rest) (sym c.line_is)

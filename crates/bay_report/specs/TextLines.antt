@@ -20,17 +20,17 @@ abbrev pub without_end : List ℕ → List ℕ → List ℕ
 without_end end xs = if ends_with end xs then take (length xs - length end) xs else xs
 
 -- a line without its end, which is LF or CR LF
-abbrev pub content : List ℕ → List ℕ
-content piece =
+abbrev pub line_without_end : List ℕ → List ℕ
+line_without_end piece =
     if ends_with (10 ∷ []) piece then without_end (13 ∷ []) (without_end (10 ∷ []) piece) else piece
 
 -- the lines of a text, without their ends
 abbrev pub lines_of : List ℕ → List (List ℕ)
-lines_of text = map content (pieces text)
+lines_of text = map line_without_end (pieces text)
 
 -- the line is a text's first, and the rest is the text after it
 pub record CutsLine (text line rest : List ℕ) : Type 0 where
   pub piece : List ℕ
   pub whole : text ≡ piece ++ rest
   pub first : pieces text ≡ piece ∷ pieces rest
-  pub line_is : line ≡ content piece
+  pub line_is : line ≡ line_without_end piece

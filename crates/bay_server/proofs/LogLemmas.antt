@@ -104,7 +104,8 @@ module _ {W : Type 0} (contents : W → Option (List ℕ)) (asks : W → WriteCa
         record {
           goes = λ new rest. upto.goes new
               (subst (λ ls. LogsAll contents asks mid ls new)
-              (sym (ap (switches_log column now s k) split)) (logs-then mid next new _ _ logged rest));
+              (sym (ap (switches_log column now s k) split))
+              (logs-then mid next new _ _ logged rest));
         }
 
     pub switches-end : (old mid : Writing W) (k : ℕ) → LogsSwitches old k mid → length before ≤ k

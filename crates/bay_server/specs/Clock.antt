@@ -5,8 +5,9 @@ use Rattle.bay_server.specs.declared.clock.ClockShift.{ClockShift}
 use Rattle.bay_server.specs.declared.clock.ClockSide.{ClockSide}
 use Rattle.bay_server.specs.declared.clock.ClockSide.TheVariants.{Near, Ahead, Behind}
 
--- the last moment, the latest time of the steady clock, the last time of the system's clock, what has
--- passed and was not yet enough to draw the moment by a millisecond, and where the system's time was
+-- the last moment, the latest time of the steady clock, the last time of the system's clock, what
+-- has passed and was not yet enough to draw the moment by a millisecond, and where the system's
+-- time was
 pub record ClockData : Type 0 where
   pub moment : ℕ
   pub steady : ℕ

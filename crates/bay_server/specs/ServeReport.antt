@@ -21,7 +21,7 @@ use Rattle.bay_process_port.specs.Ports.{PortData, shown_line, taken_line, taken
 use Rattle.bay_process_port.specs.ProcessOutput.{reported_turn}
 use Rattle.bay_process_port.specs.declared.connection_event.ConnectionEvent.{ConnectionEvent}
 use Rattle.bay_server_turn.specs.Calls.{Call}
-use Rattle.bay_server_turn.specs.Served.{TurnInput, Serves, turn_input_of_line, reported, reported_in, turn_refusal}
+use Rattle.bay_server_turn.specs.Served.{TurnInput, Serves, turn_input_of_line, report_of_event, reported_in, turn_refusal}
 use Rattle.bay_server_turn.specs.Turns.{ServerData, moment_at}
 use Rattle.bay_server_turn.specs.declared.fault.ServeFault.{ServeFault}
 use Rattle.bay_server_turn.specs.declared.record.RecordEnd.{RecordEnd}
@@ -130,7 +130,7 @@ next_by s is_lost line = record {
 abbrev pub from_port : {L : Type 0} → State → ℕ → ℕ → List (ℕ × List ℕ) → Option (PollOutcome L)
     → Chosen L
 from_port s now jump lines None = record {
-  next = record { number = 0; shown = []; given = Ok (reported None) };
+  next = record { number = 0; shown = []; given = Ok (report_of_event None) };
   lines = lines;
   process = None;
 }
@@ -242,9 +242,9 @@ module _ {L H W : Type 0} (step : L → Call → L → Type 0) (acts : H → Hos
     pub printed : ReportsUnserved contents asks fault (choice_of clocks before).next.number
         (choice_of clocks before).next.shown begun new answer
 
-  -- The clock was read, the input of the turn was chosen, the turn was done, its report was printed,
-  -- and the process was attended to; or it could not be printed. Then the record was written: if it
-  -- has ended, that was logged.
+  -- The clock was read, the input of the turn was chosen, the turn was done, its report was
+  -- printed, and the process was attended to; or it could not be printed. Then the record was
+  -- written: if it has ended, that was logged.
   pub record TurnGoes (before : Serving L H) (old : Writing W) (after : Serving L H)
       (new : Writing W) (answer : Result ℕ WriteFault) : Type 0 where
     pub clocks : Clocks

@@ -256,7 +256,10 @@ pub fn log_turn<W: Sink>(
     ensures { LogsAll W.contents W.does writer.old
         (turn_log moment count next.now before.now device.now turn.now) writer.new }
 {
-    let closed = first(turn.closed.as_slice(), count.at_closings(moment, turn).room());
+    let closed = first(
+        turn.closed.as_slice(),
+        count.at_closings(moment, turn).room(),
+    );
     let memory = first(turn.memory.as_slice(), count.at_memory(moment, turn).room());
     log_left_out(writer, moment, count);
     log_opened(writer, moment, turn.opened, count.at(moment).room());

@@ -143,8 +143,8 @@ fn read_next(device: &Device, is_lost: bool, line: (usize, &[u8])) -> NextInput
 }
 
 /// Returns what a turn at a moment is given: the next line of the trace, or after the last one what
-/// the process has. That the process is lost is given beside a line of the trace. `jump` is how many
-/// milliseconds the system's clock has gone on beyond the steady one since the turn before.
+/// the process has. That the process is lost is given beside a line of the trace. `jump` is how
+/// many milliseconds the system's clock has gone on beyond the steady one since the turn before.
 pub fn next_input<L>(
     lines: &mut TraceLines<'_>,
     process: &mut Option<Process<L>>,

@@ -83,9 +83,9 @@ fn report_and_poll<L: Link, W: Sink>(
     poll_process(process, device, moment, turn, writer)
 }
 
-// Reads the clock, chooses the input of a turn, and tries the turn. Logs and prints what it reports,
-// and polls the process. Only then it writes what was recorded of the turn: a file may make it wait,
-// and a command must not wait for that.
+// Reads the clock, chooses the input of a turn, and tries the turn. Logs and prints what it
+// reports, and polls the process. Only then it writes what was recorded of the turn: a file may
+// make it wait, and a command must not wait for that.
 fn try_turn<L: Link, H: Host<L>, W: Sink>(
     served: &mut Served<L>,
     host: &mut H,

@@ -5,7 +5,7 @@ use Rattle.bay_server_turn.specs.Calls.{Call, Accepts, Reads, Closes, MakesCalls
 use Rattle.bay_server_turn.specs.Offers.{Offer}
 use Rattle.bay_server_turn.specs.Served.{Performs, PerformsEach, Offers, Opens, Serves, TakesIn}
 use Rattle.bay_server_turn.specs.AssociationStates.{is_draining}
-use Rattle.bay_server_turn.specs.Turns.{ServerData, TurnData, Script, TurnState, accept_calls_at, after_accept, after_each, after_first, after_line, first_of, after_reads, after_scan, turn_begin, calls_of_each, close_at_once, free_place, calls_on_read, after_end, is_up, line_calls, with_line, offer_calls, offer_end, offer_of, offer_one, on_accept, on_read, opening_at, after_opening, after_closing, queue_of, read_calls, read_one, scan_calls, after_turn_scan, after_settling, settling, state_at, after_turn, turning, with_queue}
+use Rattle.bay_server_turn.specs.Turns.{ServerData, TurnData, Script, TurnState, accept_calls_at, after_accept, after_each, after_first, after_line, first_of, after_reads, after_scan, turn_begin, calls_of_each, close_at_once, free_place, calls_on_read, after_end, is_up, line_calls, with_line, offer_calls, offer_end, offer_of, offer_one, on_accept, on_read, opening_at, after_opening, after_closing, queue_of, read_calls, read_one, scan_calls, after_turn_scan, after_settling, settling, state_at, after_turn, turn_state, with_queue}
 use Rattle.bay_server_turn.specs.declared.link.ReadResult.{ReadResult}
 use Rattle.bay_device.specs.Device.{over_at}
 use Rattle.bay_server_turn.specs.declared.process_input.ProcessEvent.{ProcessEvent}
@@ -24,8 +24,9 @@ pub heard-broken : {E : Type 0} (r : Result ReadResult E) (e : E) (room : List �
     → read_outcome_of r room ≡ Broken
 heard-broken r e room p = ap (λ x. read_outcome_of x room) p
 
-pub turning-as : (s t : ServerData) (n m : TurnData) → s ≡ t → n ≡ m → turning s n ≡ turning t m
-turning-as s t n m p q = ap (λ x. turning x n) p ∙ ap (λ x. turning t x) q
+pub turning-as : (s t : ServerData) (n m : TurnData) → s ≡ t → n ≡ m
+    → turn_state s n ≡ turn_state t m
+turning-as s t n m p q = ap (λ x. turn_state x n) p ∙ ap (λ x. turn_state t x) q
 
 module _ {L : Type 0} (step : L → Call → L → Type 0) where
   -- ---- a connection that waits
@@ -221,7 +222,7 @@ module _ {L : Type 0} (step : L → Call → L → Type 0) where
       → PerformsEach step (read_one now) (read_calls now) l m 8 z t
       → MakesCalls step m (line_calls now given.event t) p → u ≡ with_line now given.event t
       → MakesCalls step p (scan_calls now u) q → v ≡ after_turn_scan now u
-      → PerformsEach step (offer_one now) (offer_calls now) q new 8 v (turning after noted)
+      → PerformsEach step (offer_one now) (offer_calls now) q new 8 v (turn_state after noted)
       → over ≡ over_at now before.device
       → turn ≡ record {
         opened = opened;
@@ -246,7 +247,7 @@ module _ {L : Type 0} (step : L → Call → L → Type 0) where
       line_is ∙ ap (with_line now given.event) second in
       let fourth : v ≡ after_scan now given script before =
       scan_is ∙ ap (after_turn_scan now) third in
-      let whole : turning after noted ≡ after_turn now given script before =
+      let whole : turn_state after noted ≡ after_turn now given script before =
       o.is ∙ ap (after_each (offer_one now) 0 o.choices) fourth in
       let lost_talks : MakesCalls step k
       (line_calls now (first_of given) (after_accept now script before)) l =
@@ -294,13 +295,13 @@ module _ {L : Type 0} (step : L → Call → L → Type 0) where
   pub serves-with : (old k l m p q new : L) (now : ℕ) (given : ProcessReport)
       (first_event : Option ProcessEvent) (before after : ServerData) (first noted : TurnData)
       (s z t u v : TurnState) (opened : Option (ℕ × SocketAddrV4)) (over : Option ℕ) (turn : Turn)
-      → turning before first ≡ turn_begin before → first_event ≡ first_of given
-      → Opens step now old k (turning before first) s opened
+      → turn_state before first ≡ turn_begin before → first_event ≡ first_of given
+      → Opens step now old k (turn_state before first) s opened
       → MakesCalls step k (line_calls now first_event s) l → z ≡ with_line now first_event s
       → PerformsEach step (read_one now) (read_calls now) l m 8 z t
       → MakesCalls step m (line_calls now given.event t) p → u ≡ with_line now given.event t
       → MakesCalls step p (scan_calls now u) q → v ≡ after_turn_scan now u
-      → PerformsEach step (offer_one now) (offer_calls now) q new 8 v (turning after noted)
+      → PerformsEach step (offer_one now) (offer_calls now) q new 8 v (turn_state after noted)
       → over ≡ over_at now before.device
       → turn ≡ record {
         opened = opened;

@@ -13,7 +13,7 @@ use Rattle.bay_device.specs.declared.event.Step.{Step}
 use Rattle.bay_device.specs.declared.fault.StepFault.{StepFault}
 use Rattle.bay_trace.specs.Resolving.{borrowed}
 use Rattle.bay_server_turn.specs.Served.{TakesIn}
-use Rattle.bay_server_turn.specs.Turns.{ServerData, TurnData, TurnState, decides, event_of, after_device_close, start_closing_if_closed, put_all, put_answer, put_ended, record_refusal, after_process_event, turning, with_commands, with_device, with_noted}
+use Rattle.bay_server_turn.specs.Turns.{ServerData, TurnData, TurnState, decides, event_of, after_device_close, start_closing_if_closed, put_all, put_answer, put_ended, record_refusal, after_process_event, turn_state, with_commands, with_device, with_noted}
 use Rattle.bay_server_turn.specs.declared.process_input.ProcessEvent.{ProcessEvent}
 
 held-as : (h : ServerData) (device : State) (queues : List (List ℕ)) → h.device ≡ device
@@ -28,8 +28,8 @@ held-as h device queues p q =
 pub told : (now : ℕ) (event : ProcessEvent) (h after : ServerData) (noted : TurnData) (e : Event)
     (result : Result Step StepFault) (step : Step) (t : TurnState) → e ≡ event_of event
     → IsOutcome (outcome None now e h.device) result after.device → result ≡ Ok step
-    → after.queues ≡ h.queues → t ≡ put_ended step.ended (turning after noted)
-    → t ≡ after_process_event now event (turning h noted)
+    → after.queues ≡ h.queues → t ≡ put_ended step.ended (turn_state after noted)
+    → t ≡ after_process_event now event (turn_state h noted)
 told now event h after noted e result step t is gives ok queues put =
     let o : Outcome = outcome None now (event_of event) h.device in
     let same : outcome None now e h.device ≡ o = ap (λ x. outcome None now x h.device) is in
@@ -37,8 +37,9 @@ told now event h after noted e result step t is gives ok queues put =
     ap (λ (x : Outcome). x.answer) (sym same) ∙ sym gives.answered ∙ ok in
     let held : after ≡ record { device = o.after; queues = h.queues } =
     held-as after o.after h.queues (gives.left ∙ ap (λ (x : Outcome). x.after) same) queues in
-    put ∙ ap (λ (x : ServerData). put_ended step.ended (turning x noted)) held
-    ∙ ap (λ (a : Result Step StepFault). record_refusal a (with_device o.after (turning h noted)))
+    put ∙ ap (λ (x : ServerData). put_ended step.ended (turn_state x noted)) held
+    ∙ ap (λ (a : Result Step StepFault). record_refusal a
+    (with_device o.after (turn_state h noted)))
     (sym answer)
 
 -- octets were taken in
@@ -48,11 +49,11 @@ pub taken : (now place : ℕ) (octets : Bor (List ℕ)) (h after : ServerData) (
     → Steps now (Recv (place + 1) octets) h.device result after.device → result ≡ Ok step
     → after.queues ≡ h.queues
     → left ≡ start_closing_if_closed place step.closed noted
-    → t ≡ put_ended step.ended (turning after left)
+    → t ≡ put_ended step.ended (turn_state after left)
     → sends ≡ step.sent → u ≡ put_all sends t
     → commands ≡ step.commands → v ≡ with_commands commands u
     → decisions ≡ step.decisions → n ≡ decides place decisions v.noted
-    → TakesIn now place octets.now (turning h noted) (with_noted n v)
+    → TakesIn now place octets.now (turn_state h noted) (with_noted n v)
 taken now place octets h after noted left result step sends commands decisions t u v n steps ok
     queues leaves put all_sent puts all-told tells all-decided decided =
     let choice : Option ℕ = steps.choice in
@@ -60,13 +61,13 @@ taken now place octets h after noted left result step sends commands decisions t
     let answer : o.answer ≡ Ok step = sym steps.answered ∙ ok in
     let held : after ≡ record { device = o.after; queues = h.queues } =
     held-as after o.after h.queues steps.left queues in
-    let first : turning after left
-    ≡ after_device_close place step.closed (with_device o.after (turning h noted)) =
-    ap (λ (x : ServerData). turning x left) held
-    ∙ ap (λ (n : TurnData). turning (record { device = o.after; queues = h.queues }) n) leaves in
+    let first : turn_state after left
+    ≡ after_device_close place step.closed (with_device o.after (turn_state h noted)) =
+    ap (λ (x : ServerData). turn_state x left) held
+    ∙ ap (λ (n : TurnData). turn_state (record { device = o.after; queues = h.queues }) n) leaves in
     let whole : v ≡ with_commands step.commands
     (put_all step.sent (put_ended step.ended
-    (after_device_close place step.closed (with_device o.after (turning h noted))))) =
+    (after_device_close place step.closed (with_device o.after (turn_state h noted))))) =
     tells ∙ ap (λ (cs : List Command). with_commands cs u) all-told
     ∙ ap (λ (x : TurnState). with_commands step.commands x)
     (puts ∙ ap (λ (xs : List Sent). put_all xs t) all_sent
@@ -78,5 +79,5 @@ taken now place octets h after noted left result step sends commands decisions t
           ∙ ap (λ (ds : List ControlDecision). with_noted (decides place ds v.noted) v) all-decided
           ∙ ap (λ (x : TurnState). with_noted (decides place step.decisions x.noted) x) whole
           ∙ ap (λ (a : Result Step StepFault). put_answer place a
-          (with_device o.after (turning h noted))) (sym answer);
+          (with_device o.after (turn_state h noted))) (sym answer);
     }

@@ -11,14 +11,15 @@ use Rattle.bay_device.specs.Device.{State}
 use Rattle.bay_trace.specs.Trace.{LineData, NamedData, at_moment, blank, connects, receives, disconnects, contact, input, measure, bad_measure, lost, scan, event_of, first_number, is_space, process_of, trace_line_of, words_line}
 use Rattle.bay_trace.proofs.WordLemmas.{not-space}
 use Rattle.bay_server_turn.specs.Served.{process_event, event_in_line}
-use Rattle.bay_server_turn.specs.Supervised.{alive_at, happened_at, stripped, timed_by, timed_event, timed_line_of}
+use Rattle.bay_server_turn.specs.Supervised.{alive_at, happened_at, text_without_end, timed_by, timed_event, timed_line_of}
 use Rattle.bay_server_turn.specs.declared.process_input.ProcessEvent.{ProcessEvent}
 use Rattle.bay_server_turn.specs.declared.supervised.TimedLine.{TimedLine}
 
 -- ---- ends that are stripped
 
 -- what a stripped text was
-pub stripped-is : (end text rest : List ℕ) → stripped end text ≡ Some rest → text ≡ rest ++ end
+pub stripped-is : (end text rest : List ℕ) → text_without_end end text ≡ Some rest
+    → text ≡ rest ++ end
 stripped-is end text rest e =
     by-end (pointwise nat_eq (drop (length text - length end) text) end) refl e
   where
@@ -104,7 +105,7 @@ named-told s scan event e = absurd cc
 -- what a later line reports is what it tells as a line of a trace
 pub timed-told : (s : State) (line : List ℕ) (timed : TimedLine)
     → timed_line_of s line ≡ Some timed → event_in_line s line ≡ timed.event
-timed-told s line timed e = by-alive (stripped (codes " alive") line) refl e
+timed-told s line timed e = by-alive (text_without_end (codes " alive") line) refl e
   where
     by-digits : (digits : List ℕ) (o : Option ℕ) → line ≡ digits ++ codes " alive"
         → read_number digits ≡ o → option_map alive_at o ≡ Some timed
@@ -131,7 +132,7 @@ timed-told s line timed e = by-alive (stripped (codes " alive") line) refl e
     by-line (Some (at_moment moment named)) read some =
         by-event moment named (process_event s named) read refl some
 
-    by-alive : (o : Option (List ℕ)) → stripped (codes " alive") line ≡ o
+    by-alive : (o : Option (List ℕ)) → text_without_end (codes " alive") line ≡ o
         → timed_by s line o ≡ Some timed → event_in_line s line ≡ timed.event
     by-alive (Some digits) cut some =
         by-digits digits (read_number digits) (stripped-is (codes " alive") line digits cut) refl

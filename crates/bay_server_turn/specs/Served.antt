@@ -49,13 +49,13 @@ abbrev pub TurnInput : Type 0
 TurnInput = Result ProcessReport ServeFault
 
 -- a report of an event alone, or of nothing
-abbrev pub reported : Option ProcessEvent → ProcessReport
-reported event = record { is_lost = false; event = event }
+abbrev pub report_of_event : Option ProcessEvent → ProcessReport
+report_of_event event = record { is_lost = false; event = event }
 
 -- the input of a turn from the event of a line; without an event the line is bad
-abbrev pub understood : Option ProcessEvent → TurnInput
-understood None = Err BadLine
-understood (Some event) = Ok (reported (Some event))
+abbrev pub input_of_event : Option ProcessEvent → TurnInput
+input_of_event None = Err BadLine
+input_of_event (Some event) = Ok (report_of_event (Some event))
 
 -- a line with the loss of the process
 abbrev pub is_loss_line : Option LineData → Bool
@@ -68,7 +68,7 @@ is_loss_line (Some (at_moment moment other)) = false
 abbrev pub turn_input_of_line : State → List ℕ → TurnInput
 turn_input_of_line s text =
     if is_loss_line (trace_line_of text) then Ok (record { is_lost = true; event = None })
-    else understood (event_in_line s text)
+    else input_of_event (event_in_line s text)
 
 -- the line of a turn, if there is one
 abbrev pub text_in : Option (Bor (List ℕ)) → Option (List ℕ)
@@ -76,13 +76,13 @@ text_in line = option_map (λ (text : Bor (List ℕ)). text.now) line
 
 -- the input of a turn from its line; without a line the process has no event
 abbrev pub turn_input_of : State → Option (List ℕ) → TurnInput
-turn_input_of s None = Ok (reported None)
+turn_input_of s None = Ok (report_of_event None)
 turn_input_of s (Some text) = turn_input_of_line s text
 
 -- the report of the process in the input of a turn
 abbrev pub reported_in : TurnInput → ProcessReport
 reported_in (Ok given) = given
-reported_in (Err fault) = reported None
+reported_in (Err fault) = report_of_event None
 
 -- A turn is refused first for a bad line, then for a moment that is too large.
 abbrev pub turn_refusal : ℕ → TurnInput → ServerData → Option ServeFault

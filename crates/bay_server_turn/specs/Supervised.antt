@@ -10,8 +10,8 @@ use Rattle.bay_server_turn.specs.declared.process_input.ProcessEvent.{ProcessEve
 use Rattle.bay_server_turn.specs.declared.supervised.TimedLine.{TimedLine}
 
 -- a text without this end; None if it does not end so
-abbrev pub stripped : List ℕ → List ℕ → Option (List ℕ)
-stripped end text =
+abbrev pub text_without_end : List ℕ → List ℕ → Option (List ℕ)
+text_without_end end text =
     if pointwise nat_eq (drop (length text - length end) text) end
     then Some (take (length text - length end) text)
     else None
@@ -37,4 +37,4 @@ timed_by s line None = timed_event s (trace_line_of line)
 -- A line is a moment and ` alive`, or has the form of a line of the trace with a contact, an input
 -- or a measurement.
 abbrev pub timed_line_of : State → List ℕ → Option TimedLine
-timed_line_of s line = timed_by s line (stripped (codes " alive") line)
+timed_line_of s line = timed_by s line (text_without_end (codes " alive") line)

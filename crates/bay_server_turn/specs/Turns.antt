@@ -46,8 +46,8 @@ pub record TurnState : Type 0 where
   pub server : ServerData
   pub noted : TurnData
 
-abbrev pub turning : ServerData → TurnData → TurnState
-turning server noted = record { server = server; noted = noted }
+abbrev pub turn_state : ServerData → TurnData → TurnState
+turn_state server noted = record { server = server; noted = noted }
 
 -- ---- its parts
 
@@ -441,7 +441,7 @@ nothing_noted =
 
 -- a turn begins
 abbrev pub turn_begin : ServerData → TurnState
-turn_begin h = turning h nothing_noted
+turn_begin h = turn_state h nothing_noted
 
 -- the state after each part of a turn
 abbrev pub after_accept : ℕ → Script → ServerData → TurnState

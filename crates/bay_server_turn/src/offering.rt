@@ -2,7 +2,7 @@
 ghost use Rattle.std.specs.Prelude.{◌≡◌, ◌+◌, ◌<◌, ◌≤◌, length};
 ghost use Rattle.bay_server_turn.specs.Calls.{Called};
 ghost use Rattle.bay_server_turn.specs.Served.{Performs, PerformsEach, Offers};
-ghost use Rattle.bay_server_turn.specs.Turns.{offer_calls, turning};
+ghost use Rattle.bay_server_turn.specs.Turns.{offer_calls, turn_state};
 ghost use Rattle.bay_server_turn.specs.Turns as spec;
 ghost use Rattle.bay_device.specs.Outcomes.{associations};
 
@@ -58,7 +58,7 @@ fn offer_one<L: Link>(
 )
     requires { place < associations }
     ensures { Performs (Called L.does L.failures) (spec.offer_one now place) (offer_calls now place)
-        link.old link.new (turning server.old notes.old) (turning server.new notes.new) }
+        link.old link.new (turn_state server.old notes.old) (turn_state server.new notes.new) }
 {
     let association = place as u16 + 1;
     if notes.association_state(place).is_draining() {
@@ -84,7 +84,7 @@ fn offer_one<L: Link>(
 pub fn offer_each<L: Link>(server: &mut Server, notes: &mut TurnBuilder, link: &mut L, now: u64)
     ensures { PerformsEach (Called L.does L.failures) (spec.offer_one now) (offer_calls now)
         link.old
-        link.new associations (turning server.old notes.old) (turning server.new notes.new) }
+        link.new associations (turn_state server.old notes.old) (turn_state server.new notes.new) }
 {
     for place in 0..ASSOCIATIONS {
         offer_one(server, notes, link, now, place);

@@ -2,7 +2,7 @@
 ghost use Rattle.std.specs.Prelude.{◌≡◌};
 ghost use Rattle.bay_device.specs.Steps.{IsWithoutOctets};
 ghost use Rattle.bay_server_turn.specs.Turns.{event_of, first_of};
-ghost use Rattle.bay_server_turn.specs.Served.{turn_input_of_line, reported, event_in_line};
+ghost use Rattle.bay_server_turn.specs.Served.{turn_input_of_line, report_of_event, event_in_line};
 ghost use Rattle.bay_server_turn.specs.Served as spec;
 ghost use Rattle.bay_trace.specs.TraceView.{named_view};
 
@@ -55,7 +55,7 @@ pub type TurnInput = Result<ProcessReport, ServeFault>;
 impl ProcessReport {
     /// Creates a report of an event alone, or of nothing.
     pub fn of(event: Option<ProcessEvent>) -> Self
-        ensures { result ≡ reported event }
+        ensures { result ≡ report_of_event event }
     {
         ProcessReport {
             is_lost: false,

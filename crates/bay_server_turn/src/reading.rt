@@ -2,7 +2,7 @@
 ghost use Rattle.std.specs.Prelude.{◌≡◌, ◌+◌, ◌<◌, ◌≤◌, length};
 ghost use Rattle.bay_server_turn.specs.Calls.{Called};
 ghost use Rattle.bay_server_turn.specs.Served.{Performs, PerformsEach, Opens, TakesIn};
-ghost use Rattle.bay_server_turn.specs.Turns.{read_calls, turning};
+ghost use Rattle.bay_server_turn.specs.Turns.{read_calls, turn_state};
 ghost use Rattle.bay_server_turn.specs.Turns as spec;
 ghost use Rattle.bay_device.specs.Outcomes.{associations};
 
@@ -27,7 +27,7 @@ pub fn accept_one<L: Link>(
     now: u64,
 ) -> Option<(u16, SocketAddrV4)>
     ensures opens { Opens (Called L.does L.failures) now link.old link.new
-        (turning server.old notes.old) (turning server.new notes.new) result }
+        (turn_state server.old notes.old) (turn_state server.new notes.new) result }
     ensures commands { notes.new.commands ≡ notes.old.commands }
 {
     let Some(place) = server.free_place() else {
@@ -50,8 +50,8 @@ pub fn accept_one<L: Link>(
 fn take_in(server: &mut Server, notes: &mut TurnBuilder, now: u64, place: usize, octets: &[u8])
     requires place { place < associations }
     requires room { length notes.old.commands < associations }
-    ensures takes { TakesIn now place octets.now (turning server.old notes.old)
-        (turning server.new notes.new) }
+    ensures takes { TakesIn now place octets.now (turn_state server.old notes.old)
+        (turn_state server.new notes.new) }
     ensures grows { length notes.new.commands ≤ length notes.old.commands + 1 }
 {
     let association = place as u16 + 1;
@@ -84,7 +84,7 @@ fn read_one<L: Link>(
     requires room { length notes.old.commands < associations }
     ensures goes { Performs (Called L.does L.failures) (spec.read_one now place)
         (read_calls now place)
-        link.old link.new (turning server.old notes.old) (turning server.new notes.new) }
+        link.old link.new (turn_state server.old notes.old) (turn_state server.new notes.new) }
     ensures grows { length notes.new.commands ≤ length notes.old.commands + 1 }
 {
     if !server.is_open(place) {
@@ -114,7 +114,7 @@ fn read_one<L: Link>(
 pub fn read_clients<L: Link>(server: &mut Server, notes: &mut TurnBuilder, link: &mut L, now: u64)
     requires { length notes.old.commands ≤ 0 }
     ensures { PerformsEach (Called L.does L.failures) (spec.read_one now) (read_calls now) link.old
-        link.new associations (turning server.old notes.old) (turning server.new notes.new) }
+        link.new associations (turn_state server.old notes.old) (turn_state server.new notes.new) }
 {
     for place in 0..ASSOCIATIONS {
         read_one(server, notes, link, now, place);

@@ -2,7 +2,7 @@
 ghost use Rattle.std.specs.Prelude.{◌≡◌, ◌+◌, ◌≤◌, ◌<◌, length};
 ghost use Rattle.bay_device.specs.Outcomes.{associations, outcome};
 ghost use Rattle.bay_device.specs.Steps.{IsWithoutOctets};
-ghost use Rattle.bay_server_turn.specs.Turns.{put_at, after_event, turning, with_commands};
+ghost use Rattle.bay_server_turn.specs.Turns.{put_at, after_event, turn_state, with_commands};
 ghost use Rattle.bay_server_turn.specs.Turns as spec;
 
 use crate::server::Server;
@@ -13,8 +13,8 @@ use bay_mms_services::answer::Command;
 // Appends a reply to the queue of an association as a whole, or notes that it did not fit.
 fn put_whole(server: &mut Server, notes: &mut TurnBuilder, place: usize, octets: &[u8])
     requires { place < associations }
-    ensures after { turning server.new notes.new
-        ≡ spec.put_whole place octets.now (turning server.old notes.old) }
+    ensures after { turn_state server.new notes.new
+        ≡ spec.put_whole place octets.now (turn_state server.old notes.old) }
     ensures commands { notes.new.commands ≡ notes.old.commands }
 {
     if !server.put(place, octets) {
@@ -24,8 +24,8 @@ fn put_whole(server: &mut Server, notes: &mut TurnBuilder, place: usize, octets:
 
 /// Queues what is sent to an association, if its queue accepts replies.
 pub fn put_sent(server: &mut Server, notes: &mut TurnBuilder, sent: &Sent)
-    ensures after { turning server.new notes.new
-        ≡ spec.put_sent sent.now (turning server.old notes.old) }
+    ensures after { turn_state server.new notes.new
+        ≡ spec.put_sent sent.now (turn_state server.old notes.old) }
     ensures commands { notes.new.commands ≡ notes.old.commands }
 {
     let Some(place) = place_of(sent.association) else {
@@ -41,8 +41,8 @@ pub fn put_sent(server: &mut Server, notes: &mut TurnBuilder, sent: &Sent)
 
 /// Queues everything that is sent, in order.
 pub fn put_all(server: &mut Server, notes: &mut TurnBuilder, sends: &[Sent])
-    ensures after { turning server.new notes.new
-        ≡ spec.put_all sends.now (turning server.old notes.old) }
+    ensures after { turn_state server.new notes.new
+        ≡ spec.put_all sends.now (turn_state server.old notes.old) }
     ensures commands { notes.new.commands ≡ notes.old.commands }
 {
     for sent in sends {
@@ -52,8 +52,8 @@ pub fn put_all(server: &mut Server, notes: &mut TurnBuilder, sends: &[Sent])
 
 /// Queues the report that an operation ended, if there is one.
 pub fn put_ended(server: &mut Server, notes: &mut TurnBuilder, ended: &Option<Sent>)
-    ensures after { turning server.new notes.new
-        ≡ spec.put_ended ended.now (turning server.old notes.old) }
+    ensures after { turn_state server.new notes.new
+        ≡ spec.put_ended ended.now (turn_state server.old notes.old) }
     ensures commands { notes.new.commands ≡ notes.old.commands }
 {
     if let Some(sent) = ended {
@@ -70,8 +70,8 @@ pub fn step_without_replies(
     event: Event<'_>,
 )
     requires { IsWithoutOctets event }
-    ensures after { turning server.new notes.new
-        ≡ after_event now event.entry (turning server.old notes.old) }
+    ensures after { turn_state server.new notes.new
+        ≡ after_event now event.entry (turn_state server.old notes.old) }
     ensures commands { notes.new.commands ≡ notes.old.commands }
 {
     if let Ok(step) = server.step(now, event, b"") {
@@ -83,8 +83,8 @@ pub fn step_without_replies(
 pub fn report_commands(server: &Server, notes: &mut TurnBuilder, commands: &[Command])
     requires single { length commands.now ≤ 1 }
     requires room { length notes.old.commands < associations }
-    ensures after { turning server.now notes.new
-        ≡ with_commands commands.now (turning server.now notes.old) }
+    ensures after { turn_state server.now notes.new
+        ≡ with_commands commands.now (turn_state server.now notes.old) }
     ensures grows { length notes.new.commands ≤ length notes.old.commands + 1 }
 {
     if let Some(command) = commands.first() {

@@ -2,7 +2,7 @@
 ghost use Rattle.std.specs.Prelude.{◌≡◌, None, Some, IfOk, IfErr, OnErr, OnOk};
 ghost use Rattle.bay_server_turn.specs.Calls.{Called, MakesCalls};
 ghost use Rattle.bay_server_turn.specs.Served.{Serves, turn_input_of, reported_in, text_in, turn_refusal};
-ghost use Rattle.bay_server_turn.specs.Turns.{line_calls, with_line, moment_at, scan_calls, after_turn_scan, after_process_event, turning};
+ghost use Rattle.bay_server_turn.specs.Turns.{line_calls, with_line, moment_at, scan_calls, after_turn_scan, after_process_event, turn_state};
 
 use crate::closing::close_overflowed;
 use crate::fault::ServeFault;
@@ -25,8 +25,8 @@ fn apply_event(
     event: ProcessEvent,
     source_line: &[u8],
 )
-    ensures after { turning server.new notes.new
-        ≡ after_process_event now event (turning server.old notes.old) }
+    ensures after { turn_state server.new notes.new
+        ≡ after_process_event now event (turn_state server.old notes.old) }
     ensures commands { notes.new.commands ≡ notes.old.commands }
 {
     match server.step(now, event.event(), source_line) {
@@ -46,9 +46,9 @@ fn apply_event_if_any<L: Link>(
     source_line: &[u8],
 )
     ensures talks { MakesCalls (Called L.does L.failures) link.old
-        (line_calls now event (turning server.old notes.old)) link.new }
-    ensures after { turning server.new notes.new
-        ≡ with_line now event (turning server.old notes.old) }
+        (line_calls now event (turn_state server.old notes.old)) link.new }
+    ensures after { turn_state server.new notes.new
+        ≡ with_line now event (turn_state server.old notes.old) }
     ensures commands { notes.new.commands ≡ notes.old.commands }
 {
     if let Some(event) = event {
@@ -60,9 +60,9 @@ fn apply_event_if_any<L: Link>(
 // Runs the program once, and closes the associations whose queues this filled.
 fn scan<L: Link>(server: &mut Server, notes: &mut TurnBuilder, link: &mut L, now: u64)
     ensures talks { MakesCalls (Called L.does L.failures) link.old
-        (scan_calls now (turning server.old notes.old)) link.new }
-    ensures after { turning server.new notes.new
-        ≡ after_turn_scan now (turning server.old notes.old) }
+        (scan_calls now (turn_state server.old notes.old)) link.new }
+    ensures after { turn_state server.new notes.new
+        ≡ after_turn_scan now (turn_state server.old notes.old) }
 {
     step_without_replies(server, notes, now, Event::Scan);
     close_overflowed(server, notes, link, now);

@@ -11,7 +11,7 @@ use Rattle.bay_server_turn.specs.declared.process_input.ProcessEvent.{ProcessEve
 use Rattle.bay_server_turn.specs.declared.association_state.AssociationState.TheVariants.{Full}
 use Rattle.bay_server_turn.specs.declared.turn_report.CloseReason.TheVariants as closing
 use Rattle.bay_server_turn_laws.specs.Events.{ChosenEvent, closing_of, surely}
-use Rattle.bay_server_turn_laws.specs.Flows.{given_of}
+use Rattle.bay_server_turn_laws.specs.Flows.{read_by_calls}
 use Rattle.bay_server_turn_laws.proofs.CallLemmas.{Offering, SayNothing, and-no, and-true, one-fails}
 
 -- A call brings nothing, and nothing happens; octets of an association are heard, with where memory
@@ -74,7 +74,7 @@ none-if false = refl
 -- a call that brings nothing, and says nothing
 pub record IsIdle (call : Call) : Type 0 where
   pub says : (a : ℕ) → SayNothing a (call ∷ [])
-  pub gives : (a : ℕ) → given_of a (call ∷ []) ≡ []
+  pub gives : (a : ℕ) → read_by_calls a (call ∷ []) ≡ []
 
 -- an accept, with or without a connection
 pub accepts : (a : ℕ) (taken : Option (Option SocketAddrV4)) → IsIdle (Accepts a taken)

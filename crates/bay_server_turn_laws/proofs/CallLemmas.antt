@@ -5,7 +5,7 @@ use Rattle.std.proofs.lemmas.Bool.Decides.{nat_tests}
 use Rattle.bay_server_turn.specs.Calls.{Call, Closes, Writes, is_failed}
 use Rattle.bay_server_turn.specs.Offers.{Offered, offering_of}
 use Rattle.bay_server_turn_laws.specs.Causes.{ends_for, fails_for, has_some}
-use Rattle.bay_server_turn_laws.specs.Flows.{given_by, given_of, taken_by, taken_of}
+use Rattle.bay_server_turn_laws.specs.Flows.{read_by_call, read_by_calls, written_by_call, written_by_calls}
 
 -- ---- some calls and then others
 
@@ -17,18 +17,18 @@ some-append f (x ∷ xs) ys =
     ∙ sym (or_assoc (f x) (has_some f xs) (has_some f ys))
 
 pub taken-append : (a : ℕ) (xs ys : List Call)
-    → taken_of a (xs ++ ys) ≡ taken_of a xs ++ taken_of a ys
+    → written_by_calls a (xs ++ ys) ≡ written_by_calls a xs ++ written_by_calls a ys
 taken-append a [] ys = refl
 taken-append a (x ∷ xs) ys =
-    ap (λ l. taken_by a x ++ l) (taken-append a xs ys)
-    ∙ sym (append_assoc (taken_by a x) (taken_of a xs) (taken_of a ys))
+    ap (λ l. written_by_call a x ++ l) (taken-append a xs ys)
+    ∙ sym (append_assoc (written_by_call a x) (written_by_calls a xs) (written_by_calls a ys))
 
 pub given-append : (a : ℕ) (xs ys : List Call)
-    → given_of a (xs ++ ys) ≡ given_of a xs ++ given_of a ys
+    → read_by_calls a (xs ++ ys) ≡ read_by_calls a xs ++ read_by_calls a ys
 given-append a [] ys = refl
 given-append a (x ∷ xs) ys =
-    ap (λ l. given_by a x ++ l) (given-append a xs ys)
-    ∙ sym (append_assoc (given_by a x) (given_of a xs) (given_of a ys))
+    ap (λ l. read_by_call a x ++ l) (given-append a xs ys)
+    ∙ sym (append_assoc (read_by_call a x) (read_by_calls a xs) (read_by_calls a ys))
 
 pub same-number : (p : ℕ) → (p + 1 == p + 1) ≡ true
 same-number p = grind (arith, nat_tests)
@@ -54,7 +54,7 @@ and-true false = refl
 pub record Say (a : ℕ) (failed over : Bool) (taken : List ℕ) (calls : List Call) : Type 0 where
   pub fails : has_some (fails_for a) calls ≡ failed
   pub ends : has_some (ends_for a) calls ≡ over
-  pub takes : taken_of a calls ≡ taken
+  pub takes : written_by_calls a calls ≡ taken
 
 -- nothing of an association
 abbrev pub SayNothing : ℕ → List Call → Type 0
@@ -67,7 +67,8 @@ both-say a f g y z t u xs ys h k = record {
       ∙ ap (λ b. f || b) k.fails;
   ends = some-append (ends_for a) xs ys ∙ ap (λ b. b || has_some (ends_for a) ys) h.ends
       ∙ ap (λ b. y || b) k.ends;
-  takes = taken-append a xs ys ∙ ap (λ l. l ++ taken_of a ys) h.takes ∙ ap (λ l. t ++ l) k.takes;
+  takes = taken-append a xs ys ∙ ap (λ l. l ++ written_by_calls a ys) h.takes
+      ∙ ap (λ l. t ++ l) k.takes;
 }
 
 -- a closing says nothing
@@ -78,7 +79,8 @@ closing-says a place f y t calls h = record {
       ∙ or-no (has_some (fails_for a) calls) ∙ h.fails;
   ends = some-append (ends_for a) calls (Closes (place + 1) ∷ [])
       ∙ or-no (has_some (ends_for a) calls) ∙ h.ends;
-  takes = taken-append a calls (Closes (place + 1) ∷ []) ∙ append-nil (taken_of a calls) ∙ h.takes;
+  takes = taken-append a calls (Closes (place + 1) ∷ []) ∙ append-nil (written_by_calls a calls)
+      ∙ h.takes;
 }
 
 -- What the link takes of the queue of an association, or a failure: what is left, and nothing of
@@ -89,7 +91,7 @@ pub record Offering (place : ℕ) (queue left : List ℕ) (failed : Bool) (calls
   pub own : Say (place + 1) failed false taken calls
   pub is : taken ++ left ≡ queue
   pub far : (p : ℕ) → place ≢ p → SayNothing (p + 1) calls
-  pub given : (a : ℕ) → given_of a calls ≡ []
+  pub given : (a : ℕ) → read_by_calls a calls ≡ []
   pub blamed : failed ≡ true → has_some is_failed calls ≡ true
 
 -- one write that takes so much
@@ -134,7 +136,8 @@ no-call place queue = record {
 -- one call fails for an association, and takes and brings nothing
 pub one-fails : (place : ℕ) (queue : List ℕ) (call : Call)
     → ((a : ℕ) → fails_for a call ≡ (place + 1 == a)) → ((a : ℕ) → ends_for a call ≡ false)
-    → ((a : ℕ) → taken_by a call ≡ []) → ((a : ℕ) → given_by a call ≡ []) → is_failed call ≡ true
+    → ((a : ℕ) → written_by_call a call ≡ []) → ((a : ℕ) → read_by_call a call ≡ [])
+    → is_failed call ≡ true
     → Offering place queue queue true (call ∷ [])
 one-fails place queue call fails ends takes gives is = record {
   taken = [];

@@ -4,7 +4,7 @@ use Rattle.bay_server_turn.specs.AssociationStates.{is_close_reported}
 use Rattle.bay_server_turn.specs.Turns.{ServerData, Script, TurnState, after_turn, is_up_in, queue_at, state_at, turn_calls}
 use Rattle.bay_server_turn.specs.declared.process_input.ProcessReport.{ProcessReport}
 use Rattle.bay_server_turn_laws.specs.Events.{done_at, turn_events}
-use Rattle.bay_server_turn_laws.specs.Flows.{IsInTime, IsTidy, sent_to, taken_of}
+use Rattle.bay_server_turn_laws.specs.Flows.{IsInTime, IsTidy, sent_to, written_by_calls}
 use Rattle.bay_server_turn_laws.specs.Fullness.{IsOpenIn, IsToldWhereFull}
 use Rattle.bay_server_turn_laws.specs.Room.{AreInRoom}
 use Rattle.bay_server_turn_laws.proofs.CauseFlows.{knows-turn}
@@ -23,7 +23,7 @@ pub told-where-full : (now : ℕ) (given : ProcessReport) (script : Script) (h :
     → IsToldWhereFull now given script h p
 told-where-full now given script h tidy time room readings offers p low up =
     let t : TurnState = after_turn now given script h in
-    let taken = taken_of (p + 1) (turn_calls now given script h) in
+    let taken = written_by_calls (p + 1) (turn_calls now given script h) in
     let held = queue_at p h in
     let sent = sent_to (p + 1) (done_at now (turn_events now given script h) h.device).answers in
     let flows = loses-nothing now given script h tidy time offers in

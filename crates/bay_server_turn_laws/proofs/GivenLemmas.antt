@@ -6,7 +6,7 @@ use Rattle.bay_server_turn.specs.declared.process_input.ProcessEvent.{ProcessEve
 use Rattle.bay_server_turn.specs.declared.process_input.ProcessEvent.TheVariants.{BadMeasure, Contact, Input, Lost, Measure}
 use Rattle.bay_server_turn.specs.declared.process_input.ProcessReport.{ProcessReport}
 use Rattle.bay_server_turn_laws.specs.Events.{ChosenEvent, turn_events}
-use Rattle.bay_server_turn_laws.specs.Flows.{brought_by, given_of, received_of}
+use Rattle.bay_server_turn_laws.specs.Flows.{brought_by, read_by_calls, received_of}
 use Rattle.bay_server_turn_laws.proofs.Acts.{Act, Asks, Breaks, Can, Fills, HangsUp, Hears, Offers, Parts, Scans, Tells, calls_by, events_by, none-if}
 use Rattle.bay_server_turn_laws.proofs.CallLemmas.{given-append}
 use Rattle.bay_server_turn_laws.proofs.KeptLemmas.{turned-keeps}
@@ -28,12 +28,12 @@ module _ (a : ℕ) where
   told-brings Lost = refl
 
   -- a call that closes gives nothing
-  closed-gives : (place : ℕ) (calls : List Call) → given_of a calls ≡ []
-      → given_of a (calls ++ Closes (place + 1) ∷ []) ≡ []
+  closed-gives : (place : ℕ) (calls : List Call) → read_by_calls a calls ≡ []
+      → read_by_calls a (calls ++ Closes (place + 1) ∷ []) ≡ []
   closed-gives place calls e = given-append a calls (Closes (place + 1) ∷ []) ∙ ap (λ l. l ++ []) e
 
   act-brings : (most : ℕ) (x : Act) (s : TurnState) → Can most x s
-      → given_of a (calls_by x) ≡ received_of a (events_by x)
+      → read_by_calls a (calls_by x) ≡ received_of a (events_by x)
   act-brings most (Asks call) s can = can.gives a
   act-brings most (Hears place choice octets) s can = refl
   act-brings most (HangsUp place) s can = ap (λ l. l ++ []) (none-if (place + 1 == a))
@@ -47,18 +47,19 @@ module _ (a : ℕ) where
 
   begins-brings : (now most : ℕ) (h : ServerData) (s : TurnState) (c : List Call)
       (e : List ChosenEvent)
-      → Begins now most h s c e → given_of a c ≡ received_of a e
+      → Begins now most h s c e → read_by_calls a c ≡ received_of a e
   begins-brings now most h s c e Quietly = refl
   begins-brings now most h s c e (Opening place from free) = refl
 
   pub turn-brings : (now : ℕ) (given : ProcessReport) (script : Script) (h : ServerData)
-      → given_of a (turn_calls now given script h) ≡ received_of a (turn_events now given script h)
+      → read_by_calls a (turn_calls now given script h)
+      ≡ received_of a (turn_events now given script h)
   turn-brings now given script h =
       let most = length script.readings + length script.offers in
       let m = turn-is-acts now most given script h (omega arith) (omega arith) in
-      turned-keeps now most (λ c e r s. given_of a c ≡ received_of a e)
+      turned-keeps now most (λ c e r s. read_by_calls a c ≡ received_of a e)
       (λ x c e r s sized can i. given-append a c (calls_by x)
-      ∙ ap (λ l. l ++ given_of a (calls_by x)) i
+      ∙ ap (λ l. l ++ read_by_calls a (calls_by x)) i
       ∙ ap (λ l. received_of a e ++ l) (act-brings most x s can)
       ∙ sym (received-append e (events_by x))) h script.accepted (after_turn now given script h)
       (turn_calls now given script h) (turn_events now given script h) m

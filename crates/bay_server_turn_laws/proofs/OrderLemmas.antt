@@ -13,7 +13,7 @@ use Rattle.bay_server_turn.specs.Turns.{ServerData, TurnData, Reading, Script, T
 use Rattle.bay_server_turn.specs.declared.process_input.ProcessReport.{ProcessReport}
 use Rattle.bay_server_turn_laws.specs.Causes.{fails_for, has_some, is_queue_full, tells}
 use Rattle.bay_server_turn_laws.specs.Events.{ChosenEvent, accept_events, accept_events_at, closing_of, done_at, events_of_each, line_events, offer_events, read_events, scan_events, settled_events, surely}
-use Rattle.bay_server_turn_laws.specs.Order.{AreClosings, AreInOrder, IsClosing, IsInOrder, Then, ThenReads, opened_at}
+use Rattle.bay_server_turn_laws.specs.Order.{AreClosings, AreInOrder, IsClosing, IsInOrder, Then, ThenReads, open_events_at}
 use Rattle.bay_server_turn_laws.proofs.Acts.{Scans}
 use Rattle.bay_server_turn_laws.proofs.CallLemmas.{Offering, offering, some-append}
 use Rattle.bay_server_turn_laws.proofs.ClosingLemmas.{Grown, Grown-refl}
@@ -58,7 +58,7 @@ module _ (now : ℕ) (final : TurnData) where
       (taken : Option (Option SocketAddrV4)) (rest : List ChosenEvent)
       → Whole (on_accept now place taken (turn_begin h))
       → Rest (on_accept now place taken (turn_begin h)).server.device rest
-      → Then now final.closed (opened_at place taken) Rest h.device
+      → Then now final.closed (open_events_at place taken) Rest h.device
       (accept_events_at now place taken (turn_begin h) ++ rest)
   then-accept Rest h None taken rest whole r = then-nothing Rest (turn_begin h) rest r
   then-accept Rest h (Some place) None rest whole r = then-nothing Rest (turn_begin h) rest r

@@ -16,7 +16,7 @@ use Rattle.bay_server_turn.specs.declared.association_state.AssociationState.{As
 use Rattle.bay_server_turn.specs.declared.association_state.AssociationState.TheVariants.{Full, Gone, Leaving, LeavingFull, Steady}
 use Rattle.bay_server_turn.specs.declared.turn_report.CloseReason.TheVariants as closing
 use Rattle.bay_server_turn_laws.specs.Events.{ChosenEvent, closing_of, done_at, turn_events}
-use Rattle.bay_server_turn_laws.specs.Flows.{IsInTime, IsTidy, LosesNothing, answer_to, sent_to, taken_of}
+use Rattle.bay_server_turn_laws.specs.Flows.{IsInTime, IsTidy, LosesNothing, answer_to, sent_to, written_by_calls}
 use Rattle.bay_server_turn_laws.proofs.Acts.{Act, Asks, Breaks, Can, Fills, HangsUp, Hears, Offers, Parts, Scans, Tells, after, calls_by, events_by}
 use Rattle.bay_server_turn_laws.proofs.CallLemmas.{closing-says, taken-append}
 use Rattle.bay_server_turn_laws.proofs.CarryLemmas.{Carried, MayLose, device-carried, longer-behind, other-queue, other-standing, put_quiet-carried, put_told-carried}
@@ -31,14 +31,14 @@ use Rattle.bay_server_turn_laws.proofs.WalkLemmas.{Begins, Opening, Quietly, bef
 
 -- what is carried, by the calls and the answers up to here
 abbrev pub Flowing : ℕ → ℕ → List ℕ → Invariant
-Flowing now p held c e r s = Carried now p held (taken_of (p + 1) c) (sent_to (p + 1) r) s
+Flowing now p held c e r s = Carried now p held (written_by_calls (p + 1) c) (sent_to (p + 1) r) s
 
 module _ (most now p : ℕ) (held : List ℕ) (low : p < 8) (past : now ≤ last_moment) (t u : List ℕ)
   where
     -- by what the link takes in an act, and what the device sends
     abbrev Carrying : TurnState → Act → Type 0
     Carrying s a = Can most a s
-        → Carried now p held (t ++ taken_of (p + 1) (calls_by a))
+        → Carried now p held (t ++ written_by_calls (p + 1) (calls_by a))
         (u ++ sent_to (p + 1) (answers_to now (events_by a) s)) (after now a s)
 
     carried-as : (taken sent : List ℕ) (s : TurnState) → Carried now p held taken sent s
@@ -49,9 +49,10 @@ module _ (most now p : ℕ) (held : List ℕ) (low : p < 8) (past : now ≤ last
 
     -- one event, and no call that takes anything
     event-carried : (calls : List Call) (answer : Result Step StepFault) (s : TurnState)
-        → taken_of (p + 1) calls ≡ []
+        → written_by_calls (p + 1) calls ≡ []
         → Carried now p held t (u ++ answer_to (p + 1) answer) s
-        → Carried now p held (t ++ taken_of (p + 1) calls) (u ++ sent_to (p + 1) (answer ∷ [])) s
+        → Carried now p held (t ++ written_by_calls (p + 1) calls)
+        (u ++ sent_to (p + 1) (answer ∷ [])) s
     event-carried calls answer s none c =
         carried-as t (u ++ answer_to (p + 1) answer) s c _ _
         (sym (append-nil t) ∙ ap (λ l. t ++ l) (sym none))
@@ -59,8 +60,8 @@ module _ (most now p : ℕ) (held : List ℕ) (low : p < 8) (past : now ≤ last
 
     -- no event
     call-carried : (calls : List Call) (taken : List ℕ) (s : TurnState)
-        → taken_of (p + 1) calls ≡ taken → Carried now p held (t ++ taken) u s
-        → Carried now p held (t ++ taken_of (p + 1) calls) (u ++ []) s
+        → written_by_calls (p + 1) calls ≡ taken → Carried now p held (t ++ taken) u s
+        → Carried now p held (t ++ written_by_calls (p + 1) calls) (u ++ []) s
     call-carried calls taken s is c =
         carried-as (t ++ taken) u s c _ _ (ap (λ l. t ++ l) (sym is)) (sym (append-nil u))
 
@@ -119,7 +120,7 @@ module _ (most now p : ℕ) (held : List ℕ) (low : p < 8) (past : now ≤ last
               → (let o = outcome None now (Close (q + 1)) s.server.device in
               Carried now p held t u
               (with_device o.after (with_noted (start_closing q Ended s.noted) s)))
-              → Carried now p held (t ++ taken_of (p + 1) (calls_by (HangsUp q)))
+              → Carried now p held (t ++ written_by_calls (p + 1) (calls_by (HangsUp q)))
               (u ++ sent_to (p + 1) (answers_to now (closing_of q ∷ []) s)) (after_end now q s)
           closed q d =
               let o = outcome None now (Close (q + 1)) s.server.device in
@@ -180,7 +181,8 @@ module _ (most now p : ℕ) (low : p < 8) (past : now ≤ last_moment) where
   pub act-flows : (held : List ℕ) → IsKept now most (Flowing now p held)
   act-flows held a c e r s sized can i =
       carried-as most now p held low past [] [] _ _ (after now a s)
-      (act-carried most now p held low past (taken_of (p + 1) c) (sent_to (p + 1) r) s i a can) _ _
+      (act-carried most now p held low past (written_by_calls (p + 1) c) (sent_to (p + 1) r) s i a
+      can) _ _
       (sym (taken-append (p + 1) c (calls_by a)))
       (sym (sent-append (p + 1) r (answers_to now (events_by a) s)))
 

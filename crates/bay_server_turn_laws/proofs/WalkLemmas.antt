@@ -20,7 +20,7 @@ use Rattle.bay_server_turn.specs.declared.turn_report.CloseReason.{CloseReason}
 use Rattle.bay_server_turn.specs.declared.turn_report.CloseReason.TheVariants as closing
 use Rattle.bay_server_turn_laws.specs.Causes.{is_queue_full, tells}
 use Rattle.bay_server_turn_laws.specs.Events.{ChosenEvent, accept_events_at, closing_of, done_at, events_of_each, failed_events, heard_events, line_events, offer_events, read_events, settled_events, settled_in_events, settled_next_events, surely, turn_events}
-use Rattle.bay_server_turn_laws.specs.Order.{AreClosings, IsClosing, brought, read_at, told_at}
+use Rattle.bay_server_turn_laws.specs.Order.{AreClosings, IsClosing, received_events, read_at, process_events}
 use Rattle.bay_server_turn_laws.proofs.Acts.{Act, Asks, Breaks, Can, Fills, HangsUp, Hears, IsIdle, IsOpenAt, Offers, Parts, Scans, Tells, accepts, after, broken, calls_by, events_by, silent}
 use Rattle.bay_server_turn_laws.proofs.CallLemmas.{Offering, offering, some-append}
 use Rattle.bay_server_turn_laws.proofs.CalmLemmas.{closing-puts, cut-device, settled-calm}
@@ -271,7 +271,7 @@ module _ (now most : ℕ) where
 
   heard-through : (place : ℕ) (choice : Option ℕ) (heard : ReadOutcome) (s : TurnState)
       → IsOpenAt most place s → length s.noted.standings ≡ 8 → AreCalm s.noted.standings
-      → Through s (brought (place + 1) choice heard)
+      → Through s (received_events (place + 1) choice heard)
       (Reads (place + 1) 4096 heard ∷ calls_on_read now place choice heard s)
       (heard_events now place choice heard s) (on_read now place choice heard s)
   heard-through place choice (Octets octets) s up sized calm =
@@ -290,7 +290,7 @@ module _ (now most : ℕ) where
   read-through place r s low sized calm = by-up (is_up place s) refl
     where
       by-up : (up : Bool) → is_up place s ≡ up
-          → Through s (cond up (brought (place + 1) r.choice r.heard) [])
+          → Through s (cond up (received_events (place + 1) r.choice r.heard) [])
           (cond up (Reads (place + 1) 4096 r.heard
           ∷ calls_on_read now place r.choice r.heard s) [])
           (cond up (heard_events now place r.choice r.heard s) [])
@@ -302,7 +302,7 @@ module _ (now most : ℕ) where
 
   pub line-through : (line : Option ProcessEvent) (s : TurnState) → length s.noted.standings ≡ 8
       → AreCalm s.noted.standings
-      → Through s (told_at line) (line_calls now line s) (line_events now line s)
+      → Through s (process_events line) (line_calls now line s) (line_events now line s)
       (with_line now line s)
   line-through None s sized calm = stays-through s sized calm
   line-through (Some event) s sized calm = then-through (Tells event) s sized tt

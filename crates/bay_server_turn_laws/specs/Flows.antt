@@ -15,17 +15,17 @@ use Rattle.bay_server_turn_laws.specs.Events.{ChosenEvent, done_at, turn_events}
 -- ---- what the link takes
 
 -- the octets that a call wrote for an association
-abbrev pub taken_by : ℕ → Call → List ℕ
-taken_by a (Accepts b taken) = []
-taken_by a (Reads b room what) = []
-taken_by a (Writes b octets None) = []
-taken_by a (Writes b octets (Some n)) = if b == a then take n octets else []
-taken_by a (Closes b) = []
+abbrev pub written_by_call : ℕ → Call → List ℕ
+written_by_call a (Accepts b taken) = []
+written_by_call a (Reads b room what) = []
+written_by_call a (Writes b octets None) = []
+written_by_call a (Writes b octets (Some n)) = if b == a then take n octets else []
+written_by_call a (Closes b) = []
 
 -- the octets that the link took for an association
-abbrev pub taken_of : ℕ → List Call → List ℕ
-taken_of a [] = []
-taken_of a (call ∷ calls) = taken_by a call ++ taken_of a calls
+abbrev pub written_by_calls : ℕ → List Call → List ℕ
+written_by_calls a [] = []
+written_by_calls a (call ∷ calls) = written_by_call a call ++ written_by_calls a calls
 
 -- ---- what the link reads
 
@@ -36,16 +36,16 @@ octets_in Over = []
 octets_in Broken = []
 
 -- the octets that a call read for an association
-abbrev pub given_by : ℕ → Call → List ℕ
-given_by a (Accepts b taken) = []
-given_by a (Reads b room what) = if b == a then octets_in what else []
-given_by a (Writes b octets taken) = []
-given_by a (Closes b) = []
+abbrev pub read_by_call : ℕ → Call → List ℕ
+read_by_call a (Accepts b taken) = []
+read_by_call a (Reads b room what) = if b == a then octets_in what else []
+read_by_call a (Writes b octets taken) = []
+read_by_call a (Closes b) = []
 
 -- the octets that the link read for an association
-abbrev pub given_of : ℕ → List Call → List ℕ
-given_of a [] = []
-given_of a (call ∷ calls) = given_by a call ++ given_of a calls
+abbrev pub read_by_calls : ℕ → List Call → List ℕ
+read_by_calls a [] = []
+read_by_calls a (call ∷ calls) = read_by_call a call ++ read_by_calls a calls
 
 -- the octets of an association that an event has
 abbrev pub brought_by : ℕ → Event → List ℕ
@@ -111,7 +111,7 @@ pub record Flows (taken held sent holds : List ℕ) (up : Bool) : Type 0 where
 
 abbrev pub FlowsAt : ℕ → ProcessReport → Script → ServerData → ℕ → Type 0
 FlowsAt now given script h place =
-    Flows (taken_of (place + 1) (turn_calls now given script h)) (queue_at place h)
+    Flows (written_by_calls (place + 1) (turn_calls now given script h)) (queue_at place h)
     (sent_to (place + 1) (done_at now (turn_events now given script h) h.device).answers)
     (queue_at place (after_turn now given script h).server)
     (is_up_in place (after_turn now given script h).server)

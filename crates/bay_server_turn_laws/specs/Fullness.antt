@@ -6,7 +6,7 @@ use Rattle.bay_server_turn.specs.Turns.{ServerData, Script, free_place, is_up_in
 use Rattle.bay_server_turn.specs.declared.process_input.ProcessReport.{ProcessReport}
 use Rattle.bay_server_turn_laws.specs.Causes.{ends_for, fails_for, has_some, is_queue_full, reasons_of, tells}
 use Rattle.bay_server_turn_laws.specs.Events.{done_at, turn_events}
-use Rattle.bay_server_turn_laws.specs.Flows.{sent_to, taken_of}
+use Rattle.bay_server_turn_laws.specs.Flows.{sent_to, written_by_calls}
 
 -- Of what the queue held and what was sent, the link left more than a queue has room for; and no
 -- call failed, no end came, and the device did not close the association.
@@ -28,7 +28,7 @@ IsOpenIn place script h =
 abbrev pub IsToldWhereFull : ℕ → ProcessReport → Script → ServerData → ℕ → Type 0
 IsToldWhereFull now given script h place =
     (tells is_queue_full (place + 1) (after_turn now given script h).noted.closed ≡ true)
-    ↔ HasNoRoom (taken_of (place + 1) (turn_calls now given script h)) (queue_at place h)
+    ↔ HasNoRoom (written_by_calls (place + 1) (turn_calls now given script h)) (queue_at place h)
     (sent_to (place + 1) (done_at now (turn_events now given script h) h.device).answers)
     (has_some (fails_for (place + 1)) (turn_calls now given script h))
     (has_some (ends_for (place + 1)) (turn_calls now given script h))

@@ -16,32 +16,34 @@ use Rattle.bay_server_turn_laws.specs.Events.{ChosenEvent, done_at, surely, turn
 
 -- ---- what each part of a turn does
 
-abbrev pub opened_at : Option ℕ → Option (Option SocketAddrV4) → List ChosenEvent
-opened_at (Some place) (Some (Some from)) = surely (Open (place + 1)) ∷ []
-opened_at (Some place) (Some None) = []
-opened_at (Some place) None = []
-opened_at None accepted = []
+abbrev pub open_events_at : Option ℕ → Option (Option SocketAddrV4) → List ChosenEvent
+open_events_at (Some place) (Some (Some from)) = surely (Open (place + 1)) ∷ []
+open_events_at (Some place) (Some None) = []
+open_events_at (Some place) None = []
+open_events_at None accepted = []
 
 -- A connection that was accepted opens the lowest free association.
-abbrev pub opened : Option (Option SocketAddrV4) → State → List ChosenEvent
-opened accepted d = opened_at (position is_none d.connections) accepted
+abbrev pub open_events : Option (Option SocketAddrV4) → State → List ChosenEvent
+open_events accepted d = open_events_at (position is_none d.connections) accepted
 
 -- Octets that were read are received in one event; an end and a failure close the association.
-abbrev pub brought : ℕ → Option ℕ → ReadOutcome → List ChosenEvent
-brought a choice (Octets octets) = (choice, Recv a (borrowed octets)) ∷ []
-brought a choice Silence = []
-brought a choice Over = surely (Close a) ∷ []
-brought a choice Broken = surely (Close a) ∷ []
+abbrev pub received_events : ℕ → Option ℕ → ReadOutcome → List ChosenEvent
+received_events a choice (Octets octets) = (choice, Recv a (borrowed octets)) ∷ []
+received_events a choice Silence = []
+received_events a choice Over = surely (Close a) ∷ []
+received_events a choice Broken = surely (Close a) ∷ []
 
 -- An association is read exactly if it is open.
 abbrev pub read_at : ℕ → Reading → State → List ChosenEvent
 read_at place r d =
-    if is_some (connection_at (Some place) d) then brought (place + 1) r.choice r.heard else []
+    if is_some (connection_at (Some place) d)
+    then received_events (place + 1) r.choice r.heard
+    else []
 
 -- The event of the process, if there is one.
-abbrev pub told_at : Option ProcessEvent → List ChosenEvent
-told_at None = []
-told_at (Some event) = surely (event_of event) ∷ []
+abbrev pub process_events : Option ProcessEvent → List ChosenEvent
+process_events None = []
+process_events (Some event) = surely (event_of event) ∷ []
 
 -- ---- the order
 
@@ -76,9 +78,9 @@ module _ (now : ℕ) (told : List (ℕ × CloseReason)) where
   -- associations, for a reason.
   abbrev pub AreInOrder : (ℕ → Bool) → ProcessReport → Script → State → List ChosenEvent → Type 0
   AreInOrder has_reason given script d events =
-      Then (opened script.accepted d) (λ c. Then (told_at (first_of given))
+      Then (open_events script.accepted d) (λ c. Then (process_events (first_of given))
       (ThenReads 0 script.readings
-      (λ e. Then (told_at given.event)
+      (λ e. Then (process_events given.event)
       (Then (surely Scan ∷ []) (λ f rest. AreClosings has_reason rest))
       e)) c)
       d

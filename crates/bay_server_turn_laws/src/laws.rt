@@ -10,7 +10,7 @@ ghost use Rattle.bay_server_turn.specs.declared.turn_report.Turn.{Turn};
 ghost use Rattle.bay_server_turn_laws.specs.Causes.{HasItsCause};
 ghost use Rattle.bay_server_turn_laws.specs.Events.{IsItsEvents, turn_events};
 ghost use Rattle.bay_server_turn_laws.specs.Faults.{tells_failure};
-ghost use Rattle.bay_server_turn_laws.specs.Flows.{IsInTime, IsTidy, LosesNothing, given_of, received_of};
+ghost use Rattle.bay_server_turn_laws.specs.Flows.{IsInTime, IsTidy, LosesNothing, read_by_calls, received_of};
 ghost use Rattle.bay_server_turn_laws.specs.Fullness.{IsOpenIn, IsToldWhereFull};
 ghost use Rattle.bay_server_turn_laws.specs.Order.{IsInOrder};
 ghost use Rattle.bay_server_turn_laws.specs.Room.{AreInRoom};
@@ -82,7 +82,7 @@ pub fn octets_are_neither_lost_nor_repeated()
     ensures octets { (now : ℕ) (given : ProcessReport) (script : Script) (h : ServerData) → IsTidy h
         → IsInTime now h → length script.offers ≡ associations → LosesNothing now given script h }
     ensures received { (now : ℕ) (given : ProcessReport) (script : Script) (h : ServerData)
-        → (a : ℕ) → given_of a (turn_calls now given script h)
+        → (a : ℕ) → read_by_calls a (turn_calls now given script h)
         ≡ received_of a (turn_events now given script h) }
     // A server is tidy when it is created.
     ensures begins { (device : State)

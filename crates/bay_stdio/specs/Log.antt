@@ -13,8 +13,8 @@ abbrev pub notice : ℕ → List ℕ
 notice lost = if lost == 0 then [] else decimal lost ++ codes " lines of the log were lost\n"
 
 -- the waiting lines, then the notice of lost ones, then a line
-abbrev pub behind : LogData → List ℕ → List ℕ
-behind log line = log.waiting ++ (notice log.lost ++ line)
+abbrev pub queued_with_line : LogData → List ℕ → List ℕ
+queued_with_line log line = log.waiting ++ (notice log.lost ++ line)
 
 -- A text was appended whole; or a part of it, if it does not fit into 65,536 octets.
 pub record Keeps (before text after : List ℕ) (fits : Bool) : Type 0 where
@@ -26,5 +26,6 @@ pub record Keeps (before text after : List ℕ) (fits : Bool) : Type 0 where
 -- counted.
 abbrev pub with_line : List ℕ → LogData → LogData
 with_line line log =
-    if nat_le (length (behind log line)) 65536 then record { waiting = behind log line; lost = 0 }
+    if nat_le (length (queued_with_line log line)) 65536
+    then record { waiting = queued_with_line log line; lost = 0 }
     else record { waiting = log.waiting; lost = min (log.lost + 1) 18446744073709551615 }

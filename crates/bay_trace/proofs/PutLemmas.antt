@@ -5,7 +5,7 @@ use Rattle.std.proofs.lemmas.Bool.Decides.{nat_tests}
 use Rattle.std.proofs.lemmas.List.{drop_all}
 use Rattle.std.specs.List.{position, position_or_len, slice_index}
 use Rattle.hex.specs.Hex.{encode_lower, encode_with, lower_digits}
-use Rattle.bay_trace.specs.Recording.{behind_moment}
+use Rattle.bay_trace.specs.Recording.{text_after_moment}
 use Rattle.bay_trace.specs.Trace.{is_space}
 
 -- the two digits of an octet
@@ -26,11 +26,11 @@ digits-turn octets k lt =
 -- ---- what stands behind the first space
 
 pub behind-some : (line : List ℕ) (at : ℕ) → position is_space line ≡ Some at
-    → drop (at + 1) line ≡ behind_moment line
+    → drop (at + 1) line ≡ text_after_moment line
 behind-some line at e = by_test (nat_lt (position_or_len is_space line) (length line)) refl
   where
     by_test : (v : Bool) → nat_lt (position_or_len is_space line) (length line) ≡ v
-        → drop (at + 1) line ≡ behind_moment line
+        → drop (at + 1) line ≡ text_after_moment line
     by_test true l =
         let some : Some (position_or_len is_space line) ≡ Some at = rw l at e in
         let is : position_or_len is_space line ≡ at = cc in
@@ -38,11 +38,11 @@ behind-some line at e = by_test (nat_lt (position_or_len is_space line) (length 
     by_test false l = let none : None ≡ Some at = rw l at e in absurd cc
 
 pub behind-none : (line : List ℕ) → position is_space line ≡ None
-    → drop (length line) line ≡ behind_moment line
+    → drop (length line) line ≡ text_after_moment line
 behind-none line e = by_test (nat_lt (position_or_len is_space line) (length line)) refl
   where
     by_test : (v : Bool) → nat_lt (position_or_len is_space line) (length line) ≡ v
-        → drop (length line) line ≡ behind_moment line
+        → drop (length line) line ≡ text_after_moment line
     by_test true l =
         let some : Some (position_or_len is_space line) ≡ None = rw l at e in absurd cc
     by_test false l =

@@ -17,7 +17,7 @@ use Rattle.bay_device.specs.Device.{State}
 use Rattle.bay_device.specs.declared.event.Event.{Event}
 use Rattle.bay_device.specs.declared.event.Event.TheVariants.{Open, Recv, Close, Contact, Input, Measure, BadMeasure, Lost, Scan}
 use Rattle.bay_trace.specs.Digits.{octets_of}
-use Rattle.bay_trace.specs.Recording.{IsReadAs, IsRecordable, Tells, behind_moment, event_line}
+use Rattle.bay_trace.specs.Recording.{IsReadAs, IsRecordable, Tells, text_after_moment, event_line}
 use Rattle.bay_trace.specs.Trace.{NamedData, association_of, at_moment, connects, disconnects, event_of, is_space, lost, receives, scan, trace_line_of, words_line}
 use Rattle.bay_trace.proofs.VerbLemmas.{alone-octets}
 use Rattle.bay_trace.proofs.WordLemmas.{no-space, not-space}
@@ -85,7 +85,7 @@ line-read now rest named less told =
 -- and so it was told at any moment
 behind-read : (line : List ℕ) (t : ℕ) (named : NamedData)
     → trace_line_of line ≡ Some (at_moment t named)
-    → event_of (slice_split is_space (behind_moment line)) ≡ Some named
+    → event_of (slice_split is_space (text_after_moment line)) ≡ Some named
 behind-read [] t named read = absurd cc
 behind-read (b ∷ bs) t named read =
     by_test (nat_lt (position_or_len is_space line) (length line)) refl
@@ -112,10 +112,10 @@ behind-read (b ∷ bs) t named read =
     by-words w (next ∷ ws) e = by-number (read_number w) (next ∷ ws) e
 
     by_test : (v : Bool) → nat_lt (position_or_len is_space line) (length line) ≡ v
-        → event_of (slice_split is_space (behind_moment line)) ≡ Some named
+        → event_of (slice_split is_space (text_after_moment line)) ≡ Some named
     by_test true l =
         by-words (take (position_or_len is_space line) line)
-        (slice_split is_space (behind_moment line))
+        (slice_split is_space (text_after_moment line))
         (sym (ap words_line (slice_split_first is_space line 0 (grind (arith, nat_tests)))) ∙ read)
     by_test false l =
         let alone = no-space line (rw l refl) in
@@ -165,11 +165,11 @@ received-told a octets less bytes some =
 
 said-read : (s : State) (now : ℕ) (said : List ℕ) (event : Event) (tells : Tells s said event)
     → now < 2 ^ 64
-    → trace_line_of (decimal now ++ codes " " ++ behind_moment said)
+    → trace_line_of (decimal now ++ codes " " ++ text_after_moment said)
     ≡ Some (at_moment now tells.named)
 said-read s now said event tells less =
-    ap trace_line_of (spaced now (behind_moment said))
-    ∙ line-read now (behind_moment said) tells.named less
+    ap trace_line_of (spaced now (text_after_moment said))
+    ∙ line-read now (text_after_moment said) tells.named less
     (behind-read said tells.moment tells.named tells.read)
 
 -- each line is read as what tells of its event

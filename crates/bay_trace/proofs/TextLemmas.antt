@@ -18,7 +18,7 @@ use Rattle.bay_trace.specs.TraceView.{line_view}
 use Rattle.bay_tree.specs.declared.leaf.Dbpos.{Dbpos}
 use Rattle.bay_base.specs.declared.point.MeterField.{MeterField}
 use Rattle.bay_base.specs.Decimals.{negative_of, positive_of, read_number}
-use Rattle.bay_trace.specs.Trace.{association_of, at_moment, disconnects, contact, event_of, input, measure, field_of, is_space, is_association_verb, LineData, measure_of, name_of, named_of, NamedData, only_word, connects, position_of, read_integer, received_of, receives, association_event_of, trace_line_of, truth_of, words_line, told_of}
+use Rattle.bay_trace.specs.Trace.{association_of, at_moment, disconnects, contact, event_of, input, measure, field_of, is_space, is_association_verb, LineData, measure_of, name_of, named_of, NamedData, only_word, connects, position_of, read_integer, received_of, receives, association_event_of, trace_line_of, truth_of, words_line, measure_event_of}
 
 -- ---- what has a value has parts that have theirs
 
@@ -118,7 +118,7 @@ name-text (b ∷ bs) name e = by_test (is_utf8 (b ∷ bs)) refl
     by_test false is = let none : None ≡ Some name = rw is at e in absurd cc
 
 told-text : (id : List ℕ) (field : MeterField) (word : List ℕ) (d : NamedData)
-    → told_of id field word ≡ Some d → IsUtf8 word
+    → measure_event_of id field word ≡ Some d → IsUtf8 word
 told-text id field word d e =
     choice word (codes "bad") _ d _ refl
     (λ h. let number = mapped (measure id field) (read_integer word) d h in
@@ -141,10 +141,12 @@ measure-text : (id : List ℕ) (words : List (List ℕ)) (d : NamedData) → mea
     → AreText words
 measure-text id [] d e = absurd cc
 measure-text id (word ∷ told) d e =
-    let field : Parts (λ f. option_and_then (told_of id f) (only_word told)) (field_of word) d =
+    let field : Parts (λ f. option_and_then (measure_event_of id f) (only_word told))
+    (field_of word) d =
     and_then _ (field_of word) d e in (
       field-text word field.part field.whole,
-      only-text (told_of id field.part) told d (λ w h. told-text id field.part w d h) field.gives,
+      only-text (measure_event_of id field.part) told d (λ w h. told-text id field.part w d h)
+          field.gives,
     )
 
 -- the verb is this one, and what is behind it is text; or something is said further on

@@ -10,7 +10,7 @@ use Rattle.std.specs.Str.{all_ascii_digits, bytes_eq}
 use Rattle.bay_tree.specs.declared.leaf.Dbpos.{Dbpos}
 use Rattle.bay_base.specs.declared.point.MeterField.{MeterField}
 use Rattle.bay_base.specs.Decimals.{negative_of, positive_of, read_number}
-use Rattle.bay_trace.specs.Trace.{association_of, connects, disconnects, is_space, is_association_verb, association_event_in, association_event_of, only_word, read_integer, position_of, truth_of, NamedData, told_of, measure, lost, scan, name_of, named_of, event_of}
+use Rattle.bay_trace.specs.Trace.{association_of, connects, disconnects, is_space, is_association_verb, association_event_in, association_event_of, only_word, read_integer, position_of, truth_of, NamedData, measure_event_of, measure, lost, scan, name_of, named_of, event_of}
 use Rattle.std.proofs.lemmas.List.Elements.{All-head, All-tail}
 use Rattle.std.specs.List.{AllPass}
 use Rattle.hex.specs.Hex.{is_hex_digit}
@@ -67,7 +67,7 @@ integer-word (b ∷ bs) z e = by_test (eqb b 45) refl
     by_test false minus = read positive_of (b ∷ bs) (rw minus at e)
 
 told-word : (id : List ℕ) (field : MeterField) (word : List ℕ) (y : NamedData)
-    → told_of id field word ≡ Some y → IsWord word
+    → measure_event_of id field word ≡ Some y → IsWord word
 told-word id field word y e =
     chosen IsWord word (codes "bad") _ y _ refl (λ h. by-value (read_integer word) refl h) e
   where
@@ -122,9 +122,9 @@ pub alone-truth : (bs : List ℕ)
 alone-truth bs = alone-tells truth_of bs (truth-word bs)
 
 pub alone-told : (id : List ℕ) (field : MeterField) (bs : List ℕ)
-    → option_and_then (told_of id field) (only_word (slice_split is_space bs))
-    ≡ told_of id field bs
-alone-told id field bs = alone-tells (told_of id field) bs (told-word id field bs)
+    → option_and_then (measure_event_of id field) (only_word (slice_split is_space bs))
+    ≡ measure_event_of id field bs
+alone-told id field bs = alone-tells (measure_event_of id field) bs (told-word id field bs)
 
 pub alone-association : (bs : List ℕ)
     → option_and_then association_of (only_word (slice_split is_space bs)) ≡ association_of bs

@@ -11,8 +11,8 @@ use Rattle.bay_trace.specs.Resolving.{anywhere, placed_event}
 use Rattle.bay_trace.specs.Trace.{NamedData, at_moment, is_space, trace_line_of}
 
 -- the rest of a line after its first space
-abbrev pub behind_moment : List ℕ → List ℕ
-behind_moment line = drop (position_or_len is_space line + 1) line
+abbrev pub text_after_moment : List ℕ → List ℕ
+text_after_moment line = drop (position_or_len is_space line + 1) line
 
 -- The line of an event at a moment, without its end: for an association its number, with the octets
 -- of its client as hexadecimal digits; for a switch, an input or a meter the words of the line that
@@ -22,10 +22,10 @@ event_line now said (Open a) = decimal now ++ codes " open " ++ decimal a
 event_line now said (Recv a octets) =
     decimal now ++ codes " recv " ++ decimal a ++ codes " " ++ encode_lower octets.now
 event_line now said (Close a) = decimal now ++ codes " close " ++ decimal a
-event_line now said (Contact k position) = decimal now ++ codes " " ++ behind_moment said
-event_line now said (Input k value) = decimal now ++ codes " " ++ behind_moment said
-event_line now said (Measure k field value) = decimal now ++ codes " " ++ behind_moment said
-event_line now said (BadMeasure k field) = decimal now ++ codes " " ++ behind_moment said
+event_line now said (Contact k position) = decimal now ++ codes " " ++ text_after_moment said
+event_line now said (Input k value) = decimal now ++ codes " " ++ text_after_moment said
+event_line now said (Measure k field value) = decimal now ++ codes " " ++ text_after_moment said
+event_line now said (BadMeasure k field) = decimal now ++ codes " " ++ text_after_moment said
 event_line now said Lost = decimal now ++ codes " lost"
 event_line now said Scan = decimal now ++ codes " scan"
 

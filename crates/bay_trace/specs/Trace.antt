@@ -84,8 +84,8 @@ field_of word =
     else None
 
 -- the event of a field of a meter: a word spells its value, or `bad` marks it as invalid
-abbrev pub told_of : List ℕ → MeterField → List ℕ → Option NamedData
-told_of id field word =
+abbrev pub measure_event_of : List ℕ → MeterField → List ℕ → Option NamedData
+measure_event_of id field word =
     if bytes_eq word (codes "bad") then Some (bad_measure id field)
     else option_map (measure id field) (read_integer word)
 
@@ -93,7 +93,7 @@ told_of id field word =
 abbrev pub measure_of : List ℕ → List (List ℕ) → Option NamedData
 measure_of id [] = None
 measure_of id (field ∷ told) =
-    option_and_then (λ f. option_and_then (told_of id f) (only_word told)) (field_of field)
+    option_and_then (λ f. option_and_then (measure_event_of id f) (only_word told)) (field_of field)
 
 -- a word that is a name: it is UTF-8, and not empty
 abbrev pub name_of : List ℕ → Option (List ℕ)

@@ -4,7 +4,7 @@ ghost use Rattle.std.specs.Fmt.{decimal};
 ghost use Rattle.hex.specs.Hex.{encode_lower};
 ghost use Rattle.bay_device.specs.Device.{State};
 ghost use Rattle.bay_device.specs.declared.event.Event.{Event as AnyEvent};
-ghost use Rattle.bay_trace.specs.Recording.{IsReadAs, IsRecordable, PutsWhole, behind_moment, event_line};
+ghost use Rattle.bay_trace.specs.Recording.{IsReadAs, IsRecordable, PutsWhole, text_after_moment, event_line};
 
 use bay_device::event::Event;
 use bay_lines::bounded_buffer::BoundedBuffer;
@@ -38,7 +38,7 @@ fn put_digits(lines: &mut RecordLines, octets: &[u8]) -> bool
 
 // Returns the rest of a line after its first space; nothing if it has no space.
 fn words_after_moment(line: &[u8]) -> &[u8]
-    ensures { result.now ≡ behind_moment line.now }
+    ensures { result.now ≡ text_after_moment line.now }
 {
     match line.iter().position(|octet| *octet == b' ') {
         Some(at) => &line[at + 1..],

@@ -11,7 +11,7 @@ use Rattle.bay_transport.specs.declared.frame.FramePrefix.{FramePrefix}
 use Rattle.bay_transport.specs.declared.frame.FramePrefix.TheVariants.{Begun, NoFrame, Whole}
 use Rattle.bay_transport.specs.declared.fault.TransportFault.{TransportFault}
 use Rattle.bay_transport.specs.declared.fault.TransportFault.TheVariants.{BadTpkt, BadCotp, ClassRefused, TsduTooLong, Failed, OutOfMemory}
-use Rattle.bay_transport.specs.Frame.{pair_of, tpdu_of, frame_prefix, octets_wanted}
+use Rattle.bay_transport.specs.Frame.{pair_of, tpdu_of, frame_prefix, missing_count}
 use Rattle.bay_transport.specs.Doings.{Fails, TransportConnection, Left, Broken, Run, TpduEffect, Refuses, effect_of, data_effect, kind_effect, alone, run_of}
 use Rattle.bay_transport.specs.Assembly.{connection_of, rest_of, left_of, body_of, HoldsFrame, run_for, FailsWhere, Takes, Reaches}
 use Rattle.bay_transport.proofs.FrameLemmas.{is_whole, whole-within, whole-length, whole-part}
@@ -108,7 +108,7 @@ begun-more rest octets k begun e =
 
 -- the octets that can follow the beginning of a frame do not pass its end
 pub wanted-fits : (rest octets : List ℕ) (k : ℕ) → frame_prefix rest ≡ Begun
-    → length octets ≤ octets_wanted rest → frame_prefix (rest ++ octets) ≡ Whole k
+    → length octets ≤ missing_count rest → frame_prefix (rest ++ octets) ≡ Whole k
     → k ≡ length (rest ++ octets)
 wanted-fits [] octets k begun few e = let w = is_whole octets k e in let some = w.some in let n =
     whole-within octets k w in absurd (omega arith)
@@ -191,7 +191,7 @@ front-seen a items f is seen =
 -- a whole frame that is seen behind the group is all that stands there
 pub whole-seen : (old new : Assembly) (piece : List ℕ) (used k : ℕ)
     → frame_prefix (rest_of old) ≡ Begun
-    → used ≤ octets_wanted (rest_of old) → used ≤ length piece
+    → used ≤ missing_count (rest_of old) → used ≤ length piece
     → rest_of new ≡ rest_of old ++ take used piece → frame_prefix (rest_of new) ≡ Whole k
     → frame_prefix (rest_of new) ≡ Whole (length (rest_of new))
 whole-seen old new piece used k begun few within rest whole =
@@ -251,7 +251,7 @@ same-alone old new frame number connection =
 -- octets are taken, and then the frame that they end is done
 pub takes-whole : (old middle new : Assembly) (piece : List ℕ) (used k : ℕ) (kind : Got)
     → frame_prefix (rest_of old) ≡ Begun → used ≤ length piece → (0 < length piece → 0 < used)
-    → used ≤ octets_wanted (rest_of old)
+    → used ≤ missing_count (rest_of old)
     → rest_of middle ≡ rest_of old ++ take used piece → connection_of middle ≡ connection_of old
     → middle.number ≡ old.number → frame_prefix (rest_of middle) ≡ Whole k
     → alone (effect_of middle.number (connection_of middle) (rest_of middle)) (connection_of middle)
@@ -263,7 +263,7 @@ takes-whole old middle new piece used k kind begun within moves few rest connect
     (same-alone old middle (rest_of middle) number connection ∙ does)
 
 pub refuses-whole : (old middle : Assembly) (piece : List ℕ) (used k : ℕ) (fault : TransportFault)
-    → frame_prefix (rest_of old) ≡ Begun → used ≤ length piece → used ≤ octets_wanted (rest_of old)
+    → frame_prefix (rest_of old) ≡ Begun → used ≤ length piece → used ≤ missing_count (rest_of old)
     → rest_of middle ≡ rest_of old ++ take used piece → connection_of middle ≡ connection_of old
     → middle.number ≡ old.number → frame_prefix (rest_of middle) ≡ Whole k
     → FailsWhere fault (effect_of middle.number (connection_of middle) (rest_of middle)

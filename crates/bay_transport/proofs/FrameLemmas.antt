@@ -4,7 +4,7 @@ use Rattle.std.proofs.lemmas.Bool.{cases_lt, cases_eq, lt-ltb, le-ltb, ne_eqb}
 use Rattle.std.proofs.lemmas.List.{length-append, append_assoc, take-append-drop, length-take-le, take_at, drop_at, take-append-le}
 use Rattle.bay_transport.specs.declared.frame.FramePrefix.{FramePrefix}
 use Rattle.bay_transport.specs.declared.frame.FramePrefix.TheVariants.{Begun, NoFrame, Whole}
-use Rattle.bay_transport.specs.Frame.{pair_of, IsFrame, AreFrames, concatenation, Cut, IsCut, of_length, frame_prefix, cut_behind, cut_of}
+use Rattle.bay_transport.specs.Frame.{pair_of, IsFrame, AreFrames, concatenation, Cut, IsCut, of_length, frame_prefix, cut_after, cut_of}
 
 -- a whole frame of so many octets stands at the front
 pub record IsWhole (octets : List ℕ) (frame : ℕ) : Type 0 where
@@ -186,7 +186,7 @@ whole-part (v ∷ r ∷ h ∷ l ∷ tpdu) more k w all =
 
 -- ---- cutting
 
-pub cut_behind-is : (k : ℕ) (octets : List ℕ) → cut_behind k octets ≡ cut_of (drop k octets)
+pub cut_behind-is : (k : ℕ) (octets : List ℕ) → cut_after k octets ≡ cut_of (drop k octets)
 cut_behind-is (suc k) (x ∷ octets) = cut_behind-is k octets
 cut_behind-is k octets = refl
 
@@ -229,7 +229,7 @@ cut_then first more =
 
 cut-append-at : (f : FramePrefix) (x : ℕ) (octets more : List ℕ) → frame_prefix (x ∷ octets) ≡ f
     → ((k : ℕ) → k ≤ length octets
-    → cut_behind k (octets ++ more) ≡ cut_then (cut_behind k octets) more)
+    → cut_after k (octets ++ more) ≡ cut_then (cut_after k octets) more)
     → cut_of (x ∷ (octets ++ more)) ≡ cut_then (cut_of (x ∷ octets)) more
 cut-append-at Begun x octets more e ih = rw e refl
 cut-append-at NoFrame x octets more e ih = rw e refl
@@ -243,7 +243,7 @@ cut-append-at (Whole k) x octets more e ih =
     rw (e, f, ih (k - 1) (omega arith), t) refl
 
 cut-append-behind : (k : ℕ) (octets more : List ℕ) → k ≤ length octets
-    → cut_behind k (octets ++ more) ≡ cut_then (cut_behind k octets) more
+    → cut_after k (octets ++ more) ≡ cut_then (cut_after k octets) more
 cut-append-behind zero [] more within = refl
 cut-append-behind (suc k) [] more within = absurd (omega arith)
 cut-append-behind zero (x ∷ octets) more within =
@@ -299,7 +299,7 @@ no-whole f octets e none frame more is parts =
     none (length frame) (sym e ∙ w)
 
 is-cut-at : (f : FramePrefix) (x : ℕ) (octets : List ℕ) → frame_prefix (x ∷ octets) ≡ f
-    → ((k : ℕ) → k ≤ length octets → IsCut (drop k octets) (cut_behind k octets))
+    → ((k : ℕ) → k ≤ length octets → IsCut (drop k octets) (cut_after k octets))
     → IsCut (x ∷ octets) (cut_of (x ∷ octets))
 is-cut-at Begun x octets e ih =
     rw e (record { whole = tt; parts = refl; ended = no-whole Begun (x ∷ octets) e (λ k h. cc) })
@@ -318,13 +318,13 @@ is-cut-at (Whole k) x octets e ih =
           ∙ ap (λ (ys : List ℕ). take k (x ∷ octets) ++ ys)
           (drop-less k x octets positive ∙ later.parts)
           ∙ sym (append_assoc (take k (x ∷ octets))
-          (concatenation (cut_behind (k - 1) octets).frames)
-          (cut_behind (k - 1) octets).rest);
+          (concatenation (cut_after (k - 1) octets).frames)
+          (cut_after (k - 1) octets).rest);
       ended = later.ended;
     })
 
 is-cut-behind : (k : ℕ) (octets : List ℕ) → k ≤ length octets
-    → IsCut (drop k octets) (cut_behind k octets)
+    → IsCut (drop k octets) (cut_after k octets)
 is-cut-behind zero [] within =
     record { whole = tt; parts = refl; ended = no-whole Begun [] refl (λ k h. cc) }
 is-cut-behind (suc k) [] within = absurd (omega arith)

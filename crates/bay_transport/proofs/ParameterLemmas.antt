@@ -6,7 +6,7 @@ use Rattle.std.specs.Option.{option_map}
 use Rattle.std.proofs.lemmas.Bool.{cases_eq, cases_lt, ne_eqb, lt-ltb, le-ltb}
 use Rattle.std.proofs.lemmas.List.{length-append, length-take-le, take-append-drop, take_at, drop_at}
 use Rattle.bay_transport.specs.declared.fault.TransportFault.TheVariants.{BadCotp}
-use Rattle.bay_transport.specs.Connect.{Parameter, parameter_octets, length_octet, with_parameter, parameters_behind, parameters_of, or_else, last_value, size_of, where_there, size_value, answer_parameters, frame_header, confirm_front, confirm, with_parameters}
+use Rattle.bay_transport.specs.Connect.{Parameter, parameter_octets, length_octet, with_parameter, parameters_after, parameters_of, or_else, last_value, size_of, where_there, size_value, answer_parameters, frame_header, confirm_front, confirm, with_parameters}
 use Rattle.bay_transport.proofs.RequestLemmas.{parameters_behind-is}
 
 -- ---- in one way
@@ -32,13 +32,13 @@ spells-one code (n ∷ behind) ps (Some later) e ih =
     sym (ap parameter_octets (sym p) ∙ rw (t, parts) refl)
 
 spells-behind : (k : ℕ) (octets : List ℕ) (ps : List Parameter)
-    → parameters_behind k octets ≡ Some ps → Spells k octets ps
+    → parameters_after k octets ≡ Some ps → Spells k octets ps
 spells-behind zero [] ps e =
     record { within = omega arith; is = let p : [] ≡ ps = cc in ap parameter_octets p }
 spells-behind (suc k) [] ps e = absurd (cc)
 spells-behind zero (code ∷ octets) ps e = record {
   within = omega arith;
-  is = spells-one code octets ps (parameters_behind (suc (length_octet octets)) octets) e
+  is = spells-one code octets ps (parameters_after (suc (length_octet octets)) octets) e
       (λ later f. spells-behind (suc (length_octet octets)) octets later f);
 }
 spells-behind (suc k) (x ∷ octets) ps e = let s = spells-behind k octets ps e in let w =
@@ -53,7 +53,7 @@ read-spelled [] = refl
 read-spelled (p ∷ ps) =
     let within : length p.value ≤ length (p.value ++ parameter_octets ps) =
     omega (arith, length-append p.value (parameter_octets ps)) in
-    let rest : parameters_behind (length p.value) (p.value ++ parameter_octets ps) ≡ Some ps =
+    let rest : parameters_after (length p.value) (p.value ++ parameter_octets ps) ≡ Some ps =
     parameters_behind-is (length p.value) (p.value ++ parameter_octets ps) within
     ∙ ap parameters_of (drop_at p.value (parameter_octets ps) (length p.value) refl)
     ∙ read-spelled ps in

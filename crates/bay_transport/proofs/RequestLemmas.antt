@@ -4,17 +4,17 @@ use Rattle.std.specs.Option.{option_map}
 use Rattle.std.proofs.lemmas.List.{length-drop, drop_more, drop-drop, drop_all}
 use Rattle.std.proofs.Math.Nat.{pow-le-pow_right}
 use Rattle.bay_transport.specs.Assembly.{IsSize}
-use Rattle.bay_transport.specs.Connect.{Parameter, with_parameter, parameters_behind, parameters_of, or_else, last_value}
+use Rattle.bay_transport.specs.Connect.{Parameter, with_parameter, parameters_after, parameters_of, or_else, last_value}
 use Rattle.bay_transport.specs.Found.{found_then}
 
 pub parameters_behind-is : (k : ℕ) (octets : List ℕ) → k ≤ length octets
-    → parameters_behind k octets ≡ parameters_of (drop k octets)
+    → parameters_after k octets ≡ parameters_of (drop k octets)
 parameters_behind-is zero octets within = refl
 parameters_behind-is (suc k) [] within = absurd (omega arith)
 parameters_behind-is (suc k) (x ∷ octets) within = parameters_behind-is k octets (omega arith)
 
 pub parameters_behind-past : (k : ℕ) (octets : List ℕ) → length octets < k
-    → parameters_behind k octets ≡ None
+    → parameters_after k octets ≡ None
 parameters_behind-past zero octets past = absurd (omega arith)
 parameters_behind-past (suc k) [] past = refl
 parameters_behind-past (suc k) (x ∷ octets) past = parameters_behind-past k octets (omega arith)
@@ -78,13 +78,13 @@ pub keeps-more : (code : ℕ) (all octets : List ℕ) (at here count next : ℕ)
 keeps-more code all octets at here count next found within h n fits is keeps =
     let behind = drop (at + 2) octets in
     let long : count ≤ length behind = omega (arith, length-drop (at + 2) octets) in
-    let rest : parameters_behind count behind ≡ parameters_of (drop next octets) =
+    let rest : parameters_after count behind ≡ parameters_of (drop next octets) =
     parameters_behind-is count behind long
     ∙ ap parameters_of (drop-drop count (at + 2) octets
     ∙ ap (λ (k : ℕ). drop k octets) (sym is)) in
     let parts : drop at octets ≡ here ∷ count ∷ behind = rw (h, n) (two-parts octets at within) in
     keeps ∙ ap (λ (ys : List ℕ). option_map (or_found code found) (parameters_of ys)) parts
-    ∙ one-more code here count behind found (parameters_behind count behind)
+    ∙ one-more code here count behind found (parameters_after count behind)
     ∙ ap (option_map (or_found code (found_then code here (take count behind) found))) rest
 
 none-from : (code : ℕ) (o : Option (List Parameter)) → option_map (last_value code) o ≡ None

@@ -30,16 +30,16 @@ with_parameter code (octets ∷ behind) (Some later) =
     Some (record { code = code; value = take octets behind } ∷ later)
 
 -- the parameters that octets encode after the first n, or None
-abbrev pub parameters_behind : ℕ → List ℕ → Option (List Parameter)
-parameters_behind zero [] = Some []
-parameters_behind (suc skipped) [] = None
-parameters_behind zero (code ∷ octets) =
-    with_parameter code octets (parameters_behind (suc (length_octet octets)) octets)
-parameters_behind (suc skipped) (x ∷ octets) = parameters_behind skipped octets
+abbrev pub parameters_after : ℕ → List ℕ → Option (List Parameter)
+parameters_after zero [] = Some []
+parameters_after (suc skipped) [] = None
+parameters_after zero (code ∷ octets) =
+    with_parameter code octets (parameters_after (suc (length_octet octets)) octets)
+parameters_after (suc skipped) (x ∷ octets) = parameters_after skipped octets
 
 -- the parameters that octets encode, or None
 abbrev pub parameters_of : List ℕ → Option (List Parameter)
-parameters_of octets = parameters_behind 0 octets
+parameters_of octets = parameters_after 0 octets
 
 -- the first value, or the other if there is none (own)
 abbrev pub or_else : Option (List ℕ) → Option (List ℕ) → Option (List ℕ)

@@ -73,12 +73,12 @@ frame_prefix (version ∷ reserved ∷ high ∷ low ∷ octets) =
 
 -- how many octets an incomplete frame still needs: up to the end of its length field, or after that
 -- up to its end
-abbrev pub octets_wanted : List ℕ → ℕ
-octets_wanted [] = 4
-octets_wanted (version ∷ []) = 3
-octets_wanted (version ∷ reserved ∷ []) = 2
-octets_wanted (version ∷ reserved ∷ high ∷ []) = 1
-octets_wanted (version ∷ reserved ∷ high ∷ low ∷ octets) = pair_of high low - (length octets + 4)
+abbrev pub missing_count : List ℕ → ℕ
+missing_count [] = 4
+missing_count (version ∷ []) = 3
+missing_count (version ∷ reserved ∷ []) = 2
+missing_count (version ∷ reserved ∷ high ∷ []) = 1
+missing_count (version ∷ reserved ∷ high ∷ low ∷ octets) = pair_of high low - (length octets + 4)
 
 -- how many octets of the frame follow its first one; 0 if there is no complete frame
 abbrev pub length_of_rest : FramePrefix → ℕ
@@ -94,13 +94,13 @@ with_front (Whole frame) octets later =
     record { frames = take frame octets ∷ later.frames; rest = later.rest }
 
 -- the cut of the octets after the first n
-abbrev pub cut_behind : ℕ → List ℕ → Cut
-cut_behind skipped [] = record { frames = []; rest = [] }
-cut_behind zero (x ∷ xs) =
+abbrev pub cut_after : ℕ → List ℕ → Cut
+cut_after skipped [] = record { frames = []; rest = [] }
+cut_after zero (x ∷ xs) =
     with_front (frame_prefix (x ∷ xs)) (x ∷ xs)
-    (cut_behind (length_of_rest (frame_prefix (x ∷ xs))) xs)
-cut_behind (suc skipped) (x ∷ xs) = cut_behind skipped xs
+    (cut_after (length_of_rest (frame_prefix (x ∷ xs))) xs)
+cut_after (suc skipped) (x ∷ xs) = cut_after skipped xs
 
 -- the cut of octets into complete frames and the rest
 abbrev pub cut_of : List ℕ → Cut
-cut_of octets = cut_behind 0 octets
+cut_of octets = cut_after 0 octets

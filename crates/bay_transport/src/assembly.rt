@@ -1,6 +1,6 @@
 // Assembles the octets of a stream into frames, and the data of frames into TSDUs.
 ghost use Rattle.std.specs.Prelude.{◌≡◌, ◌+◌, ◌-◌, ◌<◌, ◌≤◌, Ok, Err, [], ◌∷◌, length, take, drop, ◌++◌, IfOk, IfErr, OnErr, OnOk, IfSome, is_some};
-ghost use Rattle.bay_transport.specs.Frame.{octets_wanted};
+ghost use Rattle.bay_transport.specs.Frame.{missing_count};
 ghost use Rattle.bay_transport.specs.Connect as spec;
 ghost use Rattle.bay_transport.specs.Doings.{Fails, Refuses, effect_of, data_effect, connect_effect, alone, run_of};
 ghost use Rattle.bay_transport.specs.Assembly.{connection_of, rest_of, left_of, body_of, IsSound, HoldsFrame, HasNoRoom, run_for, FailsWhere, KeepsShown, Takes, Reaches};
@@ -168,7 +168,7 @@ impl Assembly {
         requires { IsSound self.old }
         ensures within { IfOk result (λ taken. taken ≤ length piece.now) }
         ensures moves { IfOk result (λ taken. 0 < length piece.now → 0 < taken) }
-        ensures few { IfOk result (λ taken. taken ≤ octets_wanted (rest_of self.old)) }
+        ensures few { IfOk result (λ taken. taken ≤ missing_count (rest_of self.old)) }
         ensures rest { IfOk result
             (λ taken. rest_of self.new ≡ rest_of self.old ++ take taken piece.now) }
         ensures connection { connection_of self.new ≡ connection_of self.old }

@@ -81,7 +81,7 @@ pub(crate) fn frame_prefix(octets: &[u8]) -> FramePrefix
 /// field, or, after that, those up to the end of the frame.
 pub(crate) fn missing_octets(begun: &[u8]) -> usize
     requires { spec.frame_prefix begun.now ≡ FramePrefix.Begun }
-    ensures wanted { result ≡ spec.octets_wanted begun.now }
+    ensures wanted { result ≡ spec.missing_count begun.now }
     ensures some { 0 < result }
 {
     match begun {

@@ -7,7 +7,7 @@ use Rattle.std.specs.List.{position_from}
 use Rattle.std.specs.Str.{bytes_eq}
 use Rattle.bay_tree.specs.declared.row.Row.{Row}
 use Rattle.bay_tree.specs.Names.{parent_of, is_parent, is_below}
-use Rattle.bay_tree.specs.Rows.{row_at, name_at, IsTree, IsStructureNamed, first_below, first_below_from, next_below, next_beside, places_below_from, places_below, places_behind, places_since}
+use Rattle.bay_tree.specs.Rows.{row_at, name_at, IsTree, IsStructureNamed, first_below, first_below_from, next_below, next_beside, places_below_from, places_below, places_after, places_since}
 
 -- a search that passes over rows which fail the test goes on behind them
 position_from-skip : (test : Row → Bool) (rows : List Row) (n start past : ℕ) → past ≡ start + n
@@ -127,7 +127,7 @@ pub places_below-first : (rows : List Row) (place : ℕ) (found : Option ℕ)
 places_below-first rows place found is = rw is (places_since-first rows (name_at rows place) 0)
 
 next-since : (rows : List Row) (place : ℕ) (parent : Option (List ℕ))
-    → IfSome parent (λ name. places_behind rows name place
+    → IfSome parent (λ name. places_after rows name place
     ≡ places_since rows name (next_below rows place parent))
 next-since rows place None = tt
 next-since rows place (Some name) = places_since-first rows name (place + 1)
@@ -136,7 +136,7 @@ next-since rows place (Some name) = places_since-first rows name (place + 1)
 pub places_behind-next : (rows : List Row) (place : ℕ) (found : Option ℕ)
     → found ≡ next_beside rows place
     → IfSome (parent_of (name_at rows place))
-    (λ parent. places_behind rows parent place ≡ places_since rows parent found)
+    (λ parent. places_after rows parent place ≡ places_since rows parent found)
 places_behind-next rows place found is =
     rw is (next-since rows place (parent_of (name_at rows place)))
 

@@ -112,10 +112,10 @@ abbrev pub places_below : List Row → List ℕ → List ℕ
 places_below rows parent = places_below_from 0 rows parent
 
 -- the indices of the rows below a structure that come after an index
-abbrev pub places_behind : List Row → List ℕ → ℕ → List ℕ
-places_behind rows parent place = places_below_from (place + 1) (drop (place + 1) rows) parent
+abbrev pub places_after : List Row → List ℕ → ℕ → List ℕ
+places_after rows parent place = places_below_from (place + 1) (drop (place + 1) rows) parent
 
 -- an index, and those of the later rows below a structure
 abbrev pub places_since : List Row → List ℕ → Option ℕ → List ℕ
 places_since rows parent None = []
-places_since rows parent (Some place) = place ∷ places_behind rows parent place
+places_since rows parent (Some place) = place ∷ places_after rows parent place

@@ -2,7 +2,7 @@
 ghost use Rattle.std.specs.Prelude.{ℕ, ◌+◌, ◌≡◌, ◌≢◌, ◌<◌, All, ◌≤◌, ◌↔◌, length, drop, map, Some, Ok, Err, IfOk, IsOk, OnOk, OnErr, IfErr, IfSome, IsTrue};
 ghost use Rattle.std.specs.Option.{ok_or, option_copied};
 ghost use Rattle.bay_tree.specs.Names.{IsNamed, parent_of, word_of};
-ghost use Rattle.bay_tree.specs.Rows.{IsTree, IsHandle, place_of, name_at, leaf_at, leaf_of, leaf_type_at, names_of, leaf_types_of, with_leaf, with_leaf_of, first_below_from, first_below, next_beside, places_below, places_behind, places_since};
+ghost use Rattle.bay_tree.specs.Rows.{IsTree, IsHandle, place_of, name_at, leaf_at, leaf_of, leaf_type_at, names_of, leaf_types_of, with_leaf, with_leaf_of, first_below_from, first_below, next_beside, places_below, places_after, places_since};
 ghost use Rattle.bay_tree.specs.LeafTypes.{leaf_type_of};
 ghost use Rattle.bay_tree.specs.Order.{place_if};
 ghost use Rattle.bay_tree.specs.Page.{page_after, rows_after, IsUnknown};
@@ -209,7 +209,7 @@ impl Tree {
         requires { IsHandle self.now handle }
         ensures next { result ≡ next_beside self.now handle }
         ensures rows { IfSome (parent_of (name_at self.now handle))
-            (λ parent. places_behind self.now parent handle ≡ places_since self.now parent result) }
+            (λ parent. places_after self.now parent handle ≡ places_since self.now parent result) }
         ensures after { IfSome result (λ row. (handle < row) × IsHandle self.now row) }
     {
         let index = self.links[handle.index].beside?;

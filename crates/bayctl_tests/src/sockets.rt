@@ -136,8 +136,8 @@ fn clients_of_a_link(rt: HostRuntime) -> Result<(), Fail> {
     Ok(())
 }
 
-// Of a link with a limit of 60 seconds a client fails that has sent nothing for 60 seconds since its
-// last octets, and not one that has sent some.
+// Of a link with a limit of 60 seconds a client fails that has sent nothing for 60 seconds since
+// its last octets, and not one that has sent some.
 #[test]
 fn idle_clients_of_a_link(rt: HostRuntime) -> Result<(), Fail> {
     let clock = SetClock {

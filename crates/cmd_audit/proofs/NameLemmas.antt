@@ -32,10 +32,10 @@ use Rattle.il_text.specs.Literals.{halves, is_hash}
 use Rattle.il_text.specs.Parts.{LineContent, declaring}
 use Rattle.il_text.specs.Pieces.{join, joins, pieces, without_comments}
 use Rattle.il_text.specs.Places.{last_line}
-use Rattle.il_text.specs.Reading.{lines, onto, program_of, tokens_of}
+use Rattle.il_text.specs.Reading.{lines, prepend_lexeme, program_of, tokens_of}
 use Rattle.il_text.specs.Symbols.{is_line_end, literal_piece, mark_of, mark_piece, name_or_reserved, piece, pieces_of, plain_word, word}
 use Rattle.il_text.specs.Texts.{Allowed, OnParts, OnTokens, Reads, ReadsAs, Refused, TextLine, all_parts, numbered_parts}
-use Rattle.il_text.specs.TokenForms.{Form as LineForm, nothing, spelled_names}
+use Rattle.il_text.specs.TokenForms.{Form as LineForm, no_token, spelled_names}
 use Rattle.il_text.specs.Tokens.{Symbol, name, keyword_word, mnemonic_word, mark_symbol, Piece, blank, line_end, token, bad_token, bad_literal}
 use Rattle.il_text.specs.Words.{reserved_symbol, symbol_of_word}
 use Rattle.il_text.specs.declared.literal.LiteralFault.{LiteralFault}
@@ -220,7 +220,7 @@ pieces-named (p ∷ ps) all = (piece-named p all.0, pieces-named ps all.1)
 -- ---- lines
 
 onto-named : (p : Piece) (ls : List (List Piece)) → IsPieceNamed p → Each (Each IsPieceNamed) ls
-    → Each (Each IsPieceNamed) (onto p ls)
+    → Each (Each IsPieceNamed) (prepend_lexeme p ls)
 onto-named p [] is all = ((is, tt), tt)
 onto-named p (l ∷ ls) is all = ((is, all.0), all.1)
 
@@ -276,7 +276,7 @@ declaration-named ts ps all s =
 record NamesNone (f : LineForm (List LineContent)) : Type 0 where
   are : (ts : List Symbol) (ps : List LineContent) → f.Spells ts ps → Each IsPartNamed ps
 
-none-of : (ps : List LineContent) → Each IsPartNamed ps → NamesNone (nothing ps)
+none-of : (ps : List LineContent) → Each IsPartNamed ps → NamesNone (no_token ps)
 none-of ps named = record { are = λ ts qs s. subst (Each IsPartNamed) s.1 named }
 
 acts-none : (f : LineForm Action) → NamesNone (acts f)

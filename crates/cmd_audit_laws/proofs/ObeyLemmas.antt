@@ -31,7 +31,7 @@ use Rattle.bay_server_turn.specs.declared.process_input.ProcessEvent.{ProcessEve
 use Rattle.bay_server_turn.specs.declared.process_input.ProcessEvent.TheVariants as process
 use Rattle.bay_server_turn.specs.declared.process_input.ProcessReport.{ProcessReport}
 use Rattle.bay_server_turn_laws.specs.Events.{ChosenEvent, done_at, surely, turn_events}
-use Rattle.bay_server_turn_laws.specs.Order.{AreClosings, Then, brought, opened, opened_at, read_at, told_at}
+use Rattle.bay_server_turn_laws.specs.Order.{AreClosings, Then, received_events, open_events, open_events_at, read_at, process_events}
 use Rattle.bay_server_turn_laws.proofs.OrderLemmas.{in-order}
 use Rattle.bay_server_turn_laws.proofs.PartLemmas.{Part-turn}
 use Rattle.cmd_serve.specs.Orders.{IsOrdered}
@@ -66,11 +66,11 @@ of-typed (BadMeasure k field) h = tt
 of-typed Lost h = tt
 of-typed Scan h = tt
 
-told-typed : (o : Option ProcessEvent) → IfSome o EventFits → AreTyped (told_at o)
+told-typed : (o : Option ProcessEvent) → IfSome o EventFits → AreTyped (process_events o)
 told-typed None h = All-nil IsTyped
 told-typed (Some event) h = one _ h
 
-first-typed : (given : ProcessReport) → AreTyped (told_at (first_of given))
+first-typed : (given : ProcessReport) → AreTyped (process_events (first_of given))
 first-typed given = told-typed (first_of given) (by-lost given.is_lost)
   where
     by-lost : (b : Bool) → IfSome (cond b (Some process.Lost) None) EventFits
@@ -78,7 +78,7 @@ first-typed given = told-typed (first_of given) (by-lost given.is_lost)
     by-lost false = tt
 
 opened-typed : (place : Option ℕ) (accepted : Option (Option SocketAddrV4))
-    → AreTyped (opened_at place accepted)
+    → AreTyped (open_events_at place accepted)
 opened-typed (Some place) (Some (Some from)) = one _ tt
 opened-typed (Some place) (Some None) = All-nil IsTyped
 opened-typed (Some place) None = All-nil IsTyped
@@ -87,13 +87,13 @@ opened-typed None accepted = All-nil IsTyped
 read-typed : (place : ℕ) (r : Reading) (d : State) → AreTyped (read_at place r d)
 read-typed place r d = by-open (is_some (connection_at (Some place) d))
   where
-    by-heard : (heard : ReadOutcome) → AreTyped (brought (place + 1) r.choice heard)
+    by-heard : (heard : ReadOutcome) → AreTyped (received_events (place + 1) r.choice heard)
     by-heard (Octets octets) = one _ tt
     by-heard Silence = All-nil IsTyped
     by-heard Over = one _ tt
     by-heard Broken = one _ tt
 
-    by-open : (b : Bool) → AreTyped (cond b (brought (place + 1) r.choice r.heard) [])
+    by-open : (b : Bool) → AreTyped (cond b (received_events (place + 1) r.choice r.heard) [])
     by-open true = by-heard r.heard
     by-open false = All-nil IsTyped
 
@@ -104,15 +104,15 @@ events-typed now given script h readings offers fits =
     let told = (after_turn now given script h).noted.closed in
     let why : ℕ → Bool = why_closed now given script h in
     let Last : State → List ChosenEvent → Type 0 = λ e rest. AreClosings why rest in
-    then-all now told IsTyped (λ a. tt) (opened script.accepted h.device)
+    then-all now told IsTyped (λ a. tt) (open_events script.accepted h.device)
     (Begins now given script h)
     h.device
     (turn_events now given script h)
     (opened-typed (position is_none h.device.connections) script.accepted)
-    (λ c begun begins. then-all now told IsTyped (λ a. tt) (told_at (first_of given))
+    (λ c begun begins. then-all now told IsTyped (λ a. tt) (process_events (first_of given))
     (Reads now given script h) c begun (first-typed given)
     (λ d es reads. reads-all now told IsTyped (λ a. tt) (Behind now told why given.event)
-    (λ e behind t. then-all now told IsTyped (λ a. tt) (told_at given.event)
+    (λ e behind t. then-all now told IsTyped (λ a. tt) (process_events given.event)
     (Then now told (surely Scan ∷ []) Last) e behind (told-typed given.event fits)
     (λ f later u. then-all now told IsTyped (λ a. tt) (surely Scan ∷ []) Last f later
     (one (surely Scan) tt)

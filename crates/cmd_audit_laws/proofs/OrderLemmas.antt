@@ -26,7 +26,7 @@ use Rattle.bay_server_turn_laws.proofs.GivenLemmas.{turn-brings}
 use Rattle.cmd_serve.specs.Orders.{AreOrdered, IsHeard, IsOrdered}
 use Rattle.cmd_serve.specs.Service.{DoneTurn, IsTurn}
 use Rattle.cmd_serve.proofs.FrontLemmas.{AreWithout, IsFree, IsWithout, not-told, same-events}
-use Rattle.cmd_audit_laws.specs.Orders.{brings, closed, opened, refused, scan_past, silent, turn_with}
+use Rattle.cmd_audit_laws.specs.Orders.{octets_arrived, server_without_clients, server_with_client, octets_refused, scan_past, no_octets, turn_with}
 use Rattle.cmd_audit_laws.proofs.ReleaseLemmas.{none-releases, old-releases-none}
 
 -- ---- turns in which no octets come
@@ -48,11 +48,12 @@ all-settled-free now s = settled-free now 8 s
 
 -- where nothing came of the associations from a place on
 silent-free : (now place count : ℕ) (s : TurnState)
-    → AreWithout (events_of_each (read_one now) (read_events now) place (replicate count silent) s)
+    → AreWithout (events_of_each (read_one now) (read_events now) place (replicate count no_octets)
+    s)
 silent-free now place zero s = All-nil IsFree
 silent-free now place (suc count) s =
-    All-append IsFree (read_events now place silent s) _ (by-open (is_up place s))
-    (silent-free now (place + 1) count (read_one now place silent s))
+    All-append IsFree (read_events now place no_octets s) _ (by-open (is_up place s))
+    (silent-free now (place + 1) count (read_one now place no_octets s))
   where
     by-open : (b : Bool) → AreWithout (cond b (heard_events now place None Silence s) [])
     by-open true = All-nil IsFree
@@ -116,13 +117,13 @@ heard-nowhere h t free i =
     free-in (turn_events t.now t.given t.script h) i.front (heard-event h t i) i.back free i.is
 
 pub closed-hears-none : (s : State) (octets : List ℕ) (told : Turn)
-    → IsHeard (closed s) (turn_with (brings octets) told) → ⊥
+    → IsHeard (server_without_clients s) (turn_with (octets_arrived octets) told) → ⊥
 closed-hears-none s octets told heard =
-    let h : ServerData = closed s in
-    let t : DoneTurn = turn_with (brings octets) told in
+    let h : ServerData = server_without_clients s in
+    let t : DoneTurn = turn_with (octets_arrived octets) told in
     let u : TurnState = after_first t.now t.given t.script h in
     heard-nowhere h t
-    (parts-free h t (events_of_each (read_one 0) (read_events 0) 1 (replicate 7 silent) u)
+    (parts-free h t (events_of_each (read_one 0) (read_events 0) 1 (replicate 7 no_octets) u)
     (silent-free 0 1 7 u)) heard
 
 accept-none : (now : ℕ) (place : Option ℕ) (s : TurnState)
@@ -131,13 +132,13 @@ accept-none now None s = All-nil IsFree
 accept-none now (Some place) s = All-nil IsFree
 
 pub silent-orders-none : (first : State) (h : ServerData) (told : Turn) (past : List Past)
-    (command : Command) → IsOrdered first h (turn_with silent told) past command → ⊥
+    (command : Command) → IsOrdered first h (turn_with no_octets told) past command → ⊥
 silent-orders-none first h told past command o =
-    let t : DoneTurn = turn_with silent told in
+    let t : DoneTurn = turn_with no_octets told in
     let accepts : List ChosenEvent = accept_events_at 0 (free_place h) None (turn_begin h) in
     let u : TurnState = after_first t.now t.given t.script h in
     let reads : List ChosenEvent =
-    events_of_each (read_one 0) (read_events 0) 0 (replicate 8 silent) u in
+    events_of_each (read_one 0) (read_events 0) 0 (replicate 8 no_octets) u in
     heard-nowhere h t (parts-free h t (accepts ++ [] ++ reads)
     (All-append IsFree (accepts ++ []) reads
     (All-append IsFree accepts [] (accept-none 0 (free_place h) (turn_begin h)) (All-nil IsFree))
@@ -178,28 +179,29 @@ module _ (s : State) (choice : Option ℕ) (octets : List ℕ) (told : Turn) whe
   turn = turn_with (record { heard = Octets octets; choice = choice }) told
 
   abbrev events : List ChosenEvent
-  events = turn_events turn.now turn.given turn.script (opened s)
+  events = turn_events turn.now turn.given turn.script (server_with_client s)
 
   behind-free : AreWithout (drop 1 events)
   behind-free =
       let t : TurnState =
-      after_octets 0 0 choice octets (after_first turn.now turn.given turn.script (opened s)) in
+      after_octets 0 0 choice octets
+      (after_first turn.now turn.given turn.script (server_with_client s)) in
       let u : TurnState = after_settling 0 t in
       let later : List ChosenEvent =
-      events_of_each (read_one 0) (read_events 0) 1 (replicate 7 silent) u in
-      parts-free (opened s) turn (settled_events 0 t ++ later)
+      events_of_each (read_one 0) (read_events 0) 1 (replicate 7 no_octets) u in
+      parts-free (server_with_client s) turn (settled_events 0 t ++ later)
       (All-append IsFree (settled_events 0 t) later (all-settled-free 0 t) (silent-free 0 1 7 u))
 
   abbrev came : ChosenEvent
   came = (choice, Recv 1 (borrowed octets))
 
   -- they come first, and none do later
-  only-heard : (i : IsHeard (opened s) turn)
-      → (i.front ≡ []) × (heard-event (opened s) turn i ≡ came)
+  only-heard : (i : IsHeard (server_with_client s) turn)
+      → (i.front ≡ []) × (heard-event (server_with_client s) turn i ≡ came)
   only-heard i = by-front i.front i.is
     where
       it : ChosenEvent
-      it = heard-event (opened s) turn i
+      it = heard-event (server_with_client s) turn i
 
       by-front : (front : List ChosenEvent) → events ≡ front ++ it ∷ i.back
           → (front ≡ []) × (it ≡ came)
@@ -211,10 +213,10 @@ module _ (s : State) (choice : Option ℕ) (octets : List ℕ) (told : Turn) whe
           absurd (free-in (drop 1 events) front it i.back behind-free rest)
 
 pub is-heard : (s : State) (octet : ℕ) (octets : List ℕ) (told : Turn)
-    → IsHeard (opened s) (turn_with (brings (octet ∷ octets)) told)
+    → IsHeard (server_with_client s) (turn_with (octets_arrived (octet ∷ octets)) told)
 is-heard s octet octets told =
-    let h : ServerData = opened s in
-    let t : DoneTurn = turn_with (brings (octet ∷ octets)) told in
+    let h : ServerData = server_with_client s in
+    let t : DoneTurn = turn_with (octets_arrived (octet ∷ octets)) told in
     let back : List ChosenEvent = drop 1 (turn_events t.now t.given t.script h) in
     record {
       front = [];
@@ -276,13 +278,15 @@ low-none : (k n : ℕ) → k < n → n ≡ 0 → ⊥
 low-none k n low none = omega (arith, low, none)
 
 pub part-orders-none : (first s : State) (told : Turn) (past : List Past) (command : Command)
-    → IsOrdered first (opened s) (turn_with (brings (3 ∷ [])) told) past command → ⊥
+    → IsOrdered first (server_with_client s) (turn_with (octets_arrived (3 ∷ [])) told) past command
+    → ⊥
 part-orders-none first s told past command o =
-    let d : State = (opened s).device in
+    let d : State = (server_with_client s).device in
     let i = o.heard in
     let only = only-heard s None (3 ∷ []) told i in
     let own = recv-same (ap (λ (e : ChosenEvent). e.1) only.1) in
-    let here : connection_state_at (place_of 1) (opened s).device.connections ≡ Some o.talk =
+    let here : connection_state_at (place_of 1) (server_with_client s).device.connections
+    ≡ Some o.talk =
     subst (λ es. connection_state_at (place_of 1) (done_at 0 es d).after.connections ≡ Some o.talk)
     only.0
     (subst (λ a. connection_state_at (place_of a) (done_at 0 i.front d).after.connections
@@ -296,10 +300,11 @@ ok-same x y is = cc
 
 pub refused-orders-none : (first s : State) (octet : ℕ) (octets : List ℕ)
     (told : Turn) (past : List Past) (command : Command)
-    → IsOrdered first (opened s) (turn_with (refused (octet ∷ octets)) told) past command
+    → IsOrdered first (server_with_client s) (turn_with (octets_refused (octet ∷ octets)) told) past
+    command
     → ⊥
 refused-orders-none first s octet octets told past command o =
-    let d : State = (opened s).device in
+    let d : State = (server_with_client s).device in
     let i = o.heard in
     let only = only-heard s (Some 0) (octet ∷ octets) told i in
     let here : (outcome i.choice 0 (Recv i.association i.octets) d).answer ≡ Ok i.step =
@@ -322,6 +327,6 @@ quiet-are-ordered first h t u past none more = (
 -- of turns of which the last tells a command and has no octets
 pub unordered : (first : State) (h : ServerData) (t : DoneTurn) (told : Turn) (past : List Past)
     (command : Command) → Contains told.commands command
-    → AreOrdered first h past (t ∷ turn_with silent told ∷ []) → ⊥
+    → AreOrdered first h past (t ∷ turn_with no_octets told ∷ []) → ⊥
 unordered first h t told past command has all =
     silent-orders-none first _ told _ command (all.1.0 command has)

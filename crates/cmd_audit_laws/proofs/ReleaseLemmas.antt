@@ -9,13 +9,13 @@ use Rattle.bay_tree.specs.Rows.{leaf_of}
 use Rattle.bay_tree.specs.declared.leaf.Leaf.{Leaf}
 use Rattle.bay_tree.specs.declared.leaf.Leaf.TheVariants as leaf
 use Rattle.bay_tree.specs.declared.row.Row.{Row}
-use Rattle.bay_mms_services.specs.Released.{releasing}
+use Rattle.bay_mms_services.specs.Released.{enable_name}
 use Rattle.bay_mms_services.specs.declared.answer.Command.{Command}
 use Rattle.bay_device.specs.Device.{State}
 use Rattle.bay_device.specs.Fresh.{IsSameProcess, Past}
 use Rattle.bay_device.specs.declared.event.Step.{Step}
 use Rattle.cmd_serve.specs.Orders.{IsReleasedBy}
-use Rattle.cmd_audit_laws.specs.Orders.{contact_past, enabling, lost_past, opens, scan_past}
+use Rattle.cmd_audit_laws.specs.Orders.{contact_past, with_enable_value, lost_past, open_command, scan_past}
 
 -- ---- where a part of a list of one or two stands
 
@@ -48,10 +48,10 @@ at-own-name name value =
     ((bytes_decides name name).1 refl)
 
 is-enabled : (b : Bool) (s : State)
-    → is_truth true (leaf_of (releasing 0 operation.Open) (enabling b s).rows)
+    → is_truth true (leaf_of (enable_name 0 operation.Open) (with_enable_value b s).rows)
     ≡ is_truth true (Some (leaf.Truth b))
 is-enabled b s =
-    ap (is_truth true) (at-own-name (releasing 0 operation.Open) (leaf.Truth b))
+    ap (is_truth true) (at-own-name (enable_name 0 operation.Open) (leaf.Truth b))
 
 same-process : (s : State) → IsSameProcess s s
 same-process s = record {
@@ -61,39 +61,41 @@ same-process s = record {
 }
 
 pub scan-releases : (s : State) (step : Step) (age : ℕ)
-    → IsReleasedBy age age (scan_past (enabling true s) step ∷ []) (enabling true s) opens
+    → IsReleasedBy age age (scan_past (with_enable_value true s) step ∷ [])
+    (with_enable_value true s) open_command
 scan-releases s step age = record {
   scan = record {
     since = [];
-    scan = scan_past (enabling true s) step;
+    scan = scan_past (with_enable_value true s) step;
     earlier = [];
     split = refl;
     scanned = refl;
     done = refl;
     recent = omega arith;
-    unchanged = All-nil (λ (p : Past). IsSameProcess (enabling true s) p.after);
+    unchanged = All-nil (λ (p : Past). IsSameProcess (with_enable_value true s) p.after);
     heard = refl;
   };
   last = All-nil (λ (p : Past). IfOk p.answer (λ step. step.scan ≡ None));
   enabled = is-enabled true s;
-  unchanged = same-process (enabling true s);
+  unchanged = same-process (with_enable_value true s);
 }
 
 pub unchanged-releases : (s t : State) (step : Step) (age : ℕ)
-    → IsSameProcess (enabling true s) t
-    → IsReleasedBy age age (contact_past t step ∷ scan_past (enabling true s) step ∷ []) t opens
+    → IsSameProcess (with_enable_value true s) t
+    → IsReleasedBy age age (contact_past t step ∷ scan_past (with_enable_value true s) step ∷ []) t
+    open_command
 unchanged-releases s t step age same = record {
   scan = record {
     since = contact_past t step ∷ [];
-    scan = scan_past (enabling true s) step;
+    scan = scan_past (with_enable_value true s) step;
     earlier = [];
     split = refl;
     scanned = refl;
     done = refl;
     recent = omega arith;
-    unchanged = All-cons (λ (p : Past). IsSameProcess (enabling true s) p.after)
+    unchanged = All-cons (λ (p : Past). IsSameProcess (with_enable_value true s) p.after)
         (contact_past t step) [] same
-        (All-nil (λ (p : Past). IsSameProcess (enabling true s) p.after));
+        (All-nil (λ (p : Past). IsSameProcess (with_enable_value true s) p.after));
     heard = refl;
   };
   last = All-cons (λ (p : Past). IfOk p.answer (λ step. step.scan ≡ None)) (contact_past t step) []
@@ -109,30 +111,32 @@ none-releases s now age command h =
 
 -- the scan that releases a command to open did not leave EnaOpn FALSE
 not-blocked : (now age : ℕ) (past : List Past) (s t : State) (step : Step)
-    → (h : IsReleasedBy now age past t opens)
-    → h.scan.scan ≡ scan_past (enabling false s) step → ⊥
+    → (h : IsReleasedBy now age past t open_command)
+    → h.scan.scan ≡ scan_past (with_enable_value false s) step → ⊥
 not-blocked now age past s t step h is =
-    let enabled : is_truth true (leaf_of (releasing 0 operation.Open) (enabling false s).rows)
+    let enabled : is_truth true
+    (leaf_of (enable_name 0 operation.Open) (with_enable_value false s).rows)
     ≡ true =
-    subst (λ (p : Past). is_truth true (leaf_of (releasing 0 operation.Open) p.after.rows) ≡ true)
+    subst (λ (p : Past). is_truth true (leaf_of (enable_name 0 operation.Open) p.after.rows) ≡ true)
     is
     h.enabled in
     let no : is_truth true (Some (leaf.Truth false)) ≡ true = sym (is-enabled false s) ∙ enabled in
     absurd cc
 
 pub blocked-releases-none : (s t : State) (step : Step) (now age : ℕ)
-    → IsReleasedBy now age (scan_past (enabling false s) step ∷ []) t opens → ⊥
+    → IsReleasedBy now age (scan_past (with_enable_value false s) step ∷ []) t open_command → ⊥
 blocked-releases-none s t step now age h =
-    let p : Past = scan_past (enabling false s) step in
+    let p : Past = scan_past (with_enable_value false s) step in
     not-blocked now age (p ∷ []) s t step h
     (one-there p h.scan.since h.scan.earlier h.scan.scan h.scan.split).0
 
 pub earlier-releases-none : (s t : State) (step : Step) (now age : ℕ)
     → IsReleasedBy now age
-    (scan_past (enabling false s) step ∷ scan_past (enabling true s) step ∷ []) t opens → ⊥
+    (scan_past (with_enable_value false s) step ∷ scan_past (with_enable_value true s) step ∷ []) t
+    open_command → ⊥
 earlier-releases-none s t step now age h =
-    let p : Past = scan_past (enabling false s) step in
-    let q : Past = scan_past (enabling true s) step in
+    let p : Past = scan_past (with_enable_value false s) step in
+    let q : Past = scan_past (with_enable_value true s) step in
     let Unscanned : Past → Type 0 = λ r. IfOk r.answer (λ step. step.scan ≡ None) in
     ⊎_elim (λ (is : h.scan.scan ≡ p). not-blocked now age (p ∷ q ∷ []) s t step h is)
     (λ (is : h.scan.since ≡ p ∷ []).
@@ -150,11 +154,11 @@ old-releases-none s t step age command h =
     omega (arith, late)
 
 pub lost-releases-none : (s t : State) (step : Step) (now age : ℕ)
-    → IsReleasedBy now age (lost_past t step ∷ scan_past s step ∷ []) t opens → ⊥
+    → IsReleasedBy now age (lost_past t step ∷ scan_past s step ∷ []) t open_command → ⊥
 lost-releases-none s t step now age h = let no : false ≡ true = h.scan.heard in absurd cc
 
 pub changed-releases-none : (s t : State) (step : Step) (now age : ℕ) → (IsSameProcess s t → ⊥)
-    → IsReleasedBy now age (scan_past s step ∷ []) t opens → ⊥
+    → IsReleasedBy now age (scan_past s step ∷ []) t open_command → ⊥
 changed-releases-none s t step now age differs h =
     let is : h.scan.scan ≡ scan_past s step =
     (one-there (scan_past s step) h.scan.since h.scan.earlier h.scan.scan h.scan.split).0 in

@@ -10,7 +10,7 @@ use Rattle.bay_nodes.specs.declared.switch.Operation.{Operation}
 use Rattle.bay_nodes.specs.declared.switch.Operation.TheVariants as operations
 use Rattle.bay_nodes.specs.declared.switch.Switch.{Switch}
 use Rattle.bay_audit_rules.specs.Grammar.{Spells}
-use Rattle.bay_audit_rules.specs.Meaning.{LineRead, LinesRead, TextRead, TokensRead, is_blank_piece, is_comment, is_line_end, line_tokens, onto, operations_of, rule_of, rules_of, some_rule, template_of, timing_of, tokens_of}
+use Rattle.bay_audit_rules.specs.Meaning.{LineRead, LinesRead, TextRead, TokensRead, is_blank_piece, is_comment, is_line_end, line_tokens, prepend_rules, operations_of, rule_of, rules_of, some_rule, template_of, timing_of, tokens_of}
 use Rattle.bay_audit_rules.specs.Numbers.{number_in, time_in}
 use Rattle.bay_audit_rules.specs.Pieces.{pieces}
 use Rattle.bay_audit_rules.specs.Words.{is_name, known_of, literal_of, named_in, other_of, token_of, word_of, words}
@@ -195,7 +195,7 @@ module _ (bay : Bay) where
   both-there (rule ∷ rules) more h k = (h.0, both-there rules more h.1 k)
 
   onto-there : (rules : List Rule) (r : Result (List Rule) RuleFault) → AreThere count rules
-      → IfOk r (AreThere count) → IfOk (onto rules r) (AreThere count)
+      → IfOk r (AreThere count) → IfOk (prepend_rules rules r) (AreThere count)
   onto-there rules (Ok more) h k = both-there rules more h k
   onto-there rules (Err fault) h k = tt
 

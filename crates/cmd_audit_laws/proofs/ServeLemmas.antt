@@ -79,12 +79,14 @@ module _ {L H : Type 0} (acts : H → HostCall L → H → Type 0) where
     where
       by-had : (had : Result L BindFault)
           → MatchResult had
-          (λ other. IsBound records s link (Some (record { link = other; port = begun tells duties }))
+          (λ other. IsBound records s link
+          (Some (record { link = other; port = begun tells duties }))
           (Ok ports)) (λ fault. (let r : Result (Bound L) ServeStartFault = Ok ports in r)
           ≡ Err (unserved.Unbound port fault))
           → ports.server ≡ made_of s
       by-had (Ok other) is =
-          is-made records s link (Some (record { link = other; port = begun tells duties })) ports is
+          is-made records s link (Some (record { link = other; port = begun tells duties })) ports
+          is
       by-had (Err fault) is = absurd cc
 
   pub ports-made : (numbers : Numbers) (duties : Option SupervisionSettings) (s : State)

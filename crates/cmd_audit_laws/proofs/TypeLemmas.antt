@@ -21,14 +21,14 @@ use Rattle.bay_process_port.specs.declared.supervision.ProcessMessage.{ProcessMe
 use Rattle.bay_process_port.specs.declared.supervision.ProcessMessage.TheVariants.{Introduces}
 use Rattle.bay_process_port.specs.declared.supervision.TimedMessage.{TimedMessage}
 use Rattle.bay_process_port.proofs.WatchLemmas.{line-judged}
-use Rattle.bay_server_turn.specs.Served.{TurnInput, turn_input_of_line, process_event as served_event, reported_in, is_loss_line, event_in_line, understood}
-use Rattle.bay_server_turn.specs.Supervised.{stripped, timed_by, timed_event, timed_line_of}
+use Rattle.bay_server_turn.specs.Served.{TurnInput, turn_input_of_line, process_event as served_event, reported_in, is_loss_line, event_in_line, input_of_event}
+use Rattle.bay_server_turn.specs.Supervised.{text_without_end, timed_by, timed_event, timed_line_of}
 use Rattle.bay_server_turn.specs.Turns.{event_of as event_in_turn}
 use Rattle.bay_server_turn.specs.declared.process_input.ProcessEvent.{ProcessEvent}
 use Rattle.bay_server_turn.specs.declared.supervised.TimedLine.{TimedLine}
 use Rattle.bay_server.specs.ServeReport.{PollOutcome, from_trace, with_loss}
 use Rattle.bay_trace.specs.Resolving.{placed_event}
-use Rattle.bay_trace.specs.Trace.{LineData, NamedData, association_event_of, association_of, at_moment, bad_measure, blank, connects, contact, disconnects, event_of, field_of, first_number, input, is_association_verb, is_space, lost, measure, measure_of, name_of, named_of, only_word, process_of, process_event, read_integer, received_of, receives, scan, told_of, trace_line_of, words_line}
+use Rattle.bay_trace.specs.Trace.{LineData, NamedData, association_event_of, association_of, at_moment, bad_measure, blank, connects, contact, disconnects, event_of, field_of, first_number, input, is_association_verb, is_space, lost, measure, measure_of, name_of, named_of, only_word, process_of, process_event, read_integer, received_of, receives, scan, measure_event_of, trace_line_of, words_line}
 use Rattle.bay_trace.specs.Digits.{octets_of}
 use Rattle.cmd_audit_laws.proofs.OptionLemmas.{cond-some, map-some, then-some}
 
@@ -81,7 +81,7 @@ LineFits blank = Unit {0}
 LineFits (at_moment moment named) = NamedFits named
 
 told-fits : (id : List ℕ) (field : MeterField) (word : List ℕ)
-    → IfSome (told_of id field word) NamedFits
+    → IfSome (measure_event_of id field word) NamedFits
 told-fits id field word =
     cond-some NamedFits (bytes_eq word (codes "bad")) (Some (bad_measure id field))
     (option_map (measure id field) (read_integer word)) tt
@@ -95,8 +95,9 @@ told-fits id field word =
 measure-fits : (id : List ℕ) (words : List (List ℕ)) → IfSome (measure_of id words) NamedFits
 measure-fits id [] = tt
 measure-fits id (field ∷ told) =
-    then-some NamedFits (λ f. option_and_then (told_of id f) (only_word told)) (field_of field)
-    (λ f. then-some NamedFits (told_of id f) (only_word told) (told-fits id f))
+    then-some NamedFits (λ f. option_and_then (measure_event_of id f) (only_word told))
+    (field_of field)
+    (λ f. then-some NamedFits (measure_event_of id f) (only_word told) (told-fits id f))
 
 named-fits : (verb name : List ℕ) (values : List (List ℕ))
     → IfSome (named_of verb name values) NamedFits
@@ -215,13 +216,13 @@ GivenFits given = IfSome (reported_in given).event EventFits
 given-fits : (s : State) (text : List ℕ) → GivenFits (turn_input_of_line s text)
 given-fits s text = by-lost (is_loss_line (trace_line_of text))
   where
-    by-told : (o : Option ProcessEvent) → IfSome o EventFits → GivenFits (understood o)
+    by-told : (o : Option ProcessEvent) → IfSome o EventFits → GivenFits (input_of_event o)
     by-told None h = tt
     by-told (Some event) h = h
 
     by-lost : (b : Bool)
         → GivenFits (cond b (Ok (record { is_lost = true; event = None }))
-        (understood (event_in_line s text)))
+        (input_of_event (event_in_line s text)))
     by-lost true = tt
     by-lost false = by-told (event_in_line s text) (told-by-fits s text)
 
@@ -239,7 +240,7 @@ abbrev TimedFits : TimedLine → Type 0
 TimedFits timed = IfSome timed.event EventFits
 
 timed-fits : (s : State) (line : List ℕ) → IfSome (timed_line_of s line) TimedFits
-timed-fits s line = by-end (stripped (codes " alive") line)
+timed-fits s line = by-end (text_without_end (codes " alive") line)
   where
     by-event : (moment : ℕ) (o : Option ProcessEvent) → IfSome o EventFits
         → IfSome

@@ -25,7 +25,7 @@ use Rattle.bay_server_turn_laws.specs.Events.{ChosenEvent, done_at, turn_events}
 use Rattle.bay_server_turn_laws.proofs.PartLemmas.{Part-turn}
 use Rattle.cmd_serve.specs.Service.{AreTurns, DoneTurn, held_behind, past_behind}
 use Rattle.il_image.specs.Images.{Image}
-use Rattle.cmd_audit_laws.specs.Waits.{OrdersWait, PastWaits, scans_behind, scans_of}
+use Rattle.cmd_audit_laws.specs.Waits.{OrdersWait, PastWaits, scans_after_events, scans_of}
 use Rattle.cmd_audit_laws.proofs.ObeyLemmas.{AreGiven, AreTyped, IsTyped, events-typed, of-typed}
 use Rattle.cmd_audit_laws.proofs.SoundLemmas.{Steady, steady-halts, steady-on}
 
@@ -60,7 +60,7 @@ module _ (bay : Bay) (image : Image) (rule : Rule) (timing : Timing) (n : ℕ) (
 
   ready-events : (now : ℕ) (es : List ChosenEvent) (s : State) (scans : List (ℕ × Bool))
       → AreTyped es → Ready scans s
-      → Ready (scans_behind timing.condition now es s scans) (done_at now es s).after
+      → Ready (scans_after_events timing.condition now es s scans) (done_at now es s).after
   ready-events now [] s scans typed r = r
   ready-events now (e ∷ es) s scans typed r =
       let o = outcome e.0 now e.1 s in
@@ -77,10 +77,10 @@ module _ (bay : Bay) (image : Image) (rule : Rule) (timing : Timing) (n : ℕ) (
       let events = turn_events t.now t.given t.script h in
       let typed : AreTyped events =
       events-typed t.now t.given t.script h are.0.all_read are.0.all_offered given.0 in
-      let behind = scans_behind timing.condition t.now events h.device scans in (
+      let behind = scans_after_events timing.condition t.now events h.device scans in (
         λ command o.
             has-waited bay image rule timing n is_bay there bears
-            (scans_behind timing.condition t.now o.heard.front h.device scans) t.now
+            (scans_after_events timing.condition t.now o.heard.front h.device scans) t.now
             (done_at t.now o.heard.front h.device).after command
             (ready-events t.now o.heard.front h.device scans
             (All-weaker (λ (e : ChosenEvent). OfAssociation e.1) IsTyped (λ e of. of-typed e.1 of)

@@ -3,7 +3,7 @@ use Rattle.std.specs.Prelude.{ℕ, Bool, false, List, [], ◌∷◌, replicate, 
 use Rattle.bay_nodes.specs.declared.switch.Operation.TheVariants.{Open}
 use Rattle.bay_tree.specs.declared.leaf.Dbpos.TheVariants.{Off}
 use Rattle.bay_tree.specs.declared.leaf.Leaf.TheVariants as leaf
-use Rattle.bay_mms_services.specs.Released.{releasing}
+use Rattle.bay_mms_services.specs.Released.{enable_name}
 use Rattle.bay_mms_services.specs.declared.answer.Command.{Command}
 use Rattle.bay_device.specs.Device.{State}
 use Rattle.bay_device.specs.Fresh.{Past}
@@ -18,13 +18,13 @@ use Rattle.cmd_serve.specs.Service.{DoneTurn}
 -- ---- scans
 
 -- the command to open switch 0
-abbrev pub opens : Command
-opens = record { switch = 0; operation = Open }
+abbrev pub open_command : Command
+open_command = record { switch = 0; operation = Open }
 
 -- the device in whose tree EnaOpn of switch 0 has this value, and nothing else
-abbrev pub enabling : Bool → State → State
-enabling b s = record s {
-  rows = record { name = releasing 0 Open; leaf = Some (leaf.Truth b) } ∷ [];
+abbrev pub with_enable_value : Bool → State → State
+with_enable_value b s = record s {
+  rows = record { name = enable_name 0 Open; leaf = Some (leaf.Truth b) } ∷ [];
 }
 
 -- a scan at moment 0 that was accepted, and the device after it
@@ -52,29 +52,29 @@ lost_past s step = record { now = 0; event = Lost; answer = Ok step; after = s }
 -- ---- turns
 
 -- a server on which association 1 alone is open, and none of its octets has arrived yet
-abbrev pub opened : State → ServerData
-opened s = record {
+abbrev pub server_with_client : State → ServerData
+server_with_client s = record {
   device = record s { moment = 0; connections = Some (initial_connection 1) ∷ replicate 7 None };
   queues = replicate 8 [];
 }
 
 -- a server on which no association is open
-abbrev pub closed : State → ServerData
-closed s = record (opened s) {
-  device = record (opened s).device { connections = replicate 8 None };
+abbrev pub server_without_clients : State → ServerData
+server_without_clients s = record (server_with_client s) {
+  device = record (server_with_client s).device { connections = replicate 8 None };
 }
 
 -- no octets of an association arrived
-abbrev pub silent : Reading
-silent = record { heard = Silence; choice = None }
+abbrev pub no_octets : Reading
+no_octets = record { heard = Silence; choice = None }
 
 -- these octets arrived
-abbrev pub brings : List ℕ → Reading
-brings octets = record { heard = Octets octets; choice = None }
+abbrev pub octets_arrived : List ℕ → Reading
+octets_arrived octets = record { heard = Octets octets; choice = None }
 
 -- these octets arrived, and memory runs out for their first indication
-abbrev pub refused : List ℕ → Reading
-refused octets = record { heard = Octets octets; choice = Some 0 }
+abbrev pub octets_refused : List ℕ → Reading
+octets_refused octets = record { heard = Octets octets; choice = Some 0 }
 
 -- a turn in which association 1 brought this, and nothing else happened but a scan
 abbrev pub turn_with : Reading → Turn → DoneTurn
@@ -83,7 +83,7 @@ turn_with reading told = record {
   given = record { is_lost = false; event = None };
   script = record {
     accepted = None;
-    readings = reading ∷ replicate 7 silent;
+    readings = reading ∷ replicate 7 no_octets;
     offers = replicate 8 (record { takes = []; fails = false });
   };
   told = told;

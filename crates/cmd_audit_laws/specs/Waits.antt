@@ -17,12 +17,12 @@ use Rattle.cmd_serve.specs.Service.{DoneTurn, held_behind, past_behind}
 -- ---- turns
 
 -- the scans after these events, at this moment
-abbrev pub scans_behind : List ConditionItem → ℕ → List ChosenEvent → State → List (ℕ × Bool)
+abbrev pub scans_after_events : List ConditionItem → ℕ → List ChosenEvent → State → List (ℕ × Bool)
     → List (ℕ × Bool)
-scans_behind condition now [] s scans = scans
-scans_behind condition now (e ∷ es) s scans =
+scans_after_events condition now [] s scans = scans
+scans_after_events condition now (e ∷ es) s scans =
     let o = outcome e.0 now e.1 s in
-    scans_behind condition now es o.after (scans_after condition now e.1 s o.answer scans)
+    scans_after_events condition now es o.after (scans_after condition now e.1 s o.answer scans)
 
 -- For each command of one of the turns, however it was ordered, at the device just before the
 -- client's octets: if the rule applies to what the process had last reported, its condition had
@@ -32,10 +32,11 @@ abbrev pub OrdersWait : Rule → Timing → State → ServerData → List (ℕ �
 OrdersWait rule timing first h scans past [] = Unit {0}
 OrdersWait rule timing first h scans past (t ∷ ts) =
     ((command : Command) (o : IsOrdered first h t past command)
-    → HasWaited rule timing (scans_behind timing.condition t.now o.heard.front h.device scans)
+    → HasWaited rule timing (scans_after_events timing.condition t.now o.heard.front h.device scans)
     (done_at t.now o.heard.front h.device).after command)
     × OrdersWait rule timing first (held_behind t h)
-    (scans_behind timing.condition t.now (turn_events t.now t.given t.script h) h.device scans)
+    (scans_after_events timing.condition t.now (turn_events t.now t.given t.script h) h.device
+    scans)
     (past_behind t.now (turn_events t.now t.given t.script h) h.device past) ts
 
 -- ---- a history

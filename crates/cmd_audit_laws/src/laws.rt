@@ -6,7 +6,7 @@ ghost use Rattle.bay_mms_services.specs.declared.answer.Command.{Command};
 ghost use Rattle.bay_device.specs.Device.{State};
 ghost use Rattle.bay_device.specs.Fresh.{IsSameProcess, Past};
 ghost use Rattle.bay_device.specs.declared.event.Step.{Step};
-ghost use Rattle.cmd_audit_laws.specs.Orders.{brings, closed, contact_past, enabling, lost_past, opened, opens, refused, scan_past, silent, turn_with};
+ghost use Rattle.cmd_audit_laws.specs.Orders.{octets_arrived, server_without_clients, contact_past, with_enable_value, lost_past, server_with_client, open_command, octets_refused, scan_past, no_octets, turn_with};
 ghost use Rattle.cmd_audit_laws.specs.Replayed.{ReplayedCommandsObey};
 ghost use Rattle.cmd_audit_laws.specs.Served.{ServedCommandsObey};
 ghost use Rattle.cmd_audit_laws.specs.Told.{HoldsAreAudited};
@@ -65,23 +65,26 @@ pub fn printed_holds_are_audited()
 /// had TRUE. Nor does a scan if the process was lost since then, or reports something else.
 pub fn the_last_scan_releases_a_command()
     ensures released { (s : State) (step : Step) (age : ℕ)
-        → IsReleasedBy age age (scan_past (enabling true s) step ∷ []) (enabling true s) opens }
+        → IsReleasedBy age age (scan_past (with_enable_value true s) step ∷ [])
+        (with_enable_value true s) open_command }
     ensures unchanged { (s t : State) (step : Step) (age : ℕ)
-        → IsSameProcess (enabling true s) t
+        → IsSameProcess (with_enable_value true s) t
         → IsReleasedBy age age
-        (contact_past t step ∷ scan_past (enabling true s) step ∷ []) t opens }
-    ensures unscanned { (s : State) (now age : ℕ) → IsReleasedBy now age [] s opens → ⊥ }
+        (contact_past t step ∷ scan_past (with_enable_value true s) step ∷ []) t open_command }
+    ensures unscanned { (s : State) (now age : ℕ) → IsReleasedBy now age [] s open_command → ⊥ }
     ensures blocked { (s t : State) (step : Step) (now age : ℕ)
-        → IsReleasedBy now age (scan_past (enabling false s) step ∷ []) t opens → ⊥ }
+        → IsReleasedBy now age (scan_past (with_enable_value false s) step ∷ []) t open_command
+        → ⊥ }
     ensures earlier { (s t : State) (step : Step) (now age : ℕ)
         → IsReleasedBy now age
-        (scan_past (enabling false s) step ∷ scan_past (enabling true s) step ∷ []) t opens → ⊥ }
+        (scan_past (with_enable_value false s) step ∷ scan_past (with_enable_value true s) step
+        ∷ []) t open_command → ⊥ }
     ensures old { (s t : State) (step : Step) (age : ℕ)
-        → IsReleasedBy (age + 1) age (scan_past s step ∷ []) t opens → ⊥ }
+        → IsReleasedBy (age + 1) age (scan_past s step ∷ []) t open_command → ⊥ }
     ensures lost { (s t : State) (step : Step) (now age : ℕ)
-        → IsReleasedBy now age (lost_past t step ∷ scan_past s step ∷ []) t opens → ⊥ }
+        → IsReleasedBy now age (lost_past t step ∷ scan_past s step ∷ []) t open_command → ⊥ }
     ensures changed { (s t : State) (step : Step) (now age : ℕ) → (IsSameProcess s t → ⊥)
-        → IsReleasedBy now age (scan_past s step ∷ []) t opens → ⊥ }
+        → IsReleasedBy now age (scan_past s step ∷ []) t open_command → ⊥ }
 {}
 
 /// Octets are heard if they arrive on an open association, and not if none is open. No command is
@@ -94,16 +97,18 @@ pub fn the_last_scan_releases_a_command()
 /// ordered.
 pub fn a_reported_command_needs_each_of_its_parts()
     ensures heard { (s : State) (octet : ℕ) (octets : List ℕ) (told : Turn)
-        → IsHeard (opened s) (turn_with (brings (octet ∷ octets)) told) }
-    ensures closed { (s : State) (octets : List ℕ) (told : Turn)
-        → IsHeard (closed s) (turn_with (brings octets) told) → ⊥ }
-    ensures silent { (first : State) (h : ServerData) (told : Turn) (past : List Past)
-        (command : Command) → IsOrdered first h (turn_with silent told) past command → ⊥ }
+        → IsHeard (server_with_client s) (turn_with (octets_arrived (octet ∷ octets)) told) }
+    ensures server_without_clients { (s : State) (octets : List ℕ) (told : Turn)
+        → IsHeard (server_without_clients s) (turn_with (octets_arrived octets) told) → ⊥ }
+    ensures no_octets { (first : State) (h : ServerData) (told : Turn) (past : List Past)
+        (command : Command) → IsOrdered first h (turn_with no_octets told) past command → ⊥ }
     ensures part { (first s : State) (told : Turn) (past : List Past) (command : Command)
-        → IsOrdered first (opened s) (turn_with (brings (3 ∷ [])) told) past command → ⊥ }
-    ensures refused { (first s : State) (octet : ℕ) (octets : List ℕ) (told : Turn)
+        → IsOrdered first (server_with_client s) (turn_with (octets_arrived (3 ∷ [])) told) past
+        command → ⊥ }
+    ensures octets_refused { (first s : State) (octet : ℕ) (octets : List ℕ) (told : Turn)
         (past : List Past) (command : Command)
-        → IsOrdered first (opened s) (turn_with (refused (octet ∷ octets)) told) past
+        → IsOrdered first (server_with_client s) (turn_with (octets_refused (octet ∷ octets)) told)
+        past
         command → ⊥ }
     ensures unscanned { (first : State) (h : ServerData) (t : DoneTurn) (command : Command)
         → IsOrdered first h t [] command → ⊥ }
@@ -120,5 +125,5 @@ pub fn a_reported_command_needs_each_of_its_parts()
         → t.told.commands ≡ [] → u.told.commands ≡ [] → AreOrdered first h past (t ∷ u ∷ []) }
     ensures unordered { (first : State) (h : ServerData) (t : DoneTurn) (told : Turn)
         (past : List Past) (command : Command) → Contains told.commands command
-        → AreOrdered first h past (t ∷ turn_with silent told ∷ []) → ⊥ }
+        → AreOrdered first h past (t ∷ turn_with no_octets told ∷ []) → ⊥ }
 {}

@@ -2,7 +2,7 @@
 use Rattle.std.proofs.Common.{◌≡◌, ℕ, ◌+◌, ◌-◌, true, false, cond, List, ◌∷◌, ◌++◌, length, take, refl, ap, sym, ◌∙◌, arith, append_assoc, append-nil, length-append, Option, None, Some, option_map, []}
 use Rattle.std.proofs.Math.Seq.{take-append_seam}
 use Rattle.std.specs.List.{concat}
-use Rattle.bay_report.specs.TextLines.{pieces, content, CutsLine}
+use Rattle.bay_report.specs.TextLines.{pieces, line_without_end, CutsLine}
 use Rattle.cmd_replay.specs.Scenario.{is_separator, part_of}
 use Rattle.bay_report.proofs.PieceLemmas.{concat-pieces}
 
@@ -15,7 +15,7 @@ after-after : (xs ys : List ℕ) (parts : Option (List ℕ × List ℕ))
 after-after xs ys None = refl
 after-after xs ys (Some p) = ap (λ l. Some (l, p.1)) (sym (append_assoc xs ys p.0))
 
-separator-first : (before piece rest : List ℕ) → is_separator (content piece) ≡ true
+separator-first : (before piece rest : List ℕ) → is_separator (line_without_end piece) ≡ true
     → after before (part_of (piece ∷ pieces rest)) ≡ Some (before, rest)
 separator-first before piece rest e =
     ap (λ w. after before (cond w (Some ([], concat (pieces rest)))
@@ -23,7 +23,7 @@ separator-first before piece rest e =
     ∙ ap (λ l. Some (before ++ [], l)) (concat-pieces rest)
     ∙ ap (λ l. Some (l, rest)) (append-nil before)
 
-other-line-first : (before piece rest : List ℕ) → is_separator (content piece) ≡ false
+other-line-first : (before piece rest : List ℕ) → is_separator (line_without_end piece) ≡ false
     → after before (part_of (piece ∷ pieces rest)) ≡ after (before ++ piece) (part_of (pieces rest))
 other-line-first before piece rest e =
     ap (λ w. after before (cond w (Some ([], concat (pieces rest)))

@@ -11,7 +11,7 @@ use Rattle.il_compile.specs.declared.fault.CompileFault.TheVariants.{CodeTooLong
 use Rattle.il_compile.proofs.CompiledLemmas.{is-image}
 use Rattle.il_image.specs.Arithmetic.{computation_of, comparison_holds, wider_value}
 use Rattle.il_image.specs.Images.{Image}
-use Rattle.il_image.specs.Machine.{State as Machine, StepResult, Goes, Halts as Stops, Traps, MissingSlot, MissingTimer, WrongKind, ZeroDivisor, Halted, act, as_number, as_span, as_truth, divides, ending_of, continues_at, is_comparable, pushes, run_from, stores, turn_of, value_of_width, with_slot, with_timer, with_top, with_truths, with_two}
+use Rattle.il_image.specs.Machine.{State as Machine, StepResult, Goes, Halts as Stops, Traps, MissingSlot, MissingTimer, WrongKind, ZeroDivisor, Halted, act, as_number, as_span, as_truth, divides, ending_of, continues_at, is_comparable, pushes, run_from, stores, step_of_read, value_of_width, with_slot, with_timer, with_top, with_truths, with_two}
 use Rattle.il_image.specs.Places.{begun_at, is_place}
 use Rattle.il_image.specs.Reading.{instr_at}
 use Rattle.il_image.specs.Tables.{Ends, LeadsTo, Path}
@@ -186,7 +186,7 @@ module _ (code : List ℕ) (now most k : ℕ) (slots : List Value) (timers : Lis
   by-turn i next (Traps trap) here lands-so e = absurd cc
 
   by-read : (o : Option (Instr × ℕ)) → begun_at code s.place ≡ o
-      → ending_of (turn_of now o s) s (k + 1) (λ after. run_from code now most after (k + 1))
+      → ending_of (step_of_read now o s) s (k + 1) (λ after. run_from code now most after (k + 1))
       ≡ Halted slots timers n
       → Ends code n
   by-read None here e = absurd cc

@@ -2,7 +2,7 @@
 use Rattle.std.specs.Prelude.{ℕ, Bool, List, ◌∷◌, ◌++◌, codes, Option, None, Some, option_and_then, option_map, if◌then◌else◌, []}
 use Rattle.std.specs.List.{concat}
 use Rattle.std.specs.Str.{bytes_eq}
-use Rattle.bay_report.specs.TextLines.{content, pieces}
+use Rattle.bay_report.specs.TextLines.{line_without_end, pieces}
 
 -- the maximum number of octets of a scenario
 abbrev pub scenario_limit : ℕ
@@ -16,7 +16,7 @@ is_separator line = bytes_eq line (codes "%%")
 abbrev pub part_of : List (List ℕ) → Option (List ℕ × List ℕ)
 part_of [] = None
 part_of (piece ∷ rest) =
-    if is_separator (content piece) then Some ([], concat rest)
+    if is_separator (line_without_end piece) then Some ([], concat rest)
     else option_map (λ parts. (piece ++ parts.0, parts.1)) (part_of rest)
 
 -- the bay file, the program and the trace

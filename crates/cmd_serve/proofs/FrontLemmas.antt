@@ -21,7 +21,7 @@ use Rattle.bay_server_turn.specs.declared.turn_report.CloseReason.{CloseReason}
 use Rattle.bay_server_turn_laws.specs.Causes.{fails_for, has_some, is_queue_full, tells}
 use Rattle.bay_server_turn_laws.specs.Events.{ChosenEvent, done_at, surely, turn_events}
 use Rattle.bay_server_turn_laws.specs.Flows.{IsInTime}
-use Rattle.bay_server_turn_laws.specs.Order.{AreClosings, IsClosing, Then, ThenReads, brought, opened, opened_at, read_at, told_at}
+use Rattle.bay_server_turn_laws.specs.Order.{AreClosings, IsClosing, Then, ThenReads, received_events, open_events, open_events_at, read_at, process_events}
 use Rattle.bay_server_turn_laws.proofs.OrderLemmas.{in-order}
 use Rattle.bay_server_turn_laws.proofs.QuietLemmas.{at_any_moment}
 use Rattle.bay_server_turn_laws.proofs.UpLemmas.{outcome-moment}
@@ -76,7 +76,7 @@ one-of : (e : ChosenEvent) → IsEarly e → AreEarly (e ∷ [])
 one-of e of = All-cons IsEarly e [] of (All-nil IsEarly)
 
 brought-of : (a : ℕ) (choice : Option ℕ) (heard : ReadOutcome)
-    → AreEarly (brought a choice heard)
+    → AreEarly (received_events a choice heard)
 brought-of a choice (Octets octets) = one-of _ (inl tt)
 brought-of a choice Silence = All-nil IsEarly
 brought-of a choice Over = one-of _ (inl tt)
@@ -85,24 +85,25 @@ brought-of a choice Broken = one-of _ (inl tt)
 read-of : (place : ℕ) (r : Reading) (d : State) → AreEarly (read_at place r d)
 read-of place r d = by-open (is_some (connection_at (Some place) d))
   where
-    by-open : (b : Bool) → AreEarly (cond b (brought (place + 1) r.choice r.heard) [])
+    by-open : (b : Bool) → AreEarly (cond b (received_events (place + 1) r.choice r.heard) [])
     by-open true = brought-of (place + 1) r.choice r.heard
     by-open false = All-nil IsEarly
 
 opened-of : (place : Option ℕ) (accepted : Option (Option SocketAddrV4))
-    → AreEarly (opened_at place accepted)
+    → AreEarly (open_events_at place accepted)
 opened-of (Some place) (Some (Some from)) = one-of _ (inl tt)
 opened-of (Some place) (Some None) = All-nil IsEarly
 opened-of (Some place) None = All-nil IsEarly
 opened-of None accepted = All-nil IsEarly
 
-lost-early : (is_lost : Bool) → AreEarly (told_at (if is_lost then Some process.Lost else None))
+lost-early : (is_lost : Bool)
+    → AreEarly (process_events (if is_lost then Some process.Lost else None))
 lost-early true = one-of _ (inr refl)
 lost-early false = All-nil IsEarly
 
 -- no octets come as a connection is taken
 pub opened-free : (place : Option ℕ) (accepted : Option (Option SocketAddrV4))
-    → AreWithout (opened_at place accepted)
+    → AreWithout (open_events_at place accepted)
 opened-free (Some place) (Some (Some from)) = All-cons IsFree _ [] tt (All-nil IsFree)
 opened-free (Some place) (Some None) = All-nil IsFree
 opened-free (Some place) None = All-nil IsFree
@@ -115,7 +116,7 @@ event-without (process.Measure k field value) = tt
 event-without (process.BadMeasure k field) = tt
 event-without process.Lost = tt
 
-pub told-without : (line : Option ProcessEvent) → AreWithout (told_at line)
+pub told-without : (line : Option ProcessEvent) → AreWithout (process_events line)
 told-without None = All-nil IsFree
 told-without (Some event) = All-cons IsFree _ [] (event-without event) (All-nil IsFree)
 
@@ -196,7 +197,7 @@ module _ (now : ℕ) (told : List (ℕ × CloseReason)) where
 abbrev pub Behind : ℕ → List (ℕ × CloseReason) → (ℕ → Bool) → Option ProcessEvent → State
     → List ChosenEvent → Type 0
 Behind now told why line d =
-    Then now told (told_at line)
+    Then now told (process_events line)
     (Then now told (surely Scan ∷ []) (λ e rest. AreClosings why rest)) d
 
 pub behind-without : (now : ℕ) (told : List (ℕ × CloseReason)) (why : ℕ → Bool)
@@ -204,7 +205,8 @@ pub behind-without : (now : ℕ) (told : List (ℕ × CloseReason)) (why : ℕ �
     → Behind now told why line d rest → AreWithout rest
 behind-without now told why line d rest t =
     let Last : State → List ChosenEvent → Type 0 = λ e rest. AreClosings why rest in
-    then-all now told IsFree (λ a. tt) (told_at line) (Then now told (surely Scan ∷ []) Last) d
+    then-all now told IsFree (λ a. tt) (process_events line) (Then now told (surely Scan ∷ []) Last)
+    d
     rest
     (told-without line)
     (λ e later u. then-all now told IsFree (λ a. tt) (surely Scan ∷ []) Last e later
@@ -227,7 +229,7 @@ Reads now given script h d events =
 -- what comes behind the connection that is taken: whether the process is lost, and the reads
 abbrev pub Begins : ℕ → ProcessReport → Script → ServerData → State → List ChosenEvent → Type 0
 Begins now given script h d events =
-    Then now (after_turn now given script h).noted.closed (told_at (first_of given))
+    Then now (after_turn now given script h).noted.closed (process_events (first_of given))
     (Reads now given script h) d events
 
 halves : (now : ℕ) (given : ProcessReport) (script : Script) (h : ServerData)
@@ -236,10 +238,11 @@ halves : (now : ℕ) (given : ProcessReport) (script : Script) (h : ServerData)
 halves now given script h readings offers =
     let told = (after_turn now given script h).noted.closed in
     let why : ℕ → Bool = why_closed now given script h in
-    then-front now told (opened script.accepted h.device) (Begins now given script h) h.device
+    then-front now told (open_events script.accepted h.device) (Begins now given script h) h.device
     (turn_events now given script h)
     (opened-of (position is_none h.device.connections) script.accepted)
-    (λ c rest begins. then-front now told (told_at (first_of given)) (Reads now given script h) c
+    (λ c rest begins. then-front now told (process_events (first_of given))
+    (Reads now given script h) c
     rest (lost-early given.is_lost)
     (reads-front now told (Behind now told why given.event)
     (λ d rest t. without-halves rest (behind-without now told why given.event d rest t)) 0
@@ -397,7 +400,7 @@ not-told now given script h front choice a octets back readings offers split of 
     told = (after_turn now given script h).noted.closed
 
     first : List ChosenEvent
-    first = opened script.accepted h.device
+    first = open_events script.accepted h.device
 
     t : Then now told first (Begins now given script h) h.device (turn_events now given script h)
     t = in-order now given script h readings offers
@@ -413,8 +416,8 @@ not-told now given script h front choice a octets back readings offers split of 
         (closing-without (λ b. tells is_queue_full b told) t.cut t.closings) in
         let l = behind-front (first ++ t.cut) t.rest front (choice, Recv a octets) back
         (sym t.is ∙ split) free (λ none. none) in
-        let told_is : told_at (first_of given) ≡ surely Lost ∷ [] =
-        ap (λ b. told_at (if b then Some process.Lost else None)) e in
+        let told_is : process_events (first_of given) ≡ surely Lost ∷ [] =
+        ap (λ b. process_events (if b then Some process.Lost else None)) e in
         let begins : t.rest ≡ surely Lost ∷ (u.cut ++ u.rest) =
         u.is ∙ ap (λ l. l ++ u.cut ++ u.rest) told_is in
         let has : Contains l.more (surely Lost) =
@@ -439,10 +442,11 @@ mute-turn : (now : ℕ) (given : ProcessReport) (script : Script) (h : ServerDat
     → length script.readings ≡ 8 → length script.offers ≡ 8 → given.event ≡ None
     → AreMute (turn_events now given script h)
 mute-turn now given script h readings offers none =
-    then-all now told IsMute closed (opened script.accepted h.device) (Begins now given script h)
+    then-all now told IsMute closed (open_events script.accepted h.device)
+    (Begins now given script h)
     h.device (turn_events now given script h)
     (early-mute _ (opened-of (position is_none h.device.connections) script.accepted))
-    (λ c rest begins. then-all now told IsMute closed (told_at (first_of given))
+    (λ c rest begins. then-all now told IsMute closed (process_events (first_of given))
     (Reads now given script h) c rest (early-mute _ (lost-early given.is_lost))
     (reads-all now told IsMute closed (Behind now told why given.event) behind
     (λ place r d. early-mute _ (read-of place r d)) 0 script.readings) begins)
@@ -460,13 +464,13 @@ mute-turn now given script h readings offers none =
     Last : State → List ChosenEvent → Type 0
     Last e rest = AreClosings why rest
 
-    quiet : AreMute (told_at given.event)
-    quiet = subst (λ event. AreMute (told_at event)) (sym none) (All-nil IsMute)
+    quiet : AreMute (process_events given.event)
+    quiet = subst (λ event. AreMute (process_events event)) (sym none) (All-nil IsMute)
 
     behind : (d : State) (rest : List ChosenEvent) → Behind now told why given.event d rest
         → AreMute rest
     behind d rest t =
-        then-all now told IsMute closed (told_at given.event)
+        then-all now told IsMute closed (process_events given.event)
         (Then now told (surely Scan ∷ []) Last)
         d rest quiet
         (λ e later u. then-all now told IsMute closed (surely Scan ∷ []) Last e later
@@ -487,13 +491,13 @@ turn-loss : (now : ℕ) (given : ProcessReport) (script : Script) (h : ServerDat
     → TellsLoss (turn_events now given script h)
 turn-loss now given script h readings offers lost =
     let told = (after_turn now given script h).noted.closed in
-    let first : List ChosenEvent = opened script.accepted h.device in
+    let first : List ChosenEvent = open_events script.accepted h.device in
     let t : Then now told first (Begins now given script h) h.device
     (turn_events now given script h) = in-order now given script h readings offers in
     let u : Begins now given script h (done_at now (first ++ t.cut) h.device).after t.rest =
     t.goes_on in
-    let told_is : told_at (first_of given) ≡ surely Lost ∷ [] =
-    ap (λ b. told_at (if b then Some process.Lost else None)) lost in
+    let told_is : process_events (first_of given) ≡ surely Lost ∷ [] =
+    ap (λ b. process_events (if b then Some process.Lost else None)) lost in
     subst TellsLoss (sym t.is) (loss-behind (first ++ t.cut) t.rest
     (subst TellsLoss (sym (u.is ∙ ap (λ l. l ++ u.cut ++ u.rest) told_is)) (inl refl)))
 

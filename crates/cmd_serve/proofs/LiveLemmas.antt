@@ -287,7 +287,8 @@ module _ {L H W : Type 0} (step : L → Call → L → Type 0) (acts : H → Hos
         → Lived duties t.now (choice_of goes.clocks before).process × (jump ≤ duties.limit)
     lives heeds =
         let is = is-turn step acts contents asks before old after new answer goes in
-        let now = lives-now duties before.held t is jump k.process.port k.stands gives-port heeds in (
+        let now =
+        lives-now duties before.held t is jump k.process.port k.stands gives-port heeds in (
           subst (λ (c : Chosen L). Lived duties t.now c.process)
               (sym (port-chosen before k goes.clocks))
               (now.live, owes-left duties before.held t is jump k.process.port k.stands gives-port),

@@ -16,7 +16,7 @@ use Rattle.bay_server_turn.specs.declared.turn_report.CloseReason.{CloseReason}
 use Rattle.bay_server_turn_laws.specs.Causes.{is_queue_full, tells}
 use Rattle.bay_server_turn_laws.specs.Events.{ChosenEvent, done_at, surely, turn_events}
 use Rattle.bay_server_turn_laws.specs.Flows.{brought_by, received_of}
-use Rattle.bay_server_turn_laws.specs.Order.{Then, ThenReads, brought, opened, read_at, told_at}
+use Rattle.bay_server_turn_laws.specs.Order.{Then, ThenReads, received_events, open_events, read_at, process_events}
 use Rattle.bay_server_turn_laws.proofs.OrderLemmas.{in-order}
 use Rattle.cmd_serve.proofs.FrontLemmas.{AreWithout, Begins, Behind, IsFree, IsWithout, Reads, behind-without, closing-without, opened-free, told-without, why_closed}
 
@@ -59,7 +59,7 @@ IsRead a place octets es = (received_of a es ≡ octets.now) × (a ≡ place + 1
 
 module _ (a place : ℕ) where
   other-brought : (choice : Option ℕ) (heard : ReadOutcome) → place + 1 ≢ a
-      → received_of a (brought (place + 1) choice heard) ≡ []
+      → received_of a (received_events (place + 1) choice heard) ≡ []
   other-brought choice (Octets octets) other =
       ap (λ b. cond b octets [] ++ []) (ne_eqb (place + 1) a other)
   other-brought choice Silence other = refl
@@ -70,13 +70,13 @@ module _ (a place : ℕ) where
   other-read r d other = by-open (is_some (connection_at (Some place) d))
     where
       by-open : (b : Bool)
-          → received_of a (cond b (brought (place + 1) r.choice r.heard) []) ≡ []
+          → received_of a (cond b (received_events (place + 1) r.choice r.heard) []) ≡ []
       by-open true = other-brought r.choice r.heard other
       by-open false = refl
 
   own-brought : (choice : Option ℕ) (heard : ReadOutcome) (c : Option ℕ) (octets : Bor (List ℕ))
-      → Contains (brought (place + 1) choice heard) (c, Recv a octets)
-      → IsRead a place octets (brought (place + 1) choice heard)
+      → Contains (received_events (place + 1) choice heard) (c, Recv a octets)
+      → IsRead a place octets (received_events (place + 1) choice heard)
   own-brought choice (Octets come) c octets has =
       let event : Recv a octets ≡ Recv (place + 1) (borrowed come) =
       ap (λ (e : ChosenEvent). e.1)
@@ -102,8 +102,8 @@ module _ (a place : ℕ) where
   own-read r d c octets = by-open (is_some (connection_at (Some place) d))
     where
       by-open : (b : Bool)
-          → Contains (cond b (brought (place + 1) r.choice r.heard) []) (c, Recv a octets)
-          → IsRead a place octets (cond b (brought (place + 1) r.choice r.heard) [])
+          → Contains (cond b (received_events (place + 1) r.choice r.heard) []) (c, Recv a octets)
+          → IsRead a place octets (cond b (received_events (place + 1) r.choice r.heard) [])
       by-open true has = own-brought r.choice r.heard c octets has
       by-open false has = absurd (omega (arith, has.1))
 
@@ -194,7 +194,7 @@ pub received-once : (now : ℕ) (given : ProcessReport) (script : Script) (h : S
 received-once now given script h c a octets readings offers has =
     let told = (after_turn now given script h).noted.closed in
     let events : List ChosenEvent = turn_events now given script h in
-    let first : List ChosenEvent = opened script.accepted h.device in
+    let first : List ChosenEvent = open_events script.accepted h.device in
     let t : Then now told first (Begins now given script h) h.device events =
     in-order now given script h readings offers in
     elim (then-has now told a first (Begins now given script h) h.device events t c octets has) [
@@ -206,7 +206,7 @@ received-once now given script h c a octets readings offers has =
     ]
   where
     free : (given : ProcessReport) (script : Script) (h : ServerData)
-        → AreWithout (opened script.accepted h.device)
+        → AreWithout (open_events script.accepted h.device)
     free given script h =
         opened-free (position is_none h.device.connections) script.accepted
 
@@ -214,7 +214,7 @@ received-once now given script h c a octets readings offers has =
         → Contains events (c, Recv a octets) → received_of a events ≡ octets.now
     begun d events t has =
         let told = (after_turn now given script h).noted.closed in
-        let lost : List ChosenEvent = told_at (first_of given) in
+        let lost : List ChosenEvent = process_events (first_of given) in
         elim (then-has now told a lost (Reads now given script h) d events t c octets has) [
           | inl own ↦
               absurd (All-contains IsFree lost (c, Recv a octets) (told-without (first_of given))

@@ -6,7 +6,7 @@ use Rattle.bay_nodes.specs.declared.switch.Operation.{Operation}
 use Rattle.bay_nodes.specs.declared.switch.Operation.TheVariants as operations
 use Rattle.bay_process.specs.Values.{is_truth}
 use Rattle.bay_process.proofs.ToldLemmas.{Keeps}
-use Rattle.bay_mms_services.specs.Released.{releasing}
+use Rattle.bay_mms_services.specs.Released.{enable_name}
 use Rattle.bay_mms_services.specs.declared.answer.Command.{Command}
 use Rattle.bay_tree.specs.Rows.{leaf_of}
 use Rattle.bay_tree.specs.declared.row.Row.{Row}
@@ -41,8 +41,8 @@ all-none (p ∷ ps) none = (none-told p.answer none.0, all-none ps none.1)
 -- ---- what stands since
 
 enabled-by : (rows new : List Row) (k : ℕ) (operation : Operation) → Keeps rows new
-    → is_truth true (leaf_of (releasing k operation) new) ≡ true
-    → is_truth true (leaf_of (releasing k operation) rows) ≡ true
+    → is_truth true (leaf_of (enable_name k operation) new) ≡ true
+    → is_truth true (leaf_of (enable_name k operation) rows) ≡ true
 enabled-by rows new k operations.Open keeps enabled = ap (is_truth true) (sym (keeps k _)) ∙ enabled
 enabled-by rows new k operations.Close keeps enabled =
     ap (is_truth true) (sym (keeps k _)) ∙ enabled

@@ -3,7 +3,7 @@ use Rattle.std.proofs.Common.{◌≡◌, ◌<◌, ℕ, zero, suc, Bool, true, co
 use Rattle.std.specs.List.{AllByRecursion, Contains, slice_index_or}
 use Rattle.std.proofs.lemmas.Bool.{eq-eqb}
 use Rattle.std.proofs.lemmas.List.Elements.{All-contains}
-use Rattle.bay_connection.specs.ConnectionStates.{Indication, ConnectionState, answers, tells, releases, ends, fails, indications, sending}
+use Rattle.bay_connection.specs.ConnectionStates.{Indication, ConnectionState, answers, tells, releases, ends, fails, indications, octets_to_send}
 use Rattle.bay_mms_services.specs.Answers.{Answered, pdu_answer}
 use Rattle.bay_mms_services.proofs.ReleaseLemmas.{all-of}
 use Rattle.bay_device.specs.Device.{State, bay_of, device_at}
@@ -52,7 +52,7 @@ IsTo a sent = sent.association ≡ a
 
 all-to : (a : ℕ) (terms : _) (old : List Sent) (pdus : List (List ℕ))
     → AllByRecursion (IsTo a) old
-    → AllByRecursion (IsTo a) (old ++ map (λ pdu. sent_on a (sending terms pdu)) pdus)
+    → AllByRecursion (IsTo a) (old ++ map (λ pdu. sent_on a (octets_to_send terms pdu)) pdus)
 all-to a terms [] [] old = tt
 all-to a terms [] (pdu ∷ pdus) old = (refl, all-to a terms [] pdus tt)
 all-to a terms (x ∷ xs) pdus old = (old.0, all-to a terms xs pdus old.1)

@@ -21,9 +21,9 @@ pub record IsSupervised {L H : Type 0} (duties : SupervisionSettings) (b : Servi
   pub is : b.process ≡ Some (record { link = link; port = begun tells (Some duties) })
   pub alone : b.lines ≡ []
 
--- The process is connected and supervised by these settings, it has introduced itself as the process
--- of this bay, and its last line counts from a moment at most the milliseconds of the settings before
--- this one.
+-- The process is connected and supervised by these settings, it has introduced itself as the
+-- process of this bay, and its last line counts from a moment at most the milliseconds of the
+-- settings before this one.
 abbrev pub Lived : {L : Type 0} → SupervisionSettings → ℕ → Option (PollOutcome L) → Type 0
 Lived duties now None = ⊥
 Lived duties now (Some p) = IsLive now p.port × (settings_in p.port.watch ≡ Some duties)
@@ -37,8 +37,8 @@ InLater Ends Goes (Ok status) goes more = more goes
 module _ {L H W : Type 0} (step : L → Call → L → Type 0) (acts : H → HostCall L → H → Type 0)
     (contents : W → Option (List ℕ)) (asks : W → WriteCall → W → Type 0) where
   -- In each turn that reports a command the process is live at the moment of this very turn, after
-  -- the turn has taken what the process has sent. Since the turn before, the system's clock has gone
-  -- on by no more than the milliseconds of the settings beyond the steady one.
+  -- the turn has taken what the process has sent. Since the turn before, the system's clock has
+  -- gone on by no more than the milliseconds of the settings beyond the steady one.
   abbrev pub CommandsLive : (duties : SupervisionSettings) (turns : ℕ) (before : Serving L H)
       (old : Writing W)
       (host : H) (new : Writing W) (answer : Result ℕ WriteFault)

@@ -7,7 +7,7 @@ use Rattle.bay_connection.specs.ConnectionStates.{ConnectionState, Terms, indica
 use Rattle.bay_process.specs.Values.{is_truth}
 use Rattle.bay_mms_services.specs.Accepted.{accepted_in}
 use Rattle.bay_mms_services.specs.Entries.{operates_in}
-use Rattle.bay_mms_services.specs.Released.{releasing}
+use Rattle.bay_mms_services.specs.Released.{enable_name}
 use Rattle.bay_mms_services.specs.declared.answer.Command.{Command}
 use Rattle.bay_tree.specs.Rows.{leaf_of}
 use Rattle.bay_device.specs.Commands.{IsReleasedAt}
@@ -21,7 +21,7 @@ use Rattle.bay_device.specs.declared.event.Sent.{Sent}
 use Rattle.bay_device.specs.declared.event.Step.{Step}
 use Rattle.bay_server_turn.specs.Turns.{ServerData, turn_calls}
 use Rattle.bay_server_turn_laws.specs.Events.{ChosenEvent, done_at, turn_events}
-use Rattle.bay_server_turn_laws.specs.Flows.{FlowsAt, given_of, sent_to}
+use Rattle.bay_server_turn_laws.specs.Flows.{FlowsAt, read_by_calls, sent_to}
 use Rattle.cmd_serve.specs.Service.{DoneTurn, held_behind, past_behind}
 
 -- There is such a scan among these events, and none of those since is a scan that was accepted. It
@@ -32,7 +32,7 @@ pub record IsReleasedBy (now age : ℕ) (past : List Past) (s : State) (command 
   pub scan : HasScan now age past
   pub last : All (λ (p : Past). IfOk p.answer (λ step. step.scan ≡ None)) scan.since
   pub enabled : is_truth true
-      (leaf_of (releasing command.switch command.operation) scan.scan.after.rows) ≡ true
+      (leaf_of (enable_name command.switch command.operation) scan.scan.after.rows) ≡ true
   pub unchanged : IsSameProcess scan.scan.after s
 
 -- some octets are a part of others
@@ -55,7 +55,7 @@ pub record IsHeard (h : ServerData) (t : DoneTurn) : Type 0 where
   pub back : List ChosenEvent
   pub is : turn_events t.now t.given t.script h ≡ front ++ (choice, Recv association octets) ∷ back
   pub first : All (λ (e : ChosenEvent). OfAssociation e.1) front
-  pub given : given_of association (turn_calls t.now t.given t.script h) ≡ octets.now
+  pub given : read_by_calls association (turn_calls t.now t.given t.script h) ≡ octets.now
   pub step : Step
   pub answered : (outcome choice t.now (Recv association octets)
       (done_at t.now front h.device).after).answer ≡ Ok step

@@ -206,11 +206,11 @@ start_log now numbers =
 
 module _ {L H W : Type 0} (step : L → Call → L → Type 0) (acts : H → HostCall L → H → Type 0)
     (contents : W → Option (List ℕ)) (asks : W → WriteCall → W → Type 0) where
-  -- Turns are served, all of which are one run of the device, from load on. Before each command that
-  -- one of them reports come a client's octets that request it, the success that is sent to this
-  -- client, and the last scan of an earlier turn, which released it; and so before each line that is
-  -- printed, or sent to the process, and reads as one. If the process is supervised, it is live in
-  -- each turn that reports a command.
+  -- Turns are served, all of which are one run of the device, from load on. Before each command
+  -- that one of them reports come a client's octets that request it, the success that is sent to
+  -- this client, and the last scan of an earlier turn, which released it; and so before each line
+  -- that is printed, or sent to the process, and reads as one. If the process is supervised, it is
+  -- live in each turn that reports a command.
   pub record ServesRun (turns : ℕ) (before : Serving L H) (old new : Writing W) (host : H)
       (answer : Result ℕ WriteFault) : Type 0 where
     pub serves : ServesTurns step acts contents asks turns before old host new answer

@@ -95,10 +95,10 @@ pub fn no_octets_command_alone()
 
 /// Commands need a live process: if a server's process is supervised, and no line of a trace comes
 /// before it, then in each turn that reports a command the process is connected, it has introduced
-/// itself as the process of this bay, and its last line counts from a moment at most the milliseconds
-/// of the supervision before the moment of this very turn; a line counts from no later moment than
-/// that of the turn that took it. Since the turn before, the system's clock has gone on by no more
-/// than these milliseconds beyond the steady one.
+/// itself as the process of this bay, and its last line counts from a moment at most the
+/// milliseconds of the supervision before the moment of this very turn; a line counts from no later
+/// moment than that of the turn that took it. Since the turn before, the system's clock has gone on
+/// by no more than these milliseconds beyond the steady one.
 pub fn commands_need_a_live_process<L: Link, H: Host<L>, W: Sink>(_link: &L, _host: &H, _sink: &W)
     ensures { (duties : SupervisionSettings) (turns : ℕ) (before : Serving L H) (old : Writing W)
         (host : H)

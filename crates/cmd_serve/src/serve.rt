@@ -446,9 +446,9 @@ fn serve_loaded<F: FileSystem, L: Link + Drop, H: Host<L>, W: Sink>(
 /// behind each line that is printed, or told the process, and reads as one, stand the octets of a
 /// client that ask for it, the success that is sent to this client, and the last scan before, of an
 /// earlier turn, which left the switch's interlocking value TRUE, and since which the process has
-/// not changed. If the process is supervised, it is connected in this turn, it has introduced itself
-/// as the process of this bay, and its last line counts from a moment at most the milliseconds of the
-/// supervision before the moment of this turn.
+/// not changed. If the process is supervised, it is connected in this turn, it has introduced
+/// itself as the process of this bay, and its last line counts from a moment at most the
+/// milliseconds of the supervision before the moment of this turn.
 pub fn serve<F: FileSystem, L: Link + Drop, H: Host<L>, W: Sink>(
     alloc: Global,
     named: NamedFiles<'_>,

@@ -18,7 +18,7 @@ use Rattle.il_check.specs.LabelsView.{StandsAs}
 use Rattle.il_check.specs.NamesView.{names_of}
 use Rattle.il_check.specs.Program.{Checked, ProgramItem}
 use Rattle.il_check.specs.DeclarationsView.{StandsFor}
-use Rattle.il_check.specs.WellTyped.{Progress, first, no_reach, items_faults, progress_after_items}
+use Rattle.il_check.specs.WellTyped.{Progress, start_progress, no_reach, items_faults, progress_after_items}
 use Rattle.il_check.specs.declared.declare.Declarations.{Declarations}
 use Rattle.il_check.specs.declared.labels.Labels.{Labels}
 use Rattle.il_check.specs.declared.source_operand.Meaning.{Meaning}
@@ -41,9 +41,10 @@ pub record IsRead (points : List Point) (program : text.PlainProgram) (d : Decla
   pub meanings : names.meanings ≡ d.meanings
   pub numbers : names.labels ≡ l.numbers
   pub items_read : answer ≡ None
-      → items ≡ progress_after_items (names_of names) program.items (first l.arrivals.items)
+      → items ≡ progress_after_items (names_of names) program.items
+      (start_progress l.arrivals.items)
   pub found : answer ≡ first_fault_of d.found
-      (items_faults (names_of names) program.items (first l.arrivals.items))
+      (items_faults (names_of names) program.items (start_progress l.arrivals.items))
 
 module _ (points : List Point) (program : text.PlainProgram) (d : Declarations) (l : Labels)
     (names : code.ProgramNames) (items : List ProgramItem) (answer : Option CheckFault)
@@ -72,23 +73,24 @@ module _ (points : List Point) (program : text.PlainProgram) (d : Declarations) 
       ∙ ap (λ (n : List ℕ → Option ℕ). with_both
       (λ name. looked_up (meanings_of points program.declarations) (upper name)) n) labels-same
 
-  started : first l.arrivals.items ≡ first (map (λ x. no_reach) (labels_from 0 program.items))
-  started = ap first read.labels.arrivals
+  started : start_progress l.arrivals.items
+      ≡ start_progress (map (λ x. no_reach) (labels_from 0 program.items))
+  started = ap start_progress read.labels.arrivals
 
   found-is : answer ≡ least_fault (faults_of points program)
   found-is =
       read.found
       ∙ ap (λ (n : ProgramNames). first_fault_of d.found
-      (items_faults n program.items (first l.arrivals.items)))
+      (items_faults n program.items (start_progress l.arrivals.items)))
       names-same
       ∙ ap (λ (s : Progress). first_fault_of d.found
       (items_faults (names_in points program) program.items s)) started
       ∙ ap (λ (o : Option CheckFault). first_fault_of o
       (items_faults (names_in points program) program.items
-      (first (map (λ x. no_reach) (labels_from 0 program.items))))) read.declared
+      (start_progress (map (λ x. no_reach) (labels_from 0 program.items))))) read.declared
       ∙ sym (noted-append None (declarations_faults points [] program.declarations)
       (items_faults (names_in points program) program.items
-      (first (map (λ x. no_reach) (labels_from 0 program.items)))))
+      (start_progress (map (λ x. no_reach) (labels_from 0 program.items)))))
 
   -- the fault that is found is the answer
   pub refused : (f : CheckFault) → answer ≡ Some f → checked_of points program ≡ Err f
@@ -98,10 +100,11 @@ module _ (points : List Point) (program : text.PlainProgram) (d : Declarations) 
 
   items-same : answer ≡ None
       → items ≡ progress_after_items (names_in points program) program.items
-      (first (map (λ x. no_reach) (labels_from 0 program.items)))
+      (start_progress (map (λ x. no_reach) (labels_from 0 program.items)))
   items-same none =
       read.items_read none
-      ∙ ap (λ (n : ProgramNames). progress_after_items n program.items (first l.arrivals.items))
+      ∙ ap (λ (n : ProgramNames). progress_after_items n program.items
+      (start_progress l.arrivals.items))
       names-same
       ∙ ap (λ (s : Progress). progress_after_items (names_in points program) program.items s)
       started
@@ -122,7 +125,7 @@ module _ (points : List Point) (program : text.PlainProgram) (d : Declarations) 
   passed none =
       let left : List ProgramItem =
       progress_after_items (names_in points program) program.items
-      (first (map (λ x. no_reach) (labels_from 0 program.items))) in
+      (start_progress (map (λ x. no_reach) (labels_from 0 program.items))) in
       let with_all : List External → List Variable → List Timer → List ProgramItem → Checked =
       λ es vs ts is. record { externals = es; variables = vs; timers = ts; items = is } in
       ap (λ (o : Option CheckFault). unless_refused o (checked_program points program))
@@ -158,10 +161,10 @@ pub is_read : (points : List Point) (p : program.Program) (declarations : List D
     → StandsAs (labels_from 0 (map entry_of first_items)) l
     → (answer ≡ None → left ≡ progress_after_items
     (names_of (record { meanings = d.meanings; labels = l.numbers })) (map entry_of items)
-    (first l.arrivals.items))
+    (start_progress l.arrivals.items))
     → answer ≡ first_fault_of d.found
     (items_faults (names_of (record { meanings = d.meanings; labels = l.numbers }))
-    (map entry_of items) (first l.arrivals.items))
+    (map entry_of items) (start_progress l.arrivals.items))
     → IsRead points (plain_program p) d l (record { meanings = d.meanings; labels = l.numbers })
     left answer
 is_read points p declarations first_items items d l left answer these those them stands declared
@@ -180,8 +183,8 @@ is_read points p declarations first_items items d l left answer these those them
           λ (none : answer ≡ None). read none
           ∙ ap (λ (is : List source.Item). progress_after_items
           (names_of (record { meanings = d.meanings; labels = l.numbers })) (map entry_of is)
-          (first l.arrivals.items)) them;
+          (start_progress l.arrivals.items)) them;
       found = found ∙ ap (λ (is : List source.Item). first_fault_of d.found
           (items_faults (names_of (record { meanings = d.meanings; labels = l.numbers }))
-          (map entry_of is) (first l.arrivals.items))) them;
+          (map entry_of is) (start_progress l.arrivals.items))) them;
     }

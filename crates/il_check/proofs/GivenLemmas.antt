@@ -20,7 +20,7 @@ use Rattle.il_image.specs.declared.value.Value.{Value}
 use Rattle.il_image.specs.declared.value.Value.TheVariants as value
 use Rattle.il_image.proofs.KindLemmas.{same-is, same-self}
 use Rattle.il_image.proofs.ValueLemmas.{value_is}
-use Rattle.il_check.specs.SourceOperands.{ProgramNames, source_operand, literal_operand, variable_given, output_given, place_given, source_given, is_zero, is_nonzero_literal, is_nonzero, called_of, arguments_given, resolution_of}
+use Rattle.il_check.specs.SourceOperands.{ProgramNames, source_operand, literal_operand, resolve_variable, resolve_output, resolve_place, resolve_operand, is_zero, is_nonzero_literal, is_nonzero, called_of, resolve_arguments, resolution_of}
 use Rattle.il_check.specs.Labelling.{Becomes, IsRight}
 use Rattle.il_check.specs.Program.{Checked}
 use Rattle.il_check.specs.Rules as rules
@@ -98,14 +98,14 @@ literal-is c (literal.Lint z) = known-is c _ (typed-is (literal.Lint z))
 literal-is c (literal.Time n) = known-is c _ (typed-is (literal.Time n))
 
 variable-is : (c : Checked) (o : Option Meaning) → ((m : Meaning) → o ≡ Some m → IsNamed c m)
-    → IsGiven c (variable_given o)
+    → IsGiven c (resolve_variable o)
 variable-is c None meant = tt
 variable-is c (Some (meaning.Variable s kind writable)) meant =
     meant (meaning.Variable s kind writable) refl
 variable-is c (Some (meaning.Timer n)) meant = tt
 
 output-is : (c : Checked) (o : Option Meaning) (what : TimerOutput)
-    → ((m : Meaning) → o ≡ Some m → IsNamed c m) → IsGiven c (output_given o what)
+    → ((m : Meaning) → o ≡ Some m → IsNamed c m) → IsGiven c (resolve_output o what)
 output-is c None what meant = tt
 output-is c (Some (meaning.Variable s kind writable)) what meant = tt
 output-is c (Some (meaning.Timer n)) what meant =
@@ -186,7 +186,7 @@ literal-nonzero (literal.Time n) e =
     (λ v is. (value_is elementary.Time (pos n) v is).number) e
 
 source-nonzero : (names : ProgramNames) (s : text.OperandData) → is_nonzero s ≡ true
-    → IsNonzero (source_given names s)
+    → IsNonzero (resolve_operand names s)
 source-nonzero names (text.constant l) e = literal-nonzero l e
 source-nonzero names (text.variable place) e = absurd (cc)
 
@@ -219,13 +219,13 @@ abbrev pub AreNamed : Checked → ProgramNames → Type 0
 AreNamed c names = (name : List ℕ) (m : Meaning) → names.meaning name ≡ Some m → IsNamed c m
 
 place-is : (c : Checked) (names : ProgramNames) → AreNamed c names → (p : text.Place)
-    → IsGiven c (place_given names p)
+    → IsGiven c (resolve_place names p)
 place-is c names meant (text.named name) = variable-is c (names.meaning name) (meant name)
 place-is c names meant (text.output timer what) =
     output-is c (names.meaning timer) what (meant timer)
 
 source-is : (c : Checked) (names : ProgramNames) → AreNamed c names → (s : text.OperandData)
-    → IsGiven c (source_given names s)
+    → IsGiven c (resolve_operand names s)
 source-is c names meant (text.constant l) = literal-is c l
 source-is c names meant (text.variable place) = place-is c names meant place
 
@@ -236,7 +236,7 @@ called-is c (Some (meaning.Variable s kind writable)) meant = tt
 called-is c (Some (meaning.Timer n)) meant = meant (meaning.Timer n) refl
 
 arguments-are : (c : Checked) (names : ProgramNames) → AreNamed c names
-    → (args : List (Input × text.OperandData)) → AreGiven c (arguments_given names args)
+    → (args : List (Input × text.OperandData)) → AreGiven c (resolve_arguments names args)
 arguments-are c names meant [] = tt
 arguments-are c names meant (a ∷ []) = source-is c names meant a.1
 arguments-are c names meant (a ∷ b ∷ more) =

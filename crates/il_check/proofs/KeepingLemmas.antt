@@ -26,7 +26,7 @@ use Rattle.il_image.proofs.ValueLemmas.{value_is}
 use Rattle.il_check.specs.Checking.{initial_progress, faults_of, checked_program, checked_of}
 use Rattle.il_check.specs.Declaring.{names_in, declarations_faults}
 use Rattle.il_check.specs.Faults.{least_fault}
-use Rattle.il_check.specs.SourceOperands.{ProgramNames, source_operand, literal_operand, variable_given, output_given, place_given, source_given, called_of, arguments_given, argument_given, resolution_of}
+use Rattle.il_check.specs.SourceOperands.{ProgramNames, source_operand, literal_operand, resolve_variable, resolve_output, resolve_place, resolve_operand, called_of, resolve_arguments, resolve_argument, resolution_of}
 use Rattle.il_check.specs.Keeping.{slot_name, timer_name, label_names, IsValueOf, IsOperandOf, IsTargetOf, IsOperationOf, IsArgumentOf, AreArgumentsOf, IsEntryOf, AreEntriesOf, IsItemOf, AreItemsOf, Keeps}
 use Rattle.il_check.specs.Labelling.{IsRight, IsRightEntry, AreRightEntries}
 use Rattle.il_check.specs.OwnPlaces.{MeanOwnPlaces}
@@ -135,7 +135,7 @@ module _ (c : Checked) (names : ProgramNames) (items : List text.Entry)
       known-kept (literal.Time n) _ kind x (of_literal (literal.Time n)) e
 
   variable-kept : (name : List ℕ) (m : Option Meaning) (kind : ElementaryType) (x : TypedOperand)
-      → names.meaning name ≡ m → operand_in kind (variable_given m) ≡ Some x
+      → names.meaning name ≡ m → operand_in kind (resolve_variable m) ≡ Some x
       → IsOperandOf c (text.variable (text.named name)) x
   variable-kept name (Some (meaning.Variable s k w)) kind x is e =
       subst (IsOperandOf c (text.variable (text.named name)))
@@ -143,7 +143,8 @@ module _ (c : Checked) (names : ProgramNames) (items : List text.Entry)
   variable-kept name m kind x is e = absurd (cc)
 
   output-kept : (timer : List ℕ) (what : TimerOutput) (m : Option Meaning) (kind : ElementaryType)
-      (x : TypedOperand) → names.meaning timer ≡ m → operand_in kind (output_given m what) ≡ Some x
+      (x : TypedOperand) → names.meaning timer ≡ m
+      → operand_in kind (resolve_output m what) ≡ Some x
       → IsOperandOf c (text.variable (text.output timer what)) x
   output-kept timer what (Some (meaning.Timer n)) kind x is e =
       subst (IsOperandOf c (text.variable (text.output timer what)))
@@ -151,7 +152,7 @@ module _ (c : Checked) (names : ProgramNames) (items : List text.Entry)
   output-kept timer what m kind x is e = absurd (cc)
 
   source-kept : (source : text.OperandData) (kind : ElementaryType) (x : TypedOperand)
-      → operand_in kind (source_given names source) ≡ Some x → IsOperandOf c source x
+      → operand_in kind (resolve_operand names source) ≡ Some x → IsOperandOf c source x
   source-kept (text.constant l) kind x e = literal-kept l kind x e
   source-kept (text.variable (text.named name)) kind x e =
       variable-kept name (names.meaning name) kind x refl e
@@ -159,19 +160,19 @@ module _ (c : Checked) (names : ProgramNames) (items : List text.Entry)
       output-kept timer what (names.meaning timer) kind x refl e
 
   named-target : (name : List ℕ) (m : Option Meaning) (s : Slot) → names.meaning name ≡ m
-      → target_slot (variable_given m) ≡ Some s → slot_name c s ≡ Some (upper name)
+      → target_slot (resolve_variable m) ≡ Some s → slot_name c s ≡ Some (upper name)
   named-target name (Some (meaning.Variable r k w)) s is e =
       subst (λ (y : Slot). slot_name c y ≡ Some (upper name)) (same_Some r s e)
       (named-slot name r k w is)
   named-target name m s is e = absurd (cc)
 
   no-target : (what : TimerOutput) (m : Option Meaning) (s : Slot)
-      → target_slot (output_given m what) ≡ Some s → ⊥
+      → target_slot (resolve_output m what) ≡ Some s → ⊥
   no-target what None s e = absurd (cc)
   no-target what (Some (meaning.Variable r k w)) s e = absurd (cc)
   no-target what (Some (meaning.Timer n)) s e = absurd (cc)
 
-  target-kept : (place : text.Place) (s : Slot) → target_slot (place_given names place) ≡ Some s
+  target-kept : (place : text.Place) (s : Slot) → target_slot (resolve_place names place) ≡ Some s
       → IsTargetOf c place s
   target-kept (text.named name) s e = named-target name (names.meaning name) s refl e
   target-kept (text.output timer what) s e = no-target what (names.meaning timer) s e
@@ -180,7 +181,7 @@ module _ (c : Checked) (names : ProgramNames) (items : List text.Entry)
 
   load-kept : (negated : Bool) (source : text.OperandData) (kind : ElementaryType)
       (x : Option TypedOperand) (o : SimpleOperation)
-      → operand_in kind (source_given names source) ≡ x → load_operation negated x ≡ Some o
+      → operand_in kind (resolve_operand names source) ≡ x → load_operation negated x ≡ Some o
       → IsOperationOf c (text.load negated source) o
   load-kept negated source kind None o is e = absurd (cc)
   load-kept negated source kind (Some x) o is e =
@@ -188,14 +189,14 @@ module _ (c : Checked) (names : ProgramNames) (items : List text.Entry)
       (refl, source-kept source kind x is)
 
   load-typed : (negated : Bool) (source : text.OperandData) (k : Option ElementaryType)
-      (o : SimpleOperation) → load_in negated (source_given names source) k ≡ Some o
+      (o : SimpleOperation) → load_in negated (resolve_operand names source) k ≡ Some o
       → IsOperationOf c (text.load negated source) o
   load-typed negated source None o e = absurd (cc)
   load-typed negated source (Some kind) o e =
-      load-kept negated source kind (operand_in kind (source_given names source)) o refl e
+      load-kept negated source kind (operand_in kind (resolve_operand names source)) o refl e
 
   store-kept : (how : StoreKind) (place : text.Place) (s : Option Slot) (o : SimpleOperation)
-      → target_slot (place_given names place) ≡ s → store_operation how s ≡ Some o
+      → target_slot (resolve_place names place) ≡ s → store_operation how s ≡ Some o
       → IsOperationOf c (text.store how place) o
   store-kept how place None o is e = absurd (cc)
   store-kept how place (Some s) o is e =
@@ -204,7 +205,7 @@ module _ (c : Checked) (names : ProgramNames) (items : List text.Entry)
 
   combine-kept : (operator : Operator) (negated : Bool) (source : text.OperandData)
       (kind : ElementaryType) (x : Option TypedOperand) (o : SimpleOperation)
-      → operand_in kind (source_given names source) ≡ x
+      → operand_in kind (resolve_operand names source) ≡ x
       → combine_operation operator kind negated x ≡ Some o
       → IsOperationOf c (text.combine operator negated source) o
   combine-kept operator negated source kind None o is e = absurd (cc)
@@ -216,11 +217,12 @@ module _ (c : Checked) (names : ProgramNames) (items : List text.Entry)
   operation-kept : (a : text.Action) (t : Option ElementaryType) (o : SimpleOperation)
       → operation_in (resolution_of names a) t ≡ Some o → IsOperationOf c a o
   operation-kept (text.load negated source) t o e =
-      load-typed negated source (load_type (source_given names source)) o e
+      load-typed negated source (load_type (resolve_operand names source)) o e
   operation-kept (text.store how place) t o e =
-      store-kept how place (target_slot (place_given names place)) o refl e
+      store-kept how place (target_slot (resolve_place names place)) o refl e
   operation-kept (text.combine operator negated source) (Some kind) o e =
-      combine-kept operator negated source kind (operand_in kind (source_given names source)) o refl
+      combine-kept operator negated source kind (operand_in kind (resolve_operand names source)) o
+      refl
       e
   operation-kept text.invert t o e = subst (IsOperationOf c text.invert) (same_Some op.Not o e) tt
   operation-kept (text.convert conversion) t o e =
@@ -230,23 +232,23 @@ module _ (c : Checked) (names : ProgramNames) (items : List text.Entry)
   -- ---- an operation is left of an instruction that is right
 
   named-some : (how : StoreKind) (m : Option Meaning) (passed : ℕ) (kind : ElementaryType)
-      → IsRight passed (Store how (variable_given m)) (Some kind)
-      → is_some (store_operation how (target_slot (variable_given m))) ≡ true
+      → IsRight passed (Store how (resolve_variable m)) (Some kind)
+      → is_some (store_operation how (target_slot (resolve_variable m))) ≡ true
   named-some how None passed kind ok = absurd (let k = ok.named in cc)
   named-some how (Some (meaning.Variable s k w)) passed kind ok = refl
   named-some how (Some (meaning.Timer n)) passed kind ok = absurd (let k = ok.allowed in cc)
 
   output-some : (how : StoreKind) (what : TimerOutput) (m : Option Meaning) (passed : ℕ)
-      (kind : ElementaryType) → IsRight passed (Store how (output_given m what)) (Some kind)
-      → is_some (store_operation how (target_slot (output_given m what))) ≡ true
+      (kind : ElementaryType) → IsRight passed (Store how (resolve_output m what)) (Some kind)
+      → is_some (store_operation how (target_slot (resolve_output m what))) ≡ true
   output-some how what None passed kind ok = absurd (let k = ok.named in cc)
   output-some how what (Some (meaning.Variable s k w)) passed kind ok =
       absurd (let k = ok.allowed in cc)
   output-some how what (Some (meaning.Timer n)) passed kind ok = absurd (let k = ok.writable in cc)
 
   store-some : (how : StoreKind) (place : text.Place) (passed : ℕ) (kind : ElementaryType)
-      → IsRight passed (Store how (place_given names place)) (Some kind)
-      → is_some (store_operation how (target_slot (place_given names place))) ≡ true
+      → IsRight passed (Store how (resolve_place names place)) (Some kind)
+      → is_some (store_operation how (target_slot (resolve_place names place))) ≡ true
   store-some how (text.named name) passed kind ok =
       named-some how (names.meaning name) passed kind ok
   store-some how (text.output timer what) passed kind ok =
@@ -256,16 +258,16 @@ module _ (c : Checked) (names : ProgramNames) (items : List text.Entry)
       → IsRight passed (resolution_of names a) t
       → is_some (operation_in (resolution_of names a) t) ≡ true
   operation-some (text.load negated source) passed t may ok =
-      load-some c negated (source_given names source)
+      load-some c negated (resolve_operand names source)
       (found c names meant (text.load negated source))
-      (allows-any (Load negated (source_given names source)) t refl ok.allowed)
+      (allows-any (Load negated (resolve_operand names source)) t refl ok.allowed)
   operation-some (text.store how place) passed None may ok = absurd (let k = ok.set in cc)
   operation-some (text.store how place) passed (Some kind) may ok =
       store-some how place passed kind ok
   operation-some (text.combine operator negated source) passed None may ok =
       absurd (let k = ok.set in cc)
   operation-some (text.combine operator negated source) passed (Some kind) may ok =
-      let g = source_given names source in
+      let g = resolve_operand names source in
       combined-some operator kind negated (operand_in kind g)
       (and_parts (works operator negated kind) (fits kind g) (not-false _ ok.allowed)).1
   operation-some text.invert passed t may ok = refl
@@ -336,7 +338,7 @@ module _ (c : Checked) (names : ProgramNames) (items : List text.Entry)
   -- ---- jumps, returns and calls
 
   argument-case : (a : Input × text.OperandData) (o : Option TypedOperand) (x : TypedArgument)
-      → operand_in (input_type a.0) (source_given names a.1) ≡ o
+      → operand_in (input_type a.0) (resolve_operand names a.1) ≡ o
       → option_map (λ y. record { input = a.0; operand = y }) o ≡ Some x → IsArgumentOf c a x
   argument-case a None x is e = absurd (cc)
   argument-case a (Some y) x is e =
@@ -344,12 +346,12 @@ module _ (c : Checked) (names : ProgramNames) (items : List text.Entry)
       (refl, source-kept a.1 (input_type a.0) y is)
 
   argument-kept : (a : Input × text.OperandData) (x : TypedArgument)
-      → typed_argument (argument_given names a) ≡ Some x → IsArgumentOf c a x
+      → typed_argument (resolve_argument names a) ≡ Some x → IsArgumentOf c a x
   argument-kept a x e =
-      argument-case a (operand_in (input_type a.0) (source_given names a.1)) x refl e
+      argument-case a (operand_in (input_type a.0) (resolve_operand names a.1)) x refl e
 
   one-kept-of : (a : Input × text.OperandData) (o : Option TypedArgument) (xs : TypedArguments)
-      → typed_argument (argument_given names a) ≡ o → one_argument o ≡ Some xs
+      → typed_argument (resolve_argument names a) ≡ o → one_argument o ≡ Some xs
       → AreArgumentsOf c (a ∷ []) xs
   one-kept-of a None xs is e = absurd (cc)
   one-kept-of a (Some x) xs is e =
@@ -357,7 +359,8 @@ module _ (c : Checked) (names : ProgramNames) (items : List text.Entry)
 
   two-kept-of : (a b : Input × text.OperandData) (more : List (Input × text.OperandData))
       (o p : Option TypedArgument) (xs : TypedArguments)
-      → typed_argument (argument_given names a) ≡ o → typed_argument (argument_given names b) ≡ p
+      → typed_argument (resolve_argument names a) ≡ o
+      → typed_argument (resolve_argument names b) ≡ p
       → two_arguments o p ≡ Some xs → AreArgumentsOf c (a ∷ b ∷ more) xs
   two-kept-of a b more (Some x) (Some y) xs is also e =
       subst (AreArgumentsOf c (a ∷ b ∷ more)) (same_Some (typed.Two x y) xs e)
@@ -365,13 +368,13 @@ module _ (c : Checked) (names : ProgramNames) (items : List text.Entry)
   two-kept-of a b more o p xs is also e = absurd (cc)
 
   arguments-kept : (args : List (Input × text.OperandData)) (xs : TypedArguments)
-      → arguments_in (arguments_given names args) ≡ Some xs → AreArgumentsOf c args xs
+      → arguments_in (resolve_arguments names args) ≡ Some xs → AreArgumentsOf c args xs
   arguments-kept [] xs e = subst (AreArgumentsOf c []) (same_Some typed.None xs e) tt
   arguments-kept (a ∷ []) xs e =
-      one-kept-of a (typed_argument (argument_given names a)) xs refl e
+      one-kept-of a (typed_argument (resolve_argument names a)) xs refl e
   arguments-kept (a ∷ b ∷ more) xs e =
-      two-kept-of a b more (typed_argument (argument_given names a))
-      (typed_argument (argument_given names b)) xs refl refl e
+      two-kept-of a b more (typed_argument (resolve_argument names a))
+      (typed_argument (resolve_argument names b)) xs refl refl e
 
   -- what is left of an instruction
   record KeptItem (e : text.Entry) (o : Option ProgramItem) : Type 0 where
@@ -405,16 +408,16 @@ module _ (c : Checked) (names : ProgramNames) (items : List text.Entry)
   call-case : (line : ℕ) (timer : List ℕ) (args : List (Input × text.OperandData))
       (m : Option Meaning) (t : Option ElementaryType) (passed : ℕ) (e : Option Entry)
       → names.meaning timer ≡ m
-      → IsRight passed (Call (called_of m) (arguments_given names args)) t
+      → IsRight passed (Call (called_of m) (resolve_arguments names args)) t
       → KeptItem (text.action line (text.call timer args))
-      (or_entry (call_in (called_of m) (arguments_in (arguments_given names args))) e)
+      (or_entry (call_in (called_of m) (arguments_in (resolve_arguments names args))) e)
   call-case line timer args None t passed e is ok = absurd (let k = ok.named in cc)
   call-case line timer args (Some (meaning.Variable s k w)) t passed e is ok =
-      absurd (let y = allows-any (Call called.Misused (arguments_given names args)) t refl
+      absurd (let y = allows-any (Call called.Misused (resolve_arguments names args)) t refl
       ok.allowed
       in cc)
   call-case line timer args (Some (meaning.Timer n)) t passed e is ok =
-      let given = arguments_given names args in
+      let given = resolve_arguments names args in
       let xs = the-some (arguments_in given)
       (arguments-some given (allows-any (Call (called.Timer n) given) t refl ok.allowed)) in
       record {

@@ -12,9 +12,9 @@ use Rattle.il_text.specs.declared.program.Operator.{Operator}
 use Rattle.il_check.specs.Checking.{initial_progress}
 use Rattle.il_check.specs.Declaring.{labels_from, names_in, looked_up}
 use Rattle.il_check.specs.SourceOperands.{ProgramNames, resolution_of}
-use Rattle.il_check.specs.Labelling.{Labelling, Becomes, IsRight, Coming, Falls, Jumps, is_named, with_target, carry_of, beginning, type_after_label, coming_behind_action, with_result, Flows, IsWellTyped, behind_all, type_after_items}
+use Rattle.il_check.specs.Labelling.{Labelling, Becomes, IsRight, Coming, Falls, Jumps, is_named, with_target, carry_of, initial_carried, type_after_label, coming_after_action, with_result, Flows, IsWellTyped, progress_after_entries, type_after_items}
 use Rattle.il_check.specs.Rules.{type_after, gives, falls_through, target_of}
-use Rattle.il_check.specs.WellTyped.{Progress, is_first, items_faults, join, arrival, arrival_at, standing_after, progress_after_entry}
+use Rattle.il_check.specs.WellTyped.{Progress, is_first, items_faults, join, arrival, arrival_at, progress_after_action, progress_after_entry}
 use Rattle.il_check.specs.declared.reach.Reach.{Reach}
 use Rattle.il_check.specs.declared.source_operand.Resolved.{Resolved}
 use Rattle.il_check.proofs.FaultlessLemmas.{both-none, none-both, if-none, none-if, right-from, right-to, entry-reached, becomes-along, becomes-under, right-under, after-under, or-true, entry-under, entry-to, entry-from}
@@ -70,8 +70,8 @@ stands-behind-action : (labels : Labelling) (count : ℕ) (r : Resolved) (t : Op
     (named : List ℕ) (s : Progress) (now : Coming) → now ≡ Some t → Jumps labels (target_of r) t
     → ((n : ℕ) → target_of r ≡ Some n → n < count)
     → Stands labels count named s now
-    → Stands labels count (with_target (target_of r) named) (standing_after r s)
-    (coming_behind_action r t)
+    → Stands labels count (with_target (target_of r) named) (progress_after_action r s)
+    (coming_after_action r t)
 stands-behind-action labels count r t named s now is jumps range st =
     let reached : s.now.is_reached ≡ true = st.reached ∙ ap is_some is in
     let goes : s.now.is_reached && falls_through r ≡ falls_through r =
@@ -122,8 +122,9 @@ flows-to names labels count range (text.action line a ∷ es) s named now f st =
     none-both _ _
     (right-to s.now.is_reached s.passed line r s.now.kind reached
     (right-under s.passed r s.now.kind f.0 (st.typed f.0 f.1.0) f.1.1))
-    (flows-to names labels count range es (standing_after r s) (with_target (target_of r) named)
-    (coming_behind_action r f.0) f.2
+    (flows-to names labels count range es (progress_after_action r s)
+    (with_target (target_of r) named)
+    (coming_after_action r f.0) f.2
     (stands-behind-action labels count r f.0 named s now f.1.0 f.1.2
     (λ n e. target-in names count a n range e) st))
 flows-to names labels count range (text.block line operator negated items end ∷ es) s named now f
@@ -143,7 +144,7 @@ stands-behind-all : (names : ProgramNames) (labels : Labelling) (count : ℕ) �
     (t : Option ElementaryType) → Flows names labels es (carry_of s.passed named now)
     → Stands labels count named s now
     → type_after_items names labels es (carry_of s.passed named now) ≡ Some t
-    → Becomes (behind_all names es s).now.kind t
+    → Becomes (progress_after_entries names es s).now.kind t
 stands-behind-all names labels count range [] s named now t f st is = st.typed t is
 stands-behind-all names labels count range (text.label line name ∷ es) s named now t f st is =
     stands-behind-all names labels count range es
@@ -152,14 +153,14 @@ stands-behind-all names labels count range (text.label line name ∷ es) s named
     (stands-behind-label labels count line names name named s now f.0.2 st) is
 stands-behind-all names labels count range (text.action line a ∷ es) s named now t f st is =
     let r = resolution_of names a in
-    stands-behind-all names labels count range es (standing_after r s)
+    stands-behind-all names labels count range es (progress_after_action r s)
     (with_target (target_of r) named)
-    (coming_behind_action r f.0) t f.2
+    (coming_after_action r f.0) t f.2
     (stands-behind-action labels count r f.0 named s now f.1.0 f.1.2
     (λ n e. target-in names count a n range e) st)
     (subst (λ (c : Coming). type_after_items names labels es
     (carry_of s.passed (with_target (target_of r) named)
-    (with_result (coming_behind_action r) c)) ≡ Some t) f.1.0 is)
+    (with_result (coming_after_action r) c)) ≡ Some t) f.1.0 is)
 stands-behind-all names labels count range (text.block line operator negated items end ∷ es) s named
     now t f st is =
     stands-behind-all names labels count range es
@@ -180,7 +181,7 @@ least names (text.label line name ∷ es) s n =
     cond (n == s.passed) (join s.now (arrival (slice_get s.arrivals s.passed))).kind
     (least names es (progress_after_entry names (text.label line name) s) n)
 least names (text.action line a ∷ es) s n =
-    least names es (standing_after (resolution_of names a) s) n
+    least names es (progress_after_action (resolution_of names a) s) n
 least names (text.block line operator negated items end ∷ es) s n =
     least names es (progress_after_entry names (text.block line operator negated items end) s) n
 
@@ -189,8 +190,8 @@ brought-by : (names : ProgramNames) (es : List text.Entry) (r : Resolved) (s : P
     (v : Reach) (target : Option ℕ) → target_of r ≡ target → slice_get s.arrivals n ≡ Some v
     → v.is_reached ≡ true
     → ((w : Reach) → slice_get (arrival_at (target_of r) s.now s.arrivals) n ≡ Some w
-    → w.is_reached ≡ true → Becomes w.kind (least names es (standing_after r s) n))
-    → Becomes v.kind (least names es (standing_after r s) n)
+    → w.is_reached ≡ true → Becomes w.kind (least names es (progress_after_action r s) n))
+    → Becomes v.kind (least names es (progress_after_action r s) n)
 brought-by names es r s n v None t is reached more =
     more v (ap (λ (o : Option ℕ). slice_get (arrival_at o s.now s.arrivals) n) t ∙ is) reached
 brought-by names es r s n v (Some m) t is reached more =
@@ -244,7 +245,7 @@ brought-becomes names (text.label line name ∷ es) s n v is reached = elim (cas
 brought-becomes names (text.action line a ∷ es) s n v is reached =
     brought-by names es (resolution_of names a) s n v (target_of (resolution_of names a)) refl is
     reached
-    (λ w. brought-becomes names es (standing_after (resolution_of names a) s) n w)
+    (λ w. brought-becomes names es (progress_after_action (resolution_of names a) s) n w)
 brought-becomes names (text.block line operator negated items end ∷ es) s n v is reached =
     brought-becomes names es
     (progress_after_entry names (text.block line operator negated items end) s) n v is
@@ -274,7 +275,7 @@ pub jumps-out : (labels : Labelling) (names : ProgramNames) (es : List text.Entr
     (r : Resolved) (s : Progress) (named : List ℕ) (target : Option ℕ) → target_of r ≡ target
     → s.now.is_reached ≡ true → IsRight s.passed r s.now.kind
     → ((n : ℕ) → target_of r ≡ Some n → n < count) → Brought named s.arrivals count
-    → ((n : ℕ) → s.passed ≤ n → labels n ≡ least names es (standing_after r s) n)
+    → ((n : ℕ) → s.passed ≤ n → labels n ≡ least names es (progress_after_action r s) n)
     → Jumps labels target s.now.kind
 jumps-out labels names es count r s named None t reached ok range b same = tt
 jumps-out labels names es count r s named (Some m) t reached ok range b same =
@@ -286,11 +287,11 @@ jumps-out labels names es count r s named (Some m) t reached ok range b same =
     join-reached old s.now ∙ ap (λ (x : Bool). old.is_reached || x) reached
     ∙ or-true old.is_reached in
     let more =
-    brought-becomes names es (standing_after r s) m here
+    brought-becomes names es (progress_after_action r s) m here
     (ap (λ (o : Option ℕ). slice_get (arrival_at o s.now s.arrivals) m) t ∙ there) is_met in
     subst (λ (u : Option ElementaryType). Becomes s.now.kind u)
     (sym (same m (target-ahead s.passed r m t ok.forward)))
-    (becomes-along s.now.kind here.kind (least names es (standing_after r s) m)
+    (becomes-along s.now.kind here.kind (least names es (progress_after_action r s) m)
     (join-right old s.now reached) more)
 
 -- the labels have the least types
@@ -342,8 +343,8 @@ pub exact-behind-action : (names : ProgramNames) (count : ℕ) (range : InRange 
     (a : text.Action) (s : Progress) (named : List ℕ) (now : Coming) → s.now.is_reached ≡ true
     → Exact count named s now
     → Exact count (with_target (target_of (resolution_of names a)) named)
-    (standing_after (resolution_of names a) s)
-    (coming_behind_action (resolution_of names a) s.now.kind)
+    (progress_after_action (resolution_of names a) s)
+    (coming_after_action (resolution_of names a) s.now.kind)
 exact-behind-action names count range a s named now reached x =
     let r = resolution_of names a in
     record {
@@ -403,8 +404,9 @@ flows-from names labels count range (text.action line a ∷ es) s named now same
         jumps-out labels names es count r s named (target_of r) refl right.0 right.1 range_here
             x.brought same,
       ),
-      flows-from names labels count range es (standing_after r s) (with_target (target_of r) named)
-          (coming_behind_action r s.now.kind) same h.1
+      flows-from names labels count range es (progress_after_action r s)
+          (with_target (target_of r) named)
+          (coming_after_action r s.now.kind) same h.1
           (exact-behind-action names count range a s named now right.0 x),
     )
 flows-from names labels count range (text.block line operator negated items end ∷ es) s named now
@@ -466,9 +468,10 @@ begins points program labels = record {
 
 pub least_types : (points : List Point) (program : text.PlainProgram) (front more : List text.Entry)
     (labels : Labelling) (t : Option ElementaryType)
-    → program.items ≡ front ++ more → Flows (names_in points program) labels front beginning
-    → type_after_items (names_in points program) labels front beginning ≡ Some t
-    → Becomes (behind_all (names_in points program) front (initial_progress program)).now.kind t
+    → program.items ≡ front ++ more → Flows (names_in points program) labels front initial_carried
+    → type_after_items (names_in points program) labels front initial_carried ≡ Some t
+    → Becomes (progress_after_entries (names_in points program) front
+    (initial_progress program)).now.kind t
 least_types points program front more labels t parts f is =
     stands-behind-all (names_in points program) labels (length (labels_from 0 program.items))
     (λ name n e. first-labels program.items (upper name) n e) front (initial_progress program)

@@ -7,11 +7,11 @@ use Rattle.bay_base.specs.declared.types.ElementaryType.TheVariants as elementar
 use Rattle.il_text.specs.declared.program.Condition.{Condition}
 use Rattle.il_text.specs.declared.program.Condition.TheVariants.{Always, IfTrue, IfFalse}
 use Rattle.il_image.proofs.KindLemmas.{same-is}
-use Rattle.il_check.specs.Labelling.{IsRight, coming_behind_action}
+use Rattle.il_check.specs.Labelling.{IsRight, coming_after_action}
 use Rattle.il_check.specs.Program.{Checked, ProgramItem}
 use Rattle.il_check.specs.Rules as rules
 use Rattle.il_check.specs.Rules.{operand_in, fits, works, is_conditional, input_type, argument_fits, arguments_fit, is_wrong, is_unset}
-use Rattle.il_check.specs.TypedProgram.{IsArgument, AreArguments, Decides, has_label, IsTransfer, target_of, coming_behind_condition, coming_behind_transfer}
+use Rattle.il_check.specs.TypedProgram.{IsArgument, AreArguments, Decides, has_label, IsTransfer, target_of, coming_after_condition, coming_after_transfer}
 use Rattle.il_check.specs.Typing.{operation_in, typed_argument, one_argument, two_arguments, arguments_in, call_with, transfer_in}
 use Rattle.il_check.specs.declared.source_operand.CalledTimer.TheVariants as called
 use Rattle.il_check.specs.declared.source_operand.SourceArgument.{SourceArgument}
@@ -86,7 +86,7 @@ decides-return IfFalse (Some kind) ok set =
     ap Some (sym (same-is elementary.Bool kind (not-false _ ok)))
 
 behind-same : (condition : Condition) (t : Option ElementaryType)
-    → coming_behind_condition condition t ≡ cond (is_conditional condition) (Some t) None
+    → coming_after_condition condition t ≡ cond (is_conditional condition) (Some t) None
 behind-same Always t = refl
 behind-same IfTrue t = refl
 behind-same IfFalse t = refl
@@ -97,7 +97,7 @@ pub record IsMoved (c : Checked) (below : List ProgramItem) (r : Resolved)
     (x : Transfer) : Type 0 where
   pub right : IsTransfer c below x t
   pub target : target_of x ≡ rules.target_of r
-  pub goes : coming_behind_transfer x t ≡ coming_behind_action r t
+  pub goes : coming_after_transfer x t ≡ coming_after_action r t
 
 call-case : (c : Checked) (below : List ProgramItem) (n : ℕ) (args : SourceArguments)
     (w : Option TypedArguments) (t : Option ElementaryType) (x : Transfer) → n < length c.timers
@@ -159,7 +159,7 @@ call-some n (Some x) e = refl
 -- and jumps nowhere
 pub nothing-left : (c : Checked) (passed : ℕ) (r : Resolved) (t : Option ElementaryType)
     → IsFound c r → IsRight passed r t → transfer_in r ≡ None → operation_in r t ≡ None
-    → (rules.target_of r ≡ None) × (coming_behind_action r t ≡ Some t)
+    → (rules.target_of r ≡ None) × (coming_after_action r t ≡ Some t)
 nothing-left c passed (Load negated g) t is ok none e =
     absurd (none-some _ e (load-some c negated g is
     (allows-any (Load negated g) t refl ok.allowed)))

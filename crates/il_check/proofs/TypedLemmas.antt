@@ -15,13 +15,13 @@ use Rattle.il_check.specs.Checking.{initial_progress, faults_of, checked_program
 use Rattle.il_check.specs.Declaring.{labels_from, names_in, declarations_faults}
 use Rattle.il_check.specs.Faults.{least_fault}
 use Rattle.il_check.specs.SourceOperands.{ProgramNames, resolution_of}
-use Rattle.il_check.specs.Labelling.{Labelling, IsRight, IsCombined, IsRightEntry, AreRightEntries, Coming, Jumps, with_target, carry_of, type_after_label, coming_behind_action}
+use Rattle.il_check.specs.Labelling.{Labelling, IsRight, IsCombined, IsRightEntry, AreRightEntries, Coming, Jumps, with_target, carry_of, type_after_label, coming_after_action}
 use Rattle.il_check.specs.Program.{Entry, operation, block, Entries, no_entries, entry, ProgramItem, label, transfer, plain, Checked, entry_before}
 use Rattle.il_check.specs.Rules as rules
 use Rattle.il_check.specs.Rules.{gives, works, type_after}
-use Rattle.il_check.specs.TypedProgram.{IsEntry, AreEntries, entry_depth, entries_depth, has_label, coming_behind_transfer, AreItems, IsTyped}
+use Rattle.il_check.specs.TypedProgram.{IsEntry, AreEntries, entry_depth, entries_depth, has_label, coming_after_transfer, AreItems, IsTyped}
 use Rattle.il_check.specs.Typing.{operation_in, transfer_in, or_entry, block_in}
-use Rattle.il_check.specs.WellTyped.{Progress, type_after_entry, type_after_entries, items_faults, entry_left, entries_left, progress_after_item, progress_after_items, progress_after_entry, standing_after}
+use Rattle.il_check.specs.WellTyped.{Progress, type_after_entry, type_after_entries, items_faults, entry_left, entries_left, progress_after_item, progress_after_items, progress_after_entry, progress_after_action}
 use Rattle.il_check.specs.declared.fault.CheckFault.{CheckFault}
 use Rattle.il_check.specs.declared.source_operand.Resolved.{Resolved}
 use Rattle.il_check.specs.declared.typed.SimpleOperation.{SimpleOperation}
@@ -218,8 +218,8 @@ labels-below names (text.label line name ∷ es) s n le lt = elim (cases_eq n s.
 ]
 labels-below names (text.action line a ∷ es) s n le lt =
     labels-more (progress_after_item names (text.action line a) s)
-    (progress_after_items names es (standing_after (resolution_of names a) s)) n
-    (labels-below names es (standing_after (resolution_of names a) s) n le lt)
+    (progress_after_items names es (progress_after_action (resolution_of names a) s)) n
+    (labels-below names es (progress_after_action (resolution_of names a) s) n le lt)
 labels-below names (text.block line operator negated items end ∷ es) s n le lt =
     labels-more (progress_after_item names (text.block line operator negated items end) s)
     (progress_after_items names es
@@ -238,7 +238,7 @@ item-case : (c : Checked) (labels : Labelling) (passed : ℕ) (named : List ℕ)
     → ((n : ℕ) → rules.target_of r ≡ Some n → has_label is n ≡ true)
     → transfer_in r ≡ x → operation_in r t ≡ o
     → AreItems c labels is (carry_of passed (with_target (rules.target_of r) named)
-    (coming_behind_action r t))
+    (coming_after_action r t))
     → AreItems c labels (cons_option (or_entry x (option_map operation o)) is)
     (carry_of passed named now)
 item-case c labels passed named now r t is (Some x) o known ok at jumps there goes leaves more =
@@ -246,7 +246,7 @@ item-case c labels passed named now r t is (Some x) o known ok at jumps there go
       t,
       (at, m.right, subst (λ (n : Option ℕ). Jumps labels n t) (sym m.target) jumps),
       subst (λ (n : Option ℕ). AreItems c labels is
-          (carry_of passed (with_target n named) (coming_behind_transfer x t))) (sym m.target)
+          (carry_of passed (with_target n named) (coming_after_transfer x t))) (sym m.target)
           (subst (λ (w : Coming). AreItems c labels is
           (carry_of passed (with_target (rules.target_of r) named) w)) (sym m.goes) more),
     )
@@ -265,7 +265,7 @@ item-case c labels passed named now r t is None None known ok at jumps there goe
     let on = nothing-left c passed r t known ok goes leaves in
     subst (λ (w : Coming). AreItems c labels is (carry_of passed named w)) (on.1 ∙ sym at)
     (subst (λ (n : Option ℕ). AreItems c labels is
-    (carry_of passed (with_target n named) (coming_behind_action r t))) on.0 more)
+    (carry_of passed (with_target n named) (coming_after_action r t))) on.0 more)
 
 block-case : (c : Checked) (labels : Labelling) (passed : ℕ) (named : List ℕ) (now : Coming)
     (t u : Option ElementaryType) (is : List ProgramItem) (o : Option Entry)
@@ -302,17 +302,18 @@ module _ (c : Checked) (names : ProgramNames) (meant : AreNamed c names) (labels
       let right = right-from s.now.is_reached s.passed line r s.now.kind h.0 in
       let within = λ (n : ℕ) (e : rules.target_of r ≡ Some n). target-in names count a n range e in
       let below = λ (n : ℕ) (e : rules.target_of r ≡ Some n).
-      labels-below names es (standing_after r s) n (target-ahead s.passed r n e right.1.forward)
+      labels-below names es (progress_after_action r s) n
+      (target-ahead s.passed r n e right.1.forward)
       (let k : n < count = within n e in omega arith) in
       let jumps =
       jumps-out labels names es count r s named (rules.target_of r) refl right.0 right.1 within
       x.brought same in
       item-case c labels s.passed named now r s.now.kind
-      (progress_after_items names es (standing_after r s))
+      (progress_after_items names es (progress_after_action r s))
       (transfer_in r) (operation_in r s.now.kind) (found c names meant a) right.1
       (exact-now count named s now x right.0) jumps below refl refl
-      (items-typed es (standing_after r s) (with_target (rules.target_of r) named)
-      (coming_behind_action r s.now.kind) same h.1
+      (items-typed es (progress_after_action r s) (with_target (rules.target_of r) named)
+      (coming_after_action r s.now.kind) same h.1
       (exact-behind-action names count range a s named now right.0 x) size)
   items-typed (text.block line operator negated items end ∷ es) s named now same none x size =
       let b = text.block line operator negated items end in

@@ -6,14 +6,14 @@ use Rattle.il_text.specs.Listing as text
 use Rattle.il_check.specs.Declaring.{names_in, labels_from, externals_of, variables_of, timers_of, declarations_faults}
 use Rattle.il_check.specs.Faults.{least_fault}
 use Rattle.il_check.specs.Program.{Checked}
-use Rattle.il_check.specs.WellTyped.{Progress, first, no_reach, items_faults, progress_after_items}
+use Rattle.il_check.specs.WellTyped.{Progress, start_progress, no_reach, items_faults, progress_after_items}
 use Rattle.il_check.specs.declared.fault.CheckFault.{CheckFault}
 
 -- ---- own: faults, and the result of a check
 
 -- the state before the first item: no jump has reached a label yet
 abbrev pub initial_progress : text.PlainProgram → Progress
-initial_progress program = first (map (λ l. no_reach) (labels_from 0 program.items))
+initial_progress program = start_progress (map (λ l. no_reach) (labels_from 0 program.items))
 
 -- all faults of a program
 abbrev pub faults_of : List Point → text.PlainProgram → List CheckFault

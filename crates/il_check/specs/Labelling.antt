@@ -75,8 +75,8 @@ abbrev pub carry_of : ℕ → List ℕ → Coming → Carried
 carry_of passed named now = record { passed = passed; named = named; now = now }
 
 -- the state before the first item: the result is unset
-abbrev pub beginning : Carried
-beginning = carry_of 0 [] (Some None)
+abbrev pub initial_carried : Carried
+initial_carried = carry_of 0 [] (Some None)
 
 -- The path from above brings the label's type, or the label is unset.
 abbrev pub Falls : Labelling → ℕ → Coming → Type 0
@@ -104,21 +104,21 @@ type_after_label labels c =
     if is_some c.now || is_named c.named c.passed then Some (labels c.passed) else None
 
 -- the state after a label
-abbrev pub behind_label : Labelling → Carried → Carried
-behind_label labels c = carry_of (c.passed + 1) c.named (type_after_label labels c)
+abbrev pub carried_after_label : Labelling → Carried → Carried
+carried_after_label labels c = carry_of (c.passed + 1) c.named (type_after_label labels c)
 
 -- what an instruction on a result of this type brings to the next item
-abbrev pub coming_behind_action : Resolved → Option ElementaryType → Coming
-coming_behind_action r t = if falls_through r then Some (type_after r t) else None
+abbrev pub coming_after_action : Resolved → Option ElementaryType → Coming
+coming_after_action r t = if falls_through r then Some (type_after r t) else None
 
 -- the state after an instruction on a result of this type
-abbrev pub behind_action : Resolved → Option ElementaryType → Carried → Carried
-behind_action r t c =
-    carry_of c.passed (with_target (target_of r) c.named) (coming_behind_action r t)
+abbrev pub carried_after_action : Resolved → Option ElementaryType → Carried → Carried
+carried_after_action r t c =
+    carry_of c.passed (with_target (target_of r) c.named) (coming_after_action r t)
 
 -- the state after a parenthesis whose operator works on a result of this type
-abbrev pub behind_block : Operator → Option ElementaryType → Carried → Carried
-behind_block operator t c = carry_of c.passed c.named (Some (option_map (gives operator) t))
+abbrev pub carried_after_block : Operator → Option ElementaryType → Carried → Carried
+carried_after_block operator t c = carry_of c.passed c.named (Some (option_map (gives operator) t))
 
 -- The label is the first of its name and not too many, and the path from above brings its type.
 abbrev pub LabelFlows : ProgramNames → Labelling → List ℕ → Carried → Type 0
@@ -140,17 +140,17 @@ BlockFlows names b t c = (c.now ≡ Some t) × IsRightEntry names most_nested c.
 abbrev pub Flows : ProgramNames → Labelling → List text.Entry → Carried → Type 0
 Flows names labels [] c = Unit {0}
 Flows names labels (text.label line name ∷ es) c =
-    LabelFlows names labels name c × Flows names labels es (behind_label labels c)
+    LabelFlows names labels name c × Flows names labels es (carried_after_label labels c)
 Flows names labels (text.action line a ∷ es) c =
     (t : Option ElementaryType) × ActionFlows labels (resolution_of names a) t c
-    × Flows names labels es (behind_action (resolution_of names a) t c)
+    × Flows names labels es (carried_after_action (resolution_of names a) t c)
 Flows names labels (text.block line operator negated items end ∷ es) c =
     (t : Option ElementaryType) × BlockFlows names (text.block line operator negated items end) t c
-    × Flows names labels es (behind_block operator t c)
+    × Flows names labels es (carried_after_block operator t c)
 
 -- With some labelling every instruction is reached and valid.
 abbrev pub IsWellTyped : ProgramNames → List text.Entry → Type 0
-IsWellTyped names items = (labels : Labelling) × Flows names labels items beginning
+IsWellTyped names items = (labels : Labelling) × Flows names labels items initial_carried
 
 -- ---- own: types of the current result, after items
 
@@ -163,16 +163,17 @@ with_result f (Some t) = f t
 abbrev pub type_after_items : ProgramNames → Labelling → List text.Entry → Carried → Coming
 type_after_items names labels [] c = c.now
 type_after_items names labels (text.label line name ∷ es) c =
-    type_after_items names labels es (behind_label labels c)
+    type_after_items names labels es (carried_after_label labels c)
 type_after_items names labels (text.action line a ∷ es) c =
     type_after_items names labels es
     (carry_of c.passed (with_target (target_of (resolution_of names a)) c.named)
-    (with_result (coming_behind_action (resolution_of names a)) c.now))
+    (with_result (coming_after_action (resolution_of names a)) c.now))
 type_after_items names labels (text.block line operator negated items end ∷ es) c =
     type_after_items names labels es
     (carry_of c.passed c.named (with_result (λ t. Some (option_map (gives operator) t)) c.now))
 
 -- the state of the checks after items
-abbrev pub behind_all : ProgramNames → List text.Entry → Progress → Progress
-behind_all names [] s = s
-behind_all names (e ∷ es) s = behind_all names es (progress_after_entry names e s)
+abbrev pub progress_after_entries : ProgramNames → List text.Entry → Progress → Progress
+progress_after_entries names [] s = s
+progress_after_entries names (e ∷ es) s =
+    progress_after_entries names es (progress_after_entry names e s)

@@ -61,11 +61,11 @@ literal_operand (literal.Lint z) = source_operand (typed_value (literal.Lint z))
 literal_operand (literal.Time n) = source_operand (typed_value (literal.Time n))
 
 -- a name as a variable; a timer's name is misused
-abbrev pub variable_given : Option Meaning → SourceOperand
-variable_given None = Missing
-variable_given (Some (meaning.Variable slot kind writable)) =
+abbrev pub resolve_variable : Option Meaning → SourceOperand
+resolve_variable None = Missing
+resolve_variable (Some (meaning.Variable slot kind writable)) =
     Known (record { operand = operand.Slot slot; kind = kind; writable = writable })
-variable_given (Some (meaning.Timer timer)) = Misused
+resolve_variable (Some (meaning.Timer timer)) = Misused
 
 -- Q is a BOOL, and ET a TIME (IEC 61131-3, table 37)
 abbrev pub output_type : TimerOutput → ElementaryType
@@ -74,10 +74,10 @@ output_type output.Et = elementary.Time
 
 -- an output of the timer of a name, which may only be read; a variable's name is misused (IEC
 -- 61131-3, table 37)
-abbrev pub output_given : Option Meaning → TimerOutput → SourceOperand
-output_given None gives = Missing
-output_given (Some (meaning.Variable slot kind writable)) gives = Misused
-output_given (Some (meaning.Timer timer)) gives =
+abbrev pub resolve_output : Option Meaning → TimerOutput → SourceOperand
+resolve_output None gives = Missing
+resolve_output (Some (meaning.Variable slot kind writable)) gives = Misused
+resolve_output (Some (meaning.Timer timer)) gives =
     Known (record {
       operand = operand.TimerOutput timer gives;
       kind = output_type gives;
@@ -85,14 +85,14 @@ output_given (Some (meaning.Timer timer)) gives =
     })
 
 -- a variable, or an output of a timer, by its name
-abbrev pub place_given : ProgramNames → text.Place → SourceOperand
-place_given names (text.named name) = variable_given (names.meaning name)
-place_given names (text.output timer gives) = output_given (names.meaning timer) gives
+abbrev pub resolve_place : ProgramNames → text.Place → SourceOperand
+resolve_place names (text.named name) = resolve_variable (names.meaning name)
+resolve_place names (text.output timer gives) = resolve_output (names.meaning timer) gives
 
 -- an operand
-abbrev pub source_given : ProgramNames → text.OperandData → SourceOperand
-source_given names (text.constant value) = literal_operand value
-source_given names (text.variable place) = place_given names place
+abbrev pub resolve_operand : ProgramNames → text.OperandData → SourceOperand
+resolve_operand names (text.constant value) = literal_operand value
+resolve_operand names (text.variable place) = resolve_place names place
 
 -- whether the number is 0
 abbrev pub is_zero : ℤ → Bool
@@ -120,25 +120,25 @@ called_of (Some (meaning.Variable slot kind writable)) = called.Misused
 called_of (Some (meaning.Timer timer)) = called.Timer timer
 
 -- an argument of a call with its names resolved
-abbrev pub argument_given : ProgramNames → Input × text.OperandData → SourceArgument
-argument_given names a = record { input = a.0; given = source_given names a.1 }
+abbrev pub resolve_argument : ProgramNames → Input × text.OperandData → SourceArgument
+resolve_argument names a = record { input = a.0; given = resolve_operand names a.1 }
 
 -- the arguments of a call, at most two, with their names resolved
-abbrev pub arguments_given : ProgramNames → List (Input × text.OperandData) → SourceArguments
-arguments_given names [] = arguments.None
-arguments_given names (a ∷ []) = arguments.One (argument_given names a)
-arguments_given names (a ∷ b ∷ more) =
-    arguments.Two (argument_given names a) (argument_given names b)
+abbrev pub resolve_arguments : ProgramNames → List (Input × text.OperandData) → SourceArguments
+resolve_arguments names [] = arguments.None
+resolve_arguments names (a ∷ []) = arguments.One (resolve_argument names a)
+resolve_arguments names (a ∷ b ∷ more) =
+    arguments.Two (resolve_argument names a) (resolve_argument names b)
 
 -- an instruction with its names resolved
 abbrev pub resolution_of : ProgramNames → text.Action → Resolved
-resolution_of names (text.load negated source) = Load negated (source_given names source)
-resolution_of names (text.store kind place) = Store kind (place_given names place)
+resolution_of names (text.load negated source) = Load negated (resolve_operand names source)
+resolution_of names (text.store kind place) = Store kind (resolve_place names place)
 resolution_of names (text.combine operator negated source) =
-    Combine operator negated (source_given names source) (is_nonzero source)
+    Combine operator negated (resolve_operand names source) (is_nonzero source)
 resolution_of names text.invert = Not
 resolution_of names (text.convert conversion) = Convert conversion
 resolution_of names (text.jump condition name) = Jump condition (names.label name)
 resolution_of names (text.leave condition) = Return condition
 resolution_of names (text.call timer arguments) =
-    Call (called_of (names.meaning timer)) (arguments_given names arguments)
+    Call (called_of (names.meaning timer)) (resolve_arguments names arguments)

@@ -10,7 +10,7 @@ use Rattle.il_image.specs.Images.{Each, IsName, IsValue}
 use Rattle.il_image.specs.Values.{number_of, type_of}
 use Rattle.il_image.specs.Machine.{most_slots, most_timers}
 use Rattle.il_check.specs.SourceOperands.{output_type}
-use Rattle.il_check.specs.Labelling.{Labelling, Coming, Carried, carry_of, beginning, Falls, Jumps, with_target, behind_label}
+use Rattle.il_check.specs.Labelling.{Labelling, Coming, Carried, carry_of, initial_carried, Falls, Jumps, with_target, carried_after_label}
 use Rattle.il_check.specs.Program.{Entry, operation, block, Entries, no_entries, entry, ProgramItem, label, transfer, plain, Checked}
 use Rattle.il_check.specs.Rules.{may_negate, is_plain, works, gives, divides, input_type, converted_from, converted_to}
 use Rattle.il_check.specs.declared.typed.External.{External}
@@ -139,27 +139,27 @@ target_of (go.Return condition) = None
 target_of (go.Call timer args) = None
 
 -- what a jump or a return on a result of this type brings to the next item (own)
-abbrev pub coming_behind_condition : Condition → Option ElementaryType → Coming
-coming_behind_condition Always t = None
-coming_behind_condition IfTrue t = Some t
-coming_behind_condition IfFalse t = Some t
+abbrev pub coming_after_condition : Condition → Option ElementaryType → Coming
+coming_after_condition Always t = None
+coming_after_condition IfTrue t = Some t
+coming_after_condition IfFalse t = Some t
 
 -- what a jump, a return or a call brings to the next item (own)
-abbrev pub coming_behind_transfer : Transfer → Option ElementaryType → Coming
-coming_behind_transfer (go.Jump condition number) t = coming_behind_condition condition t
-coming_behind_transfer (go.Return condition) t = coming_behind_condition condition t
-coming_behind_transfer (go.Call timer args) t = Some None
+abbrev pub coming_after_transfer : Transfer → Option ElementaryType → Coming
+coming_after_transfer (go.Jump condition number) t = coming_after_condition condition t
+coming_after_transfer (go.Return condition) t = coming_after_condition condition t
+coming_after_transfer (go.Call timer args) t = Some None
 
 -- ---- own: types of the current result, over the items
 
 -- the state after a jump, a return or a call on a result of this type
-abbrev pub behind_transfer : Transfer → Option ElementaryType → Carried → Carried
-behind_transfer x t k =
-    carry_of k.passed (with_target (target_of x) k.named) (coming_behind_transfer x t)
+abbrev pub carried_after_transfer : Transfer → Option ElementaryType → Carried → Carried
+carried_after_transfer x t k =
+    carry_of k.passed (with_target (target_of x) k.named) (coming_after_transfer x t)
 
 -- the state after an operation or a parenthesis that leaves a result of this type
-abbrev pub behind_entry : Option ElementaryType → Carried → Carried
-behind_entry u k = carry_of k.passed k.named (Some u)
+abbrev pub carried_after_entry : Option ElementaryType → Carried → Carried
+carried_after_entry u k = carry_of k.passed k.named (Some u)
 
 -- The label has the next number and is not too many, and the path from above brings its type.
 abbrev pub IsLabel : Labelling → ℕ → Carried → Type 0
@@ -181,13 +181,13 @@ EntryFlows c e t u k = (k.now ≡ Some t) × IsEntry c e t u × (entry_depth e �
 abbrev pub AreItems : Checked → Labelling → List ProgramItem → Carried → Type 0
 AreItems c labels [] k = Unit {0}
 AreItems c labels (label n ∷ is) k =
-    IsLabel labels n k × AreItems c labels is (behind_label labels k)
+    IsLabel labels n k × AreItems c labels is (carried_after_label labels k)
 AreItems c labels (transfer x ∷ is) k =
     (t : Option ElementaryType) × TransferFlows c labels is x t k
-    × AreItems c labels is (behind_transfer x t k)
+    × AreItems c labels is (carried_after_transfer x t k)
 AreItems c labels (plain e ∷ is) k =
     (t : Option ElementaryType) × (u : Option ElementaryType) × EntryFlows c e t u k
-    × AreItems c labels is (behind_entry u k)
+    × AreItems c labels is (carried_after_entry u k)
 
 -- An image can represent the name of the external.
 abbrev pub HasName : External → Type 0
@@ -205,4 +205,4 @@ pub record IsTyped (c : Checked) : Type 0 where
   pub names : Each HasName c.externals
   pub initial : Each BeginsRight c.variables
   pub labels : Labelling
-  pub items : AreItems c labels c.items beginning
+  pub items : AreItems c labels c.items initial_carried

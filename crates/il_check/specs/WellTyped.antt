@@ -146,24 +146,24 @@ arrival_at (Some label) now arrivals =
     slice_set arrivals label (join (arrival (slice_get arrivals label)) now)
 
 -- the state after an instruction
-abbrev pub standing_after : Resolved → Progress → Progress
-standing_after r s = record {
+abbrev pub progress_after_action : Resolved → Progress → Progress
+progress_after_action r s = record {
   now = record { is_reached = s.now.is_reached && falls_through r; kind = type_after r s.now.kind };
   arrivals = arrival_at (target_of r) s.now s.arrivals;
   passed = s.passed;
 }
 
 -- the state after a label: joins what falls through to it and what the jumps to it bring
-abbrev pub behind_label : Progress → Progress
-behind_label s = record {
+abbrev pub progress_after_label : Progress → Progress
+progress_after_label s = record {
   now = join s.now (arrival (slice_get s.arrivals s.passed));
   arrivals = s.arrivals;
   passed = s.passed + 1;
 }
 
 -- the state after a parenthesis
-abbrev pub behind_block : Operator → Progress → Progress
-behind_block operator s = record {
+abbrev pub progress_after_block : Operator → Progress → Progress
+progress_after_block operator s = record {
   now = record { is_reached = s.now.is_reached; kind = option_map (gives operator) s.now.kind };
   arrivals = s.arrivals;
   passed = s.passed;
@@ -171,13 +171,14 @@ behind_block operator s = record {
 
 -- the state after an item
 abbrev pub progress_after_entry : ProgramNames → text.Entry → Progress → Progress
-progress_after_entry names (text.label line name) s = behind_label s
-progress_after_entry names (text.action line a) s = standing_after (resolution_of names a) s
-progress_after_entry names (text.block line operator negated items end) s = behind_block operator s
+progress_after_entry names (text.label line name) s = progress_after_label s
+progress_after_entry names (text.action line a) s = progress_after_action (resolution_of names a) s
+progress_after_entry names (text.block line operator negated items end) s =
+    progress_after_block operator s
 
 -- the state before the first item: the result is unset
-abbrev pub first : List Reach → Progress
-first arrivals =
+abbrev pub start_progress : List Reach → Progress
+start_progress arrivals =
     record { now = record { is_reached = true; kind = None }; arrivals = arrivals; passed = 0 }
 
 -- whether no label of a name comes before this one, which has `passed` labels before it

@@ -9,7 +9,7 @@ ghost use Rattle.il_check.specs.Checking.{checked_of, initial_progress};
 ghost use Rattle.il_check.specs.Declaring.{names_in};
 ghost use Rattle.il_check.specs.Faults.{IsLeast, least_fault};
 ghost use Rattle.il_check.specs.Keeping.{Keeps};
-ghost use Rattle.il_check.specs.Labelling.{Becomes, Flows, IsWellTyped, Labelling, beginning, behind_all, type_after_items};
+ghost use Rattle.il_check.specs.Labelling.{Becomes, Flows, IsWellTyped, Labelling, initial_carried, progress_after_entries, type_after_items};
 ghost use Rattle.il_check.specs.OwnPlaces.{MeanOwnPlaces};
 ghost use Rattle.il_check.specs.Program.{Checked};
 ghost use Rattle.il_check.specs.RightProgram.{IsRightProgram};
@@ -32,9 +32,10 @@ pub fn some_labelling()
 pub fn least_types()
     ensures { (points : List Point) (program : text.PlainProgram) (front more : List text.Entry)
         (labels : Labelling) (t : Option ElementaryType) →
-        program.items ≡ front ++ more → Flows (names_in points program) labels front beginning
-        → type_after_items (names_in points program) labels front beginning ≡ Some t →
-        Becomes (behind_all (names_in points program) front (initial_progress program)).now.kind t }
+        program.items ≡ front ++ more → Flows (names_in points program) labels front initial_carried
+        → type_after_items (names_in points program) labels front initial_carried ≡ Some t →
+        Becomes (progress_after_entries (names_in points program) front
+        (initial_progress program)).now.kind t }
 {}
 
 /// A program passes the checks exactly if its declarations are valid and some labelling makes every

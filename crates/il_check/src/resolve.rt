@@ -69,8 +69,8 @@ fn literal_operand(literal: Literal) -> SourceOperand
 }
 
 // Returns a name, by its meaning, as a variable.
-fn variable_given(meaning: Option<Meaning>) -> SourceOperand
-    ensures { result ≡ spec.variable_given meaning }
+fn resolve_variable(meaning: Option<Meaning>) -> SourceOperand
+    ensures { result ≡ spec.resolve_variable meaning }
 {
     match meaning {
         None => SourceOperand::Missing,
@@ -100,8 +100,8 @@ fn output_type(output: TimerOutput) -> ElementaryType
 }
 
 // Returns the output of the timer of a name, by the meaning of the name.
-fn output_given(meaning: Option<Meaning>, output: TimerOutput) -> SourceOperand
-    ensures { result ≡ spec.output_given meaning output }
+fn resolve_output(meaning: Option<Meaning>, output: TimerOutput) -> SourceOperand
+    ensures { result ≡ spec.resolve_output meaning output }
 {
     match meaning {
         None => SourceOperand::Missing,
@@ -157,12 +157,12 @@ impl ProgramNames {
         variable: SymbolicVariable<'_>,
     ) -> Result<SourceOperand, AllocError>
         ensures { IfOk result (λ given. given
-            ≡ spec.place_given (names_of self.now) (place_of variable.entry)) }
+            ≡ spec.resolve_place (names_of self.now) (place_of variable.entry)) }
     {
         match variable {
-            SymbolicVariable::Name(name) => Ok(variable_given(self.meaning(buffer, name)?)),
+            SymbolicVariable::Name(name) => Ok(resolve_variable(self.meaning(buffer, name)?)),
             SymbolicVariable::TimerOutput { timer, output } => {
-                Ok(output_given(self.meaning(buffer, timer)?, output))
+                Ok(resolve_output(self.meaning(buffer, timer)?, output))
             }
         }
     }
@@ -174,7 +174,7 @@ impl ProgramNames {
         operand: Operand<'_>,
     ) -> Result<SourceOperand, AllocError>
         ensures { IfOk result (λ given. given
-            ≡ spec.source_given (names_of self.now) (source_of operand.entry)) }
+            ≡ spec.resolve_operand (names_of self.now) (source_of operand.entry)) }
     {
         match operand {
             Operand::Literal(literal) => Ok(literal_operand(literal)),
@@ -189,7 +189,7 @@ impl ProgramNames {
         argument: Argument<'_>,
     ) -> Result<SourceArgument, AllocError>
         ensures { IfOk result (λ given. given
-            ≡ spec.argument_given (names_of self.now) (argument_of argument.entry)) }
+            ≡ spec.resolve_argument (names_of self.now) (argument_of argument.entry)) }
     {
         Ok(SourceArgument {
             input: argument.input,
@@ -204,7 +204,7 @@ impl ProgramNames {
         arguments: Arguments<'_>,
     ) -> Result<SourceArguments, AllocError>
         ensures { IfOk result (λ given. given
-            ≡ spec.arguments_given (names_of self.now) (arguments_of arguments.entry)) }
+            ≡ spec.resolve_arguments (names_of self.now) (arguments_of arguments.entry)) }
     {
         match arguments {
             Arguments::None => Ok(SourceArguments::None),

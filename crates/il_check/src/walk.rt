@@ -355,7 +355,7 @@ impl Walk {
     // Updates the state after an instruction.
     fn follow(&mut self, resolved: Resolved)
         ensures standing { progress_of self.new
-            ≡ spec.standing_after resolved (progress_of self.old) }
+            ≡ spec.progress_after_action resolved (progress_of self.old) }
         ensures items { self.new.items ≡ self.old.items }
     {
         self.arrive(target_of(resolved));
@@ -368,7 +368,7 @@ impl Walk {
     // Updates the state after a label.
     fn enter_label(&mut self)
         requires { self.old.passed < usize.MAX }
-        ensures standing { progress_of self.new ≡ spec.behind_label (progress_of self.old) }
+        ensures standing { progress_of self.new ≡ spec.progress_after_label (progress_of self.old) }
         ensures items { self.new.items ≡ self.old.items }
     {
         self.reach = join(self.reach, self.arrival(self.passed));
@@ -416,7 +416,7 @@ impl Walk {
             (map item_view self.new.items.items
             ≡ map item_view self.old.items.items ++ plain.label self.old.passed ∷ []) }
         ensures standing { OnOk result
-            (progress_of self.new ≡ spec.behind_label (progress_of self.old)) }
+            (progress_of self.new ≡ spec.progress_after_label (progress_of self.old)) }
     {
         self.items.push(TypedItem::Label(self.passed))?;
         self.enter_label();
@@ -571,11 +571,11 @@ impl Judge {
         ensures left { IfOk result (λ left. self.new.found ≡ None
             → map item_view left.items
             ≡ spec.progress_after_items (names_of names.now) (map entry_of items.now)
-            (spec.first arrivals.items)) }
+            (spec.start_progress arrivals.items)) }
         ensures found { OnOk result (self.new.found
             ≡ first_fault_of self.old.found
             (spec.items_faults (names_of names.now) (map entry_of items.now)
-            (spec.first arrivals.items))) }
+            (spec.start_progress arrivals.items))) }
         ensures memory { IfErr result (λ e. 0 < length items.now) }
     {
         let mut walk = Walk {

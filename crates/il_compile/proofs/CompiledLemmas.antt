@@ -16,7 +16,7 @@ use Rattle.il_check.specs.TypedProgram.{IsTyped}
 use Rattle.il_check.specs.declared.typed.External.{External}
 use Rattle.il_check.specs.declared.typed.Variable.{Variable}
 use Rattle.il_compile.specs.Behind.{IsSettled}
-use Rattle.il_compile.specs.Code.{items_code, octets, program_code, unset}
+use Rattle.il_compile.specs.Code.{items_code, octets, program_code, push_unset}
 use Rattle.il_compile.specs.Compiled.{compiled_of, image_of, image_size, point_of, points_octets, most_octets}
 use Rattle.il_compile.specs.declared.continuation.Continuation.{Continuation}
 use Rattle.il_compile.specs.declared.fault.CompileFault.TheVariants.{CodeTooLong}
@@ -43,7 +43,7 @@ code-size : (c : Checked)
 code-size c =
     let n = length c.externals in
     let b = octets-both (items_code n c.items) (Halt ∷ []) in
-    let w = octets-both (unset ∷ []) (items_code n c.items ++ Halt ∷ []) in
+    let w = octets-both (push_unset ∷ []) (items_code n c.items ++ Halt ∷ []) in
     omega arith
 
 pub is-image : (c : Checked) → IsTyped c → image_size c ≤ most_octets → IsImage (image_of c)
@@ -105,12 +105,13 @@ given c le =
 
 pub same-code : (c : Checked) (b : Continuation) (code : List ℕ)
     → IsSettled (length c.externals) c.items b → image_size c ≤ most_octets
-    → code ≡ all_spelled (unset ∷ reverse b.instrs.items ++ Halt ∷ []) → code ≡ (image_of c).code
+    → code ≡ all_spelled (push_unset ∷ reverse b.instrs.items ++ Halt ∷ [])
+    → code ≡ (image_of c).code
 same-code c b code settled le e =
     let s = size-is c in
     let k = code-size c in
     let short : octets (items_code (length c.externals) c.items) ≤ most_octets = omega arith in
-    e ∙ ap (λ l. all_spelled (unset ∷ l ++ Halt ∷ [])) (settled.behind.code short)
+    e ∙ ap (λ l. all_spelled (push_unset ∷ l ++ Halt ∷ [])) (settled.behind.code short)
 
 -- an image of these parts
 abbrev pub parts : List ImagePoint → List Value → List TimerKind → List ℕ → Image

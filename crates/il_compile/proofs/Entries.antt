@@ -26,7 +26,7 @@ use Rattle.il_check.specs.declared.typed.SimpleOperation.TheVariants as op
 use Rattle.il_check.specs.declared.typed.Slot as typed
 use Rattle.il_check.specs.declared.typed.TypedOperand.{TypedOperand}
 use Rattle.il_check.specs.declared.typed.TypedOperand.TheVariants as operand
-use Rattle.il_compile.specs.Code.{slot_number, fetch, negation, sense_instr, operator_code, store_code, operation_code, entry_code, entries_code}
+use Rattle.il_compile.specs.Code.{slot_number, fetch, negation_code, sense_instr, operator_code, store_code, operation_code, entry_code, entries_code}
 use Rattle.il_compile.specs.Correct.{HasTypes}
 use Rattle.il_compile.specs.Meaning.{Memory, State, combination_of, inverse_if, output_of, slot_value, operand_value, with_value, memory_with, memory_after_store, state_after, without_result, mean_entry, mean_entries}
 use Rattle.il_compile.specs.Senses.{Sense, connects, computes, compares, sense_of, widening_of}
@@ -95,7 +95,7 @@ module _ (c : Checked) (now : ℕ) where
     value : Value
     is : inverse_if negated v ≡ Some value
     type : type_of value ≡ kind
-    does : DoesAll now (negation negated) (holding (v ∷ cells) m) (holding (value ∷ cells) m)
+    does : DoesAll now (negation_code negated) (holding (v ∷ cells) m) (holding (value ∷ cells) m)
 
   truth-turned : (b : Bool) (v : Value) (kind : ElementaryType) (m : Memory) (cells : List Value)
       → v ≡ Truth b → type_of v ≡ kind → Turned true v kind m cells
@@ -167,7 +167,7 @@ module _ (c : Checked) (now : ℕ) where
         value = made.value;
         is = made.is;
         type = made.type ∙ ap (sense_gives (sense_of o)) ta ∙ sym (same.gives kind);
-        does = both now (negation negated) _ _ _ _ t.does
+        does = both now (negation_code negated) _ _ _ _ t.does
             (subst (λ k. DoesAll now (sense_instr (sense_of o) k ∷ [])
             (holding (t.value ∷ a ∷ cells) m) (holding (made.value ∷ cells) m)) ta
             (alone now _ _ _ (joined now (flat m) m.timers (sense_of o) a t.value made.value cells

@@ -13,7 +13,7 @@ use Rattle.il_check.specs.declared.typed.SimpleOperation as typed
 use Rattle.il_check.specs.declared.typed.TypedEntry.{TypedEntry, Operation, Block}
 use Rattle.il_check.proofs.ViewLemmas.{view-operation, view-block}
 use Rattle.il_compile.specs.Behind.{IsSpellableEntry, AreSpellableEntries}
-use Rattle.il_compile.specs.Code.{unset, operator_code, operation_code, entry_code, entries_code}
+use Rattle.il_compile.specs.Code.{push_unset, operator_code, operation_code, entry_code, entries_code}
 
 none-after : {X : Type 0} → (xs : List X) (i : ℕ) → length xs ≤ i → drop i xs ≡ []
 none-after {X} xs i h = grind (arith, common_steps)
@@ -60,7 +60,7 @@ pub block-coded : {X Y : Type 0} (r : Result X Y) (n : ℕ) (operator : Operator
     (kind : ElementaryType) (negated : Bool) (entries : Vec TypedEntry Global) (e : TypedEntry)
     (es : List TypedEntry) (i : ℕ)
     (code begun now after : List Instr) → e ≡ Block operator kind negated entries
-    → es ≡ entries.items → length es ≤ i → begun ≡ code ++ unset ∷ []
+    → es ≡ entries.items → length es ≤ i → begun ≡ code ++ push_unset ∷ []
     → now ++ entries_code n (entries_of (map entry_view (drop i es)))
     ≡ begun ++ entries_code n (entries_of (map entry_view es))
     → OnOk r (after ≡ now ++ operator_code operator kind negated)
@@ -79,6 +79,6 @@ block-coded (Ok v) n operator kind negated entries e es i code begun now after i
     ∙ ap (λ (l : List TypedEntry). block operator kind negated (entries_of (map entry_view l)))
     (sym all) in
     h ∙ ap (λ l. l ++ operator_code operator kind negated)
-    (put ∙ ap (λ l. l ++ inner) first ∙ append_assoc code (unset ∷ []) inner)
-    ∙ append_assoc code (unset ∷ inner) (operator_code operator kind negated)
+    (put ∙ ap (λ l. l ++ inner) first ∙ append_assoc code (push_unset ∷ []) inner)
+    ∙ append_assoc code (push_unset ∷ inner) (operator_code operator kind negated)
     ∙ ap (λ x. code ++ entry_code n x) (sym view)

@@ -15,10 +15,10 @@ use Rattle.il_image.specs.declared.value.Value.TheVariants.{Truth}
 use Rattle.il_image.proofs.BegunLemmas.{loose_run as run}
 use Rattle.il_check.specs.Labelling.{Labelling, Coming, Becomes, Falls, carry_of, is_named, with_target, type_after_label}
 use Rattle.il_check.specs.Program.{Checked, ProgramItem, label, transfer, plain}
-use Rattle.il_check.specs.TypedProgram.{AreItems, IsTyped, coming_behind_condition, has_label, target_of}
+use Rattle.il_check.specs.TypedProgram.{AreItems, IsTyped, coming_after_condition, has_label, target_of}
 use Rattle.il_check.specs.declared.typed.Transfer.{Transfer}
 use Rattle.il_check.specs.declared.typed.Transfer.TheVariants as go
-use Rattle.il_compile.specs.Code.{unset, entry_code, transfer_code, octets, octets_before, distance, items_code, program_code}
+use Rattle.il_compile.specs.Code.{push_unset, entry_code, transfer_code, octets, octets_before, distance, items_code, program_code}
 use Rattle.il_compile.specs.Correct.{HasTypes, Means}
 use Rattle.il_compile.specs.Meaning.{Memory, State, mean_from}
 use Rattle.il_compile.specs.Senses.{when_of}
@@ -331,7 +331,7 @@ module _ (c : Checked) (labels : Labelling) (now : ℕ) where
       → Finishes None (transfer (go.Jump condition l) ∷ is) s cell) [
         | true ↦ (λ e.
             (let f = items-finish is (Some l) passed (l ∷ named)
-            (coming_behind_condition condition t) s cell ok.2
+            (coming_after_condition condition t) s cell ok.2
             (ok.1.1.1, named_it, agrees-less t (labels l) s.result cell ok.1.2 ag) ty in
             took condition (go.Jump condition l) (octets_before externals l is) is s f.state cell t
             j e refl
@@ -345,7 +345,7 @@ module _ (c : Checked) (labels : Labelling) (now : ℕ) where
             (ap (λ o. o >>= (λ (b : Bool). if b then mean_from now (Some l) is s
             else mean_from now None is s)) j.is
             ∙ ap (λ b. if b then mean_from now (Some l) is s else mean_from now None is s) e)
-            (items-finish is None passed (l ∷ named) (coming_behind_condition condition t) s cell
+            (items-finish is None passed (l ∷ named) (coming_after_condition condition t) s cell
             ok.2 (t, j.behind e, ag) ty)))
       ] refl
     where
@@ -369,7 +369,7 @@ module _ (c : Checked) (labels : Labelling) (now : ℕ) where
             (fell condition (go.Return condition) d is s cell t j e refl refl
             (ap (λ o. o >>= (λ (b : Bool). if b then Some s else mean_from now None is s)) j.is
             ∙ ap (λ b. if b then Some s else mean_from now None is s) e)
-            (items-finish is None passed named (coming_behind_condition condition t) s cell ok.2
+            (items-finish is None passed named (coming_after_condition condition t) s cell ok.2
             (t, j.behind e, ag) ty)))
       ] refl
 
@@ -408,11 +408,11 @@ follows c ok are now m ty =
     let f = items-finish c ok.labels now c.items None 0 [] (Some None)
     (record { result = None; memory = m }) (Truth false) ok.items (None, refl, tt) ty in
     let first =
-    straight code now (unset ∷ []) 0 (holding [] m) (holding (Truth false ∷ []) m)
-    (front code 0 (unset ∷ []) _ whole)
+    straight code now (push_unset ∷ []) 0 (holding [] m) (holding (Truth false ∷ []) m)
+    (front code 0 (push_unset ∷ []) _ whole)
     (_, pushed now (flat m) m.timers (Truth false) [] (omega arith), refl) in
     let e = then-ends code now _ _ _ _ first
-    (f.ends code 2 (back code 0 (unset ∷ [])
+    (f.ends code 2 (back code 0 (push_unset ∷ [])
     (items_code (length c.externals) c.items ++ Halt ∷ []) whole)) in
     record {
       means = record {

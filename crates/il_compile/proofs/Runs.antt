@@ -4,7 +4,7 @@ use Rattle.bay_base.specs.declared.types.ElementaryType.{ElementaryType}
 use Rattle.bay_base.specs.declared.types.ElementaryType.TheVariants as elementary
 use Rattle.il_text.specs.declared.program.Condition.{Condition}
 use Rattle.il_text.specs.declared.program.Condition.TheVariants.{Always, IfTrue, IfFalse}
-use Rattle.il_image.specs.Machine.{State as Machine, StepResult, Goes, Halts, Traps, Ending, Halted, act, ending_of, turn_of}
+use Rattle.il_image.specs.Machine.{State as Machine, StepResult, Goes, Halts, Traps, Ending, Halted, act, ending_of, step_of_read}
 use Rattle.il_image.specs.Spelling.{spelling}
 use Rattle.il_image.specs.declared.instr.Instr.{Instr}
 use Rattle.il_image.specs.declared.instr.Instr.TheVariants.{Halt, Jump}
@@ -12,7 +12,7 @@ use Rattle.il_image.specs.declared.timer.TimerState.{TimerState}
 use Rattle.il_image.specs.declared.value.Value.{Value}
 use Rattle.il_image.specs.declared.value.Value.TheVariants.{Truth}
 use Rattle.il_image.proofs.BegunLemmas.{loose_run as run, loose_turn as turn}
-use Rattle.il_check.specs.TypedProgram.{Decides, coming_behind_condition}
+use Rattle.il_check.specs.TypedProgram.{Decides, coming_after_condition}
 use Rattle.il_compile.specs.Code.{octets}
 use Rattle.il_compile.specs.Meaning.{jump_taken}
 use Rattle.il_compile.specs.Senses.{when_of}
@@ -99,7 +99,7 @@ module _ (code : List ℕ) (now : ℕ) where
         (let s : 1 + k ≡ suc k = omega arith in
         ap (λ x. run code now x (at p a) steps) s
         ∙ ap (λ t. ending_of t (at p a) (steps + 1) (λ after. run code now k after (steps + 1)))
-        (ap (λ o. turn_of now o (at p a)) (found code p i is h) ∙ e));
+        (ap (λ o. step_of_read now o (at p a)) (found code p i is h) ∙ e));
   }
 
   -- instructions that go on to the next
@@ -131,7 +131,7 @@ module _ (code : List ℕ) (now : ℕ) where
     enough = (let w = within code p Halt [] h in omega arith);
     by = λ steps. ap (λ t. ending_of t (at p a) (steps + 1)
         (λ after. run code now 0 after (steps + 1)))
-        (ap (λ o. turn_of now o (at p a)) (found code p Halt [] h)
+        (ap (λ o. step_of_read now o (at p a)) (found code p Halt [] h)
         ∙ halts p (p + length (spelling Halt)) a);
   }
 
@@ -165,7 +165,7 @@ pub record Jumps (c : Condition) (now : ℕ) (t : Option ElementaryType) (result
   pub does : (d p next : ℕ) (slots : List Value) (timers : List TimerState)
       → act now (Jump (when_of c) d) next (at p (core (cell ∷ []) slots timers))
       ≡ Goes (at (if leaves then next + d else next) (core (cell ∷ []) slots timers))
-  pub behind : leaves ≡ false → coming_behind_condition c t ≡ Some t
+  pub behind : leaves ≡ false → coming_after_condition c t ≡ Some t
 
 on-truth : (c : Condition) (now : ℕ) (t : Option ElementaryType) (result : Option Value)
     (cell : Value) → ((b : Bool) → Jumps c now t (Some (Truth b)) (Truth b))

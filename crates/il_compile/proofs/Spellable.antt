@@ -14,7 +14,7 @@ use Rattle.il_image.specs.Values.{type_of}
 use Rattle.il_image.specs.declared.instr.Instr.TheVariants.{Halt, Timer, Jump}
 use Rattle.il_image.specs.declared.opcode.TimerUse.TheVariants.{Run}
 use Rattle.il_image.specs.Machine.{most_slots, most_timers}
-use Rattle.il_check.specs.Labelling.{Labelling, Carried, beginning}
+use Rattle.il_check.specs.Labelling.{Labelling, Carried, initial_carried}
 use Rattle.il_check.specs.Program.{Checked, Entry, operation, block, Entries, no_entries, entry, ProgramItem, label, transfer, plain}
 use Rattle.il_check.specs.TypedProgram.{slot_type, IsOperand, IsOperation, IsEntry, AreEntries, IsArgument, AreArguments, AreItems, IsTyped}
 use Rattle.il_check.specs.declared.typed.SimpleOperation.{SimpleOperation}
@@ -28,7 +28,7 @@ use Rattle.il_check.specs.declared.typed.TypedArguments.TheVariants as arguments
 use Rattle.il_check.specs.declared.typed.TypedOperand.{TypedOperand}
 use Rattle.il_check.specs.declared.typed.TypedOperand.TheVariants as operand
 use Rattle.il_compile.specs.Behind.{AreSpellable, IsSpellableEntry, AreSpellableEntries}
-use Rattle.il_compile.specs.Code.{slot_number, fetch, negation, sense_instr, operator_code, store_code, operation_code, unset, entry_code, entries_code, input_use, argument_code, arguments_code, transfer_code, octets, octets_before, distance, items_code, program_code}
+use Rattle.il_compile.specs.Code.{slot_number, fetch, negation_code, sense_instr, operator_code, store_code, operation_code, push_unset, entry_code, entries_code, input_use, argument_code, arguments_code, transfer_code, octets, octets_before, distance, items_code, program_code}
 use Rattle.il_compile.specs.Senses.{Sense, connects, computes, compares, sense_of, when_of}
 use Rattle.il_compile.proofs.Placing.{octets-both}
 use Rattle.il_compile.proofs.Follows.{transfer-size}
@@ -44,7 +44,7 @@ below-length f [] n b e = absurd cc
 below-length f (x ∷ xs) zero b e = omega arith
 below-length f (x ∷ xs) (suc n) b e = let h = below-length f xs n b e in omega arith
 
-negation-is : (negated : Bool) → Each IsInstr (negation negated)
+negation-is : (negated : Bool) → Each IsInstr (negation_code negated)
 negation-is true = (tt, tt)
 negation-is false = tt
 
@@ -56,7 +56,8 @@ sense-is (compares c) kind = tt
 operated-is : (o : Operator) (kind : ElementaryType) (negated : Bool)
     → Each IsInstr (operator_code o kind negated)
 operated-is o kind negated =
-    each-both IsInstr (negation negated) (sense_instr (sense_of o) kind ∷ []) (negation-is negated)
+    each-both IsInstr (negation_code negated) (sense_instr (sense_of o) kind ∷ [])
+    (negation-is negated)
     (sense-is (sense_of o) kind, tt)
 
 store-is : (how : StoreKind) (n : ℕ) → n < 2 ^ 16 → Each IsInstr (store_code how n)
@@ -141,7 +142,7 @@ module _ (c : Checked) (few : length c.externals + length c.variables ≤ most_s
       (entry-spellable e h.0 h.1 h.2.1, items-spellable labels is _ h.3)
 
 pub all-spellable : (c : Checked) → IsTyped c → AreSpellable (length c.externals) c.items
-all-spellable c ok = items-spellable c ok.slots ok.timers ok.labels c.items beginning ok.items
+all-spellable c ok = items-spellable c ok.slots ok.timers ok.labels c.items initial_carried ok.items
 
 -- ---- from what is spellable to instructions
 
@@ -200,7 +201,7 @@ pub program-are : (c : Checked) → IsTyped c → octets (program_code c) ≤ mo
 program-are c ok short =
     let n = length c.externals in
     let b = octets-both (items_code n c.items) (Halt ∷ []) in
-    let w = octets-both (unset ∷ []) (items_code n c.items ++ Halt ∷ []) in (
+    let w = octets-both (push_unset ∷ []) (items_code n c.items ++ Halt ∷ []) in (
       refl,
       each-both IsInstr (items_code n c.items) (Halt ∷ [])
           (items-are n c.items (all-spellable c ok) (omega arith)) (tt, tt),

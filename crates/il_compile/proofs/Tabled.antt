@@ -13,7 +13,7 @@ use Rattle.il_image.proofs.KindLemmas.{within-any}
 use Rattle.bay_base.specs.declared.types.ElementaryType.TheVariants as elementary
 use Rattle.il_check.specs.Program.{Checked}
 use Rattle.il_check.specs.TypedProgram.{IsTyped}
-use Rattle.il_compile.specs.Code.{items_code, octets, program_code, unset}
+use Rattle.il_compile.specs.Code.{items_code, octets, program_code, push_unset}
 use Rattle.il_compile.specs.Compiled.{image_of}
 use Rattle.il_compile.proofs.Placing.{Stands}
 use Rattle.il_compile.proofs.TabledAgrees.{AreReached, AreRight, agrees}
@@ -39,9 +39,9 @@ whole c are = record { rest = []; is = sym (append-nil (all_spelled (program_cod
 pub has-table : (c : Checked) → IsTyped c → Each IsInstr (program_code c) → HasTable (image_of c)
 has-table c ok are =
     let rest = tail c ok.labels c.items 0 [] (Some None) ok.items in
-    let first : Row = record { instr = unset; kinds = [] } in
+    let first : Row = record { instr = push_unset; kinds = [] } in
     let rows : List Row = first ∷ rest.rows in
-    let same : instrs_of rows ≡ program_code c = ap (λ l. unset ∷ l) rest.same in
+    let same : instrs_of rows ≡ program_code c = ap (λ l. push_unset ∷ l) rest.same in
     let step = pushed c (Truth false) [] (omega arith) in
     let enters =
     enters-less (table_of rest.rows) 0 (Plain elementary.Bool) Any
@@ -57,7 +57,7 @@ has-table c ok are =
       },
       rest.right,
     ) in
-    let P : ℕ → Type 0 = λ d. (length (spelling unset) + d ≡ 0) ⊎ LeadsTo unset 0 d in
+    let P : ℕ → Type 0 = λ d. (length (spelling push_unset) + d ≡ 0) ⊎ LeadsTo push_unset 0 d in
     let reached : AreReached (λ d. d ≡ 0) (program_code c) = (
       refl,
       items-reached c ok.labels c.items 0 [] (Some None) ok.items P

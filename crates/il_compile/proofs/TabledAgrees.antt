@@ -1,7 +1,7 @@
 -- Rows of which each is allowed, and to each of which another leads, are a table that agrees with
 -- the code.
 use Rattle.std.proofs.Common.{◌≡◌, ◌≢◌, ℕ, ◌+◌, ◌≤◌, ◌⊎◌, inl, inr, ⊎_elim, IsSome, List, [], ◌∷◌, ◌++◌, length, Option, Some, None, refl, sym, ap, subst, ◌∙◌, arith, append_assoc}
-use Rattle.il_image.specs.Effects.{effect}
+use Rattle.il_image.specs.Effects.{kinds_after}
 use Rattle.il_image.specs.Images.{Each, Image}
 use Rattle.il_image.specs.Spelling.{spelling}
 use Rattle.il_image.specs.Tables.{Agrees, Enters, IsAllowed, IsPlace, IsSuccessor, LeadsTo, slot_types}
@@ -18,7 +18,7 @@ use Rattle.il_compile.proofs.TabledRows.{At, Row, at-found, at_place, behind-row
 -- leads.
 pub record IsRight (image : Image) (r : Row) (behind : List Row) : Type 0 where
   pub after : List CellKind
-  pub effect : effect (slot_types image) (length image.timers) r.instr r.kinds ≡ Some after
+  pub effect : kinds_after (slot_types image) (length image.timers) r.instr r.kinds ≡ Some after
   pub enters : (d : ℕ) → LeadsTo r.instr 0 d → Enters (table_of behind) d after
   pub room : length r.kinds ≤ most_cells
 
@@ -146,7 +146,7 @@ module _ (image : Image) (rows : List Row) (whole : Stands image.code 0 (instrs_
         after = ok.after;
         here = at-found image.code (instrs_of rows) whole size place here;
         effect =
-            subst (λ ks. effect (slot_types image) (length image.timers) f.row.instr ks
+            subst (λ ks. kinds_after (slot_types image) (length image.timers) f.row.instr ks
             ≡ Some ok.after) f.same ok.effect;
         enters = λ to h.
             (let l = lead-on f.row.instr (place + n) to h in

@@ -26,7 +26,7 @@ use Rattle.il_check.specs.declared.typed.SimpleOperation.TheVariants as op
 use Rattle.il_check.specs.declared.typed.TypedArgument.{TypedArgument}
 use Rattle.il_check.specs.declared.typed.TypedArguments.{TypedArguments}
 use Rattle.il_check.specs.declared.typed.TypedArguments.TheVariants as arguments
-use Rattle.il_compile.specs.Code.{argument_code, arguments_code, entries_code, entry_code, input_use, negation, operator_code, operation_code, slot_number, store_code, width_of}
+use Rattle.il_compile.specs.Code.{argument_code, arguments_code, entries_code, entry_code, input_use, negation_code, operator_code, operation_code, slot_number, store_code, width_of}
 use Rattle.il_compile.specs.Senses.{Sense, connects, computes, compares, sense_of}
 use Rattle.il_compile.proofs.TabledSteps.{Flow, Steps, converted, dropped, fetched, flow-both, input-set, inverted, joined, kind_at, preset-set, pushed, ran, reset-if, set_if, slots, stored, typed-slot, writable, written-slot}
 use Rattle.il_compile.proofs.Values.{boolean-is, same-sense, sense_divides, sense_takes}
@@ -66,7 +66,7 @@ module _ (c : Checked) where
   negated-flows : (negated : Bool) (kind : ElementaryType) (v : CellKind) (below : List CellKind)
       → is_within v (Plain kind) ≡ true → rules.may_negate negated kind ≡ true
       → length below < most_cells
-      → Leaves (negation negated) (v ∷ below) below (Some kind)
+      → Leaves (negation_code negated) (v ∷ below) below (Some kind)
   negated-flows false kind v below h may room = record { top = v; fits = h; flow = refl }
   negated-flows true kind v below h may room =
       let e = boolean-is kind may in

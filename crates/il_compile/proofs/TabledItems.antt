@@ -4,7 +4,7 @@ use Rattle.std.proofs.lemmas.Bool.{eqb-true, eq-eqb}
 use Rattle.bay_base.specs.declared.types.ElementaryType.{ElementaryType}
 use Rattle.il_text.specs.declared.program.Condition.{Condition}
 use Rattle.il_text.specs.declared.program.Condition.TheVariants.{Always, IfTrue, IfFalse}
-use Rattle.il_image.specs.Effects.{effect}
+use Rattle.il_image.specs.Effects.{kinds_after}
 use Rattle.il_image.specs.Images.{Each}
 use Rattle.il_image.specs.Kinds.{AreWithin, is_within}
 use Rattle.il_image.specs.Spelling.{spelling}
@@ -17,7 +17,7 @@ use Rattle.il_image.specs.declared.opcode.TimerUse.TheVariants.{Run}
 use Rattle.il_image.proofs.KindLemmas.{within-along, within-any, within-self}
 use Rattle.il_check.specs.Labelling.{Becomes, Coming, Falls, Labelling, carry_of, type_after_label, is_named}
 use Rattle.il_check.specs.Program.{Checked, ProgramItem, label, plain, transfer}
-use Rattle.il_check.specs.TypedProgram.{AreItems, Decides, coming_behind_condition}
+use Rattle.il_check.specs.TypedProgram.{AreItems, Decides, coming_after_condition}
 use Rattle.il_check.specs.declared.typed.Transfer.{Transfer}
 use Rattle.il_check.specs.declared.typed.Transfer.TheVariants as go
 use Rattle.il_compile.specs.Code.{arguments_code, entry_code, items_code, octets, octets_before, transfer_code}
@@ -110,7 +110,7 @@ module _ (c : Checked) where
 
   jump-right : (condition : Condition) (n : ℕ) (t : Option ElementaryType) (rows : List Row)
       → Decides condition t → Enters (table_of rows) n (kind_at t ∷ [])
-      → (coming_behind_condition condition t ≡ Some t → Enters (table_of rows) 0 (kind_at t ∷ []))
+      → (coming_after_condition condition t ≡ Some t → Enters (table_of rows) 0 (kind_at t ∷ []))
       → IsRight (image_of c) (record { instr = Jump (when_of condition) n; kinds = kind_at t ∷ [] })
       rows
   jump-right Always n t rows ok far near = record {
@@ -124,7 +124,7 @@ module _ (c : Checked) where
   jump-right IfTrue n t rows ok far near = record {
     after = kind_at t ∷ [];
     effect =
-        subst (λ w. effect (slots c) (timers c) (Jump (when_of IfTrue) n) (kind_at w ∷ [])
+        subst (λ w. kinds_after (slots c) (timers c) (Jump (when_of IfTrue) n) (kind_at w ∷ [])
         ≡ Some (kind_at w ∷ [])) (sym ok) refl;
     enters =
         λ d l. ⊎_elim (λ (e : d ≡ 0). subst (λ x. Enters (table_of rows) x (kind_at t ∷ [])) (sym e)
@@ -136,7 +136,7 @@ module _ (c : Checked) where
   jump-right IfFalse n t rows ok far near = record {
     after = kind_at t ∷ [];
     effect =
-        subst (λ w. effect (slots c) (timers c) (Jump (when_of IfFalse) n) (kind_at w ∷ [])
+        subst (λ w. kinds_after (slots c) (timers c) (Jump (when_of IfFalse) n) (kind_at w ∷ [])
         ≡ Some (kind_at w ∷ [])) (sym ok) refl;
     enters =
         λ d l. ⊎_elim (λ (e : d ≡ 0). subst (λ x. Enters (table_of rows) x (kind_at t ∷ [])) (sym e)
@@ -234,7 +234,7 @@ module _ (c : Checked) (labels : Labelling) where
       → octets (transfer_code (length c.externals) x 0)
       ≡ length (spelling (Jump (when_of condition) n))
       → Decides condition t → ((l : ℕ) → is_named named l ≡ true → is_named more l ≡ true)
-      → (next : Tail is more (coming_behind_condition condition t))
+      → (next : Tail is more (coming_after_condition condition t))
       → Enters (table_of next.rows) n (kind_at t ∷ []) → Tail (transfer x ∷ is) named now
   jump-tail x condition n is named more now t comes same size ok still next far =
       let j = Jump (when_of condition) n in
@@ -322,13 +322,13 @@ module _ (c : Checked) (labels : Labelling) where
       (call-flows c n args (kind_at ok.0 ∷ []) ok.1.1.0 ok.1.1.1 (omega arith))
       (within-any (kind_at ok.0)) (tail is passed named (Some None) ok.2)
   tail (transfer (go.Jump condition l) ∷ is) passed named now ok =
-      let next = tail is passed (l ∷ named) (coming_behind_condition condition ok.0) ok.2 in
+      let next = tail is passed (l ∷ named) (coming_after_condition condition ok.0) ok.2 in
       jump-tail (go.Jump condition l) condition (octets_before (length c.externals) l is) is named
       (l ∷ named) now ok.0 ok.1.0 refl refl ok.1.1.0 (λ k h. still-named l named k h) next
       (enters-less (table_of next.rows) (octets_before (length c.externals) l is) (kind_at ok.0)
       (kind_at (labels l)) (become-within ok.0 (labels l) ok.1.2)
       (next.labelled l (ap (λ b. b || is_named named l) (eq-eqb l l refl))))
   tail (transfer (go.Return condition) ∷ is) passed named now ok =
-      let next = tail is passed named (coming_behind_condition condition ok.0) ok.2 in
+      let next = tail is passed named (coming_after_condition condition ok.0) ok.2 in
       jump-tail (go.Return condition) condition (octets (items_code (length c.externals) is)) is
       named named now ok.0 ok.1.0 refl refl ok.1.1 (λ k h. h) next (next.ended (kind_at ok.0))

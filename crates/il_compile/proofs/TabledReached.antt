@@ -11,7 +11,7 @@ use Rattle.il_image.specs.declared.opcode.TimerUse.TheVariants.{Run}
 use Rattle.il_image.proofs.KindLemmas.{within-self}
 use Rattle.il_check.specs.Labelling.{Coming, Labelling, carry_of, type_after_label, is_named}
 use Rattle.il_check.specs.Program.{Checked, ProgramItem, label, plain, transfer}
-use Rattle.il_check.specs.TypedProgram.{AreItems, coming_behind_condition, has_label}
+use Rattle.il_check.specs.TypedProgram.{AreItems, coming_after_condition, has_label}
 use Rattle.il_check.specs.declared.typed.Transfer.TheVariants as go
 use Rattle.il_compile.specs.Code.{arguments_code, entry_code, items_code, octets, octets_before}
 use Rattle.il_compile.specs.Senses.{when_of}
@@ -27,7 +27,7 @@ leaps IfTrue n = inr (omega arith)
 leaps IfFalse n = inr (omega arith)
 
 falls : (condition : Condition) (n : ℕ) (t u : Option ElementaryType)
-    → coming_behind_condition condition t ≡ Some u → LeadsTo (Jump (when_of condition) n) 0 0
+    → coming_after_condition condition t ≡ Some u → LeadsTo (Jump (when_of condition) n) 0 0
 falls Always n t u e = absurd cc
 falls IfTrue n t u e = inl refl
 falls IfFalse n t u e = inl refl
@@ -53,9 +53,9 @@ module _ (c : Checked) (labels : Labelling) where
             (type_after_label labels (carry_of passed named now)) l ok.1 g in omega arith))
       ] refl h
   no-lower (transfer (go.Jump condition k) ∷ is) passed named now l ok h =
-      no-lower is passed (k ∷ named) (coming_behind_condition condition ok.0) l ok.2 h
+      no-lower is passed (k ∷ named) (coming_after_condition condition ok.0) l ok.2 h
   no-lower (transfer (go.Return condition) ∷ is) passed named now l ok h =
-      no-lower is passed named (coming_behind_condition condition ok.0) l ok.2 h
+      no-lower is passed named (coming_after_condition condition ok.0) l ok.2 h
   no-lower (transfer (go.Call n args) ∷ is) passed named now l ok h =
       no-lower is passed named (Some None) l ok.2 h
   no-lower (plain e ∷ is) passed named now l ok h = no-lower is passed named (Some ok.1) l ok.3 h
@@ -167,7 +167,7 @@ module _ (c : Checked) (labels : Labelling) where
       → IsLed (λ d. P (length
       (spelling (Jump (when_of condition) (octets_before (length c.externals) k is))) + d)
       ⊎ LeadsTo (Jump (when_of condition) (octets_before (length c.externals) k is)) 0 d)
-      is (k ∷ named) (coming_behind_condition condition t)
+      is (k ∷ named) (coming_after_condition condition t)
   jump-led P condition k is named now t there led = record {
     comes = λ u e. inr (falls condition (octets_before (length c.externals) k is) t u e);
     jumps = λ l h g. ⊎_elim
@@ -186,7 +186,7 @@ module _ (c : Checked) (labels : Labelling) where
       → IsLed (λ d. P (length
       (spelling (Jump (when_of condition) (octets (items_code (length c.externals) is)))) + d)
       ⊎ LeadsTo (Jump (when_of condition) (octets (items_code (length c.externals) is))) 0 d)
-      is named (coming_behind_condition condition t)
+      is named (coming_after_condition condition t)
   return-led P condition is named now t led = record {
     comes = λ u e. inr (falls condition (octets (items_code (length c.externals) is)) t u e);
     jumps = λ l h g. inl (led.jumps l h g);
@@ -228,7 +228,7 @@ module _ (c : Checked) (labels : Labelling) where
       (λ l. refl) led)))
   items-reached (transfer (go.Jump condition k) ∷ is) passed named now ok P led = (
     led.comes ok.0 ok.1.0,
-    items-reached is passed (k ∷ named) (coming_behind_condition condition ok.0) ok.2
+    items-reached is passed (k ∷ named) (coming_after_condition condition ok.0) ok.2
         (λ d. P (length (spelling
         (Jump (when_of condition) (octets_before (length c.externals) k is))) + d)
         ⊎ LeadsTo (Jump (when_of condition) (octets_before (length c.externals) k is)) 0 d)
@@ -236,7 +236,7 @@ module _ (c : Checked) (labels : Labelling) where
   )
   items-reached (transfer (go.Return condition) ∷ is) passed named now ok P led = (
     led.comes ok.0 ok.1.0,
-    items-reached is passed named (coming_behind_condition condition ok.0) ok.2
+    items-reached is passed named (coming_after_condition condition ok.0) ok.2
         (λ d. P (length (spelling
         (Jump (when_of condition) (octets (items_code (length c.externals) is)))) + d)
         ⊎ LeadsTo (Jump (when_of condition) (octets (items_code (length c.externals) is))) 0 d)

@@ -3,7 +3,7 @@ use Rattle.std.proofs.Common.{◌≡◌, ℕ, zero, suc, ◌+◌, ◌-◌, ◌�
 use Rattle.std.proofs.lemmas.Bool.{le-ltb, ltb-false}
 use Rattle.il_image.specs.Reading.{instr_at}
 use Rattle.il_image.specs.Spelling.{operand_of, spelling}
-use Rattle.il_image.specs.Tables.{IsPlace, LeadsTo, Table, behind_place, place_of}
+use Rattle.il_image.specs.Tables.{IsPlace, LeadsTo, Table, place_after, place_of}
 use Rattle.il_image.specs.declared.instr.Instr.{Instr}
 use Rattle.il_image.specs.declared.instr.Instr.TheVariants.{Halt, Push, Drop, Slot, Not, Combine, Compute, Compare, Widen, Jump, Timer}
 use Rattle.il_image.specs.declared.kind.CellKind.{CellKind}
@@ -202,7 +202,7 @@ module _ (code : List ℕ) (is : List Instr) (whole : Stands code 0 is)
           absurd cc
 
       by-place : ((y : ℕ) → place_of code n ≡ Some y → At is y ⊎ (y ≡ length code)) → (o : Option ℕ)
-          → place_of code n ≡ o → behind_place code o ≡ Some x → At is x ⊎ (x ≡ length code)
+          → place_of code n ≡ o → place_after code o ≡ Some x → At is x ⊎ (x ≡ length code)
       by-place f None p g = absurd cc
       by-place f (Some y) p g = behind y (f y p) g
 
@@ -216,7 +216,7 @@ module _ (code : List ℕ) (is : List Instr) (whole : Stands code 0 is)
       (let z : p + octets (j ∷ []) ≡ next = omega (arith, octets_more j []) in z)
       (back code p (j ∷ []) (a ++ i ∷ b) h) in
       let one : place_of code (suc n) ≡ Some next =
-      ap (behind_place code) e ∙ ap (option_map (λ r. r.1)) (found code p j (a ++ i ∷ b) h) in
+      ap (place_after code) e ∙ ap (option_map (λ r. r.1)) (found code p j (a ++ i ∷ b) h) in
       let far = steps a b i next (suc n) rest one in
       let z : next + octets a ≡ p + octets (j ∷ a) = omega (arith, octets_more j a) in
       (far.0, far.1 ∙ ap Some z)

@@ -12,7 +12,7 @@ use Rattle.il_text.specs.declared.program.Conversion.{Conversion}
 use Rattle.il_text.specs.declared.program.Conversion.TheVariants.{IntToDint, DintToLint}
 use Rattle.il_text.specs.declared.program.TimerOutput.TheVariants.{Q, Et}
 use Rattle.il_image.specs.Arithmetic.{type_of_width}
-use Rattle.il_image.specs.Effects.{are_compared, below, compares as compares_kinds, effect, kind_of, looks_at, second_kind, two, type_of_kind, widens, with_timer, with_truth}
+use Rattle.il_image.specs.Effects.{are_compared, below, compares as compares_kinds, kinds_after, kind_of, looks_at, second_kind, two, type_of_kind, widens, with_timer, with_truth}
 use Rattle.il_image.specs.Kinds.{is_within}
 use Rattle.il_image.specs.Machine.{divides, tells_equality, most_cells}
 use Rattle.il_image.specs.Tables.{LeadsTo, slot_types}
@@ -248,14 +248,14 @@ module _ (c : Checked) where
 
   -- The instruction makes the second kinds of the first, and goes on behind itself.
   pub record Steps (i : Instr) (ks js : List CellKind) : Type 0 where
-    pub effect : effect slots timers i ks ≡ Some js
+    pub effect : kinds_after slots timers i ks ≡ Some js
     pub room : length ks ≤ most_cells
     pub goes : LeadsTo i 0 0
     pub straight : (d : ℕ) → LeadsTo i 0 d → d ≡ 0
     pub keeps : Keeps i
 
   -- an instruction that goes on behind itself alone
-  one-step : {i : Instr} → {ks js : List CellKind} → effect slots timers i ks ≡ Some js
+  one-step : {i : Instr} → {ks js : List CellKind} → kinds_after slots timers i ks ≡ Some js
       → length ks ≤ most_cells → LeadsTo i 0 0 → ((d : ℕ) → LeadsTo i 0 d → d ≡ 0) → Keeps i
       → Steps i ks js
   one-step effect room goes straight keeps =

@@ -51,9 +51,9 @@ fetch externals (operand.Slot s) = Slot Load (slot_number externals s)
 fetch externals (operand.TimerOutput n what) = Timer (output_use what) n
 
 -- a NOT, if the operand is negated
-abbrev pub negation : Bool → List Instr
-negation false = []
-negation true = Not ∷ []
+abbrev pub negation_code : Bool → List Instr
+negation_code false = []
+negation_code true = Not ∷ []
 
 -- the width of the numbers of a type
 abbrev pub width_of : ElementaryType → Width
@@ -69,7 +69,8 @@ sense_instr (compares c) kind = Compare c
 
 -- the instructions after an operand or a parenthesis
 abbrev pub operator_code : Operator → ElementaryType → Bool → List Instr
-operator_code operator kind negated = negation negated ++ sense_instr (sense_of operator) kind ∷ []
+operator_code operator kind negated =
+    negation_code negated ++ sense_instr (sense_of operator) kind ∷ []
 
 -- ---- operations and parentheses
 
@@ -82,7 +83,7 @@ store_code store.Reset n = Slot ResetIf n ∷ []
 
 -- an operation, which acts on the top of the stack
 abbrev pub operation_code : ℕ → SimpleOperation → List Instr
-operation_code externals (op.Load negated x) = Drop ∷ fetch externals x ∷ negation negated
+operation_code externals (op.Load negated x) = Drop ∷ fetch externals x ∷ negation_code negated
 operation_code externals (op.Store how s) = store_code how (slot_number externals s)
 operation_code externals (op.Combine operator kind negated x) =
     fetch externals x ∷ operator_code operator kind negated
@@ -90,14 +91,14 @@ operation_code externals op.Not = Not ∷ []
 operation_code externals (op.Convert conversion) = Widen (widening_of conversion) ∷ []
 
 -- pushes a cell for an unset result
-abbrev pub unset : Instr
-unset = Push (Truth false)
+abbrev pub push_unset : Instr
+push_unset = Push (Truth false)
 
 abbrev mutual
   pub entry_code : ℕ → Entry → List Instr
   entry_code externals (operation o) = operation_code externals o
   entry_code externals (block operator kind negated es) =
-      unset ∷ entries_code externals es ++ operator_code operator kind negated
+      push_unset ∷ entries_code externals es ++ operator_code operator kind negated
 
   pub entries_code : ℕ → Entries → List Instr
   entries_code externals no_entries = []
@@ -162,4 +163,4 @@ items_code externals (plain e ∷ is) = entry_code externals e ++ items_code ext
 
 -- the code of a program: it begins with a cell for the result, and ends with HALT
 abbrev pub program_code : Checked → List Instr
-program_code c = unset ∷ items_code (length c.externals) c.items ++ Halt ∷ []
+program_code c = push_unset ∷ items_code (length c.externals) c.items ++ Halt ∷ []

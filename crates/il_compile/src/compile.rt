@@ -90,7 +90,7 @@ fn points_size(externals: &[External]) -> usize
 // items, passed with the last first, and HALT.
 fn spell_all(alloc: Global, behind: Vec<Instr>) -> Result<Vec<u8>, AllocError>
     ensures { IfOk result (λ code. code.items
-        ≡ all_spelled (spec.unset ∷ reverse behind.items ++ Instr.Halt ∷ [])) }
+        ≡ all_spelled (spec.push_unset ∷ reverse behind.items ++ Instr.Halt ∷ [])) }
 {
     let mut behind = behind;
     let mut code = Vec::new(alloc);

@@ -118,7 +118,7 @@ pub(crate) fn put(code: &mut Vec<Instr>, instr: Instr) -> Result<(), AllocError>
 
 // Appends a NOT if the operand is negated.
 fn put_negation(code: &mut Vec<Instr>, negated: bool) -> Result<(), AllocError>
-    ensures { OnOk result (code.new.items ≡ code.old.items ++ spec.negation negated) }
+    ensures { OnOk result (code.new.items ≡ code.old.items ++ spec.negation_code negated) }
 {
     if negated {
         put(code, Instr::Not)?;

@@ -12,12 +12,12 @@ use Rattle.il_image.specs.declared.opcode.TimerUse.TheVariants.{SetInput, SetPre
 use Rattle.il_image.specs.declared.timer.TimerState.{TimerState}
 use Rattle.il_image.specs.declared.value.Value.{Value}
 use Rattle.il_image.specs.declared.value.Value.TheVariants.{Truth}
-use Rattle.il_image.specs.Machine.{State, StepResult, Goes, Halts, Traps, MissingSlot, MissingTimer, WrongKind, ZeroDivisor, Ending, Unfinished, act, as_number, as_span, as_truth, divides, ending_of, continues_at, is_comparable, pushes, run_from, stores, value_of_width, turn_of, with_slot, with_timer, with_top, with_truths, with_two, most_cells}
+use Rattle.il_image.specs.Machine.{State, StepResult, Goes, Halts, Traps, MissingSlot, MissingTimer, WrongKind, ZeroDivisor, Ending, Unfinished, act, as_number, as_span, as_truth, divides, ending_of, continues_at, is_comparable, pushes, run_from, stores, value_of_width, step_of_read, with_slot, with_timer, with_top, with_truths, with_two, most_cells}
 use Rattle.bay_base.specs.Types.{same_type}
 use Rattle.il_image.specs.Arithmetic.{comparison_holds, computation_of, wider_value}
 use Rattle.il_image.specs.Values.{number_of, type_of}
 use Rattle.il_image.specs.Images.{Image}
-use Rattle.il_image.specs.Places.{IsPlace, behind_place, begun_at, is_among, is_place, is_there, place_of}
+use Rattle.il_image.specs.Places.{IsPlace, place_after, begun_at, is_among, is_place, is_there, place_of}
 use Rattle.il_image.specs.Reading.{instr_at}
 use Rattle.il_image.specs.Tables.{Agrees, IsSuccessor, LeadsTo, Table}
 use Rattle.il_image.proofs.PlaceLemmas.{goes-forward}
@@ -34,7 +34,7 @@ read-grows code n start place (Some r) here le f =
     omega arith
 
 behind-grows : (code : List ℕ) (n place : ℕ) (o : Option ℕ) → place_of code n ≡ o
-    → ((start : ℕ) → place_of code n ≡ Some start → n ≤ start) → behind_place code o ≡ Some place
+    → ((start : ℕ) → place_of code n ≡ Some start → n ≤ start) → place_after code o ≡ Some place
     → suc n ≤ place
 behind-grows code n place None is before f = absurd cc
 behind-grows code n place (Some start) is before f =
@@ -244,7 +244,7 @@ pub record IsClosed (code : List ℕ) : Type 0 where
 
 -- the step of the machine that reads at any octet
 abbrev pub loose_turn : List ℕ → ℕ → State → StepResult
-loose_turn code now s = turn_of now (instr_at code s.place) s
+loose_turn code now s = step_of_read now (instr_at code s.place) s
 
 unfoldable pub loose_run : List ℕ → ℕ → ℕ → State → ℕ → Ending
 loose_run code now zero s steps = Unfinished
@@ -271,7 +271,7 @@ module _ (code : List ℕ) (now : ℕ) (closed : IsClosed code) where
   lands-more i next place (Traps trap) p here h = tt
 
   lands-at : (s : State) (o : Option (Instr × ℕ)) → instr_at code s.place ≡ o → IsPlace code s.place
-      → Lands (λ to. IsPlace code to) (turn_of now o s)
+      → Lands (λ to. IsPlace code to) (step_of_read now o s)
   lands-at s None here p = tt
   lands-at s (Some r) here p =
       lands-more r.0 r.1 s.place (act now r.0 r.1 s) p here (lands now r.0 r.1 s)
@@ -283,7 +283,7 @@ module _ (code : List ℕ) (now : ℕ) (closed : IsClosed code) where
   loose-is-run (suc most) s steps p =
       same-ending most steps s (loose_turn code now s) (lands-at s (instr_at code s.place) refl p)
       (λ after q. loose-is-run most after (steps + 1) q)
-      ∙ ap (λ (o : Option (Instr × ℕ)). ending_of (turn_of now o s) s (steps + 1)
+      ∙ ap (λ (o : Option (Instr × ℕ)). ending_of (step_of_read now o s) s (steps + 1)
       (λ after. run_from code now most after (steps + 1))) (sym (begun code s.place p))
 
 -- ---- an agreeing table's code

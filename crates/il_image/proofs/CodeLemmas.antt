@@ -11,7 +11,7 @@ use Rattle.il_image.specs.declared.fault.ImageFault.TheVariants.{Truncated}
 use Rattle.il_image.specs.declared.instr.Instr.{Instr}
 use Rattle.il_image.specs.declared.opcode.Version.{Version}
 use Rattle.il_image.specs.declared.opcode.Version.TheVariants.{Two}
-use Rattle.il_image.specs.Decoding.{code_fault, code_of_length, fault_behind, unless}
+use Rattle.il_image.specs.Decoding.{code_fault, code_of_length, fault_or_later, unless}
 use Rattle.il_image.specs.Images.{Each, IsCode, all_spelled}
 use Rattle.il_image.specs.Octets.{AreOctets}
 use Rattle.il_image.specs.Reading.{Read, instr_from}
@@ -36,8 +36,8 @@ enough version (suc n) (suc m) (x ∷ octets) h g =
         → instr_from version octets ≡ r → length octets ≤ suc n → length octets ≤ suc m
         → ((rest : List ℕ) → length rest ≤ n → length rest ≤ m
         → code_fault version n rest ≡ code_fault version m rest)
-        → fault_behind r (λ rest. code_fault version n rest)
-        ≡ fault_behind r (λ rest. code_fault version m rest)
+        → fault_or_later r (λ rest. code_fault version n rest)
+        ≡ fault_or_later r (λ rest. code_fault version m rest)
     go version n m octets (Ok r) e h g more = let fewer =
         less version octets r.0 r.1 e in more r.1 (omega arith) (omega arith)
     go version n m octets (Err fault) e h g more = refl

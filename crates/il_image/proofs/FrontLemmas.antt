@@ -4,7 +4,7 @@ use Rattle.std.specs.Prelude.{Result, Err, slice_index}
 use Rattle.std.proofs.lemmas.Bool.{ne_eqb}
 use Rattle.il_image.specs.declared.fault.ImageFault.{ImageFault}
 use Rattle.il_image.specs.declared.fault.ImageFault.TheVariants.{BadMagic, BadVersion}
-use Rattle.il_image.specs.Decoding.{behind, image_spelled}
+use Rattle.il_image.specs.Decoding.{octets_after_prefix, image_spelled}
 use Rattle.il_image.specs.Images.{mark}
 
 either : (b : Bool) (r : Result (List ℕ) ImageFault) → r ≡ Err BadMagic
@@ -13,12 +13,13 @@ either true r e = e
 either false r e = refl
 
 other-mark : (marks octets : List ℕ) (k : ℕ) → k < length marks → k < length octets
-    → (slice_index octets k ≡ slice_index marks k → ⊥) → behind marks octets ≡ Err BadMagic
+    → (slice_index octets k ≡ slice_index marks k → ⊥)
+    → octets_after_prefix marks octets ≡ Err BadMagic
 other-mark [] octets k h g other = absurd (omega arith)
 other-mark (m ∷ marks) [] k h g other = absurd (omega arith)
 other-mark (m ∷ marks) (x ∷ octets) zero h g other = rw (ne_eqb x m other) refl
 other-mark (m ∷ marks) (x ∷ octets) (suc k) h g other =
-    either (eqb x m) (behind marks octets)
+    either (eqb x m) (octets_after_prefix marks octets)
     (other-mark marks octets k (omega arith) (omega arith) other)
 
 pub no-mark : (octets : List ℕ) (k : ℕ) → k < 4 → k < length octets

@@ -8,7 +8,7 @@ use Rattle.il_image.specs.declared.fault.ImageFault.{ImageFault}
 use Rattle.il_image.specs.declared.fault.ImageFault.TheVariants.{BadMagic, Truncated}
 use Rattle.il_image.specs.declared.opcode.Version.{Version}
 use Rattle.il_image.specs.Cuts.{EndsInInstr, EndsInValue, HasOthers, IsRightSoFar}
-use Rattle.il_image.specs.Decoding.{behind, image_spelled}
+use Rattle.il_image.specs.Decoding.{octets_after_prefix, image_spelled}
 use Rattle.il_image.specs.Images.{Image, IsImage, image_octets, mark, version_octet}
 use Rattle.il_image.specs.Octets.{AreOctets}
 use Rattle.il_image.proofs.CodeCuts.{code-lawful}
@@ -27,7 +27,7 @@ mark-lawful : {R : Type 0} {on : R → List ℕ → Result R ImageFault} {Q : R 
     → (marks : List ℕ) → AreOctets marks → Lawful on Q S C f
     → Lawful on Q (λ octets r. (rest : List ℕ) × (octets ≡ marks ++ rest) × S rest r)
     (λ octets. (rest : List ℕ) × (octets ≡ marks ++ rest) × C rest)
-    (λ octets. behind marks octets >>= f)
+    (λ octets. octets_after_prefix marks octets >>= f)
 mark-lawful [] fits l =
     lawful-so l (λ octets r fits d. (octets, refl, d)) (λ octets c. (octets, refl, c))
 mark-lawful {f = f} (m ∷ marks) fits l =
@@ -48,14 +48,14 @@ mark-lawful {f = f} (m ∷ marks) fits l =
       )
     ])
   where
-    after : (octets : List ℕ) → (behind (m ∷ marks) octets >>= f)
-        ≡ (such_at BadMagic (λ n. eqb n m) octets >>= (λ u. behind marks u.1 >>= f))
+    after : (octets : List ℕ) → (octets_after_prefix (m ∷ marks) octets >>= f)
+        ≡ (such_at BadMagic (λ n. eqb n m) octets >>= (λ u. octets_after_prefix marks u.1 >>= f))
     after [] = refl
     after (x ∷ octets) = go (eqb x m)
       where
-        go : (b : Bool) → (cond b (behind marks octets) (Err BadMagic) >>= f)
+        go : (b : Bool) → (cond b (octets_after_prefix marks octets) (Err BadMagic) >>= f)
             ≡ (entry_at BadMagic (cond b (Some x) None) octets
-            >>= (λ u. behind marks u.1 >>= f))
+            >>= (λ u. octets_after_prefix marks u.1 >>= f))
         go true = refl
         go false = refl
 

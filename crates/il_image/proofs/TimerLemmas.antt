@@ -6,7 +6,7 @@ use Rattle.il_image.specs.declared.timer.TimerPhase.{TimerPhase}
 use Rattle.il_image.specs.declared.timer.TimerPhase.TheVariants.{Idle, Held, Since}
 use Rattle.bay_base.specs.declared.types.TimerKind.{TimerKind}
 use Rattle.bay_base.specs.declared.types.TimerKind.TheVariants.{OnDelay, OffDelay}
-use Rattle.il_image.specs.Timers.{Call, AllHave, SomeHas, after, phase_after, output_of, IsBroken, LastRun, HasPassed, HasNotPassed}
+use Rattle.il_image.specs.Timers.{Call, AllHave, SomeHas, timer_after, phase_after, output_of, IsBroken, LastRun, HasPassed, HasNotPassed}
 
 -- ---- unbroken runs
 
@@ -74,15 +74,15 @@ on-step c calls true Idle is h = (c, one-run true c calls is h, refl)
 on-step c calls true Held is h = absurd h
 on-step c calls true (Since start) is h = (h.0, longer true c h.0 calls is h.1, h.2)
 
-kind-kept : (kind : TimerKind) (calls : List Call) → (after kind calls).kind ≡ kind
+kind-kept : (kind : TimerKind) (calls : List Call) → (timer_after kind calls).kind ≡ kind
 kind-kept kind [] = refl
 kind-kept kind (c ∷ calls) = kind-kept kind calls
 
-on-phase : (calls : List Call) → Delays (after OnDelay calls).phase calls
+on-phase : (calls : List Call) → Delays (timer_after OnDelay calls).phase calls
 on-phase [] = tt
 on-phase (c ∷ calls) =
     rw (kind-kept OnDelay calls)
-    (on-step c calls c.input (after OnDelay calls).phase refl (on-phase calls))
+    (on-step c calls c.input (timer_after OnDelay calls).phase refl (on-phase calls))
 
 on-output : (c : Call) (calls : List Call) (phase : TimerPhase) → Delays phase (c ∷ calls)
     → (output_of OnDelay c.preset phase c.moment ≡ true) ↔ HasPassed c calls
@@ -106,11 +106,11 @@ on-output c calls (Since start) h = (
 )
 
 pub on_delay : (last : Call) (earlier : List Call)
-    → ((after OnDelay (last ∷ earlier)).output ≡ true) ↔ HasPassed last earlier
+    → ((timer_after OnDelay (last ∷ earlier)).output ≡ true) ↔ HasPassed last earlier
 on_delay last earlier =
     rw (kind-kept OnDelay earlier)
-    (on-output last earlier (phase_after OnDelay last.input (after OnDelay earlier).phase
-    last.moment) (on-step last earlier last.input (after OnDelay earlier).phase refl
+    (on-output last earlier (phase_after OnDelay last.input (timer_after OnDelay earlier).phase
+    last.moment) (on-step last earlier last.input (timer_after OnDelay earlier).phase refl
     (on-phase earlier)))
 
 -- ---- the off-delay timer
@@ -144,11 +144,11 @@ off-step c calls false Held is h = let b =
 off-step c calls false (Since start) is h =
     ((h.0.0, longer false c h.0.0 calls is h.0.1, h.0.2), inr h.1)
 
-off-phase : (calls : List Call) → Holds (after OffDelay calls).phase calls
+off-phase : (calls : List Call) → Holds (timer_after OffDelay calls).phase calls
 off-phase [] = tt
 off-phase (c ∷ calls) =
     rw (kind-kept OffDelay calls)
-    (off-step c calls c.input (after OffDelay calls).phase refl (off-phase calls))
+    (off-step c calls c.input (timer_after OffDelay calls).phase refl (off-phase calls))
 
 run-is-false : (c : Call) (calls later before : List Call) (first : Call)
     → c ∷ calls ≡ later ++ first ∷ before → first.input ≡ false → AllHave false later
@@ -194,10 +194,11 @@ off-output c calls (Since start) h =
     )
 
 pub off_delay : (last : Call) (earlier : List Call)
-    → ((after OffDelay (last ∷ earlier)).output ≡ true)
+    → ((timer_after OffDelay (last ∷ earlier)).output ≡ true)
     ↔ ((last.input ≡ true) ⊎ HasNotPassed last earlier)
 off_delay last earlier =
     rw (kind-kept OffDelay earlier)
     (off-output last earlier
-    (phase_after OffDelay last.input (after OffDelay earlier).phase last.moment)
-    (off-step last earlier last.input (after OffDelay earlier).phase refl (off-phase earlier)))
+    (phase_after OffDelay last.input (timer_after OffDelay earlier).phase last.moment)
+    (off-step last earlier last.input (timer_after OffDelay earlier).phase refl
+    (off-phase earlier)))

@@ -39,16 +39,16 @@ wrap_to width z = int_wrap (bits_of width) z
 -- ---- IEC 61131-3 table 24: arithmetic
 
 -- the integer result: DIV rounds toward zero, and a MOD b is a - (a DIV b) * b
-abbrev pub exact : ArithmeticOperation → ℤ → ℤ → ℤ
-exact Add a b = a +ℤ b
-exact Sub a b = a -ℤ b
-exact Mul a b = a *ℤ b
-exact Div a b = int_div a b
-exact Mod a b = a -ℤ (int_div a b *ℤ b)
+abbrev pub exact_result : ArithmeticOperation → ℤ → ℤ → ℤ
+exact_result Add a b = a +ℤ b
+exact_result Sub a b = a -ℤ b
+exact_result Mul a b = a *ℤ b
+exact_result Div a b = int_div a b
+exact_result Mod a b = a -ℤ (int_div a b *ℤ b)
 
 -- the result of an operation: the exact integer, wrapped to the width (own)
 abbrev pub computation_of : ArithmeticOperation → Width → ℤ → ℤ → ℤ
-computation_of operation width a b = wrap_to width (exact operation a b)
+computation_of operation width a b = wrap_to width (exact_result operation a b)
 
 -- The operation accepts this second operand: a divisor must not be 0.
 abbrev pub DividesBy : ArithmeticOperation → ℤ → Type 0

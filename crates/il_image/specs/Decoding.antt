@@ -19,10 +19,11 @@ use Rattle.il_image.specs.Reading.{Read, instr_from, known_value, number_at, oct
 -- ---- own: the format of images (docs/IMAGE.md)
 
 -- the octets after a prefix, which must be this one; an octet that differs or is missing is a fault
-abbrev pub behind : List ℕ → List ℕ → Result (List ℕ) ImageFault
-behind [] octets = Ok octets
-behind (m ∷ marks) [] = Err Truncated
-behind (m ∷ marks) (octet ∷ octets) = if octet == m then behind marks octets else Err BadMagic
+abbrev pub octets_after_prefix : List ℕ → List ℕ → Result (List ℕ) ImageFault
+octets_after_prefix [] octets = Ok octets
+octets_after_prefix (m ∷ marks) [] = Err Truncated
+octets_after_prefix (m ∷ marks) (octet ∷ octets) =
+    if octet == m then octets_after_prefix marks octets else Err BadMagic
 
 -- the version, an octet
 abbrev pub version_at : List ℕ → Read Version
@@ -118,9 +119,9 @@ counted_at item octets = do
   items_at item n.0 n.1
 
 -- the fault of the item that was read, or else the fault of the octets after it
-abbrev pub fault_behind : Read Instr → (List ℕ → Option ImageFault) → Option ImageFault
-fault_behind (Ok r) fault_of = fault_of r.1
-fault_behind (Err fault) fault_of = Some fault
+abbrev pub fault_or_later : Read Instr → (List ℕ → Option ImageFault) → Option ImageFault
+fault_or_later (Ok r) fault_of = fault_of r.1
+fault_or_later (Err fault) fault_of = Some fault
 
 -- the first fault of octets that must be instructions, if there is one; `most` bounds the number of
 -- instructions, which is at most the number of octets
@@ -128,7 +129,7 @@ abbrev pub code_fault : Version → ℕ → List ℕ → Option ImageFault
 code_fault version zero octets = None
 code_fault version (suc most) [] = None
 code_fault version (suc most) (octet ∷ octets) =
-    fault_behind (instr_from version (octet ∷ octets)) (λ rest. code_fault version most rest)
+    fault_or_later (instr_from version (octet ∷ octets)) (λ rest. code_fault version most rest)
 
 -- the fault, if there is one, or else the result
 abbrev pub unless : {A : Type 0} → Option ImageFault → Result A ImageFault → Result A ImageFault
@@ -151,7 +152,7 @@ code_at version octets = do
 -- the image that octets spell, or their first fault from the left
 unfoldable pub image_spelled : List ℕ → Result Image ImageFault
 image_spelled octets = do
-  rest ← behind mark octets
+  rest ← octets_after_prefix mark octets
   version ← version_at rest
   points ← counted_at (point_at version.0) version.1
   variables ← counted_at (variable_at version.0) points.1
@@ -164,7 +165,7 @@ image_spelled octets = do
 pub record TakesMemory (octets : List ℕ) : Type 0 where
   pub version : Version
   pub rest : List ℕ
-  pub begins : (behind mark octets >>= version_at) ≡ Ok (version, rest)
+  pub begins : (octets_after_prefix mark octets >>= version_at) ≡ Ok (version, rest)
   pub counted : 2 ≤ length rest
 
 -- ---- own: the first octet that is wrong

@@ -95,32 +95,33 @@ with_timer timers n kinds = if nat_lt n timers then kinds else None
 
 -- the kinds after an instruction, given the types of the slots and the number of timers; none if
 -- the instruction is not allowed
-abbrev pub effect : List ElementaryType → ℕ → Instr → List CellKind → Option (List CellKind)
-effect slots timers Halt kinds = Some kinds
-effect slots timers (Push v) kinds = Some (kind_of v ∷ kinds)
-effect slots timers Drop kinds = below Any kinds
-effect slots timers (Slot Load n) kinds = slice_get slots n >>= (λ t. Some (Plain t ∷ kinds))
-effect slots timers (Slot Store n) kinds = slice_get slots n >>= (λ t. looks_at (Plain t) kinds)
-effect slots timers (Slot SetIf n) kinds = with_truth slots n kinds
-effect slots timers (Slot ResetIf n) kinds = with_truth slots n kinds
-effect slots timers Not kinds =
+abbrev pub kinds_after : List ElementaryType → ℕ → Instr → List CellKind → Option (List CellKind)
+kinds_after slots timers Halt kinds = Some kinds
+kinds_after slots timers (Push v) kinds = Some (kind_of v ∷ kinds)
+kinds_after slots timers Drop kinds = below Any kinds
+kinds_after slots timers (Slot Load n) kinds = slice_get slots n >>= (λ t. Some (Plain t ∷ kinds))
+kinds_after slots timers (Slot Store n) kinds =
+    slice_get slots n >>= (λ t. looks_at (Plain t) kinds)
+kinds_after slots timers (Slot SetIf n) kinds = with_truth slots n kinds
+kinds_after slots timers (Slot ResetIf n) kinds = with_truth slots n kinds
+kinds_after slots timers Not kinds =
     below (Plain elementary.Bool) kinds >>= (λ rest. Some (Plain elementary.Bool ∷ rest))
-effect slots timers (Combine c) kinds =
+kinds_after slots timers (Combine c) kinds =
     two (Plain elementary.Bool) (Plain elementary.Bool) (Plain elementary.Bool) kinds
-effect slots timers (Compute o w) kinds =
+kinds_after slots timers (Compute o w) kinds =
     two (second_kind o w) (Plain (type_of_width w)) (Plain (type_of_width w)) kinds
-effect slots timers (Compare c) kinds = compares c kinds
-effect slots timers (Widen IntToDint) kinds = widens width.Int width.Dint kinds
-effect slots timers (Widen DintToLint) kinds = widens width.Dint width.Lint kinds
-effect slots timers (Jump Always distance) kinds = Some kinds
-effect slots timers (Jump IfTrue distance) kinds = looks_at (Plain elementary.Bool) kinds
-effect slots timers (Jump IfFalse distance) kinds = looks_at (Plain elementary.Bool) kinds
-effect slots timers (Timer SetInput n) kinds =
+kinds_after slots timers (Compare c) kinds = compares c kinds
+kinds_after slots timers (Widen IntToDint) kinds = widens width.Int width.Dint kinds
+kinds_after slots timers (Widen DintToLint) kinds = widens width.Dint width.Lint kinds
+kinds_after slots timers (Jump Always distance) kinds = Some kinds
+kinds_after slots timers (Jump IfTrue distance) kinds = looks_at (Plain elementary.Bool) kinds
+kinds_after slots timers (Jump IfFalse distance) kinds = looks_at (Plain elementary.Bool) kinds
+kinds_after slots timers (Timer SetInput n) kinds =
     with_timer timers n (below (Plain elementary.Bool) kinds)
-effect slots timers (Timer SetPreset n) kinds =
+kinds_after slots timers (Timer SetPreset n) kinds =
     with_timer timers n (below (Plain elementary.Time) kinds)
-effect slots timers (Timer Run n) kinds = with_timer timers n (Some kinds)
-effect slots timers (Timer LoadOutput n) kinds =
+kinds_after slots timers (Timer Run n) kinds = with_timer timers n (Some kinds)
+kinds_after slots timers (Timer LoadOutput n) kinds =
     with_timer timers n (Some (Plain elementary.Bool ∷ kinds))
-effect slots timers (Timer LoadElapsed n) kinds =
+kinds_after slots timers (Timer LoadElapsed n) kinds =
     with_timer timers n (Some (Plain elementary.Time ∷ kinds))

@@ -273,13 +273,13 @@ act now (Timer LoadElapsed n) next s = loads_elapsed n next s
 -- ---- own: a step and a run of the machine
 
 -- the step of the instruction that was read, or a trap if there is none
-abbrev pub turn_of : ℕ → Option (Instr × ℕ) → State → StepResult
-turn_of now None s = Traps OutsideCode
-turn_of now (Some read) s = act now read.0 read.1 s
+abbrev pub step_of_read : ℕ → Option (Instr × ℕ) → State → StepResult
+step_of_read now None s = Traps OutsideCode
+step_of_read now (Some read) s = act now read.0 read.1 s
 
 -- the step from a state, at whose offset an instruction must begin
-abbrev pub turn : List ℕ → ℕ → State → StepResult
-turn code now s = turn_of now (begun_at code s.place) s
+abbrev pub step_at : List ℕ → ℕ → State → StepResult
+step_at code now s = step_of_read now (begun_at code s.place) s
 
 -- how a run ends: at HALT, with the slots, the timers and the number of steps including HALT's; in
 -- a trap; or not within the limit of steps
@@ -298,7 +298,7 @@ ending_of (Traps trap) s steps rest = Trapped trap
 unfoldable pub run_from : List ℕ → ℕ → ℕ → State → ℕ → Ending
 run_from code now zero s steps = Unfinished
 run_from code now (suc most) s steps =
-    ending_of (turn code now s) s (steps + 1) (λ after. run_from code now most after (steps + 1))
+    ending_of (step_at code now s) s (steps + 1) (λ after. run_from code now most after (steps + 1))
 
 -- the state in which a run begins: offset 0, and an empty operand stack
 abbrev pub initial_state : List Value → List TimerState → State

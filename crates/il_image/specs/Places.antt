@@ -7,14 +7,14 @@ use Rattle.il_image.specs.Reading.{instr_at}
 -- ---- own: places of instructions
 
 -- the place after the instruction at a place
-abbrev pub behind_place : List ℕ → Option ℕ → Option ℕ
-behind_place code None = None
-behind_place code (Some place) = option_map (λ r. r.1) (instr_at code place)
+abbrev pub place_after : List ℕ → Option ℕ → Option ℕ
+place_after code None = None
+place_after code (Some place) = option_map (λ r. r.1) (instr_at code place)
 
 -- the place of the n-th instruction, counted from 0: each begins where the one before it ends
 abbrev pub place_of : List ℕ → ℕ → Option ℕ
 place_of code zero = Some 0
-place_of code (suc n) = behind_place code (place_of code n)
+place_of code (suc n) = place_after code (place_of code n)
 
 -- An instruction begins at the place.
 abbrev pub IsPlace : List ℕ → ℕ → Type 0

@@ -5,10 +5,10 @@ use Rattle.il_image.specs.declared.instr.Instr.{Instr}
 use Rattle.il_image.specs.declared.instr.Instr.TheVariants.{Halt, Push, Drop, Slot, Not, Combine, Compute, Compare, Widen, Jump, Timer}
 use Rattle.il_image.specs.declared.kind.CellKind.{CellKind}
 use Rattle.il_image.specs.declared.opcode.When.TheVariants.{Always, IfTrue, IfFalse}
-use Rattle.il_image.specs.Effects.{effect}
+use Rattle.il_image.specs.Effects.{kinds_after}
 use Rattle.il_image.specs.Images.{Image}
 use Rattle.il_image.specs.Kinds.{AreWithin}
-pub use Rattle.il_image.specs.Places.{behind_place, place_of, IsPlace}
+pub use Rattle.il_image.specs.Places.{place_after, place_of, IsPlace}
 use Rattle.il_image.specs.Reading.{instr_at}
 use Rattle.il_image.specs.Values.{type_of}
 use Rattle.il_image.specs.Machine.{most_cells}
@@ -62,7 +62,7 @@ pub record IsAllowed (image : Image) (table : Table) (place : ℕ) (kinds : List
   pub next : ℕ
   pub after : List CellKind
   pub here : instr_at image.code place ≡ Some (instr, next)
-  pub effect : effect (slot_types image) (length image.timers) instr kinds ≡ Some after
+  pub effect : kinds_after (slot_types image) (length image.timers) instr kinds ≡ Some after
   pub enters : (to : ℕ) → LeadsTo instr next to → Enters table to after
 
 -- The table agrees with the code: it has kinds exactly at the places of instructions, no kinds on

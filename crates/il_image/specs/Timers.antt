@@ -56,10 +56,10 @@ pub record Call : Type 0 where
   pub moment : ℕ
 
 -- a timer after calls; the list has the last call first
-abbrev pub after : TimerKind → List Call → TimerState
-after kind [] = first_state kind
-after kind (c ∷ earlier) =
-    after_call (record (after kind earlier) { input = c.input; preset = c.preset }) c.moment
+abbrev pub timer_after : TimerKind → List Call → TimerState
+timer_after kind [] = first_state kind
+timer_after kind (c ∷ earlier) =
+    after_call (record (timer_after kind earlier) { input = c.input; preset = c.preset }) c.moment
 
 -- Each of the calls has this IN.
 abbrev pub AllHave : Bool → List Call → Type 0

@@ -3,7 +3,7 @@ ghost use Rattle.std.specs.Prelude.{◌≡◌, ◌≤◌, ◌^◌, ◌<◌, leng
 ghost use Rattle.std.specs.List.{list_all};
 ghost use Rattle.bay_base.specs.Exact.{Gives};
 ghost use Rattle.bay_base.specs.Results.{IsRead};
-ghost use Rattle.il_image.specs.Decoding.{TakesMemory, access_of, behind, code_fault, counted_at, image_spelled, kind_of_octet};
+ghost use Rattle.il_image.specs.Decoding.{TakesMemory, access_of, octets_after_prefix, code_fault, counted_at, image_spelled, kind_of_octet};
 ghost use Rattle.il_image.specs.Decoding as spec;
 ghost use Rattle.il_image.specs.Images.{mark};
 ghost use Rattle.il_image.specs.Images as spec_images;
@@ -21,7 +21,7 @@ use std::alloc::Global;
 
 // Returns the octets after the mark.
 fn behind_mark(octets: &[u8]) -> Result<&[u8], ImageFault>
-    ensures { IsRead (λ r. r.now) result (behind mark octets.now) }
+    ensures { IsRead (λ r. r.now) result (octets_after_prefix mark octets.now) }
 {
     match octets {
         [0x49, 0x4C, 0x42, 0x43, rest @ ..] => Ok(rest),

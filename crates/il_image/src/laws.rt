@@ -14,13 +14,14 @@ ghost use Rattle.il_image.specs.declared.kind.CellKind.{CellKind};
 ghost use Rattle.il_image.specs.declared.value.Value.{Value};
 ghost use Rattle.il_image.specs.declared.opcode.Version.{Version};
 ghost use Rattle.il_image.specs.declared.opcode.Version.TheVariants.{One, Two};
-ghost use Rattle.il_image.specs.Timers.{Call, HasNotPassed, HasPassed, after};
+ghost use Rattle.il_image.specs.Timers.{Call, HasNotPassed, HasPassed, timer_after};
 ghost use Rattle.bay_base.specs.declared.types.TimerKind.TheVariants.{OnDelay, OffDelay};
 
 /// After any calls, listed last first, Q of a TON is TRUE exactly if the last call has IN TRUE and
 /// its PT has passed since the first call of the last unbroken run of calls with IN TRUE.
 pub fn on_delay_timer()
-    ensures { (last : Call) (earlier : List Call) → IsTrue (after OnDelay (last ∷ earlier)).output
+    ensures { (last : Call) (earlier : List Call)
+        → IsTrue (timer_after OnDelay (last ∷ earlier)).output
         ↔ HasPassed last earlier }
 {}
 
@@ -28,7 +29,8 @@ pub fn on_delay_timer()
 /// an earlier call has IN TRUE and less than the last call's PT has passed since the first call of
 /// the last unbroken run of calls with IN FALSE.
 pub fn off_delay_timer()
-    ensures { (last : Call) (earlier : List Call) → IsTrue (after OffDelay (last ∷ earlier)).output
+    ensures { (last : Call) (earlier : List Call)
+        → IsTrue (timer_after OffDelay (last ∷ earlier)).output
         ↔ ((last.input ≡ true) ⊎ HasNotPassed last earlier) }
 {}
 

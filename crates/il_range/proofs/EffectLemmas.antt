@@ -31,15 +31,15 @@ use Rattle.il_range.specs.declared.range.Range.{Range}
 use Rattle.il_range.specs.declared.range.Range.TheVariants.{Any, No, Yes, Either, Between}
 use Rattle.il_range.specs.declared.known.Known.{Known}
 use Rattle.il_range.specs.Ranges.{AreTimersIn, IsIn, IsTimerIn, AreIn}
-use Rattle.il_range.specs.Effects.{Plain, both, compared, computed, connected, effect, either, exactly, negated, called, slot_of, timer_of, with_cells, with_input, with_preset, with_timer}
-use Rattle.il_range.specs.Pending.{Arrives, Covers, CoversAt, Held, Lands, Moves, held}
+use Rattle.il_range.specs.Effects.{Plain, and_ranges, compare_ranges, compute_range, connect_ranges, known_after, or_ranges, value_range, not_range, timer_after_call, slot_of, timer_of, with_cells, with_input, with_preset, with_timer}
+use Rattle.il_range.specs.Pending.{Arrives, Covers, CoversAt, Held, Lands, Moves, held_by}
 use Rattle.il_range.proofs.RangeLemmas.{in-exactly, of-both, of-compared, of-connected, of-either, of-negated}
 use Rattle.il_range.proofs.NumberLemmas.{of-computed}
 use Rattle.il_range.proofs.ListLemmas.{are-get, are-set, each-get, each-set}
 
 -- the step goes to the next place, with what is covered there; or it traps
 abbrev NextIs : StepResult → ℕ → ℕ → Plain → Type 0
-NextIs (Goes s) now next p = (s.place ≡ next) × Covers p (held now s)
+NextIs (Goes s) now next p = (s.place ≡ next) × Covers p (held_by now s)
 NextIs Halts now next p = ⊥
 NextIs (Traps trap) now next p = Unit {0}
 
@@ -150,7 +150,7 @@ module _ (now next place : ℕ) (timers : List TimerState) (ts : List KnownTimer
   abbrev Comes : Instr → List Value → List Value → Type 0
   Comes i cells slots = NextIs (act now i next (state_of place cells slots timers)) now next p
 
-  comes-load : (n : ℕ) (rs us : List Range) → effect (Slot Load n) (plain_of rs us) ≡ Some p
+  comes-load : (n : ℕ) (rs us : List Range) → known_after (Slot Load n) (plain_of rs us) ≡ Some p
       → (cells slots : List Value) → AreIn cells rs → AreIn slots us
       → Comes (Slot Load n) cells slots
   unfolding act
@@ -163,7 +163,7 @@ module _ (now next place : ℕ) (timers : List TimerState) (ts : List KnownTimer
             (are-get slots us n v g.range k at g.at, h) k,
       ))
 
-  comes-store : (n : ℕ) (rs us : List Range) → effect (Slot Store n) (plain_of rs us) ≡ Some p
+  comes-store : (n : ℕ) (rs us : List Range) → known_after (Slot Store n) (plain_of rs us) ≡ Some p
       → (cells slots : List Value) → AreIn cells rs → AreIn slots us
       → Comes (Slot Store n) cells slots
   unfolding act
@@ -188,49 +188,52 @@ module _ (now next place : ℕ) (timers : List TimerState) (ts : List KnownTimer
   change-next (Truth o) n f s range h k = (refl, k o h)
   change-next old n f s range h k = tt
 
-  comes-set : (n : ℕ) (rs us : List Range) → effect (Slot SetIf n) (plain_of rs us) ≡ Some p
+  comes-set : (n : ℕ) (rs us : List Range) → known_after (Slot SetIf n) (plain_of rs us) ≡ Some p
       → (cells slots : List Value) → AreIn cells rs → AreIn slots us
       → Comes (Slot SetIf n) cells slots
   unfolding act
   comes-set n [] us e (v ∷ cells) slots h k = absurd h
   comes-set n (r ∷ rs) us e (Truth b ∷ cells) slots h k =
-      let g = has n us (λ old. Some (plain_of (r ∷ rs) (slice_set us n (either r old)))) p e in
+      let g = has n us (λ old. Some (plain_of (r ∷ rs) (slice_set us n (or_ranges r old)))) p e in
       next-slot n (state_of place (Truth b ∷ cells) slots timers) _ now next p
       (λ old at. change-next old n (λ o. b || o) (state_of place (Truth b ∷ cells) slots timers)
       g.range (are-get slots us n old g.range k at g.at)
-      (λ o is. covers-along (r ∷ rs) (slice_set us n (either r g.range))
+      (λ o is. covers-along (r ∷ rs) (slice_set us n (or_ranges r g.range))
       (Truth b ∷ cells) (slice_set slots n (Truth (b || o))) g.gives h
-      (are-set slots us n (Truth (b || o)) (either r g.range) k (of-either b o r g.range h.0 is))))
+      (are-set slots us n (Truth (b || o)) (or_ranges r g.range) k
+      (of-either b o r g.range h.0 is))))
   comes-set n rs us e cells slots h k =
       next-slot n (state_of place cells slots timers) _ now next p (λ v at. tt)
 
-  comes-reset : (n : ℕ) (rs us : List Range) → effect (Slot ResetIf n) (plain_of rs us) ≡ Some p
+  comes-reset : (n : ℕ) (rs us : List Range)
+      → known_after (Slot ResetIf n) (plain_of rs us) ≡ Some p
       → (cells slots : List Value) → AreIn cells rs → AreIn slots us
       → Comes (Slot ResetIf n) cells slots
   unfolding act
   comes-reset n [] us e (v ∷ cells) slots h k = absurd h
   comes-reset n (r ∷ rs) us e (Truth b ∷ cells) slots h k =
-      let g = has n us (λ old. Some (plain_of (r ∷ rs) (slice_set us n (both (negated r) old)))) p e
+      let g = has n us (λ old. Some
+      (plain_of (r ∷ rs) (slice_set us n (and_ranges (not_range r) old)))) p e
       in
       next-slot n (state_of place (Truth b ∷ cells) slots timers) _ now next p
       (λ old at. change-next old n (λ o. not b && o) (state_of place (Truth b ∷ cells) slots timers)
       g.range (are-get slots us n old g.range k at g.at)
-      (λ o is. covers-along (r ∷ rs) (slice_set us n (both (negated r) g.range))
+      (λ o is. covers-along (r ∷ rs) (slice_set us n (and_ranges (not_range r) g.range))
       (Truth b ∷ cells) (slice_set slots n (Truth (not b && o))) g.gives h
-      (are-set slots us n (Truth (not b && o)) (both (negated r) g.range) k
-      (of-both (not b) o (negated r) g.range (of-negated b r h.0) is))))
+      (are-set slots us n (Truth (not b && o)) (and_ranges (not_range r) g.range) k
+      (of-both (not b) o (not_range r) g.range (of-negated b r h.0) is))))
   comes-reset n rs us e cells slots h k =
       next-slot n (state_of place cells slots timers) _ now next p (λ v at. tt)
 
   comes-combine : (c : Connective) (rs us : List Range)
-      → effect (Combine c) (plain_of rs us) ≡ Some p
+      → known_after (Combine c) (plain_of rs us) ≡ Some p
       → (cells slots : List Value) → AreIn cells rs → AreIn slots us → Comes (Combine c) cells slots
   unfolding act
   comes-combine c [] us e cells slots h k = absurd (cc)
   comes-combine c (r ∷ []) us e cells slots h k = absurd (cc)
   comes-combine c (rb ∷ ra ∷ rs) us e (Truth b ∷ Truth a ∷ cells) slots h k = (
     refl,
-    covers-along (connected c ra rb ∷ rs) us (Truth (logic_of c a b) ∷ cells) slots e
+    covers-along (connect_ranges c ra rb ∷ rs) us (Truth (logic_of c a b) ∷ cells) slots e
         (of-connected c a b ra rb h.1.0 h.0, h.1.1) k,
   )
   comes-combine c (rb ∷ ra ∷ rs) us e [] slots h k = tt
@@ -238,7 +241,7 @@ module _ (now next place : ℕ) (timers : List TimerState) (ts : List KnownTimer
   comes-combine c (rb ∷ ra ∷ rs) us e (v ∷ u ∷ cells) slots h k = tt
 
   comes-compare : (c : Comparison) (rs us : List Range)
-      → effect (Compare c) (plain_of rs us) ≡ Some p
+      → known_after (Compare c) (plain_of rs us) ≡ Some p
       → (cells slots : List Value) → AreIn cells rs → AreIn slots us → Comes (Compare c) cells slots
   unfolding act
   comes-compare c [] us e cells slots h k = absurd (cc)
@@ -248,7 +251,7 @@ module _ (now next place : ℕ) (timers : List TimerState) (ts : List KnownTimer
   comes-compare c (rb ∷ ra ∷ rs) us e (v ∷ u ∷ cells) slots h k =
       let x = Truth (comparison_holds c (number_of u) (number_of v)) in
       let done : Done (x ∷ cells) slots =
-      covers-along (compared c ra rb ∷ rs) us (x ∷ cells) slots e
+      covers-along (compare_ranges c ra rb ∷ rs) us (x ∷ cells) slots e
       (of-compared c u v ra rb h.1.0 h.0, h.1.1) k in
       next-if (is_comparable c u v)
       (Goes (state_of next (x ∷ cells) slots timers)) WrongKind now next p (refl, done)
@@ -261,7 +264,7 @@ module _ (now next place : ℕ) (timers : List TimerState) (ts : List KnownTimer
   number-next w v f h = tt
 
   comes-compute : (o : ArithmeticOperation) (w : Width) (rs us : List Range)
-      → effect (Compute o w) (plain_of rs us) ≡ Some p
+      → known_after (Compute o w) (plain_of rs us) ≡ Some p
       → (cells slots : List Value) → AreIn cells rs → AreIn slots us
       → Comes (Compute o w) cells slots
   unfolding act
@@ -273,7 +276,7 @@ module _ (now next place : ℕ) (timers : List TimerState) (ts : List KnownTimer
       number-next w v _ (λ b is_b. number-next w u _
       (λ a is_a. let x = value_of_width w (computation_of o w a b) in
       let done : Done (x ∷ cells) slots =
-      covers-along (computed o w ra rb ∷ rs) us (x ∷ cells) slots e
+      covers-along (compute_range o w ra rb ∷ rs) us (x ∷ cells) slots e
       (of-computed o w u v a b ra rb is_a is_b h.1.0 h.0, h.1.1) k in
       next-unless (divides o && int_eq b (pos 0))
       (Goes (state_of next (x ∷ cells) slots timers)) ZeroDivisor now next p (refl, done)))
@@ -293,7 +296,7 @@ module _ (now next place : ℕ) (timers : List TimerState) (ts : List KnownTimer
   long-wide z (Between l m) h = h
 
   comes-widen : (w : Widening) (rs us : List Range)
-      → effect (Widen w) (plain_of rs us) ≡ Some p
+      → known_after (Widen w) (plain_of rs us) ≡ Some p
       → (cells slots : List Value) → AreIn cells rs → AreIn slots us → Comes (Widen w) cells slots
   unfolding act
   comes-widen w [] us e (v ∷ cells) slots h k = absurd h
@@ -321,7 +324,7 @@ module _ (now next place : ℕ) (timers : List TimerState) (ts : List KnownTimer
       ))
 
   comes-input : (n : ℕ) (rs us : List Range)
-      → effect (Timer SetInput n) (plain_of rs us) ≡ Some p
+      → known_after (Timer SetInput n) (plain_of rs us) ≡ Some p
       → (cells slots : List Value) → AreIn cells rs → AreIn slots us
       → Comes (Timer SetInput n) cells slots
   unfolding act
@@ -340,7 +343,7 @@ module _ (now next place : ℕ) (timers : List TimerState) (ts : List KnownTimer
       next-timer n (state_of place cells slots timers) _ now next p (λ t at. tt)
 
   comes-preset : (n : ℕ) (rs us : List Range)
-      → effect (Timer SetPreset n) (plain_of rs us) ≡ Some p
+      → known_after (Timer SetPreset n) (plain_of rs us) ≡ Some p
       → (cells slots : List Value) → AreIn cells rs → AreIn slots us
       → Comes (Timer SetPreset n) cells slots
   unfolding act
@@ -375,13 +378,14 @@ module _ (now next place : ℕ) (timers : List TimerState) (ts : List KnownTimer
       (Goes (state_of next (f t ∷ cells) slots timers)) FullStack now next p (refl, done))
 
   comes-timer : (t : TimerUse) (n : ℕ) (rs us : List Range)
-      → effect (Timer t n) (plain_of rs us) ≡ Some p
+      → known_after (Timer t n) (plain_of rs us) ≡ Some p
       → (cells slots : List Value) → AreIn cells rs → AreIn slots us → Comes (Timer t n) cells slots
   unfolding act
   comes-timer SetInput n rs us e cells slots h k = comes-input n rs us e cells slots h k
   comes-timer SetPreset n rs us e cells slots h k = comes-preset n rs us e cells slots h k
   comes-timer Run n rs us e cells slots h k =
-      comes-changed n rs us (λ t. after_call t now) called (λ t u is. timer-called t u now is) e
+      comes-changed n rs us (λ t. after_call t now) timer_after_call
+      (λ t u is. timer-called t u now is) e
       cells
       cells slots h k
   comes-timer LoadOutput n rs us e cells slots h k =
@@ -392,13 +396,13 @@ module _ (now next place : ℕ) (timers : List TimerState) (ts : List KnownTimer
       comes-read n rs us (λ u. u.elapsed) (λ t. Span t.elapsed) (λ t u is. is.in_elapsed) e cells
       slots h k
 
-  comes : (i : Instr) (rs us : List Range) → effect i (plain_of rs us) ≡ Some p
+  comes : (i : Instr) (rs us : List Range) → known_after i (plain_of rs us) ≡ Some p
       → (cells slots : List Value) → AreIn cells rs → AreIn slots us → Comes i cells slots
   unfolding act
   comes Halt rs us e cells slots h k = absurd (cc)
   comes (Push v) rs us e cells slots h k =
       let done : Done (v ∷ cells) slots =
-      covers-along (exactly v ∷ rs) us (v ∷ cells) slots e (in-exactly v, h) k in
+      covers-along (value_range v ∷ rs) us (v ∷ cells) slots e (in-exactly v, h) k in
       next-if (nat_lt (length cells) most_cells) (Goes (state_of next (v ∷ cells) slots timers))
       FullStack
       now next p (refl, done)
@@ -413,7 +417,7 @@ module _ (now next place : ℕ) (timers : List TimerState) (ts : List KnownTimer
   comes Not [] us e cells slots h k = absurd (cc)
   comes Not (r ∷ rs) us e (Truth b ∷ cells) slots h k = (
     refl,
-    covers-along (negated r ∷ rs) us (Truth (not b) ∷ cells) slots e
+    covers-along (not_range r ∷ rs) us (Truth (not b) ∷ cells) slots e
         (of-negated b r h.0, h.1) k,
   )
   comes Not (r ∷ rs) us e cells slots h k = tt
@@ -429,18 +433,19 @@ next-lands : (t : StepResult) (next end : ℕ) (h : Held) (p : Plain) (old new :
 next-lands (Goes s) next end h p old new a is =
     let least : next ≤ s.place = (let at = is.0 in omega arith) in (
       least,
-      subst (λ (n : ℕ). CoversAt new n (held h.now s)) (sym is.0)
-          (a.brings (held h.now s) is.1),
+      subst (λ (n : ℕ). CoversAt new n (held_by h.now s)) (sym is.0)
+          (a.brings (held_by h.now s) is.1),
     )
 next-lands Halts next end h p old new a is = absurd is
 next-lands (Traps trap) next end h p old new a is = tt
 
 pub step-moves : (instr : Instr) (next : ℕ) (come after : Plain) (old new : List (Option Known))
-    → effect instr come ≡ Some after → Arrives old new next after → Moves instr next come old new
+    → known_after instr come ≡ Some after → Arrives old new next after
+    → Moves instr next come old new
 step-moves instr next come after old new e a = record {
   keeps = a.keeps;
   lands = λ now end s c.
-      next-lands (act now instr next s) next end (held now s) after old new a
+      next-lands (act now instr next s) next end (held_by now s) after old new a
       (comes now next s.place s.timers come.timers c.timers after instr come.cells come.slots e
       s.cells s.slots c.cells c.slots);
 }

@@ -14,7 +14,7 @@ use Rattle.il_image.specs.declared.timer.TimerState.{TimerState}
 use Rattle.il_image.specs.declared.value.Value.{Value}
 use Rattle.il_image.specs.declared.value.Value.TheVariants.{Truth, Short, Long, Wide, Span}
 use Rattle.il_image.specs.Arithmetic.{comparison_holds, computation_of, wider_value}
-use Rattle.il_image.specs.Machine.{Halted, State, Trap, StepResult, Goes, Halts, Traps, FullStack, WrongKind, MissingSlot, MissingTimer, ZeroDivisor, act, as_number, as_span, as_truth, divides, ending_of, continues_at, is_comparable, run_from, stores, turn_of, value_of_width, with_slot, with_timer, with_top, with_two, most_cells}
+use Rattle.il_image.specs.Machine.{Halted, State, Trap, StepResult, Goes, Halts, Traps, FullStack, WrongKind, MissingSlot, MissingTimer, ZeroDivisor, act, as_number, as_span, as_truth, divides, ending_of, continues_at, is_comparable, run_from, stores, step_of_read, value_of_width, with_slot, with_timer, with_top, with_two, most_cells}
 use Rattle.il_image.specs.Places.{begun_at}
 use Rattle.il_image.specs.declared.timer.TimerPhase.{TimerPhase}
 use Rattle.il_image.specs.declared.timer.TimerPhase.TheVariants.{Idle, Held, Since}
@@ -25,7 +25,7 @@ use Rattle.il_image.specs.Values.{number_of, type_of}
 use Rattle.bay_base.specs.Types.{same_type}
 use Rattle.std.proofs.lemmas.List.{length-set}
 use Rattle.il_range.specs.Laws.{Continues}
-use Rattle.il_range.specs.Ranges.{began, began_at, kind_of}
+use Rattle.il_range.specs.Ranges.{delay_start, delay_start_at, kind_of}
 
 -- There are as many slots, the timers have the kinds that they had, and a delay that runs began
 -- now, or ran before.
@@ -131,7 +131,8 @@ slot-keeps now s n u = record {
 -- a delay that runs began now, or ran before
 abbrev BeginsBy : ℕ → TimerState → TimerState → Type 0
 BeginsBy now u t =
-    (start : ℕ) → began u.phase ≡ Some start → (start ≡ now) ⊎ (began t.phase ≡ Some start)
+    (start : ℕ) → delay_start u.phase ≡ Some start
+    → (start ≡ now) ⊎ (delay_start t.phase ≡ Some start)
 
 set-begins : (now : ℕ) (timers : List TimerState) (n : ℕ) (t u : TimerState)
     → slice_get timers n ≡ Some t → BeginsBy now u t
@@ -139,7 +140,7 @@ set-begins : (now : ℕ) (timers : List TimerState) (n : ℕ) (t u : TimerState)
 set-begins now [] n t u at by m start is = inr is
 set-begins now (x ∷ timers) zero t u at by zero start is =
     let same : x ≡ t = cc in
-    subst (λ (y : TimerState). (start ≡ now) ⊎ (began y.phase ≡ Some start)) (sym same)
+    subst (λ (y : TimerState). (start ≡ now) ⊎ (delay_start y.phase ≡ Some start)) (sym same)
     (by start is)
 set-begins now (x ∷ timers) zero t u at by (suc m) start is = inr is
 set-begins now (x ∷ timers) (suc n) t u at by zero start is = inr is
@@ -147,8 +148,8 @@ set-begins now (x ∷ timers) (suc n) t u at by (suc m) start is =
     set-begins now timers n t u at by m start is
 
 call-begins : (k : TimerKind) (b : Bool) (phase : TimerPhase) (now start : ℕ)
-    → began (phase_after k b phase now) ≡ Some start
-    → (start ≡ now) ⊎ (began phase ≡ Some start)
+    → delay_start (phase_after k b phase now) ≡ Some start
+    → (start ≡ now) ⊎ (delay_start phase ≡ Some start)
 call-begins OnDelay false phase now start is = absurd (cc)
 call-begins OnDelay true Idle now start is = inl (cc)
 call-begins OnDelay true Held now start is = inl (cc)
@@ -235,7 +236,7 @@ step-keeps now (Timer LoadElapsed n) next s =
     keep-timer now n s _ (λ t at. keep-if now (nat_lt (length s.cells) most_cells)
     (continues_at next (Span t.elapsed ∷ s.cells) s) FullStack s (same now s))
 
-turn-keeps : (now : ℕ) (o : Option (Instr × ℕ)) (s : State) → NextKeeps now (turn_of now o s) s
+turn-keeps : (now : ℕ) (o : Option (Instr × ℕ)) (s : State) → NextKeeps now (step_of_read now o s) s
 turn-keeps now None s = tt
 turn-keeps now (Some read) s = step-keeps now read.0 read.1 s
 
@@ -261,7 +262,8 @@ rest-keeps code now most steps count slots timers Halts s k later e =
     record {
       size = ap length (sym is);
       kinds = ap (map kind_of) (sym are);
-      begins = λ n start began. inr (subst (λ (ts : List TimerState). began_at n ts ≡ Some start)
+      begins =
+          λ n start began. inr (subst (λ (ts : List TimerState). delay_start_at n ts ≡ Some start)
           (sym are) began);
     }
 rest-keeps code now most steps count slots timers (Traps trap) s k later e = absurd (cc)
@@ -272,7 +274,8 @@ pub run-keeps : (code : List ℕ) (now most : ℕ) (s : State) (steps : ℕ) (sl
 unfolding run_from
 run-keeps code now zero s steps slots timers count e = absurd (cc)
 run-keeps code now (suc most) s steps slots timers count e =
-    rest-keeps code now most (steps + 1) count slots timers (turn_of now (begun_at code s.place) s)
+    rest-keeps code now most (steps + 1) count slots timers
+    (step_of_read now (begun_at code s.place) s)
     s
     (turn-keeps now (begun_at code s.place) s)
     (λ to is. run-keeps code now most to (steps + 1) slots timers count is) e

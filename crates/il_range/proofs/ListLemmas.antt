@@ -6,13 +6,13 @@ use Rattle.std.proofs.lemmas.List.{length-reverse}
 use Rattle.il_image.specs.declared.value.Value.{Value}
 use Rattle.il_range.specs.declared.range.Range.{Range}
 use Rattle.il_range.specs.Ranges.{AreEach, AreIn, IsIn}
-use Rattle.il_range.specs.Effects.{joined}
+use Rattle.il_range.specs.Effects.{join_lists}
 
 -- ---- joins
 
 pub each-left : {A B : Type 0} (Fits : A → B → Type 0) (join : B → B → B)
     → ((x : A) (a b : B) → Fits x a → Fits x (join a b)) → (xs : List A) (ys zs : List B)
-    → AreEach Fits xs ys → AreEach Fits xs (joined join ys zs)
+    → AreEach Fits xs ys → AreEach Fits xs (join_lists join ys zs)
 each-left Fits join left [] [] zs h = tt
 each-left Fits join left [] (y ∷ ys) zs h = absurd h
 each-left Fits join left (x ∷ xs) [] zs h = absurd h
@@ -22,7 +22,7 @@ each-left Fits join left (x ∷ xs) (y ∷ ys) (z ∷ zs) h =
 
 pub each-right : {A B : Type 0} (Fits : A → B → Type 0) (join : B → B → B)
     → ((x : A) (a b : B) → Fits x b → Fits x (join a b)) → (xs : List A) (ys zs : List B)
-    → length ys ≡ length zs → AreEach Fits xs zs → AreEach Fits xs (joined join ys zs)
+    → length ys ≡ length zs → AreEach Fits xs zs → AreEach Fits xs (join_lists join ys zs)
 each-right Fits join right [] [] zs e h = tt
 each-right Fits join right [] (y ∷ ys) [] e h = absurd (omega arith)
 each-right Fits join right [] (y ∷ ys) (z ∷ zs) e h = absurd h
@@ -34,7 +34,8 @@ each-right Fits join right (x ∷ xs) (y ∷ ys) (z ∷ zs) e h =
 
 joined-append : {A : Type 0} (join : A → A → A) (xs ys more others : List A)
     → length xs ≡ length ys
-    → joined join (xs ++ more) (ys ++ others) ≡ joined join xs ys ++ joined join more others
+    → join_lists join (xs ++ more) (ys ++ others)
+    ≡ join_lists join xs ys ++ join_lists join more others
 joined-append join [] [] more others e = refl
 joined-append join [] (y ∷ ys) more others e = absurd (omega arith)
 joined-append join (x ∷ xs) [] more others e = absurd (omega arith)
@@ -45,7 +46,7 @@ reverse-cons : {A : Type 0} (x : A) (xs : List A) → reverse (x ∷ xs) ≡ rev
 reverse-cons x xs = reverse_onto xs x []
 
 pub joined-reverse : {A : Type 0} (join : A → A → A) (xs ys : List A) → length xs ≡ length ys
-    → reverse (joined join xs ys) ≡ joined join (reverse xs) (reverse ys)
+    → reverse (join_lists join xs ys) ≡ join_lists join (reverse xs) (reverse ys)
 joined-reverse join [] [] e = refl
 joined-reverse join [] (y ∷ ys) e = absurd (omega arith)
 joined-reverse join (x ∷ xs) [] e = absurd (omega arith)
@@ -53,11 +54,11 @@ joined-reverse {A = A} join (x ∷ xs) (y ∷ ys) e =
     let less : length xs ≡ length ys = omega arith in
     let same : length (reverse xs) ≡ length (reverse ys) =
     length-reverse xs ∙ less ∙ sym (length-reverse ys) in
-    reverse-cons (join x y) (joined join xs ys)
+    reverse-cons (join x y) (join_lists join xs ys)
     ∙ ap (λ (l : List A). l ++ join x y ∷ []) (joined-reverse join xs ys less)
     ∙ sym (joined-append join (reverse xs) (reverse ys) (x ∷ []) (y ∷ []) same)
-    ∙ sym (ap (λ (l : List A). joined join l (reverse (y ∷ ys))) (reverse-cons x xs)
-    ∙ ap (λ (l : List A). joined join (reverse xs ++ x ∷ []) l) (reverse-cons y ys))
+    ∙ sym (ap (λ (l : List A). join_lists join l (reverse (y ∷ ys))) (reverse-cons x xs)
+    ∙ ap (λ (l : List A). join_lists join (reverse xs ++ x ∷ []) l) (reverse-cons y ys))
 
 pub each-size : {A B : Type 0} (Fits : A → B → Type 0) (xs : List A) (ys : List B)
     → AreEach Fits xs ys → length xs ≡ length ys

@@ -10,12 +10,12 @@ use Rattle.il_image.specs.declared.arithmetic.ArithmeticOperation.TheVariants.{A
 use Rattle.il_image.specs.declared.arithmetic.Width.{Width}
 use Rattle.il_image.specs.declared.arithmetic.Width.TheVariants as width
 use Rattle.il_image.specs.declared.value.Value.{Value}
-use Rattle.il_image.specs.Arithmetic.{bits_of, computation_of, exact, wrap_to}
+use Rattle.il_image.specs.Arithmetic.{bits_of, computation_of, exact_result, wrap_to}
 use Rattle.il_image.specs.Machine.{value_of_width}
 use Rattle.il_image.specs.Values.{number_of}
 use Rattle.il_range.specs.declared.range.Range.{Range}
 use Rattle.il_range.specs.declared.range.Range.TheVariants.{Between}
-use Rattle.il_range.specs.Effects.{all_of, computed, fits_in, greatest_of, least_of, wrap_range, wrapped_of}
+use Rattle.il_range.specs.Effects.{full_range, compute_range, fits_in, greatest_of, least_of, wrap_range, wrapped_of}
 use Rattle.il_range.specs.Ranges.{IsIn}
 
 number-of-width : (w : Width) (z : ℤ) → number_of (value_of_width w z) ≡ z
@@ -41,7 +41,7 @@ fits-by width.Int z h k = omega (arith, ints)
 fits-by width.Dint z h k = omega (arith, ints)
 fits-by width.Lint z h k = omega (arith, ints)
 
-wrap-in : (w : Width) (z : ℤ) → IsIn (value_of_width w (wrap_to w z)) (all_of w)
+wrap-in : (w : Width) (z : ℤ) → IsIn (value_of_width w (wrap_to w z)) (full_range w)
 wrap-in w z =
     let within = bounds w (wrap_to w z) (SFits-int_wrap (bits_of w) z) in
     in-between w (least_of w) (greatest_of w) (wrap_to w z) within.0 within.1
@@ -54,7 +54,7 @@ wrapped-in : (w : Width) (low high z : ℤ) → low ≤ℤ z → z ≤ℤ high
 wrapped-in w low high z h k = go (fits_in w low) (fits_in w high) refl refl
   where
     go : (b c : Bool) → fits_in w low ≡ b → fits_in w high ≡ c
-        → IsIn (value_of_width w (wrap_to w z)) (cond (b && c) (Between low high) (all_of w))
+        → IsIn (value_of_width w (wrap_to w z)) (cond (b && c) (Between low high) (full_range w))
     go true true e f =
         let least : least_of w ≤ℤ low = (fit-bounds w low e).0 in
         let most : high ≤ℤ greatest_of w = (fit-bounds w high f).1 in
@@ -67,7 +67,7 @@ wrapped-in w low high z h k = go (fits_in w low) (fits_in w high) refl refl
 
 pub of-computed : (o : ArithmeticOperation) (w : Width) (v u : Value) (a b : ℤ) (r s : Range)
     → number_of v ≡ a → number_of u ≡ b → IsIn v r → IsIn u s
-    → IsIn (value_of_width w (computation_of o w a b)) (computed o w r s)
+    → IsIn (value_of_width w (computation_of o w a b)) (compute_range o w r s)
 of-computed Add w v u a b (Between l m) (Between c d) e f h k =
     let least : l ≤ℤ number_of v = h.0 in let most : number_of v ≤ℤ m = h.1 in
     let lower : c ≤ℤ number_of u = k.0 in let upper : number_of u ≤ℤ d = k.1 in
@@ -76,7 +76,7 @@ of-computed Sub w v u a b (Between l m) (Between c d) e f h k =
     let least : l ≤ℤ number_of v = h.0 in let most : number_of v ≤ℤ m = h.1 in
     let lower : c ≤ℤ number_of u = k.0 in let upper : number_of u ≤ℤ d = k.1 in
     wrapped-in w (l -ℤ d) (m -ℤ c) (a -ℤ b) (omega (arith, ints)) (omega (arith, ints))
-of-computed o w v u a b r s e f h k = wrap-in w (exact o a b)
+of-computed o w v u a b r s e f h k = wrap-in w (exact_result o a b)
 
 -- ---- numbers that 64 bits may not hold
 
@@ -96,7 +96,7 @@ out-of w z no_fit = go (fits_in w z) refl
     go true e = absurd (no_fit (wide w z (fit-bounds w z e)))
 
 unwrapped : (b c : Bool) (w : Width) (low high : ℤ) → (b && c) ≡ false
-    → all_of w ≡ cond (b && c) (Between low high) (all_of w)
+    → full_range w ≡ cond (b && c) (Between low high) (full_range w)
 unwrapped b c w low high e = grind (arith, common_steps)
 
 pub wrapped-by : (w : Width) (low high : Option ℤ) (x y : ℤ) → SomeIff low (FitsSigned w64 x) x

@@ -9,14 +9,14 @@ use Rattle.il_image.specs.declared.instr.Instr.{Instr}
 use Rattle.il_image.specs.declared.instr.Instr.TheVariants.{Halt}
 use Rattle.il_image.specs.declared.timer.TimerState.{TimerState}
 use Rattle.il_image.specs.declared.value.Value.{Value}
-use Rattle.il_image.specs.Machine.{Halted, State, StepResult, Goes, Halts, Traps, act, ending_of, initial_state, run_from, turn_of}
+use Rattle.il_image.specs.Machine.{Halted, State, StepResult, Goes, Halts, Traps, act, ending_of, initial_state, run_from, step_of_read}
 use Rattle.il_image.specs.Places.{begun_at, is_place}
 use Rattle.il_image.specs.Reading.{instr_at}
 use Rattle.il_range.specs.declared.known.Known.{Known}
 use Rattle.il_range.specs.Effects.{Plain}
 use Rattle.il_range.specs.Outcomes.{Ends}
 use Rattle.il_range.specs.Ranges.{AreIn, AreTimersIn}
-use Rattle.il_range.specs.Pending.{Arrives, Covers, CoversAt, Lands, Held, Moves, Visits, held, plain}
+use Rattle.il_range.specs.Pending.{Arrives, Covers, CoversAt, Lands, Held, Moves, Visits, held_by, known_view}
 use Rattle.il_range.proofs.PendingLemmas.{covers-elsewhere}
 
 -- ---- one place
@@ -29,10 +29,10 @@ visits-none code place old was = record {
 }
 
 covers-there : (place : ℕ) (old : List (Option Known)) (here : Known) (h : Held)
-    → slice_get old place ≡ Some (Some here) → CoversAt old place h → Covers (plain here) h
+    → slice_get old place ≡ Some (Some here) → CoversAt old place h → Covers (known_view here) h
 covers-there place old here h was c =
     let same : c.known ≡ here = (let at = c.here in cc) in
-    subst (λ (s : Known). Covers (plain s) h) same c.covers
+    subst (λ (s : Known). Covers (known_view s) h) same c.covers
 
 lands-from : (t : StepResult) (least next end : ℕ) (h : Held) (new : List (Option Known))
     → least ≤ next → Lands t next end h new → Lands t least end h new
@@ -49,34 +49,34 @@ one-instr code place next to i j a b = some_pair_parts i j next to (sym a ∙ b)
 pub visits-moves : (code : List ℕ) (instr : Instr) (place next : ℕ) (old new : List (Option Known))
     (here : Known) → instr_at code place ≡ Some (instr, next) → place < next
     → slice_get old place ≡ Some (Some here)
-    → Moves instr next (plain here) (slice_set old place None) new → Visits code place old new
+    → Moves instr next (known_view here) (slice_set old place None) new → Visits code place old new
 visits-moves code instr place next old new here reads forward was m = record {
   keeps = λ q ne h c. m.keeps q h (covers-elsewhere old place q None h ne c);
   lands = λ j to now s at c.
       let same = one-instr code place next to instr j reads at in
       let least : place + 1 ≤ next = omega arith in
       let mine =
-      lands-from (act now instr next s) (place + 1) next (length code) (held now s) new least
-      (m.lands now (length code) s (covers-there place old here (held now s) was c)) in
-      subst (λ (i : Instr). Lands (act now i to s) (place + 1) (length code) (held now s) new)
+      lands-from (act now instr next s) (place + 1) next (length code) (held_by now s) new least
+      (m.lands now (length code) s (covers-there place old here (held_by now s) was c)) in
+      subst (λ (i : Instr). Lands (act now i to s) (place + 1) (length code) (held_by now s) new)
       same.0
-      (subst (λ (n : ℕ). Lands (act now instr n s) (place + 1) (length code) (held now s) new)
+      (subst (λ (n : ℕ). Lands (act now instr n s) (place + 1) (length code) (held_by now s) new)
       same.1
       mine);
 }
 
 pub visits-halt : (code : List ℕ) (place next : ℕ) (old new : List (Option Known)) (here : Known)
     → instr_at code place ≡ Some (Halt, next) → slice_get old place ≡ Some (Some here)
-    → Arrives (slice_set old place None) new (length code) (plain here)
+    → Arrives (slice_set old place None) new (length code) (known_view here)
     → Visits code place old new
 unfolding act
 visits-halt code place next old new here reads was a = record {
   keeps = λ q ne h c. a.keeps q h (covers-elsewhere old place q None h ne c);
   lands = λ j to now s at c.
       let same = one-instr code place next to Halt j reads at in
-      let mine : CoversAt new (length code) (held now s) =
-      a.brings (held now s) (covers-there place old here (held now s) was c) in
-      subst (λ (i : Instr). Lands (act now i to s) (place + 1) (length code) (held now s) new)
+      let mine : CoversAt new (length code) (held_by now s) =
+      a.brings (held_by now s) (covers-there place old here (held_by now s) was c) in
+      subst (λ (i : Instr). Lands (act now i to s) (place + 1) (length code) (held_by now s) new)
       same.0
       mine;
 }
@@ -99,7 +99,7 @@ pub record GoesOn (code : List ℕ) (now place : ℕ) (after : List Value) (time
   pub steps_after : ℕ
   pub from : place ≤ state.place
   pub halts : run_from code now most state steps ≡ Halted after timers steps_after
-  pub covers : CoversAt pending state.place (held now state)
+  pub covers : CoversAt pending state.place (held_by now state)
 
 -- the run has halted, or goes on below what is pending
 abbrev pub Follows : List ℕ → ℕ → List Value → List TimerState → ℕ → List (Option Known) → Type 0
@@ -129,7 +129,7 @@ follows-turn : (code : List ℕ) (now least most steps steps_after : ℕ) (after
     (timers_after : List TimerState) (s : State) (new : List (Option Known)) (t : StepResult)
     → ending_of t s (steps + 1) (λ to. run_from code now most to (steps + 1))
     ≡ Halted after timers_after steps_after
-    → Lands t least (length code) (held now s) new
+    → Lands t least (length code) (held_by now s) new
     → Follows code now after timers_after least new
 follows-turn code now least most steps steps_after after timers_after s new (Goes to) e l =
     inr (record {
@@ -158,19 +158,19 @@ follows-step : (code : List ℕ) (now place : ℕ) (after : List Value) (old new
     → Visits code place old new → (most steps steps_after : ℕ)
     (timers_after : List TimerState) (s : State)
     → run_from code now most s steps ≡ Halted after timers_after steps_after → s.place ≡ place
-    → CoversAt old place (held now s) → Follows code now after timers_after (place + 1) new
+    → CoversAt old place (held_by now s) → Follows code now after timers_after (place + 1) new
 unfolding run_from
 follows-step code now place after old new v zero steps steps_after timers_after s e at c =
     absurd (cc)
 follows-step code now place after old new v (suc most) steps steps_after timers_after s e at c =
     elim (read-at code s.place) [
       | inl none ↦ absurd
-          (let r = subst (λ (o : Option (Instr × ℕ)). ending_of (turn_of now o s) s (steps + 1)
+          (let r = subst (λ (o : Option (Instr × ℕ)). ending_of (step_of_read now o s) s (steps + 1)
           (λ to. run_from code now most to (steps + 1)) ≡ Halted after timers_after steps_after)
           none e in
           cc)
       | inr w ↦
-          (let r = subst (λ (o : Option (Instr × ℕ)). ending_of (turn_of now o s) s (steps + 1)
+          (let r = subst (λ (o : Option (Instr × ℕ)). ending_of (step_of_read now o s) s (steps + 1)
           (λ to. run_from code now most to (steps + 1)) ≡ Halted after timers_after steps_after) w.2
           e in
           follows-turn code now (place + 1) most steps steps_after after timers_after s new
@@ -189,7 +189,7 @@ halts-within code now zero steps steps_after after timers_after s e = absurd (cc
 halts-within code now (suc most) steps steps_after after timers_after s e =
     elim (read-at code s.place) [
       | inl none ↦ absurd
-          (let r = subst (λ (o : Option (Instr × ℕ)). ending_of (turn_of now o s) s (steps + 1)
+          (let r = subst (λ (o : Option (Instr × ℕ)). ending_of (step_of_read now o s) s (steps + 1)
           (λ to. run_from code now most to (steps + 1)) ≡ Halted after timers_after steps_after)
           none e in
           cc)
@@ -210,7 +210,7 @@ follows-next code now place after timers old new less v f = elim f [
     | inl e ↦
         follows-step code now place after old new v g.most g.steps g.steps_after
         timers g.state g.halts e
-        (subst (λ (n : ℕ). CoversAt old n (held now g.state)) e g.covers)
+        (subst (λ (n : ℕ). CoversAt old n (held_by now g.state)) e g.covers)
     | inr ne ↦ inr (record {
       state = g.state;
       most = g.most;
@@ -218,7 +218,7 @@ follows-next code now place after timers old new less v f = elim f [
       steps_after = g.steps_after;
       from = (let least : place ≤ g.state.place = g.from in omega arith);
       halts = g.halts;
-      covers = v.keeps g.state.place ne (held now g.state) g.covers;
+      covers = v.keeps g.state.place ne (held_by now g.state) g.covers;
     })
   ]
 ]

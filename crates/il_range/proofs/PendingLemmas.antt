@@ -13,9 +13,9 @@ use Rattle.il_image.proofs.SetLemmas.{set-here, set-elsewhere}
 use Rattle.il_range.specs.declared.known.Known.{Known}
 use Rattle.il_range.specs.declared.range.Range.{Range}
 use Rattle.il_range.specs.declared.range.Range.TheVariants.{No, Yes}
-use Rattle.il_range.specs.Effects.{Plain, join, join_timer, joined, negated}
+use Rattle.il_range.specs.Effects.{Plain, join, join_timer, join_lists, not_range}
 use Rattle.il_range.specs.Ranges.{AreIn, AreTimersIn, IsIn, IsTimerIn}
-use Rattle.il_range.specs.Pending.{Branches, Held, held, Covers, CoversAt, IsJoin, IsUnder, Arrives, Lands, Moves, plain}
+use Rattle.il_range.specs.Pending.{Branches, Held, held_by, Covers, CoversAt, IsJoin, IsUnder, Arrives, Lands, Moves, known_view}
 use Rattle.il_range.proofs.RangeLemmas.{in-join_left, in-join_right, of-negated}
 use Rattle.il_range.proofs.ListLemmas.{each-left, each-right, joined-reverse}
 use Rattle.il_range.proofs.TimerLemmas.{timer-join_left, timer-join_right}
@@ -29,11 +29,13 @@ set-twice {A = A} (x ∷ xs) (suc i) v w = ap (λ (l : List A). x ∷ l) (set-tw
 -- ---- joins
 
 cells-joined : (one other both : Known) → IsJoin one other both
-    → reverse both.cells.items ≡ joined join (reverse one.cells.items) (reverse other.cells.items)
+    → reverse both.cells.items
+    ≡ join_lists join (reverse one.cells.items) (reverse other.cells.items)
 cells-joined one other both j =
     ap reverse j.cells ∙ joined-reverse join one.cells.items other.cells.items j.depth
 
-pub under-left : (one other both : Known) → IsJoin one other both → IsUnder (plain one) (plain both)
+pub under-left : (one other both : Known) → IsJoin one other both
+    → IsUnder (known_view one) (known_view both)
 under-left one other both j h c = record {
   cells = subst (AreIn h.cells) (sym (cells-joined one other both j))
       (each-left IsIn join in-join_left h.cells (reverse one.cells.items)
@@ -47,7 +49,7 @@ under-left one other both j h c = record {
 }
 
 pub under-right : (one other both : Known) → IsJoin one other both
-    → IsUnder (plain other) (plain both)
+    → IsUnder (known_view other) (known_view both)
 under-right one other both j h c = record {
   cells = subst (AreIn h.cells) (sym (cells-joined one other both j))
       (each-right IsIn join in-join_right h.cells (reverse one.cells.items)
@@ -72,11 +74,12 @@ covers-elsewhere old place q w h ne c = record {
 
 -- what is joined at a place covers what comes there
 pub arrived : (old : List (Option Known)) (place : ℕ) (o w : Option Known) (come known : Known)
-    → place < length old → slice_get old place ≡ Some o → IsUnder (plain known) (plain come)
-    → ((s : Known) → o ≡ Some s → IsUnder (plain s) (plain come))
-    → Arrives old (slice_set (slice_set old place w) place (Some come)) place (plain known)
+    → place < length old → slice_get old place ≡ Some o
+    → IsUnder (known_view known) (known_view come)
+    → ((s : Known) → o ≡ Some s → IsUnder (known_view s) (known_view come))
+    → Arrives old (slice_set (slice_set old place w) place (Some come)) place (known_view known)
 arrived old place o w come known less was brings keeps =
-    subst (λ (new : List (Option Known)). Arrives old new place (plain known))
+    subst (λ (new : List (Option Known)). Arrives old new place (known_view known))
     (sym (set-twice old place w (Some come)))
     (record {
       keeps = λ q h c. elim (cases_eq q place) [
@@ -107,7 +110,7 @@ unfolding act
 always-moves distance next come old new a = record {
   keeps = a.keeps;
   lands = λ now end s c.
-      let least : next ≤ next + distance = omega arith in (least, a.brings (held now s) c);
+      let least : next ≤ next + distance = omega arith in (least, a.brings (held_by now s) c);
 }
 
 -- where a jump that depends on a truth lands
@@ -165,13 +168,14 @@ if-true-moves r distance next below come old new is b = record {
 
 pub if-false-moves : (r : Range) (distance next : ℕ) (below : List Range) (come : Plain)
     (old new : List (Option Known)) → come.cells ≡ r ∷ below
-    → Branches (negated r) distance next come old new
+    → Branches (not_range r) distance next come old new
     → Moves (Jump IfFalse distance) next come old new
 unfolding act
 if-false-moves r distance next below come old new is b = record {
   keeps = b.keeps;
   lands = λ now end s c.
-      jump-lands (λ x. cond x next (next + distance)) not r (negated r) distance next below come old
+      jump-lands (λ x. cond x next (next + distance)) not r (not_range r) distance next below come
+      old
       new (λ x. sym (same-if x (next + distance) next)) (λ x h. of-negated x r h) is b now s.place
       end
       s.cells s.slots s.timers (subst (AreIn s.cells) is c.cells) c;

@@ -15,13 +15,13 @@ use Rattle.il_image.specs.Arithmetic.{comparison_holds, logic_of}
 use Rattle.il_image.specs.Values.{number_of}
 use Rattle.il_range.specs.declared.range.Range.{Range}
 use Rattle.il_range.specs.declared.range.Range.TheVariants.{Any, No, Yes, Either, Between}
-use Rattle.il_range.specs.Effects.{both, compared, connected, either, exactly, high_of, are_within, is_within, join, low_of, lower, negated, one_of, surely, surely_le, surely_lt, bool_range, upper, widened}
+use Rattle.il_range.specs.Effects.{and_ranges, compare_ranges, connect_ranges, or_ranges, value_range, high_of, are_within, is_within, join, low_of, lower, not_range, xor_ranges, holds_if_known, surely_le, surely_lt, bool_range, upper, widen_range}
 use Rattle.il_range.specs.Ranges.{AreIn, IsFalseValue, IsIn, IsTrueValue, IsTruth}
 
 same-le : (z : ℤ) → z ≤ℤ z
 same-le z = omega (arith, ints)
 
-pub in-exactly : (v : Value) → IsIn v (exactly v)
+pub in-exactly : (v : Value) → IsIn v (value_range v)
 in-exactly (Truth true) = tt
 in-exactly (Truth false) = tt
 in-exactly (Short z) = (same-le z, same-le z)
@@ -101,7 +101,7 @@ are-within (v ∷ values) (r ∷ ranges) (s ∷ others) e h =
     (in-within v r s parts.0 h.0, are-within values ranges others parts.1 h.1)
 
 pub in-widened : (is_late : Bool) (v : Value) (r s : Range) → IsIn v r
-    → IsIn v (widened is_late r s)
+    → IsIn v (widen_range is_late r s)
 in-widened is_late v r s h = go (is_within s r) is_late
   where
     go : (b late : Bool) → IsIn v (cond b r (cond late Any (join r s)))
@@ -111,7 +111,7 @@ in-widened is_late v r s h = go (is_within s r) is_late
 
 -- ---- truths
 
-pub of-negated : (b : Bool) (r : Range) → IsIn (Truth b) r → IsIn (Truth (not b)) (negated r)
+pub of-negated : (b : Bool) (r : Range) → IsIn (Truth b) r → IsIn (Truth (not b)) (not_range r)
 of-negated true Yes h = tt
 of-negated false Yes h = absurd h
 of-negated true No h = absurd h
@@ -119,7 +119,7 @@ of-negated false No h = tt
 of-negated b r h = tt
 
 pub of-both : (a b : Bool) (r s : Range) → IsIn (Truth a) r → IsIn (Truth b) s
-    → IsIn (Truth (a && b)) (both r s)
+    → IsIn (Truth (a && b)) (and_ranges r s)
 of-both true b No s h k = absurd h
 of-both false b No s h k = tt
 of-both a true r No h k = absurd k
@@ -136,14 +136,14 @@ de-morgan false true = refl
 de-morgan false false = refl
 
 pub of-either : (a b : Bool) (r s : Range) → IsIn (Truth a) r → IsIn (Truth b) s
-    → IsIn (Truth (a || b)) (either r s)
+    → IsIn (Truth (a || b)) (or_ranges r s)
 of-either a b r s h k =
-    subst (λ (x : Bool). IsIn (Truth x) (either r s)) (de-morgan a b)
-    (of-negated (not a && not b) (both (negated r) (negated s))
-    (of-both (not a) (not b) (negated r) (negated s) (of-negated a r h) (of-negated b s k)))
+    subst (λ (x : Bool). IsIn (Truth x) (or_ranges r s)) (de-morgan a b)
+    (of-negated (not a && not b) (and_ranges (not_range r) (not_range s))
+    (of-both (not a) (not b) (not_range r) (not_range s) (of-negated a r h) (of-negated b s k)))
 
 of-one_of : (a b : Bool) (r s : Range) → IsIn (Truth a) r → IsIn (Truth b) s
-    → IsIn (Truth (logic_of Xor a b)) (one_of r s)
+    → IsIn (Truth (logic_of Xor a b)) (xor_ranges r s)
 of-one_of true b No No h k = absurd h
 of-one_of false true No No h k = absurd k
 of-one_of false false No No h k = tt
@@ -159,7 +159,7 @@ of-one_of true false Yes Yes h k = absurd k
 of-one_of a b r s h k = tt
 
 pub of-connected : (c : Connective) (a b : Bool) (r s : Range) → IsIn (Truth a) r
-    → IsIn (Truth b) s → IsIn (Truth (logic_of c a b)) (connected c r s)
+    → IsIn (Truth b) s → IsIn (Truth (logic_of c a b)) (connect_ranges c r s)
 of-connected And a b r s h k = of-both a b r s h k
 of-connected Or a b r s h k = of-either a b r s h k
 of-connected Xor a b r s h k = of-one_of a b r s h k
@@ -206,7 +206,7 @@ is-lt : (v u : Value) (r s : Range) → IsIn v r → IsIn u s → surely_lt r s 
     → number_of v <ℤ number_of u
 is-lt v u r s h k e = go (high_of r) (low_of s) refl refl e
   where
-    go : (x y : Option ℤ) → high_of r ≡ x → low_of s ≡ y → surely int_lt x y ≡ true
+    go : (x y : Option ℤ) → high_of r ≡ x → low_of s ≡ y → holds_if_known int_lt x y ≡ true
         → number_of v <ℤ number_of u
     go None y ex ey e = absurd (cc)
     go (Some a) None ex ey e = absurd (cc)
@@ -219,7 +219,7 @@ is-le : (v u : Value) (r s : Range) → IsIn v r → IsIn u s → surely_le r s 
     → number_of v ≤ℤ number_of u
 is-le v u r s h k e = go (high_of r) (low_of s) refl refl e
   where
-    go : (x y : Option ℤ) → high_of r ≡ x → low_of s ≡ y → surely int_le x y ≡ true
+    go : (x y : Option ℤ) → high_of r ≡ x → low_of s ≡ y → holds_if_known int_le x y ≡ true
         → number_of v ≤ℤ number_of u
     go None y ex ey e = absurd (cc)
     go (Some a) None ex ey e = absurd (cc)
@@ -279,7 +279,7 @@ unequal v u r s h k e = go (surely_lt r s) (surely_lt s r) refl refl e
     go false false ex ey e = absurd (cc)
 
 pub of-compared : (c : Comparison) (v u : Value) (r s : Range) → IsIn v r → IsIn u s
-    → IsIn (Truth (comparison_holds c (number_of v) (number_of u))) (compared c r s)
+    → IsIn (Truth (comparison_holds c (number_of v) (number_of u))) (compare_ranges c r s)
 of-compared Lt v u r s h k =
     told-in _ (surely_lt r s) (surely_le s r)
     (λ e. lt-true (number_of v) (number_of u) (is-lt v u r s h k e))

@@ -11,7 +11,7 @@ use Rattle.il_scan.specs.Scans.{Held, Scans, first_input, first_slots, held_firs
 use Rattle.il_range.specs.declared.range.Range.{Range}
 use Rattle.il_range.specs.declared.range.Range.TheVariants.{Any}
 use Rattle.il_range.specs.declared.timer.KnownTimer.{KnownTimer}
-use Rattle.il_range.specs.Effects.{are_within, exactly, joined, widened}
+use Rattle.il_range.specs.Effects.{are_within, value_range, join_lists, widen_range}
 use Rattle.il_range.specs.Foretold.{Foretells, IsMemory, IsReached, First, Next, Leaves, with_memory}
 use Rattle.il_range.specs.Laws.{DelaysContinue, ReachesByScan}
 use Rattle.il_range.specs.Outcomes.{Carries, Predicts, Tells}
@@ -252,7 +252,7 @@ tells-any image start memory last result at t machine inputs now slots timers is
 
 -- The first values are in their ranges.
 pub firsts-in : (points : List ImagePoint) (variables : List Value)
-    → AreIn (first_slots points variables) (map range_of_point points ++ map exactly variables)
+    → AreIn (first_slots points variables) (map range_of_point points ++ map value_range variables)
 firsts-in (p ∷ points) variables =
     (in-exactly (default_value p.elementary), firsts-in points variables)
 firsts-in [] [] = tt
@@ -267,9 +267,9 @@ firsts-size image ranges h =
 
 -- What ranges stand for, they stand for where they are widened.
 pub grows : (is_late : Bool) (slots : List Value) (ranges left : List Range) → AreIn slots ranges
-    → AreIn slots (joined (widened is_late) ranges left)
+    → AreIn slots (join_lists (widen_range is_late) ranges left)
 grows is_late slots ranges left h =
-    each-left IsIn (widened is_late) (in-widened is_late) slots ranges left h
+    each-left IsIn (widen_range is_late) (in-widened is_late) slots ranges left h
 
 -- Ranges of the first values, within which a scan stays, are those of the memory.
 pub settled : (image : Image) (ranges left : List Range) → AreIn (held_first image).slots ranges

@@ -13,7 +13,7 @@ use Rattle.il_range.specs.declared.range.Range.{Range}
 use Rattle.il_range.specs.declared.range.Range.TheVariants.{Any, No, Yes, Either, Between}
 use Rattle.il_range.specs.declared.timer.KnownTimer.{KnownTimer}
 use Rattle.il_range.specs.Ranges.{IsIn, IsKind, IsTimerIn, IsYoung}
-use Rattle.il_range.specs.Effects.{below_after, called, elapsed_after, is_short, join_below, join_kind, join_timer, output_after, up_to}
+use Rattle.il_range.specs.Effects.{below_after, timer_after_call, elapsed_after, is_short, join_below, join_kind, join_timer, output_after, up_to}
 use Rattle.il_range.proofs.RangeLemmas.{in-join_left, in-join_right, le-told}
 
 kind-left : (k : TimerKind) (a b : Option TimerKind) → IsKind k a → IsKind k (join_kind a b)
@@ -180,7 +180,7 @@ of-called t u now h =
     young-called t.kind t.input t.phase now u.kind u.input u.below h.of_kind h.in_input h.young
 
 pub timer-called : (t : TimerState) (u : KnownTimer) (now : ℕ) → IsTimerIn now t u
-    → IsTimerIn now (after_call t now) (called u)
+    → IsTimerIn now (after_call t now) (timer_after_call u)
 timer-called t u now h = record {
   of_kind = h.of_kind;
   in_input = h.in_input;

@@ -20,13 +20,13 @@ use Rattle.il_range.specs.declared.timer.KnownTimer.{KnownTimer}
 use Rattle.il_range.specs.declared.range.Range.{Range}
 use Rattle.il_range.specs.declared.range.Range.TheVariants.{Any, No, Yes, Either, Between}
 
-abbrev pub exactly : Value → Range
-exactly (Truth true) = Yes
-exactly (Truth false) = No
-exactly (Short z) = Between z z
-exactly (Long z) = Between z z
-exactly (Wide z) = Between z z
-exactly (Span n) = Between (pos n) (pos n)
+abbrev pub value_range : Value → Range
+value_range (Truth true) = Yes
+value_range (Truth false) = No
+value_range (Short z) = Between z z
+value_range (Long z) = Between z z
+value_range (Wide z) = Between z z
+value_range (Span n) = Between (pos n) (pos n)
 
 abbrev pub lower : ℤ → ℤ → ℤ
 lower a b = if int_le a b then a else b
@@ -78,14 +78,14 @@ are_within (a ∷ ranges) (b ∷ others) = is_within a b && are_within ranges ot
 
 -- a range that includes both: the first if it includes the second; a range that grows late is
 -- unknown
-abbrev pub widened : Bool → Range → Range → Range
-widened is_late a b = if is_within b a then a else (if is_late then Any else join a b)
+abbrev pub widen_range : Bool → Range → Range → Range
+widen_range is_late a b = if is_within b a then a else (if is_late then Any else join a b)
 
 -- the join of two lists, index by index
-abbrev pub joined : {A : Type 0} → (A → A → A) → List A → List A → List A
-joined join [] others = []
-joined join (a ∷ items) [] = a ∷ items
-joined join (a ∷ items) (b ∷ others) = join a b ∷ joined join items others
+abbrev pub join_lists : {A : Type 0} → (A → A → A) → List A → List A → List A
+join_lists join [] others = []
+join_lists join (a ∷ items) [] = a ∷ items
+join_lists join (a ∷ items) (b ∷ others) = join a b ∷ join_lists join items others
 
 -- ---- timers
 
@@ -148,8 +148,8 @@ elapsed_after (Some OnDelay) No preset = Between (pos 0) (pos 0)
 elapsed_after (Some OffDelay) Yes preset = Between (pos 0) (pos 0)
 elapsed_after kind input preset = up_to preset
 
-abbrev pub called : KnownTimer → KnownTimer
-called u =
+abbrev pub timer_after_call : KnownTimer → KnownTimer
+timer_after_call u =
     let below = below_after u.kind u.input u.below in
     record {
       kind = u.kind;
@@ -168,50 +168,50 @@ with_preset preset u = record u { preset = preset }
 
 -- ---- truths
 
-abbrev pub negated : Range → Range
-negated No = Yes
-negated Yes = No
-negated Any = Either
-negated Either = Either
-negated (Between low high) = Either
+abbrev pub not_range : Range → Range
+not_range No = Yes
+not_range Yes = No
+not_range Any = Either
+not_range Either = Either
+not_range (Between low high) = Either
 
-abbrev pub both : Range → Range → Range
-both No b = No
-both Yes No = No
-both Yes Yes = Yes
-both Yes Any = Either
-both Yes Either = Either
-both Yes (Between c d) = Either
-both Any No = No
-both Any Yes = Either
-both Any Any = Either
-both Any Either = Either
-both Any (Between c d) = Either
-both Either No = No
-both Either Yes = Either
-both Either Any = Either
-both Either Either = Either
-both Either (Between c d) = Either
-both (Between l h) No = No
-both (Between l h) Yes = Either
-both (Between l h) Any = Either
-both (Between l h) Either = Either
-both (Between l h) (Between c d) = Either
+abbrev pub and_ranges : Range → Range → Range
+and_ranges No b = No
+and_ranges Yes No = No
+and_ranges Yes Yes = Yes
+and_ranges Yes Any = Either
+and_ranges Yes Either = Either
+and_ranges Yes (Between c d) = Either
+and_ranges Any No = No
+and_ranges Any Yes = Either
+and_ranges Any Any = Either
+and_ranges Any Either = Either
+and_ranges Any (Between c d) = Either
+and_ranges Either No = No
+and_ranges Either Yes = Either
+and_ranges Either Any = Either
+and_ranges Either Either = Either
+and_ranges Either (Between c d) = Either
+and_ranges (Between l h) No = No
+and_ranges (Between l h) Yes = Either
+and_ranges (Between l h) Any = Either
+and_ranges (Between l h) Either = Either
+and_ranges (Between l h) (Between c d) = Either
 
-abbrev pub either : Range → Range → Range
-either a b = negated (both (negated a) (negated b))
+abbrev pub or_ranges : Range → Range → Range
+or_ranges a b = not_range (and_ranges (not_range a) (not_range b))
 
-abbrev pub one_of : Range → Range → Range
-one_of No No = No
-one_of No Yes = Yes
-one_of Yes No = Yes
-one_of Yes Yes = No
-one_of a b = Either
+abbrev pub xor_ranges : Range → Range → Range
+xor_ranges No No = No
+xor_ranges No Yes = Yes
+xor_ranges Yes No = Yes
+xor_ranges Yes Yes = No
+xor_ranges a b = Either
 
-abbrev pub connected : Connective → Range → Range → Range
-connected And a b = both a b
-connected Or a b = either a b
-connected Xor a b = one_of a b
+abbrev pub connect_ranges : Connective → Range → Range → Range
+connect_ranges And a b = and_ranges a b
+connect_ranges Or a b = or_ranges a b
+connect_ranges Xor a b = xor_ranges a b
 
 -- ---- comparisons
 
@@ -229,27 +229,27 @@ high_of Yes = Some (pos 1)
 high_of Either = Some (pos 1)
 high_of (Between low high) = Some high
 
-abbrev pub surely : (ℤ → ℤ → Bool) → Option ℤ → Option ℤ → Bool
-surely test (Some a) (Some b) = test a b
-surely test (Some a) None = false
-surely test None b = false
+abbrev pub holds_if_known : (ℤ → ℤ → Bool) → Option ℤ → Option ℤ → Bool
+holds_if_known test (Some a) (Some b) = test a b
+holds_if_known test (Some a) None = false
+holds_if_known test None b = false
 
 abbrev pub surely_lt : Range → Range → Bool
-surely_lt a b = surely int_lt (high_of a) (low_of b)
+surely_lt a b = holds_if_known int_lt (high_of a) (low_of b)
 
 abbrev pub surely_le : Range → Range → Bool
-surely_le a b = surely int_le (high_of a) (low_of b)
+surely_le a b = holds_if_known int_le (high_of a) (low_of b)
 
 abbrev pub bool_range : Bool → Bool → Range
 bool_range is_yes is_no = if is_yes then Yes else (if is_no then No else Either)
 
-abbrev pub compared : Comparison → Range → Range → Range
-compared Lt a b = bool_range (surely_lt a b) (surely_le b a)
-compared Gt a b = bool_range (surely_lt b a) (surely_le a b)
-compared Le a b = bool_range (surely_le a b) (surely_lt b a)
-compared Ge a b = bool_range (surely_le b a) (surely_lt a b)
-compared Eq a b = bool_range (surely_le a b && surely_le b a) (surely_lt a b || surely_lt b a)
-compared Ne a b = bool_range (surely_lt a b || surely_lt b a) (surely_le a b && surely_le b a)
+abbrev pub compare_ranges : Comparison → Range → Range → Range
+compare_ranges Lt a b = bool_range (surely_lt a b) (surely_le b a)
+compare_ranges Gt a b = bool_range (surely_lt b a) (surely_le a b)
+compare_ranges Le a b = bool_range (surely_le a b) (surely_lt b a)
+compare_ranges Ge a b = bool_range (surely_le b a) (surely_lt a b)
+compare_ranges Eq a b = bool_range (surely_le a b && surely_le b a) (surely_lt a b || surely_lt b a)
+compare_ranges Ne a b = bool_range (surely_lt a b || surely_lt b a) (surely_le a b && surely_le b a)
 
 -- ---- arithmetic
 
@@ -266,8 +266,8 @@ greatest_of width.Dint = pos 0x7FFF_FFFF
 greatest_of width.Lint = pos 0x7FFF_FFFF_FFFF_FFFF
 
 -- all numbers of a width
-abbrev pub all_of : Width → Range
-all_of w = Between (least_of w) (greatest_of w)
+abbrev pub full_range : Width → Range
+full_range w = Between (least_of w) (greatest_of w)
 
 -- whether the number is one of the width
 abbrev pub fits_in : Width → ℤ → Bool
@@ -275,18 +275,18 @@ fits_in w z = int_le (least_of w) z && int_le z (greatest_of w)
 
 -- the range of the numbers between these two, wrapped to the width
 abbrev pub wrap_range : Width → ℤ → ℤ → Range
-wrap_range w low high = if fits_in w low && fits_in w high then Between low high else all_of w
+wrap_range w low high = if fits_in w low && fits_in w high then Between low high else full_range w
 
 -- the same for numbers that may not fit into 64 bits
 abbrev pub wrapped_of : Width → Option ℤ → Option ℤ → Range
 wrapped_of w (Some low) (Some high) = wrap_range w low high
-wrapped_of w (Some low) None = all_of w
-wrapped_of w None high = all_of w
+wrapped_of w (Some low) None = full_range w
+wrapped_of w None high = full_range w
 
-abbrev pub computed : ArithmeticOperation → Width → Range → Range → Range
-computed Add w (Between a b) (Between c d) = wrap_range w (a +ℤ c) (b +ℤ d)
-computed Sub w (Between a b) (Between c d) = wrap_range w (a -ℤ d) (b -ℤ c)
-computed o w a b = all_of w
+abbrev pub compute_range : ArithmeticOperation → Width → Range → Range → Range
+compute_range Add w (Between a b) (Between c d) = wrap_range w (a +ℤ c) (b +ℤ d)
+compute_range Sub w (Between a b) (Between c d) = wrap_range w (a -ℤ d) (b -ℤ c)
+compute_range o w a b = full_range w
 
 -- ---- instructions
 
@@ -328,25 +328,25 @@ abbrev pub with_timer : List Range → ℕ → KnownTimer → Plain → Option P
 with_timer cells n u p =
     Some (record { cells = cells; slots = p.slots; timers = slice_set p.timers n u })
 
-abbrev pub effect : Instr → Plain → Option Plain
-effect Halt p = None
-effect (Push v) p = with_cells (exactly v ∷ p.cells) p
-effect Drop p = top_of p.cells (λ top below. with_cells below p)
-effect (Slot Load n) p = slot_of n p.slots (λ r. with_cells (r ∷ p.cells) p)
-effect (Slot Store n) p = slot_by (λ top old. top) n p
-effect (Slot SetIf n) p = slot_by either n p
-effect (Slot ResetIf n) p = slot_by (λ top old. both (negated top) old) n p
-effect Not p = top_of p.cells (λ top below. with_cells (negated top ∷ below) p)
-effect (Combine c) p = two_of (connected c) p
-effect (Compute o w) p = two_of (computed o w) p
-effect (Compare c) p = two_of (compared c) p
-effect (Widen w) p = Some p
-effect (Jump when distance) p = None
-effect (Timer SetInput n) p =
+abbrev pub known_after : Instr → Plain → Option Plain
+known_after Halt p = None
+known_after (Push v) p = with_cells (value_range v ∷ p.cells) p
+known_after Drop p = top_of p.cells (λ top below. with_cells below p)
+known_after (Slot Load n) p = slot_of n p.slots (λ r. with_cells (r ∷ p.cells) p)
+known_after (Slot Store n) p = slot_by (λ top old. top) n p
+known_after (Slot SetIf n) p = slot_by or_ranges n p
+known_after (Slot ResetIf n) p = slot_by (λ top old. and_ranges (not_range top) old) n p
+known_after Not p = top_of p.cells (λ top below. with_cells (not_range top ∷ below) p)
+known_after (Combine c) p = two_of (connect_ranges c) p
+known_after (Compute o w) p = two_of (compute_range o w) p
+known_after (Compare c) p = two_of (compare_ranges c) p
+known_after (Widen w) p = Some p
+known_after (Jump when distance) p = None
+known_after (Timer SetInput n) p =
     timer_of n p.timers (λ u. top_of p.cells (λ top below. with_timer below n (with_input top u) p))
-effect (Timer SetPreset n) p =
+known_after (Timer SetPreset n) p =
     timer_of n p.timers (λ u. top_of p.cells
     (λ top below. with_timer below n (with_preset top u) p))
-effect (Timer Run n) p = timer_of n p.timers (λ u. with_timer p.cells n (called u) p)
-effect (Timer LoadOutput n) p = timer_of n p.timers (λ u. with_cells (u.output ∷ p.cells) p)
-effect (Timer LoadElapsed n) p = timer_of n p.timers (λ u. with_cells (u.elapsed ∷ p.cells) p)
+known_after (Timer Run n) p = timer_of n p.timers (λ u. with_timer p.cells n (timer_after_call u) p)
+known_after (Timer LoadOutput n) p = timer_of n p.timers (λ u. with_cells (u.output ∷ p.cells) p)
+known_after (Timer LoadElapsed n) p = timer_of n p.timers (λ u. with_cells (u.elapsed ∷ p.cells) p)

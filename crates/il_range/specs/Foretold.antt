@@ -6,7 +6,7 @@ use Rattle.il_image.specs.Images.{Image}
 use Rattle.il_image.specs.Machine.{Halted, run_from}
 use Rattle.il_scan.specs.Scans.{Held, held_first, scan_start}
 use Rattle.il_range.specs.declared.range.Range.{Range}
-pub use Rattle.il_range.specs.Ranges.{AreIn, AreYoung, began, began_at, kind_of}
+pub use Rattle.il_range.specs.Ranges.{AreIn, AreYoung, delay_start, delay_start_at, kind_of}
 
 -- the machine with these slots and timers
 abbrev pub with_memory : List Value → List TimerState → Held → Held

@@ -3,7 +3,7 @@ use Rattle.std.specs.Prelude.{ℕ, ◌≡◌, ◌⊎◌, List, Some}
 use Rattle.il_image.specs.declared.timer.TimerState.{TimerState}
 use Rattle.il_image.specs.declared.value.Value.{Value}
 use Rattle.il_scan.specs.Scans.{Held, Scans}
-use Rattle.il_range.specs.Foretold.{IsReached, Leaves, began_at}
+use Rattle.il_range.specs.Foretold.{IsReached, Leaves, delay_start_at}
 
 -- Each scan of il_scan is a run as `Leaves` defines it.
 abbrev pub IsByScan : Type 0
@@ -20,8 +20,8 @@ ReachesByScan =
 -- A delay that runs after this moment began at this moment, or already ran before it.
 abbrev pub Continues : ℕ → List TimerState → List TimerState → Type 0
 Continues now after before =
-    (n start : ℕ) → began_at n after ≡ Some start
-    → (start ≡ now) ⊎ (began_at n before ≡ Some start)
+    (n start : ℕ) → delay_start_at n after ≡ Some start
+    → (start ≡ now) ⊎ (delay_start_at n before ≡ Some start)
 
 -- In each scan, delays continue so.
 abbrev pub DelaysContinue : Type 0

@@ -8,12 +8,13 @@ use Rattle.il_image.specs.Machine.{State, StepResult, Goes, Halts, Traps, act}
 use Rattle.il_image.specs.Reading.{instr_at}
 use Rattle.il_range.specs.declared.range.Range.{Range}
 use Rattle.il_range.specs.declared.known.Known.{Known}
-use Rattle.il_range.specs.Effects.{Plain, join, join_timer, joined}
+use Rattle.il_range.specs.Effects.{Plain, join, join_timer, join_lists}
 use Rattle.il_range.specs.Ranges.{AreIn, AreTimersIn, IsIn}
 
 -- what is known, as lists
-abbrev pub plain : Known → Plain
-plain s = record { cells = reverse s.cells.items; slots = s.slots.items; timers = s.timers.items }
+abbrev pub known_view : Known → Plain
+known_view s =
+    record { cells = reverse s.cells.items; slots = s.slots.items; timers = s.timers.items }
 
 -- what a run holds at its moment: the cells with the top first, the slots and the timers
 pub record Held : Type 0 where
@@ -22,8 +23,8 @@ pub record Held : Type 0 where
   pub slots : List Value
   pub timers : List TimerState
 
-abbrev pub held : ℕ → State → Held
-held now s = record { now = now; cells = s.cells; slots = s.slots; timers = s.timers }
+abbrev pub held_by : ℕ → State → Held
+held_by now s = record { now = now; cells = s.cells; slots = s.slots; timers = s.timers }
 
 -- The cells, slots and timers of the run are in the known ranges.
 pub record Covers (p : Plain) (h : Held) : Type 0 where
@@ -40,15 +41,15 @@ pub record IsJoin (one other both : Known) : Type 0 where
   pub depth : length one.cells.items ≡ length other.cells.items
   pub size : length one.slots.items ≡ length other.slots.items
   pub count : length one.timers.items ≡ length other.timers.items
-  pub cells : both.cells.items ≡ joined join one.cells.items other.cells.items
-  pub slots : both.slots.items ≡ joined join one.slots.items other.slots.items
-  pub timers : both.timers.items ≡ joined join_timer one.timers.items other.timers.items
+  pub cells : both.cells.items ≡ join_lists join one.cells.items other.cells.items
+  pub slots : both.slots.items ≡ join_lists join one.slots.items other.slots.items
+  pub timers : both.timers.items ≡ join_lists join_timer one.timers.items other.timers.items
 
 -- Something is known at the place, and it covers the run.
 pub record CoversAt (pending : List (Option Known)) (place : ℕ) (h : Held) : Type 0 where
   pub known : Known
   pub here : slice_get pending place ≡ Some (Some known)
-  pub covers : Covers (plain known) h
+  pub covers : Covers (known_view known) h
 
 -- What was covered at a place is still covered there.
 abbrev pub Keeps : List (Option Known) → List (Option Known) → Type 0
@@ -71,7 +72,7 @@ pub record Branches (jumps : Range) (distance next : ℕ) (come : Plain)
 -- A step goes to a place from `next` on, where it is covered; or it halts, and is covered at the
 -- end; or it traps.
 abbrev pub Lands : StepResult → ℕ → ℕ → Held → List (Option Known) → Type 0
-Lands (Goes s) next end h pending = (next ≤ s.place) × CoversAt pending s.place (held h.now s)
+Lands (Goes s) next end h pending = (next ≤ s.place) × CoversAt pending s.place (held_by h.now s)
 Lands Halts next end h pending = CoversAt pending end h
 Lands (Traps trap) next end h pending = Unit {0}
 
@@ -79,13 +80,13 @@ Lands (Traps trap) next end h pending = Unit {0}
 pub record Moves (instr : Instr) (next : ℕ) (come : Plain) (old new : List (Option Known))
     : Type 0 where
   pub keeps : Keeps old new
-  pub lands : (now end : ℕ) (s : State) → Covers come (held now s)
-      → Lands (act now instr next s) next end (held now s) new
+  pub lands : (now end : ℕ) (s : State) → Covers come (held_by now s)
+      → Lands (act now instr next s) next end (held_by now s) new
 
 -- Each step of the instruction at a place from a state that is covered there lands after it; what
 -- was covered at other places is still covered. The end of the code represents the end of a run.
 pub record Visits (code : List ℕ) (place : ℕ) (old new : List (Option Known)) : Type 0 where
   pub keeps : (q : ℕ) → q ≢ place → (h : Held) → CoversAt old q h → CoversAt new q h
   pub lands : (instr : Instr) (next now : ℕ) (s : State)
-      → instr_at code place ≡ Some (instr, next) → CoversAt old place (held now s)
-      → Lands (act now instr next s) (place + 1) (length code) (held now s) new
+      → instr_at code place ≡ Some (instr, next) → CoversAt old place (held_by now s)
+      → Lands (act now instr next s) (place + 1) (length code) (held_by now s) new

@@ -62,14 +62,15 @@ IsKind kind None = Unit {0}
 IsKind kind (Some known) = kind ≡ known
 
 -- the moment at which the delay began, if one runs
-abbrev pub began : TimerPhase → Option ℕ
-began Idle = None
-began Held = None
-began (Since start) = Some start
+abbrev pub delay_start : TimerPhase → Option ℕ
+delay_start Idle = None
+delay_start Held = None
+delay_start (Since start) = Some start
 
 -- the same for the timer at an index
-abbrev pub began_at : ℕ → List TimerState → Option ℕ
-began_at n timers = option_and_then (λ (t : TimerState). began t.phase) (slice_get timers n)
+abbrev pub delay_start_at : ℕ → List TimerState → Option ℕ
+delay_start_at n timers =
+    option_and_then (λ (t : TimerState). delay_start t.phase) (slice_get timers n)
 
 -- A delay that runs began less than this number of milliseconds ago, if there is a limit; with the
 -- limit 0, no delay runs.

@@ -3,14 +3,14 @@ use Rattle.std.specs.Prelude.{ℕ, List, [], ◌∷◌, drop, Option, Some, None
 use Rattle.bay_base.specs.declared.types.TimerKind.{TimerKind}
 use Rattle.il_image.specs.declared.image.ImagePoint.{ImagePoint}
 use Rattle.il_image.specs.Values.{default_value}
-use Rattle.il_range.specs.Effects.{exactly}
+use Rattle.il_range.specs.Effects.{value_range}
 use Rattle.il_range.specs.declared.timer.KnownTimer.{KnownTimer}
 use Rattle.il_range.specs.declared.range.Range.{Range}
 use Rattle.il_range.specs.declared.range.Range.TheVariants.{Any, Either}
 
 -- the range of a point's slot before the first scan: the default value of its type
 abbrev pub range_of_point : ImagePoint → Range
-range_of_point p = exactly (default_value p.elementary)
+range_of_point p = value_range (default_value p.elementary)
 
 -- a timer of which the kind is known, and that its delay has run for less than `below`, if there is
 -- a limit

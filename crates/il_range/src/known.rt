@@ -1,12 +1,13 @@
 // What is known of the stack, the slots and the timers before an instruction.
 ghost use Rattle.std.specs.Prelude.{◌≡◌, ◌<◌, ◌∷◌, List, length, OnOk, IfOk, Some};
-ghost use Rattle.il_range.specs.Effects.{effect, joined};
+ghost use Rattle.il_range.specs.Effects.{known_after, join_lists};
 ghost use Rattle.il_range.specs.Effects as spec;
-ghost use Rattle.il_range.specs.Pending.{Arrives, IsJoin, plain};
+ghost use Rattle.il_range.specs.Pending.{Arrives, IsJoin, known_view};
 
 use crate::dependencies::Dependencies;
 use crate::range::{
-    Range, both, compare_ranges, compute_range, connect_ranges, either, exactly, join, not,
+    Range, and_ranges, compare_ranges, compute_range, connect_ranges, join, not_range, or_ranges,
+    value_range,
 };
 use crate::stop::PassStop;
 use crate::timer::{KnownTimer, join_timer, timer_after_call};
@@ -40,7 +41,8 @@ fn place_of(number: u16, count: usize) -> Result<usize, PassStop>
 
 // Pushes what is known of a value.
 fn push(known: &mut Known, range: Range) -> Result<(), PassStop>
-    ensures cells { OnOk result ((plain known.new).cells ≡ range ∷ (plain known.old).cells) }
+    ensures cells { OnOk result
+        ((known_view known.new).cells ≡ range ∷ (known_view known.old).cells) }
     ensures slots { known.new.slots ≡ known.old.slots }
     ensures timers { known.new.timers ≡ known.old.timers }
 {
@@ -50,7 +52,8 @@ fn push(known: &mut Known, range: Range) -> Result<(), PassStop>
 
 // Pops what is known of the top.
 fn pop(known: &mut Known) -> Result<Range, PassStop>
-    ensures cells { IfOk result (λ r. (plain known.old).cells ≡ r ∷ (plain known.new).cells) }
+    ensures cells { IfOk result
+        (λ r. (known_view known.old).cells ≡ r ∷ (known_view known.new).cells) }
     ensures slots { known.new.slots ≡ known.old.slots }
     ensures timers { known.new.timers ≡ known.old.timers }
 {
@@ -62,8 +65,9 @@ fn pop(known: &mut Known) -> Result<Range, PassStop>
 
 /// Returns the top, which stays. The path depends on the top from here on.
 pub(crate) fn top_of(known: &mut Known) -> Result<Range, PassStop>
-    ensures same { OnOk result (plain known.new ≡ plain known.old) }
-    ensures top { IfOk result (λ r. (below : List Range) × ((plain known.old).cells ≡ r ∷ below)) }
+    ensures same { OnOk result (known_view known.new ≡ known_view known.old) }
+    ensures top { IfOk result
+        (λ r. (below : List Range) × ((known_view known.old).cells ≡ r ∷ below)) }
 {
     known.traces.turn();
     let top = pop(known)?;
@@ -73,8 +77,8 @@ pub(crate) fn top_of(known: &mut Known) -> Result<Range, PassStop>
 
 // LOAD: pushes what is known of a slot.
 fn load(known: &mut Known, n: u16) -> Result<(), PassStop>
-    ensures { OnOk result (effect (Instr.Slot SlotUse.Load n) (plain known.old)
-        ≡ Some (plain known.new)) }
+    ensures { OnOk result (known_after (Instr.Slot SlotUse.Load n) (known_view known.old)
+        ≡ Some (known_view known.new)) }
 {
     let n = place_of(n, known.slots.len())?;
     let range = known.slots[n];
@@ -83,8 +87,8 @@ fn load(known: &mut Known, n: u16) -> Result<(), PassStop>
 
 // STORE: copies what is known of the top to a slot.
 fn store(known: &mut Known, n: u16) -> Result<(), PassStop>
-    ensures { OnOk result (effect (Instr.Slot SlotUse.Store n) (plain known.old)
-        ≡ Some (plain known.new)) }
+    ensures { OnOk result (known_after (Instr.Slot SlotUse.Store n) (known_view known.old)
+        ≡ Some (known_view known.new)) }
 {
     let n = place_of(n, known.slots.len())?;
     let top = pop(known)?;
@@ -94,32 +98,32 @@ fn store(known: &mut Known, n: u16) -> Result<(), PassStop>
 
 // SETIF: sets a slot to TRUE if the top is TRUE.
 fn set_if(known: &mut Known, n: u16) -> Result<(), PassStop>
-    ensures { OnOk result (effect (Instr.Slot SlotUse.SetIf n) (plain known.old)
-        ≡ Some (plain known.new)) }
+    ensures { OnOk result (known_after (Instr.Slot SlotUse.SetIf n) (known_view known.old)
+        ≡ Some (known_view known.new)) }
 {
     let n = place_of(n, known.slots.len())?;
     let top = pop(known)?;
-    let changed = either(top, known.slots[n]);
+    let changed = or_ranges(top, known.slots[n]);
     known.slots[n] = changed;
     push(known, top)
 }
 
 // RESETIF: sets a slot to FALSE if the top is TRUE.
 fn reset_if(known: &mut Known, n: u16) -> Result<(), PassStop>
-    ensures { OnOk result (effect (Instr.Slot SlotUse.ResetIf n) (plain known.old)
-        ≡ Some (plain known.new)) }
+    ensures { OnOk result (known_after (Instr.Slot SlotUse.ResetIf n) (known_view known.old)
+        ≡ Some (known_view known.new)) }
 {
     let n = place_of(n, known.slots.len())?;
     let top = pop(known)?;
-    let changed = both(not(top), known.slots[n]);
+    let changed = and_ranges(not_range(top), known.slots[n]);
     known.slots[n] = changed;
     push(known, top)
 }
 
 // Applies an instruction that uses a slot.
 fn use_slot(known: &mut Known, slot_use: SlotUse, n: u16) -> Result<(), PassStop>
-    ensures { OnOk result (effect (Instr.Slot slot_use n) (plain known.old)
-        ≡ Some (plain known.new)) }
+    ensures { OnOk result (known_after (Instr.Slot slot_use n) (known_view known.old)
+        ≡ Some (known_view known.new)) }
 {
     match slot_use {
         SlotUse::Load => load(known, n),
@@ -131,8 +135,8 @@ fn use_slot(known: &mut Known, slot_use: SlotUse, n: u16) -> Result<(), PassStop
 
 // AND, OR, XOR: replaces two BOOLs by one.
 fn connect(known: &mut Known, connective: Connective) -> Result<(), PassStop>
-    ensures { OnOk result (effect (Instr.Combine connective) (plain known.old)
-        ≡ Some (plain known.new)) }
+    ensures { OnOk result (known_after (Instr.Combine connective) (known_view known.old)
+        ≡ Some (known_view known.new)) }
 {
     let b = pop(known)?;
     let a = pop(known)?;
@@ -141,8 +145,8 @@ fn connect(known: &mut Known, connective: Connective) -> Result<(), PassStop>
 
 // A comparison: replaces two values by a BOOL.
 fn compare(known: &mut Known, comparison: Comparison) -> Result<(), PassStop>
-    ensures { OnOk result (effect (Instr.Compare comparison) (plain known.old)
-        ≡ Some (plain known.new)) }
+    ensures { OnOk result (known_after (Instr.Compare comparison) (known_view known.old)
+        ≡ Some (known_view known.new)) }
 {
     let b = pop(known)?;
     let a = pop(known)?;
@@ -151,8 +155,8 @@ fn compare(known: &mut Known, comparison: Comparison) -> Result<(), PassStop>
 
 // ADD, SUB, MUL, DIV, MOD: replaces two numbers by one.
 fn compute(known: &mut Known, operation: ArithmeticOperation, width: Width) -> Result<(), PassStop>
-    ensures { OnOk result (effect (Instr.Compute operation width) (plain known.old)
-        ≡ Some (plain known.new)) }
+    ensures { OnOk result (known_after (Instr.Compute operation width) (known_view known.old)
+        ≡ Some (known_view known.new)) }
 {
     let b = pop(known)?;
     let a = pop(known)?;
@@ -161,15 +165,17 @@ fn compute(known: &mut Known, operation: ArithmeticOperation, width: Width) -> R
 
 // NOT: negates the top.
 fn invert(known: &mut Known) -> Result<(), PassStop>
-    ensures { OnOk result (effect Instr.Not (plain known.old) ≡ Some (plain known.new)) }
+    ensures { OnOk result (known_after Instr.Not (known_view known.old)
+        ≡ Some (known_view known.new)) }
 {
     let top = pop(known)?;
-    push(known, not(top))
+    push(known, not_range(top))
 }
 
 // DROP: pops the top.
 fn drop_top(known: &mut Known) -> Result<(), PassStop>
-    ensures { OnOk result (effect Instr.Drop (plain known.old) ≡ Some (plain known.new)) }
+    ensures { OnOk result (known_after Instr.Drop (known_view known.old)
+        ≡ Some (known_view known.new)) }
 {
     pop(known)?;
     Ok(())
@@ -177,8 +183,8 @@ fn drop_top(known: &mut Known) -> Result<(), PassStop>
 
 // SETIN: pops the top as the IN of a timer.
 fn set_input(known: &mut Known, n: u16) -> Result<(), PassStop>
-    ensures { OnOk result (effect (Instr.Timer TimerUse.SetInput n) (plain known.old)
-        ≡ Some (plain known.new)) }
+    ensures { OnOk result (known_after (Instr.Timer TimerUse.SetInput n) (known_view known.old)
+        ≡ Some (known_view known.new)) }
 {
     let n = place_of(n, known.timers.len())?;
     let top = pop(known)?;
@@ -192,8 +198,8 @@ fn set_input(known: &mut Known, n: u16) -> Result<(), PassStop>
 
 // SETPT: pops the top as the PT of a timer.
 fn set_preset(known: &mut Known, n: u16) -> Result<(), PassStop>
-    ensures { OnOk result (effect (Instr.Timer TimerUse.SetPreset n) (plain known.old)
-        ≡ Some (plain known.new)) }
+    ensures { OnOk result (known_after (Instr.Timer TimerUse.SetPreset n) (known_view known.old)
+        ≡ Some (known_view known.new)) }
 {
     let n = place_of(n, known.timers.len())?;
     let top = pop(known)?;
@@ -207,8 +213,8 @@ fn set_preset(known: &mut Known, n: u16) -> Result<(), PassStop>
 
 // RUN: calls a timer.
 fn call(known: &mut Known, n: u16) -> Result<(), PassStop>
-    ensures { OnOk result (effect (Instr.Timer TimerUse.Run n) (plain known.old)
-        ≡ Some (plain known.new)) }
+    ensures { OnOk result (known_after (Instr.Timer TimerUse.Run n) (known_view known.old)
+        ≡ Some (known_view known.new)) }
 {
     let n = place_of(n, known.timers.len())?;
     let timer = timer_after_call(known.timers[n]);
@@ -218,8 +224,8 @@ fn call(known: &mut Known, n: u16) -> Result<(), PassStop>
 
 // LOADQ: pushes what is known of Q.
 fn load_output(known: &mut Known, n: u16) -> Result<(), PassStop>
-    ensures { OnOk result (effect (Instr.Timer TimerUse.LoadOutput n) (plain known.old)
-        ≡ Some (plain known.new)) }
+    ensures { OnOk result (known_after (Instr.Timer TimerUse.LoadOutput n) (known_view known.old)
+        ≡ Some (known_view known.new)) }
 {
     let n = place_of(n, known.timers.len())?;
     let output = known.timers[n].output;
@@ -228,8 +234,8 @@ fn load_output(known: &mut Known, n: u16) -> Result<(), PassStop>
 
 // LOADET: pushes what is known of ET.
 fn load_elapsed(known: &mut Known, n: u16) -> Result<(), PassStop>
-    ensures { OnOk result (effect (Instr.Timer TimerUse.LoadElapsed n) (plain known.old)
-        ≡ Some (plain known.new)) }
+    ensures { OnOk result (known_after (Instr.Timer TimerUse.LoadElapsed n) (known_view known.old)
+        ≡ Some (known_view known.new)) }
 {
     let n = place_of(n, known.timers.len())?;
     let elapsed = known.timers[n].elapsed;
@@ -238,8 +244,8 @@ fn load_elapsed(known: &mut Known, n: u16) -> Result<(), PassStop>
 
 // Applies an instruction that uses a timer.
 fn use_timer(known: &mut Known, timer_use: TimerUse, n: u16) -> Result<(), PassStop>
-    ensures { OnOk result (effect (Instr.Timer timer_use n) (plain known.old)
-        ≡ Some (plain known.new)) }
+    ensures { OnOk result (known_after (Instr.Timer timer_use n) (known_view known.old)
+        ≡ Some (known_view known.new)) }
 {
     match timer_use {
         TimerUse::SetInput => set_input(known, n),
@@ -253,10 +259,10 @@ fn use_timer(known: &mut Known, timer_use: TimerUse, n: u16) -> Result<(), PassS
 /// Applies an instruction without a jump. Returns `Undecided` for a jump or a HALT, or if a cell,
 /// slot or timer is missing, and `OutOfMemory` if an allocation fails.
 pub(crate) fn apply(known: &mut Known, instr: Instr) -> Result<(), PassStop>
-    ensures { OnOk result (effect instr (plain known.old) ≡ Some (plain known.new)) }
+    ensures { OnOk result (known_after instr (known_view known.old) ≡ Some (known_view known.new)) }
 {
     match instr {
-        Instr::Push(value) => push(known, exactly(value)),
+        Instr::Push(value) => push(known, value_range(value)),
         Instr::Slot(slot_use, n) => use_slot(known, slot_use, n),
         Instr::Combine(connective) => connect(known, connective),
         Instr::Compute(operation, width) => compute(known, operation, width),
@@ -271,7 +277,7 @@ pub(crate) fn apply(known: &mut Known, instr: Instr) -> Result<(), PassStop>
 
 /// Updates what the values depend on after an instruction.
 pub(crate) fn follow(known: &mut Known, instr: Instr) -> Result<(), PassStop>
-    ensures { plain known.new ≡ plain known.old }
+    ensures { known_view known.new ≡ known_view known.old }
 {
     known.traces.step(instr)?;
     known
@@ -283,7 +289,7 @@ pub(crate) fn follow(known: &mut Known, instr: Instr) -> Result<(), PassStop>
 // Joins each value with the other at the same index.
 fn join_all(ranges: &mut Vec<Range>, others: &[Range])
     requires { length ranges.old.items ≡ length others.now }
-    ensures { ranges.new.items ≡ joined spec.join ranges.old.items others.now }
+    ensures { ranges.new.items ≡ join_lists spec.join ranges.old.items others.now }
 {
     for i in 0..others.len() {
         ranges[i] = join(ranges[i], others[i]);
@@ -293,7 +299,7 @@ fn join_all(ranges: &mut Vec<Range>, others: &[Range])
 // Joins each timer with the other at the same index.
 fn join_timers(timers: &mut Vec<KnownTimer>, others: &[KnownTimer])
     requires { length timers.old.items ≡ length others.now }
-    ensures { timers.new.items ≡ joined spec.join_timer timers.old.items others.now }
+    ensures { timers.new.items ≡ join_lists spec.join_timer timers.old.items others.now }
 {
     for i in 0..others.len() {
         timers[i] = join_timer(timers[i], others[i]);
@@ -338,7 +344,8 @@ pub(crate) fn arrive(
     known: Known,
 ) -> Result<(), PassStop>
     ensures size { length pending.new.items ≡ length pending.old.items }
-    ensures ok { OnOk result (Arrives pending.old.items pending.new.items place (plain known)) }
+    ensures ok { OnOk result
+        (Arrives pending.old.items pending.new.items place (known_view known)) }
 {
     if place >= pending.len() {
         return Err(PassStop::Undecided);
@@ -353,7 +360,7 @@ pub(crate) fn arrive(
 
 /// Returns a copy of what is known.
 pub(crate) fn copy_of(alloc: Global, known: &Known) -> Result<Known, PassStop>
-    ensures { IfOk result (λ s. plain s ≡ plain known.now) }
+    ensures { IfOk result (λ s. known_view s ≡ known_view known.now) }
 {
     let cells = Vec::from_slice(alloc, known.cells.as_slice())?;
     let slots = Vec::from_slice(alloc, known.slots.as_slice())?;

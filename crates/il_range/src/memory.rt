@@ -1,12 +1,12 @@
 // What a program's memory may hold between scans.
 ghost use Rattle.std.specs.Prelude.{◌≡◌, ◌+◌, ◌++◌, IfOk, length, map};
-ghost use Rattle.il_range.specs.Effects.{joined};
+ghost use Rattle.il_range.specs.Effects.{join_lists};
 ghost use Rattle.il_range.specs.Effects as spec;
 ghost use Rattle.il_range.specs.Foretold.{IsMemory};
 ghost use Rattle.il_range.specs.Outcomes.{Carries};
 ghost use Rattle.il_range.specs.Starts.{range_of_point};
 
-use crate::range::{Range, exactly, join};
+use crate::range::{Range, join, value_range};
 use crate::scan::predict;
 use crate::start::{free_ranges, start_ranges};
 use il_image::image::{Image, ImagePoint};
@@ -32,8 +32,8 @@ fn is_within(a: Range, b: Range) -> bool
 
 // Returns a range that includes both: the first if it includes the second; a range that grows late
 // is unknown.
-fn widened(is_late: bool, a: Range, b: Range) -> Range
-    ensures { result ≡ spec.widened is_late a b }
+fn widen_range(is_late: bool, a: Range, b: Range) -> Range
+    ensures { result ≡ spec.widen_range is_late a b }
 {
     if is_within(b, a) {
         a
@@ -66,10 +66,10 @@ fn are_within(ranges: &[Range], others: &[Range]) -> bool
 // Widens ranges by those that a scan leaves.
 fn widen(ranges: &mut Vec<Range>, left: &[Range], is_late: bool)
     requires { length ranges.old.items ≡ length left.now }
-    ensures { ranges.new.items ≡ joined (spec.widened is_late) ranges.old.items left.now }
+    ensures { ranges.new.items ≡ join_lists (spec.widen_range is_late) ranges.old.items left.now }
 {
     for i in 0..left.len() {
-        ranges[i] = widened(is_late, ranges[i], left[i]);
+        ranges[i] = widen_range(is_late, ranges[i], left[i]);
     }
 }
 
@@ -79,18 +79,18 @@ fn point_ranges(alloc: Global, points: &[ImagePoint]) -> Result<Vec<Range>, Allo
 {
     points
         .iter()
-        .map(|point| exactly(Value::default_of(point.elementary)))
+        .map(|point| value_range(Value::default_of(point.elementary)))
         .collect(alloc)
 }
 
 // Returns the ranges of the slots' first values.
 fn first_ranges(alloc: Global, image: &Image) -> Result<Vec<Range>, AllocError>
     ensures { IfOk result (λ ranges. ranges.items
-        ≡ map range_of_point image.now.points ++ map spec.exactly image.now.variables) }
+        ≡ map range_of_point image.now.points ++ map spec.value_range image.now.variables) }
 {
     let mut ranges = point_ranges(alloc, image.points())?;
     for variable in image.variables() {
-        ranges.push(exactly(*variable))?;
+        ranges.push(value_range(*variable))?;
     }
     Ok(ranges)
 }

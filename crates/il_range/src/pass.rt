@@ -2,10 +2,10 @@
 ghost use Rattle.std.specs.Prelude.{◌≡◌, ◌+◌, ◌<◌, [], List, length, slice_get, slice_set, IfOk, OnOk, Some, None, Vec};
 ghost use Rattle.std.specs.Global.{Global};
 ghost use Rattle.il_range.specs.Outcomes.{Predicts};
-ghost use Rattle.il_range.specs.Pending.{Arrives, Branches, Moves, Visits, plain};
+ghost use Rattle.il_range.specs.Pending.{Arrives, Branches, Moves, Visits, known_view};
 
 use crate::known::{Known, apply, arrive, copy_of, follow, top_of};
-use crate::range::{Range, not};
+use crate::range::{Range, not_range};
 use crate::stop::PassStop;
 use il_image::instr::Instr;
 use il_image::opcode::When;
@@ -20,7 +20,8 @@ fn step(
     pending: &mut Vec<Option<Known>>,
 ) -> Result<(), PassStop>
     ensures size { length pending.new.items ≡ length pending.old.items }
-    ensures ok { OnOk result (Moves instr next (plain here) pending.old.items pending.new.items) }
+    ensures ok { OnOk result
+        (Moves instr next (known_view here) pending.old.items pending.new.items) }
 {
     let mut here = here;
     apply(&mut here, instr)?;
@@ -37,7 +38,7 @@ fn jump_past(
 ) -> Result<(), PassStop>
     ensures size { length pending.new.items ≡ length pending.old.items }
     ensures ok { OnOk result
-        (Arrives pending.old.items pending.new.items (next + distance) (plain here)) }
+        (Arrives pending.old.items pending.new.items (next + distance) (known_view here)) }
 {
     let Some(to) = next.checked_add(usize::from(distance)) else {
         return Err(PassStop::Undecided);
@@ -56,7 +57,7 @@ fn branch(
 ) -> Result<(), PassStop>
     ensures size { length pending.new.items ≡ length pending.old.items }
     ensures ok { OnOk result
-        (Branches jumps distance next (plain here) pending.old.items pending.new.items) }
+        (Branches jumps distance next (known_view here) pending.old.items pending.new.items) }
 {
     match jumps {
         Range::Yes => jump_past(distance, next, here, pending),
@@ -80,7 +81,8 @@ fn jump(
 ) -> Result<(), PassStop>
     ensures size { length pending.new.items ≡ length pending.old.items }
     ensures ok { OnOk result
-        (Moves (Instr.Jump when distance) next (plain here) pending.old.items pending.new.items) }
+        (Moves (Instr.Jump when distance) next (known_view here) pending.old.items
+        pending.new.items) }
 {
     let mut here = here;
     match when {
@@ -91,7 +93,7 @@ fn jump(
         }
         When::IfFalse => {
             let top = top_of(&mut here)?;
-            branch(alloc, not(top), distance, next, here, pending)
+            branch(alloc, not_range(top), distance, next, here, pending)
         }
     }
 }

@@ -23,8 +23,8 @@ pub enum Range {
 }
 
 /// Returns the range of this value alone.
-pub(crate) fn exactly(value: Value) -> Range
-    ensures { result ≡ spec.exactly value }
+pub(crate) fn value_range(value: Value) -> Range
+    ensures { result ≡ spec.value_range value }
 {
     match value {
         Value::Truth(true) => Range::Yes,
@@ -60,8 +60,8 @@ pub(crate) fn join(a: Range, b: Range) -> Range
 }
 
 /// Returns NOT of a range.
-pub(crate) fn not(a: Range) -> Range
-    ensures { result ≡ spec.negated a }
+pub(crate) fn not_range(a: Range) -> Range
+    ensures { result ≡ spec.not_range a }
 {
     match a {
         Range::No => Range::Yes,
@@ -71,8 +71,8 @@ pub(crate) fn not(a: Range) -> Range
 }
 
 /// Returns AND of two ranges.
-pub(crate) fn both(a: Range, b: Range) -> Range
-    ensures { result ≡ spec.both a b }
+pub(crate) fn and_ranges(a: Range, b: Range) -> Range
+    ensures { result ≡ spec.and_ranges a b }
 {
     match (a, b) {
         (Range::No, _) | (_, Range::No) => Range::No,
@@ -82,15 +82,15 @@ pub(crate) fn both(a: Range, b: Range) -> Range
 }
 
 /// Returns OR of two ranges.
-pub(crate) fn either(a: Range, b: Range) -> Range
-    ensures { result ≡ spec.either a b }
+pub(crate) fn or_ranges(a: Range, b: Range) -> Range
+    ensures { result ≡ spec.or_ranges a b }
 {
-    not(both(not(a), not(b)))
+    not_range(and_ranges(not_range(a), not_range(b)))
 }
 
 // Returns XOR of two ranges.
-fn one_of(a: Range, b: Range) -> Range
-    ensures { result ≡ spec.one_of a b }
+fn xor_ranges(a: Range, b: Range) -> Range
+    ensures { result ≡ spec.xor_ranges a b }
 {
     match (a, b) {
         (Range::No, Range::No) => Range::No,
@@ -103,12 +103,12 @@ fn one_of(a: Range, b: Range) -> Range
 
 /// Returns a connective of the ranges of two BOOLs (IEC 61131-3:2003, table 26).
 pub(crate) fn connect_ranges(connective: Connective, a: Range, b: Range) -> Range
-    ensures { result ≡ spec.connected connective a b }
+    ensures { result ≡ spec.connect_ranges connective a b }
 {
     match connective {
-        Connective::And => both(a, b),
-        Connective::Or => either(a, b),
-        Connective::Xor => one_of(a, b),
+        Connective::And => and_ranges(a, b),
+        Connective::Or => or_ranges(a, b),
+        Connective::Xor => xor_ranges(a, b),
     }
 }
 
@@ -171,7 +171,7 @@ fn bool_range(yes: bool, no: bool) -> Range
 
 /// Returns the range of a comparison's result (IEC 61131-3:2003, table 28).
 pub(crate) fn compare_ranges(comparison: Comparison, a: Range, b: Range) -> Range
-    ensures { result ≡ spec.compared comparison a b }
+    ensures { result ≡ spec.compare_ranges comparison a b }
 {
     let lt = surely_lt(a, b);
     let gt = surely_lt(b, a);
@@ -252,7 +252,7 @@ pub(crate) fn compute_range(
     a: Range,
     b: Range,
 ) -> Range
-    ensures { result ≡ spec.computed operation width a b }
+    ensures { result ≡ spec.compute_range operation width a b }
 {
     match (operation, a, b) {
         (ArithmeticOperation::Add, Range::Between(a, b), Range::Between(c, d)) => sums(

@@ -114,7 +114,7 @@ fn elapsed_after(kind: Option<TimerKind>, input: Range, preset: Range) -> Range
 
 /// Returns what is known of a timer after a call.
 pub(crate) fn timer_after_call(timer: KnownTimer) -> KnownTimer
-    ensures { result ≡ spec.called timer }
+    ensures { result ≡ spec.timer_after_call timer }
 {
     let below = below_after(timer.kind, timer.input, timer.below);
     KnownTimer {

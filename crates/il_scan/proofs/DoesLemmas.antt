@@ -23,7 +23,7 @@ use Rattle.il_image.specs.declared.opcode.TimerUse.TheVariants.{SetInput, SetPre
 use Rattle.il_image.specs.declared.timer.TimerState.{TimerState}
 use Rattle.il_image.specs.declared.value.Value.{Value}
 use Rattle.il_image.specs.declared.value.Value.TheVariants.{Truth, Short, Long, Wide, Span}
-use Rattle.il_image.specs.Arithmetic.{DividesBy, comparison_holds, computation_of, logic_of, exact, type_of_width}
+use Rattle.il_image.specs.Arithmetic.{DividesBy, comparison_holds, computation_of, logic_of, exact_result, type_of_width}
 use Rattle.il_image.specs.Effects.{below, kind_of}
 use Rattle.il_image.specs.Images.{IsValue}
 use Rattle.il_image.specs.Kinds.{HasKind}
@@ -381,7 +381,7 @@ module _ (types : List ElementaryType) (count now next p : ℕ) (others slots : 
       let nv : number_of v ≡ computation_of o w a b = number_in w (computation_of o w a b) in
       on-stack next (v ∷ others) (omega arith, subst (DividesBy o) (sym nb) divisor)
       (with-numbers-is w a b test) refl (rw (na, nb, nv) refl)
-      ((type-in w (computation_of o w a b), wrapped-value w (exact o a b)), fit) typed
+      ((type-in w (computation_of o w a b), wrapped-value w (exact_result o a b)), fit) typed
     where
       with-numbers-is : (w : Width) (a b : ℤ) → (divides o && int_eq b (pos 0)) ≡ false
           → machine.computes o w next

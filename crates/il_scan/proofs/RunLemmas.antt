@@ -7,7 +7,7 @@ use Rattle.il_image.specs.declared.instr.Instr.TheVariants.{Drop}
 use Rattle.il_image.specs.declared.timer.TimerState.{TimerState}
 use Rattle.il_image.specs.declared.value.Value.{Value}
 use Rattle.il_image.specs.Images.{Image}
-use Rattle.il_image.specs.Machine.{Goes, Halted, Halts, State, Traps, StepResult, ending_of, run_from, turn}
+use Rattle.il_image.specs.Machine.{Goes, Halted, Halts, State, Traps, StepResult, ending_of, run_from, step_at}
 use Rattle.il_image.specs.Octets.{AreOctets}
 use Rattle.il_image.specs.Reading.{instr_at}
 use Rattle.il_image.specs.Tables.{IsHalt, IsSuccessor, Path, slot_types}
@@ -22,13 +22,13 @@ use Rattle.il_scan.proofs.FetchLemmas.{place-within as octet-within}
 use Rattle.il_scan.proofs.TurnLemmas.{cells-room, place-within, ready-at, some-at, turned, turned-at}
 
 run-goes : (code : List ℕ) (now most : ℕ) (s after : State) (steps : ℕ)
-    → turn code now s ≡ Goes after
+    → step_at code now s ≡ Goes after
     → run_from code now (suc most) s steps ≡ run_from code now most after (steps + 1)
 unfolding run_from
 run-goes code now most s after steps e =
     ap (λ (t : StepResult). ending_of t s (steps + 1) (λ a. run_from code now most a (steps + 1))) e
 
-run-halts : (code : List ℕ) (now most : ℕ) (s : State) (steps : ℕ) → turn code now s ≡ Halts
+run-halts : (code : List ℕ) (now most : ℕ) (s : State) (steps : ℕ) → step_at code now s ≡ Halts
     → run_from code now (suc most) s steps ≡ Halted s.slots s.timers (steps + 1)
 unfolding run_from
 run-halts code now most s steps e =
@@ -48,7 +48,7 @@ run-counts : (code : List ℕ) (now most : ℕ) (s : State) (k : ℕ) (slots : L
 unfolding run_from
 run-counts code now zero s k slots timers n e = absurd cc
 run-counts code now (suc most) s k slots timers n e =
-    counts_of code now most (turn code now s) s slots timers k n
+    counts_of code now most (step_at code now s) s slots timers k n
     (λ after. run-counts code now most after (k + 1) slots timers n) e
 
 enough-of : (code : List ℕ) (now most other : ℕ) (t : StepResult) (s : State) (slots : List Value)
@@ -70,7 +70,7 @@ run-enough code now zero other s k slots timers n e least = absurd cc
 run-enough code now (suc most) zero s k slots timers n e least =
     absurd (let h : k < n = run-counts code now (suc most) s k slots timers n e in omega arith)
 run-enough code now (suc most) (suc other) s k slots timers n e least =
-    enough-of code now most other (turn code now s) s slots timers k n
+    enough-of code now most other (step_at code now s) s slots timers k n
     (λ after f. run-enough code now most other after (k + 1) slots timers n f (omega arith)) e
 
 -- ---- the stack is never deeper
@@ -78,14 +78,14 @@ run-enough code now (suc most) (suc other) s k slots timers n e least =
 goes-same : (a b : State) → Goes a ≡ Goes b → a ≡ b
 goes-same a b e = cc
 
-standing_of : (image : Image) (now : ℕ) (s next : State) → turn image.code now s ≡ Goes next
+standing_of : (image : Image) (now : ℕ) (s next : State) → step_at image.code now s ≡ Goes next
     → (to : Option ℕ) (w : Words) → Turns image now s to w → StandsAs image next
 standing_of image now s next e None w t = absurd (let no : Halts ≡ Goes next = sym t.0 ∙ e in cc)
 standing_of image now s next e (Some to) w t =
     subst (StandsAs image) (goes-same t.1.0 next (sym t.1.1 ∙ e)) t.1.2.standing
 
 next-standing : (image : Image) (now : ℕ) → AreOctets image.code → (s next : State)
-    → StandsAs image s → turn image.code now s ≡ Goes next → StandsAs image next
+    → StandsAs image s → step_at image.code now s ≡ Goes next → StandsAs image next
 next-standing image now octets s next h e =
     let a = h.agrees.allowed s.place h.kinds h.here in
     standing_of image now s next e (leads a.instr a.next (words_at s).stack)

@@ -28,7 +28,7 @@ use Rattle.il_image.specs.declared.timer.TimerState.{TimerState}
 use Rattle.il_image.specs.declared.value.Value.{Value}
 use Rattle.il_image.specs.declared.value.Value.TheVariants.{Truth}
 use Rattle.il_image.specs.Arithmetic.{DividesBy, type_of_width}
-use Rattle.il_image.specs.Effects.{are_compared, below, compares, effect, kind_of, looks_at, second_kind, two, type_of_kind, widens, with_timer, with_truth}
+use Rattle.il_image.specs.Effects.{are_compared, below, compares, kinds_after, kind_of, looks_at, second_kind, two, type_of_kind, widens, with_timer, with_truth}
 use Rattle.il_image.specs.Images.{IsValue}
 use Rattle.il_image.specs.Kinds.{HasKind, is_within}
 use Rattle.il_image.specs.Machine.{divides, value_of_width, most_cells}
@@ -240,7 +240,8 @@ module _ (types : List ElementaryType) (count now next p : ℕ) (slots : List Va
         go false false f g e = absurd cc
 
     pub does : (i : Instr) (cells : List Value) (kinds : List CellKind)
-        → effect types count i kinds ≡ Some after → IsInstr i → (i ≡ Halt → ⊥) → Fit cells kinds
+        → kinds_after types count i kinds ≡ Some after → IsInstr i → (i ≡ Halt → ⊥)
+        → Fit cells kinds
         → length after ≤ most_cells → Done i cells after
     does Halt cells kinds e good going fit room = absurd (going refl)
     does (Push v) cells kinds e good going fit room =

@@ -10,9 +10,9 @@ use Rattle.il_image.specs.declared.kind.CellKind.{CellKind}
 use Rattle.il_image.specs.declared.opcode.SlotUse.TheVariants.{Load, Store, SetIf, ResetIf}
 use Rattle.il_image.specs.declared.opcode.When.TheVariants.{Always, IfTrue, IfFalse}
 use Rattle.il_image.specs.declared.opcode.TimerUse.TheVariants.{Run}
-use Rattle.il_image.specs.Effects.{effect}
+use Rattle.il_image.specs.Effects.{kinds_after}
 use Rattle.il_image.specs.Images.{Image}
-use Rattle.il_image.specs.Machine.{Goes, State, act, turn, turn_of, most_cells}
+use Rattle.il_image.specs.Machine.{Goes, State, act, step_at, step_of_read, most_cells}
 use Rattle.il_image.specs.Octets.{AreOctets}
 use Rattle.il_image.specs.Reading.{instr_at}
 use Rattle.il_image.specs.Tables.{Enters, IsPlace, LeadsTo, slot_types}
@@ -90,7 +90,7 @@ some-there (Some y) x e = refl
 record Allows (image : Image) (s : State) (h : StandsAs image s) (i : Instr) (next : ℕ)
     : Type 0 where
   after : List CellKind
-  effect_is : effect (slot_types image) (length image.timers) i h.kinds ≡ Some after
+  effect_is : kinds_after (slot_types image) (length image.timers) i h.kinds ≡ Some after
   enters : (to : ℕ) → LeadsTo i next to → Enters h.table to after
 
 module _ (image : Image) (now : ℕ) (s : State) (h : StandsAs image s) where
@@ -116,7 +116,7 @@ module _ (image : Image) (now : ℕ) (s : State) (h : StandsAs image s) where
         record {
           after = a.after;
           effect_is =
-              ap (λ (j : Instr). effect (slot_types image) (length image.timers) j h.kinds)
+              ap (λ (j : Instr). kinds_after (slot_types image) (length image.timers) j h.kinds)
               (sym same.0) ∙ a.effect;
           enters =
               λ to way. a.enters to
@@ -124,9 +124,10 @@ module _ (image : Image) (now : ℕ) (s : State) (h : StandsAs image s) where
               (subst (λ (j : Instr). LeadsTo j next to) (sym same.0) way));
         }
 
-    turn-is : turn image.code now s ≡ act now i next s
+    turn-is : step_at image.code now s ≡ act now i next s
     turn-is =
-        ap (λ (o : Option (Instr × ℕ)). turn_of now o s) (begun image.code s.place is_place ∙ here)
+        ap (λ (o : Option (Instr × ℕ)). step_of_read now o s)
+        (begun image.code s.place is_place ∙ here)
 
     goes-somewhere : (to : ℕ) → LeadsTo i next to → i ≡ Halt → ⊥
     goes-somewhere to way e = subst (λ (j : Instr). LeadsTo j next to) e way

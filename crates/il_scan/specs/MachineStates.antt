@@ -7,7 +7,7 @@ use Rattle.il_image.specs.declared.timer.TimerState.{TimerState}
 use Rattle.il_image.specs.declared.value.Value.{Value}
 use Rattle.il_image.specs.Images.{Each, Image, IsValue}
 use Rattle.il_image.specs.Kinds.{HasKind}
-use Rattle.il_image.specs.Machine.{Goes, Halted, Halts, State, run_from, initial_state, turn}
+use Rattle.il_image.specs.Machine.{Goes, Halted, Halts, State, run_from, initial_state, step_at}
 use Rattle.il_image.specs.Tables.{Agrees, IsHalt, IsSuccessor, Table, slot_types}
 use Rattle.il_verify.specs.Judging.{is_read_only}
 use Rattle.il_verify.specs.Slots.{slots_of}
@@ -72,10 +72,10 @@ KeepsSlots image old new = (n : ℕ) → is_read_only (slots_of image) n ≡ tru
 -- is no next place, and otherwise goes to that place.
 abbrev pub Turns : Image → ℕ → State → Option ℕ → Words → Type 0
 Turns image now s None after =
-    (turn image.code now s ≡ Halts) × (after ≡ words_at s) × IsHalt image.code s.place
+    (step_at image.code now s ≡ Halts) × (after ≡ words_at s) × IsHalt image.code s.place
 Turns image now s (Some to) after =
     IsSuccessor image.code s.place to
-    × ((t : State) × (turn image.code now s ≡ Goes t) × StandsAt image to after t)
+    × ((t : State) × (step_at image.code now s ≡ Goes t) × StandsAt image to after t)
     × KeepsSlots image (words_at s) after
 
 -- ---- between runs

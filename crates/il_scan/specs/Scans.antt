@@ -5,7 +5,7 @@ use Rattle.il_image.specs.declared.image.ImagePoint.{ImagePoint}
 use Rattle.il_image.specs.declared.timer.TimerState.{TimerState}
 use Rattle.il_image.specs.declared.value.Value.{Value}
 use Rattle.il_image.specs.Images.{Image}
-use Rattle.il_image.specs.Machine.{Goes, Halted, State, run_from, initial_state, turn}
+use Rattle.il_image.specs.Machine.{Goes, Halted, State, run_from, initial_state, step_at}
 use Rattle.il_image.specs.Tables.{slot_types}
 use Rattle.il_image.specs.Timers.{first_state}
 use Rattle.il_image.specs.Values.{default_value}
@@ -109,7 +109,7 @@ abbrev pub IsWithin : List ℕ → ℕ → ℕ → ℕ → State → Type 0
 IsWithin code now depth zero s = length s.cells ≤ depth
 IsWithin code now depth (suc most) s =
     (length s.cells ≤ depth)
-    × ((next : State) → turn code now s ≡ Goes next → IsWithin code now depth most next)
+    × ((next : State) → step_at code now s ≡ Goes next → IsWithin code now depth most next)
 
 -- The machine's run from these inputs at this moment ends at HALT, after `steps` steps, with the
 -- new slots and timers.

@@ -22,7 +22,7 @@ use Rattle.il_image.specs.declared.value.Value.{Value}
 use Rattle.il_image.specs.declared.value.Value.TheVariants as value
 use Rattle.il_image.proofs.KindLemmas.{same-is, same-self}
 use Rattle.il_check.specs.Declaring.{literal_value, of_type}
-use Rattle.il_check.specs.SourceOperands.{ProgramNames, arguments_given, called_of, source_operand, is_nonzero, is_nonzero_literal, is_zero, output_given, place_given, resolution_of, source_given, variable_given}
+use Rattle.il_check.specs.SourceOperands.{ProgramNames, resolve_arguments, called_of, source_operand, is_nonzero, is_nonzero_literal, is_zero, resolve_output, resolve_place, resolution_of, resolve_operand, resolve_variable}
 use Rattle.il_check.specs.Labelling.{IsCombined, IsRight}
 use Rattle.il_check.specs.Rules.{allows, arguments_fit, converted_from, divides, fits, gives, input_type, is_fixed, is_missing, is_plain, is_timer, is_unset, is_wrong, jumps_back, load_type, may_divide_by_zero, may_load, may_negate, misses_argument, misses_label, misses_name, misses_timer, number_in, own_type, takes, type_after, works, writes_fixed}
 use Rattle.il_check.specs.declared.source_operand.SourceOperand.{SourceOperand}
@@ -103,7 +103,7 @@ number-loads kind z false is = (
 )
 
 variable-fits : (m : Option Meaning) (kind : ElementaryType)
-    → (fits kind (variable_given m) ≡ true) ↔ (variable_kind m ≡ Some kind)
+    → (fits kind (resolve_variable m) ≡ true) ↔ (variable_kind m ≡ Some kind)
 variable-fits None kind = (λ e. absurd (cc), λ e. absurd (cc))
 variable-fits (Some (meaning.Variable s k w)) kind =
     let f = known-fits k kind _ in
@@ -111,7 +111,7 @@ variable-fits (Some (meaning.Variable s k w)) kind =
 variable-fits (Some (meaning.Timer n)) kind = (λ e. absurd (cc), λ e. absurd (cc))
 
 output-fits : (what : TimerOutput) (m : Option Meaning) (kind : ElementaryType)
-    → (fits kind (output_given m what) ≡ true) ↔ (timer_output what m ≡ Some kind)
+    → (fits kind (resolve_output m what) ≡ true) ↔ (timer_output what m ≡ Some kind)
 output-fits what None kind = (λ e. absurd (cc), λ e. absurd (cc))
 output-fits what (Some (meaning.Variable s k w)) kind = (λ e. absurd (cc), λ e. absurd (cc))
 output-fits what (Some (meaning.Timer n)) kind =
@@ -119,12 +119,12 @@ output-fits what (Some (meaning.Timer n)) kind =
     let g = some-same _ kind in (λ e. g.1 (f.0 e), λ e. f.1 (g.0 e))
 
 place-fits : (names : ProgramNames) (place : text.Place) (kind : ElementaryType)
-    → (fits kind (place_given names place) ≡ true) ↔ (place_kind names place ≡ Some kind)
+    → (fits kind (resolve_place names place) ≡ true) ↔ (place_kind names place ≡ Some kind)
 place-fits names (text.named name) kind = variable-fits (names.meaning name) kind
 place-fits names (text.output timer what) kind = output-fits what (names.meaning timer) kind
 
 fits-is : (names : ProgramNames) (source : text.OperandData) (kind : ElementaryType)
-    → (fits kind (source_given names source) ≡ true) ↔ CanHave names source kind
+    → (fits kind (resolve_operand names source) ≡ true) ↔ CanHave names source kind
 fits-is names (text.constant (literal.Truth b)) kind = known-fits elementary.Bool kind _
 fits-is names (text.constant (literal.Number z)) kind = number-fits kind z _ refl
 fits-is names (text.constant (literal.Int z)) kind =
@@ -138,13 +138,13 @@ fits-is names (text.constant (literal.Time n)) kind =
     typed-fits kind (value.Span n) _ _ (is-between (pos 0) (pos 0x7FFF_FFFF) (pos n))
 fits-is names (text.variable place) kind = place-fits names place kind
 
-variable-loads : (m : Option Meaning) → load_type (variable_given m) ≡ variable_kind m
+variable-loads : (m : Option Meaning) → load_type (resolve_variable m) ≡ variable_kind m
 variable-loads None = refl
 variable-loads (Some (meaning.Variable s k w)) = refl
 variable-loads (Some (meaning.Timer n)) = refl
 
 output-loads : (what : TimerOutput) (m : Option Meaning)
-    → load_type (output_given m what) ≡ timer_output what m
+    → load_type (resolve_output m what) ≡ timer_output what m
 output-loads what None = refl
 output-loads what (Some (meaning.Variable s k w)) = refl
 output-loads what (Some (meaning.Timer n)) = refl
@@ -153,7 +153,7 @@ along : {A : Type 0} (x y z : A) → x ≡ y → (x ≡ z) ↔ (y ≡ z)
 along x y z e = (λ f. sym e ∙ f, λ f. e ∙ f)
 
 load-is : (names : ProgramNames) (source : text.OperandData) (kind : ElementaryType)
-    → (load_type (source_given names source) ≡ Some kind) ↔ IsLoaded names source kind
+    → (load_type (resolve_operand names source) ≡ Some kind) ↔ IsLoaded names source kind
 load-is names (text.constant (literal.Truth b)) kind = some-same elementary.Bool kind
 load-is names (text.constant (literal.Number z)) kind = number-loads kind z _ refl
 load-is names (text.constant (literal.Int z)) kind =
@@ -212,18 +212,18 @@ initial-is kind (literal.Time n) =
 -- a target that has a type is a variable that may be written, or it is fixed
 may-write : (names : ProgramNames) (place : text.Place) (kind : ElementaryType)
     → place_kind names place ≡ Some kind
-    → (is_fixed (place_given names place) ≡ false) ↔ MayWrite names place
+    → (is_fixed (resolve_place names place) ≡ false) ↔ MayWrite names place
 may-write names (text.named name) kind e = named (names.meaning name) e
   where
     named : (m : Option Meaning) → variable_kind m ≡ Some kind
-        → (is_fixed (variable_given m) ≡ false) ↔ IsWritable m
+        → (is_fixed (resolve_variable m) ≡ false) ↔ IsWritable m
     named None e = absurd (cc)
     named (Some (meaning.Variable s k w)) e = (λ f. not-false w f, λ h. ap not h)
     named (Some (meaning.Timer n)) e = absurd (cc)
 may-write names (text.output timer what) kind e = fixed (names.meaning timer) e
   where
     fixed : (m : Option Meaning) → timer_output what m ≡ Some kind
-        → (is_fixed (output_given m what) ≡ false) ↔ ⊥
+        → (is_fixed (resolve_output m what) ≡ false) ↔ ⊥
     fixed None e = absurd (cc)
     fixed (Some (meaning.Variable s k w)) e = absurd (cc)
     fixed (Some (meaning.Timer n)) e = (λ f. absurd (cc), λ h. absurd h)
@@ -336,18 +336,19 @@ timer-there (Some (meaning.Variable s k w)) h = absurd h
 timer-there (Some (meaning.Timer n)) h = refl
 
 given-is : (names : ProgramNames) (a : Input × text.OperandData)
-    → (fits (input_type a.0) (source_given names a.1) ≡ true) ↔ CanHave names a.1 (input_type a.0)
+    → (fits (input_type a.0) (resolve_operand names a.1) ≡ true)
+    ↔ CanHave names a.1 (input_type a.0)
 given-is names a = fits-is names a.1 (input_type a.0)
 
 are-given : (names : ProgramNames) (args : List (Input × text.OperandData))
-    → (arguments_fit (arguments_given names args) ≡ true) ↔ AreGiven names args
+    → (arguments_fit (resolve_arguments names args) ≡ true) ↔ AreGiven names args
 are-given names [] = (λ e. tt, λ h. refl)
 are-given names (a ∷ []) = given-is names a
 are-given names (a ∷ b ∷ more) =
     let f = given-is names a in
     let g = given-is names b in (
-      λ e. let both = and_parts (fits (input_type a.0) (source_given names a.1))
-          (fits (input_type b.0) (source_given names b.1)) e in (f.0 both.0, g.0 both.1),
+      λ e. let both = and_parts (fits (input_type a.0) (resolve_operand names a.1))
+          (fits (input_type b.0) (resolve_operand names b.1)) e in (f.0 both.0, g.0 both.1),
       λ h. both-are _ _ (f.1 h.0) (g.1 h.1),
     )
 
@@ -356,13 +357,13 @@ none-of true b e f = absurd (cc)
 none-of false b e f = f
 
 given-there : (names : ProgramNames) (args : List (Input × text.OperandData)) → AreGiven names args
-    → misses_argument (arguments_given names args) ≡ false
+    → misses_argument (resolve_arguments names args) ≡ false
 given-there names [] h = refl
 given-there names (a ∷ []) h =
-    fits-there (input_type a.0) (source_given names a.1) ((given-is names a).1 h)
+    fits-there (input_type a.0) (resolve_operand names a.1) ((given-is names a).1 h)
 given-there names (a ∷ b ∷ more) h =
-    none-of _ _ (fits-there (input_type a.0) (source_given names a.1) ((given-is names a).1 h.0))
-    (fits-there (input_type b.0) (source_given names b.1) ((given-is names b).1 h.1))
+    none-of _ _ (fits-there (input_type a.0) (resolve_operand names a.1) ((given-is names a).1 h.0))
+    (fits-there (input_type b.0) (resolve_operand names b.1) ((given-is names b).1 h.1))
 
 -- ---- operators
 
@@ -462,12 +463,12 @@ pub acts : (names : ProgramNames) (passed : ℕ) (a : text.Action) (t u : Option
     → IsRight passed (resolution_of names a) t → type_after (resolution_of names a) t ≡ u
     → IsRightAction names passed a t u
 acts names passed (text.load negated source) t u ok e =
-    let g = source_given names source in
+    let g = resolve_operand names source in
     let l = loaded negated (load_type g) (allows-any (resolved.Load negated g) t refl ok.allowed) in
     (l.0, (load-is names source l.0).0 l.1, l.2, sym e ∙ l.1)
 acts names passed (text.store how place) None u ok e = absurd (let k = ok.set in cc)
 acts names passed (text.store how place) (Some kind) u ok e =
-    let g = place_given names place in
+    let g = resolve_place names place in
     let both = and_parts (fits kind g) (may_negate (not (is_plain how)) kind)
     (not-false _ ok.allowed) in
     let is = (place-fits names place kind).0 both.0 in (
@@ -482,7 +483,7 @@ acts names passed (text.store how place) (Some kind) u ok e =
 acts names passed (text.combine operator negated source) None u ok e =
     absurd (let k = ok.set in cc)
 acts names passed (text.combine operator negated source) (Some kind) u ok e =
-    let both = and_parts (works operator negated kind) (fits kind (source_given names source))
+    let both = and_parts (works operator negated kind) (fits kind (resolve_operand names source))
     (not-false _ ok.allowed) in (
       kind,
       (fits-is names source kind).0 both.1,
@@ -501,7 +502,7 @@ acts names passed (text.leave condition) t u ok e =
     ((left-tested condition t).0 (ok.allowed, ok.set), sym e)
 acts names passed (text.call timer args) t u ok e =
     let c = called_of (names.meaning timer) in
-    let g = arguments_given names args in
+    let g = resolve_arguments names args in
     let both = and_parts (is_timer c) (arguments_fit g)
     (allows-any (resolved.Call c g) t refl ok.allowed) in
     ((timer-is (names.meaning timer)).0 both.0, (are-given names args).0 both.1, sym e)
@@ -520,7 +521,7 @@ pub right-by : (names : ProgramNames) (passed : ℕ) (a : text.Action) (t u : Op
     → IsRightAction names passed a t u
     → IsRight passed (resolution_of names a) t × (type_after (resolution_of names a) t ≡ u)
 right-by names passed (text.load negated source) t u h =
-    let g = source_given names source in
+    let g = resolve_operand names source in
     let is = (load-is names source h.0).1 h.1 in
     let may : may_load negated (load_type g) ≡ true =
     ap (may_load negated) is ∙ (negation negated h.0).1 h.2 in (
@@ -530,7 +531,7 @@ right-by names passed (text.load negated source) t u h =
     )
 right-by names passed (text.store how place) None u h = absurd (let k = h.2 in cc)
 right-by names passed (text.store how place) (Some kind) u h =
-    let g = place_given names place in
+    let g = resolve_place names place in
     let own : kind ≡ h.0 = (let e = h.2 in cc) in
     let alike : h.1 ≡ kind = stored-alike how h.0 h.1 h.4 ∙ sym own in
     let is : place_kind names place ≡ Some kind = h.3 ∙ ap Some alike in
@@ -546,7 +547,7 @@ right-by names passed (text.store how place) (Some kind) u h =
 right-by names passed (text.combine operator negated source) None u h =
     absurd (let k = h.2.on in cc)
 right-by names passed (text.combine operator negated source) (Some kind) u h =
-    let g = source_given names source in
+    let g = resolve_operand names source in
     let w = working operator negated kind h.0 u h.2 in
     let fit = (fits-is names source kind).1 (subst (CanHave names source) w.alike h.1) in (
       right-where passed (resolved.Combine operator negated g (is_nonzero source)) (Some kind)
@@ -578,10 +579,10 @@ right-by names passed (text.leave condition) t u h =
     )
 right-by names passed (text.call timer args) t u h =
     let m = names.meaning timer in
-    let g = arguments_given names args in
+    let g = resolve_arguments names args in
     let may : is_timer (called_of m) && arguments_fit g ≡ true =
     both-are _ _ ((timer-is m).1 h.0) ((are-given names args).1 h.1) in (
-      right-where passed (resolved.Call (called_of m) (arguments_given names args)) t
+      right-where passed (resolved.Call (called_of m) (resolve_arguments names args)) t
           (none-of _ _ (timer-there m h.0) (given-there names args h.1))
           (right-any (resolved.Call (called_of m) g) t (λ kind. may)) refl refl refl refl refl,
       sym h.2,

@@ -7,14 +7,14 @@ use Rattle.il_text.specs.declared.program.Condition.TheVariants.{Always, IfTrue,
 use Rattle.il_check.specs.Checking.{checked_of}
 use Rattle.il_check.specs.Declaring.{names_in}
 use Rattle.il_check.specs.SourceOperands.{ProgramNames, resolution_of}
-use Rattle.il_check.specs.Labelling.{AreRightEntries, Carried, Coming, Flows, IsCombined, IsRightEntry, Jumps, Labelling, beginning, behind_label, carry_of, coming_behind_action, with_target}
+use Rattle.il_check.specs.Labelling.{AreRightEntries, Carried, Coming, Flows, IsCombined, IsRightEntry, Jumps, Labelling, initial_carried, carried_after_label, carry_of, coming_after_action, with_target}
 use Rattle.il_check.specs.Program.{Checked}
 use Rattle.il_check.specs.RightProgram.{IsRightProgram}
 use Rattle.il_check.specs.Rules.{gives, target_of, type_after}
 use Rattle.il_check.specs.WellTyped.{type_after_entry, type_after_entries}
 use Rattle.il_check.proofs.RightLemmas.{right_programs_pass}
 use Rattle.il_check.specs.Limits.{most_nested}
-use Rattle.il_standard_laws.specs.RightText.{EntriesAreRight, EntryIsRight, IsRightText, ItemsAreRight, comes_behind, label_of}
+use Rattle.il_standard_laws.specs.RightText.{EntriesAreRight, EntryIsRight, IsRightText, ItemsAreRight, coming_after, label_of}
 use Rattle.il_standard_laws.proofs.InstructionLemmas.{acts, block-is, right-by}
 
 -- ---- parentheses
@@ -87,8 +87,8 @@ label-same names (text.jump condition name) = refl
 label-same names a = refl
 
 comes-same : (names : ProgramNames) (a : text.Action) (t : Option ElementaryType)
-    → coming_behind_action (resolution_of names a) t
-    ≡ comes_behind a (type_after (resolution_of names a) t)
+    → coming_after_action (resolution_of names a) t
+    ≡ coming_after a (type_after (resolution_of names a) t)
 comes-same names (text.jump Always name) t = refl
 comes-same names (text.jump IfTrue name) t = refl
 comes-same names (text.jump IfFalse name) t = refl
@@ -108,7 +108,7 @@ module _ (names : ProgramNames) (labels : Labelling) where
       → ItemsAreRight names labels es k
   items-right [] k h = tt
   items-right (text.label line name ∷ es) k h =
-      (h.0, items-right es (behind_label labels k) h.1)
+      (h.0, items-right es (carried_after_label labels k) h.1)
   items-right (text.action line a ∷ es) k h =
       let r = resolution_of names a in
       let u = type_after r h.0 in
@@ -119,10 +119,10 @@ module _ (names : ProgramNames) (labels : Labelling) where
         acts names k.passed a h.0 u h.1.1 refl,
         subst (λ (n : Option ℕ). Jumps labels n h.0) label h.1.2,
         items-right es
-            (carry_of k.passed (with_target (label_of names a) k.named) (comes_behind a u))
+            (carry_of k.passed (with_target (label_of names a) k.named) (coming_after a u))
             (subst (Flows names labels es)
-            (carried-same k (target_of r) (label_of names a) (coming_behind_action r h.0)
-            (comes_behind a u) label (comes-same names a h.0)) h.2),
+            (carried-same k (target_of r) (label_of names a) (coming_after_action r h.0)
+            (coming_after a u) label (comes-same names a h.0)) h.2),
       )
   items-right (text.block line operator negated items end ∷ es) k h =
       let b = text.block line operator negated items end in
@@ -137,7 +137,8 @@ module _ (names : ProgramNames) (labels : Labelling) where
   items-back : (es : List text.Entry) (k : Carried) → ItemsAreRight names labels es k
       → Flows names labels es k
   items-back [] k h = tt
-  items-back (text.label line name ∷ es) k h = (h.0, items-back es (behind_label labels k) h.1)
+  items-back (text.label line name ∷ es) k h =
+      (h.0, items-back es (carried_after_label labels k) h.1)
   items-back (text.action line a ∷ es) k h =
       let r = resolution_of names a in
       let one = right-by names k.passed a h.0 h.1 h.3 in
@@ -145,10 +146,10 @@ module _ (names : ProgramNames) (labels : Labelling) where
         h.0,
         (h.2, one.0, subst (λ (n : Option ℕ). Jumps labels n h.0) (sym label) h.4),
         subst (Flows names labels es)
-            (sym (carried-same k (target_of r) (label_of names a) (coming_behind_action r h.0)
-            (comes_behind a h.1) label (comes-same names a h.0 ∙ ap (comes_behind a) one.1)))
+            (sym (carried-same k (target_of r) (label_of names a) (coming_after_action r h.0)
+            (coming_after a h.1) label (comes-same names a h.0 ∙ ap (coming_after a) one.1)))
             (items-back es
-            (carry_of k.passed (with_target (label_of names a) k.named) (comes_behind a h.1)) h.5),
+            (carry_of k.passed (with_target (label_of names a) k.named) (coming_after a h.1)) h.5),
       )
   items-back (text.block line operator negated items end ∷ es) k h =
       let one =
@@ -174,11 +175,11 @@ pass points program =
             declarations = h.declarations;
             labels = h.instructions.0;
             instructions =
-                items-right names h.instructions.0 program.items beginning h.instructions.1;
+                items-right names h.instructions.0 program.items initial_carried h.instructions.1;
           },
       λ h. both.1 (record {
         declarations = h.declarations;
         instructions =
-            (h.labels, items-back names h.labels program.items beginning h.instructions);
+            (h.labels, items-back names h.labels program.items initial_carried h.instructions);
       }),
     )

@@ -25,10 +25,10 @@ use Rattle.il_check.specs.Declaring.{names_in}
 use Rattle.il_check.specs.Faults.{least_fault}
 use Rattle.il_check.specs.SourceOperands.{ProgramNames, resolution_of}
 use Rattle.il_check.specs.Keeping.{AreArgumentsOf, AreEntriesOf, AreItemsOf, IsArgumentOf, IsEntryOf, IsOperandOf, IsOperationOf, IsTransferOf, Keeps, label_names}
-use Rattle.il_check.specs.Labelling.{Carried, Labelling, beginning, behind_label}
+use Rattle.il_check.specs.Labelling.{Carried, Labelling, initial_carried, carried_after_label}
 use Rattle.il_check.specs.Program.{Checked, Entries, Entry, ProgramItem, block, entry, entry_before, label, no_entries, operation, plain, transfer}
 use Rattle.il_check.specs.Rules.{converted_from, converted_to, gives, input_type, is_plain, load_type, may_negate, number_in, own_type, takes, works}
-use Rattle.il_check.specs.TypedProgram.{AreArguments, AreEntries, AreItems, Decides, IsArgument, IsEntry, IsOperand, IsOperation, IsTransfer, IsTyped, behind_entry, behind_transfer}
+use Rattle.il_check.specs.TypedProgram.{AreArguments, AreEntries, AreItems, Decides, IsArgument, IsEntry, IsOperand, IsOperation, IsTransfer, IsTyped, carried_after_entry, carried_after_transfer}
 use Rattle.il_check.specs.Typing.{block_in, load_in, load_operation, operation_in, or_entry, transfer_in}
 use Rattle.il_check.specs.WellTyped.{Progress, progress_after_entry, entries_left, entry_left, progress_after_item, progress_after_items, type_after_entry}
 use Rattle.il_check.specs.declared.fault.CheckFault.{CheckFault}
@@ -423,20 +423,20 @@ module _ (c : Checked) where
       let same = same-length names es xs h.1 in
       absurd (omega arith)
   items-have names labels (text.label line name ∷ es) (label n ∷ xs) k h w (inl own) =
-      (w.0.2, items-have names labels es xs (behind_label labels k) h.1 w.1 own.1)
+      (w.0.2, items-have names labels es xs (carried_after_label labels k) h.1 w.1 own.1)
   items-have names labels (text.action line a ∷ es) (transfer x ∷ xs) k h w (inl own) = (
     w.0,
     w.1.0,
     transfer-has names xs a x w.0 h.0 w.1.1,
     w.1.2,
-    items-have names labels es xs (behind_transfer x w.0 k) h.1 w.2 own.1,
+    items-have names labels es xs (carried_after_transfer x w.0 k) h.1 w.2 own.1,
   )
   items-have names labels (e ∷ es) (plain x ∷ xs) k h w (inl own) = (
     w.0,
     w.1,
     w.2.0,
     entry-has e x w.0 w.1 h.0 w.2.1 own.0,
-    items-have names labels es xs (behind_entry w.1 k) h.1 w.3 own.1,
+    items-have names labels es xs (carried_after_entry w.1 k) h.1 w.3 own.1,
   )
   items-have names labels (e ∷ es) (x ∷ xs) k h w (inl own) = absurd h.0
   items-have names labels es xs k h w own = absurd h
@@ -460,6 +460,7 @@ has-types points program c e may =
     (items-load (names_in points program) program.items (initial_progress program)) in
     record {
       labels = typed.labels;
-      items = items-have c (label_names program.items) typed.labels program.items c.items beginning
+      items = items-have c (label_names program.items) typed.labels program.items c.items
+          initial_carried
           kept.items typed.items loads;
     }

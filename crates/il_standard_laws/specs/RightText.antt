@@ -7,7 +7,7 @@ use Rattle.il_text.specs.Listing as text
 use Rattle.il_text.specs.declared.program.Condition.TheVariants.{Always}
 use Rattle.il_check.specs.Declaring.{names_in}
 use Rattle.il_check.specs.SourceOperands.{ProgramNames}
-use Rattle.il_check.specs.Labelling.{Carried, Coming, Jumps, LabelFlows, Labelling, beginning, behind_label, carry_of, with_target}
+use Rattle.il_check.specs.Labelling.{Carried, Coming, Jumps, LabelFlows, Labelling, initial_carried, carried_after_label, carry_of, with_target}
 use Rattle.il_check.specs.RightProgram.{AreRightDeclarations}
 use Rattle.il_check.specs.Limits.{most_nested}
 use Rattle.il_standard_laws.specs.Instructions.{IsRightAction, IsRightBlock}
@@ -39,22 +39,22 @@ label_of names a = None
 
 -- what an instruction that leaves a result of this type brings to the next item: no path, if it is
 -- a jump or a return that is always taken
-abbrev pub comes_behind : text.Action → Option ElementaryType → Coming
-comes_behind (text.jump Always name) u = None
-comes_behind (text.leave Always) u = None
-comes_behind a u = Some u
+abbrev pub coming_after : text.Action → Option ElementaryType → Coming
+coming_after (text.jump Always name) u = None
+coming_after (text.leave Always) u = None
+coming_after a u = Some u
 
 -- Each instruction is reached, and valid on the result that reaches it; and each path to a label
 -- brings the label's type, or the label is unset.
 abbrev pub ItemsAreRight : ProgramNames → Labelling → List text.Entry → Carried → Type 0
 ItemsAreRight names labels [] k = Unit {0}
 ItemsAreRight names labels (text.label line name ∷ es) k =
-    LabelFlows names labels name k × ItemsAreRight names labels es (behind_label labels k)
+    LabelFlows names labels name k × ItemsAreRight names labels es (carried_after_label labels k)
 ItemsAreRight names labels (text.action line a ∷ es) k =
     (t : Option ElementaryType) × (u : Option ElementaryType) × (k.now ≡ Some t)
     × IsRightAction names k.passed a t u × Jumps labels (label_of names a) t
     × ItemsAreRight names labels es
-    (carry_of k.passed (with_target (label_of names a) k.named) (comes_behind a u))
+    (carry_of k.passed (with_target (label_of names a) k.named) (coming_after a u))
 ItemsAreRight names labels (text.block line operator negated items end ∷ es) k =
     (t : Option ElementaryType) × (u : Option ElementaryType) × (k.now ≡ Some t)
     × EntryIsRight names most_nested k.passed (text.block line operator negated items end) t u
@@ -65,4 +65,4 @@ ItemsAreRight names labels (text.block line operator negated items end ∷ es) k
 pub record IsRightText (points : List Point) (program : text.PlainProgram) : Type 0 where
   pub declarations : AreRightDeclarations points program.declarations
   pub labels : Labelling
-  pub instructions : ItemsAreRight (names_in points program) labels program.items beginning
+  pub instructions : ItemsAreRight (names_in points program) labels program.items initial_carried

@@ -7,9 +7,9 @@ use Rattle.il_text.specs.Listing as text
 use Rattle.il_text.specs.declared.program.Input.{Input}
 use Rattle.il_text.specs.declared.program.Literal.TheVariants as literal
 use Rattle.il_image.specs.Values.{type_of}
-use Rattle.il_check.specs.Labelling.{Carried, Falls, Jumps, Labelling, beginning, behind_label}
+use Rattle.il_check.specs.Labelling.{Carried, Falls, Jumps, Labelling, initial_carried, carried_after_label}
 use Rattle.il_check.specs.Program.{Checked, Entries, Entry, ProgramItem, block, entry, label, no_entries, operation, plain, transfer}
-use Rattle.il_check.specs.TypedProgram.{behind_entry, behind_transfer, slot_type, target_of}
+use Rattle.il_check.specs.TypedProgram.{carried_after_entry, carried_after_transfer, slot_type, target_of}
 use Rattle.il_check.specs.declared.typed.SimpleOperation.{SimpleOperation}
 use Rattle.il_check.specs.declared.typed.SimpleOperation.TheVariants as op
 use Rattle.il_check.specs.declared.typed.Transfer.{Transfer}
@@ -118,17 +118,17 @@ abbrev pub ItemsHaveTypes : Checked → Labelling → List text.Entry → List P
     → Type 0
 ItemsHaveTypes c labels [] [] k = Unit {0}
 ItemsHaveTypes c labels (text.label line name ∷ es) (label n ∷ is) k =
-    Falls labels k.passed k.now × ItemsHaveTypes c labels es is (behind_label labels k)
+    Falls labels k.passed k.now × ItemsHaveTypes c labels es is (carried_after_label labels k)
 ItemsHaveTypes c labels (text.action line a ∷ es) (transfer x ∷ is) k =
     (t : Option ElementaryType) × (k.now ≡ Some t) × TransferHasTypes c a x t
-    × Jumps labels (target_of x) t × ItemsHaveTypes c labels es is (behind_transfer x t k)
+    × Jumps labels (target_of x) t × ItemsHaveTypes c labels es is (carried_after_transfer x t k)
 ItemsHaveTypes c labels (e ∷ es) (plain x ∷ is) k =
     (t : Option ElementaryType) × (u : Option ElementaryType) × (k.now ≡ Some t)
-    × EntryHasTypes c e x t u × ItemsHaveTypes c labels es is (behind_entry u k)
+    × EntryHasTypes c e x t u × ItemsHaveTypes c labels es is (carried_after_entry u k)
 ItemsHaveTypes c labels es is k = ⊥
 
 -- With some labelling (a type of the current result, or unset, for each label) each item has its
 -- types.
 pub record HasTypes (program : text.PlainProgram) (c : Checked) : Type 0 where
   pub labels : Labelling
-  pub items : ItemsHaveTypes c labels program.items c.items beginning
+  pub items : ItemsHaveTypes c labels program.items c.items initial_carried

@@ -3,7 +3,7 @@ use Rattle.std.proofs.Common.{arith}
 use Rattle.std.proofs.lemmas.Grind.{common_steps}
 use Rattle.std.proofs.Common.{◌≡◌, ℕ, Bool, true, false, cond, List, [], ◌∷◌, Option, Some, None, option_map, option_and_then, is_some, map, codes, refl, ap, ◌∙◌}
 use Rattle.il_text.specs.Forms as form
-use Rattle.il_text.specs.TokenForms.{Form, map_form, such, nothing, one, one_of, bind_form, after, after_of, either, or_of, by, split_at_mark, onto_front, has_mark, parted, parted_of, name_of, is_mark, names_from}
+use Rattle.il_text.specs.TokenForms.{Form, map_form, try_map_form, no_token, one, one_of, bind_form, after_mark, after_mark_of, either, or_of, choose_by, split_at_mark, onto_front, has_mark, split_form, split_form_of, name_of, is_mark, names_from}
 use Rattle.il_text.specs.LetterCase.{upper_place, upper_source, upper_argument, upper_action}
 use Rattle.il_text.specs.Listing.{OperandData, Action}
 use Rattle.il_text.specs.Parts.{LineContent, heading, opening, declaring, closing, labelling, acting, entering, leaving, ending}
@@ -68,15 +68,16 @@ made-up {to = to} {g = g} h k =
     record { up = λ ts. ap (option_map to) (k.up ts) ∙ mapped _ _ _ _ h (g.reads ts) }
 
 such-up : {A B : Type 0} {u : A → A} {v : B → B} {test : A → Option B} {f g : Form A}
-    → ((x : A) → test (u x) ≡ option_map v (test x)) → Up u f g → Up v (such test f) (such test g)
+    → ((x : A) → test (u x) ≡ option_map v (test x)) → Up u f g
+    → Up v (try_map_form test f) (try_map_form test g)
 such-up {test = test} {g = g} h k =
     record { up = λ ts. ap (option_and_then test) (k.up ts) ∙ then-up _ _ _ _ h (g.reads ts) }
 
-nothing-up : {A : Type 0} {u : A → A} {x y : A} → y ≡ u x → Up u (nothing y) (nothing x)
+nothing-up : {A : Type 0} {u : A → A} {x y : A} → y ≡ u x → Up u (no_token y) (no_token x)
 nothing-up {A} {u} {x} {y} e = record { up = by-list }
   where
     by-list : (ts : List Symbol)
-        → (nothing y).reads (upper_symbols ts) ≡ option_map u ((nothing x).reads ts)
+        → (no_token y).reads (upper_symbols ts) ≡ option_map u ((no_token x).reads ts)
     by-list [] = ap Some e
     by-list (t ∷ ts) = refl
 
@@ -104,11 +105,11 @@ mark-up m (name n) = refl
 mark-up m i = refl
 
 after-up : {A : Type 0} {u : A → A} {m : Mark} {f g : Form A} → Up u f g
-    → Up u (after m f) (after m g)
+    → Up u (after_mark m f) (after_mark m g)
 after-up {A} {u} {m} {f} {g} k = record { up = by-list }
   where
     by-list : (ts : List Symbol)
-        → after_of m f.reads (upper_symbols ts) ≡ option_map u (after_of m g.reads ts)
+        → after_mark_of m f.reads (upper_symbols ts) ≡ option_map u (after_mark_of m g.reads ts)
     by-list [] = refl
     by-list (t ∷ ts) =
         rw (mark-up m t, k.up ts) (cond-up (option_map _) (is_mark m t) (g.reads ts) None)
@@ -124,7 +125,7 @@ either-up {A} {u} {f} {g} {d} {e} k l =
 
 by-up : {A : Type 0} {u : A → A} {test : List Symbol → Bool} {f g d e : Form A}
     → ((ts : List Symbol) → test (upper_symbols ts) ≡ test ts) → Up u f d → Up u g e
-    → Up u (by test f g) (by test d e)
+    → Up u (choose_by test f g) (choose_by test d e)
 by-up {test = test} {d = d} {e = e} h k l =
     record {
       up = λ ts. rw (h ts, k.up ts, l.up ts)
@@ -147,13 +148,13 @@ split-up m (s ∷ ss) = rw (mark-up m s, split-up m ss) (by-test (is_mark m s) (
     by-test false o = mapped _ _ _ _ (λ p. refl) o
 
 parted-up : {A B : Type 0} {u : A → A} {v : B → B} {m : Mark} {f d : Form A} {g e : Form B}
-    → Up u f d → Up v g e → Up (λ p. (u p.0, v p.1)) (parted m f g) (parted m d e)
+    → Up u f d → Up v g e → Up (λ p. (u p.0, v p.1)) (split_form m f g) (split_form m d e)
 parted-up {A} {B} {u} {v} {m} {f} {d} {g} {e} k l =
     record { up = λ ts. rw (split-up m ts) (by-parts (split_at_mark m ts)) }
   where
     by-parts : (o : Option (List Symbol × List Symbol))
-        → parted_of f.reads g.reads (option_map up_both o)
-        ≡ option_map (λ (q : A × B). (u q.0, v q.1)) (parted_of d.reads e.reads o)
+        → split_form_of f.reads g.reads (option_map up_both o)
+        ≡ option_map (λ (q : A × B). (u q.0, v q.1)) (split_form_of d.reads e.reads o)
     by-parts None = refl
     by-parts (Some p) =
         rw (k.up p.0, l.up p.1)

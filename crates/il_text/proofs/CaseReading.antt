@@ -10,7 +10,7 @@ use Rattle.il_text.specs.LetterCase.{upper_action, upper_entry, upper_entries, u
 use Rattle.il_text.specs.Listing.{Action, Entry, label, action, block, entry, entries_of, Declared, PlainProgram}
 use Rattle.il_text.specs.Parts.{LineContent, heading, opening, declaring, closing, labelling, acting, entering, leaving, ending}
 use Rattle.il_text.specs.Places.{last_line}
-use Rattle.il_text.specs.Reading.{onto, lines, tokens_of, Read, is_instruction, has_instruction, past_limit, with_instruction, within_bounds, within_limits, after_text_line, after_parts, after_line, whole_at, reading, none_yet, program_of, most_instructions, most_open}
+use Rattle.il_text.specs.Reading.{prepend_lexeme, lines, tokens_of, Read, is_instruction, has_instruction, past_limit, with_instruction, within_bounds, within_limits, after_text_line, after_parts, after_line, whole_at, program_of_lines, none_yet, program_of, most_instructions, most_open}
 use Rattle.il_text.specs.Steps.{Opened, Reached, at_place, with_name, declared_in, with_declarations, with_item, with_opened, is_start, is_between_blocks, block_scope, is_outside, is_some, is_load, may_begin_with, declared_here, closed_block, left_here, may_stand, may_act, may_enter, may_leave, step, steps}
 use Rattle.il_text.specs.Symbols.{pieces_of}
 use Rattle.il_text.specs.Texts.{ReadsAs}
@@ -29,7 +29,8 @@ use Rattle.il_text.proofs.TextLemmas.{text-reads}
 use Rattle.il_text.proofs.UniqueLemmas.{one_reading}
 
 onto-up : (p : Piece) (ls : List (List Piece))
-    → onto (upper_piece p) (map (map upper_piece) ls) ≡ map (map upper_piece) (onto p ls)
+    → prepend_lexeme (upper_piece p) (map (map upper_piece) ls)
+    ≡ map (map upper_piece) (prepend_lexeme p ls)
 onto-up p [] = refl
 onto-up p (l ∷ ls) = refl
 
@@ -39,11 +40,12 @@ lines-up [] = refl
 lines-up (blank ∷ ps) = unfold lines in lines-up ps
 lines-up (line_end ∷ ps) = ap (λ (l : List (List Piece)). [] ∷ l) (unfold lines in lines-up ps)
 lines-up (token s ∷ ps) =
-    ap (onto (upper_piece (token s))) (unfold lines in lines-up ps) ∙ onto-up (token s) (lines ps)
+    ap (prepend_lexeme (upper_piece (token s))) (unfold lines in lines-up ps)
+    ∙ onto-up (token s) (lines ps)
 lines-up (bad_token ∷ ps) =
-    ap (onto bad_token) (unfold lines in lines-up ps) ∙ onto-up bad_token (lines ps)
+    ap (prepend_lexeme bad_token) (unfold lines in lines-up ps) ∙ onto-up bad_token (lines ps)
 lines-up (bad_literal ∷ ps) =
-    ap (onto bad_literal) (unfold lines in lines-up ps) ∙ onto-up bad_literal (lines ps)
+    ap (prepend_lexeme bad_literal) (unfold lines in lines-up ps) ∙ onto-up bad_literal (lines ps)
 
 -- a value, where there is one
 abbrev on_ok : {A B E : Type 0} → (A → B) → Result A E → Result B E
@@ -251,20 +253,20 @@ whole-up : (last : ℕ) (s : Reached) (p : Stage)
 whole-up last s p = grind (arith, common_steps)
 
 reading-up : (last : ℕ) (r : Read) (n : ℕ) (ls : List (List Piece))
-    → reading last (upper_read r) n (map (map upper_piece) ls)
-    ≡ on_ok upper_listing (reading last r n ls)
-unfolding reading
+    → program_of_lines last (upper_read r) n (map (map upper_piece) ls)
+    ≡ on_ok upper_listing (program_of_lines last r n ls)
+unfolding program_of_lines
 reading-up last r n [] = whole-up last r.reached r.reached.place
 reading-up last r n (l ∷ ls) =
     ap (λ (x : Result (List Symbol) TextFault). x
     >>= (λ ts. after_line n last (upper_read r) ts
-    >>= (λ s. reading last s (n + 1) (map (map upper_piece) ls)))) (tokens-up n l)
+    >>= (λ s. program_of_lines last s (n + 1) (map (map upper_piece) ls)))) (tokens-up n l)
     ∙ ok-then upper_symbols upper_listing _
-    (λ ts. after_line n last r ts >>= (λ s. reading last s (n + 1) ls))
+    (λ ts. after_line n last r ts >>= (λ s. program_of_lines last s (n + 1) ls))
     (λ ts. ap (λ (x : Result Read TextFault). x
-    >>= (λ s. reading last s (n + 1) (map (map upper_piece) ls))) (after-up n last r ts)
-    ∙ ok-then upper_read upper_listing _ (λ s. reading last s (n + 1) ls)
-    (λ s. unfold reading in reading-up last s (n + 1) ls) (after_line n last r ts))
+    >>= (λ s. program_of_lines last s (n + 1) (map (map upper_piece) ls))) (after-up n last r ts)
+    ∙ ok-then upper_read upper_listing _ (λ s. program_of_lines last s (n + 1) ls)
+    (λ s. unfold program_of_lines in reading-up last s (n + 1) ls) (after_line n last r ts))
     (tokens_of n l)
 
 program-is : (r : Result PlainProgram TextFault) → on_ok upper_listing r ≡ upper_program r

@@ -5,7 +5,7 @@ use Rattle.std.proofs.lemmas.Grind.{common_steps}
 use Rattle.std.proofs.lemmas.Option.{same_Some}
 use Rattle.std.specs.List.{list_any}
 use Rattle.il_text.specs.Tokens.{Symbol, name, mark_symbol}
-use Rattle.il_text.specs.TokenForms.{Form, map_form, such, none, nothing, nothing_of, one, one_of, bind_form, after, after_of, either, or_of, by, same_mark, split_at_mark, onto_front, parted, parted_of, name_of, is_mark, names, names_from, spelled_names}
+use Rattle.il_text.specs.TokenForms.{Form, map_form, try_map_form, none, no_token, no_token_of, one, one_of, bind_form, after_mark, after_mark_of, either, or_of, choose_by, same_mark, split_at_mark, onto_front, split_form, split_form_of, name_of, is_mark, names, names_from, spelled_names}
 use Rattle.il_text.specs.declared.token.Mark.{Mark}
 use Rattle.il_text.specs.declared.token.Mark.TheVariants as mark
 
@@ -31,7 +31,8 @@ made-exact make {f} e = record {
   back = λ ts y is. let x = map-some make (f.reads ts) y is in (x.0, e.back ts x.0 x.1, x.2);
 }
 
-pub such-exact : {A B : Type 0} (test : A → Option B) {f : Form A} → Exact f → Exact (such test f)
+pub such-exact : {A B : Type 0} (test : A → Option B) {f : Form A} → Exact f
+    → Exact (try_map_form test f)
 such-exact test {f} e = record {
   read = λ ts y is. rw (e.read ts is.0 is.1) is.2;
   back = λ ts y is. let x = then-some test (f.reads ts) y is in (x.0, e.back ts x.0 x.1, x.2);
@@ -40,14 +41,14 @@ such-exact test {f} e = record {
 pub none-exact : {A : Type 0} → Exact (none {A = A})
 none-exact = record { read = λ ts x is. absurd is; back = λ ts x e. absurd cc }
 
-nothing-back : {A : Type 0} (x y : A) (ts : List Symbol) → nothing_of x ts ≡ Some y
+nothing-back : {A : Type 0} (x y : A) (ts : List Symbol) → no_token_of x ts ≡ Some y
     → (ts ≡ []) × (x ≡ y)
 nothing-back x y [] e = (refl, same_Some x y e)
 nothing-back x y (t ∷ ts) e = absurd cc
 
-pub nothing-exact : {A : Type 0} (x : A) → Exact (nothing x)
+pub nothing-exact : {A : Type 0} (x : A) → Exact (no_token x)
 nothing-exact x = record {
-  read = λ ts y is. ap (nothing_of x) is.0 ∙ ap Some is.1;
+  read = λ ts y is. ap (no_token_of x) is.0 ∙ ap Some is.1;
   back = λ ts y e. nothing-back x y ts e;
 }
 
@@ -99,13 +100,13 @@ if-some true o y e = (refl, e)
 if-some false o y e = absurd cc
 
 after-back : {A : Type 0} (m : Mark) (f : Form A) → Exact f → (ts : List Symbol) (x : A)
-    → after_of m f.reads ts ≡ Some x → (after m f).Spells ts x
+    → after_mark_of m f.reads ts ≡ Some x → (after_mark m f).Spells ts x
 after-back m f e [] x h = absurd cc
 after-back m f e (t ∷ ts) x h =
     let i = if-some (is_mark m t) (f.reads ts) x h in
     (ts, ap (λ (u : Symbol). u ∷ ts) (only-mark m t i.0), e.back ts x i.1)
 
-pub after-exact : {A : Type 0} (m : Mark) {f : Form A} → Exact f → Exact (after m f)
+pub after-exact : {A : Type 0} (m : Mark) {f : Form A} → Exact f → Exact (after_mark m f)
 after-exact m {f} e = record {
   read = λ ts x s. rw (s.1, mark-same m) (e.read s.0 x s.2);
   back = after-back m f e;
@@ -130,7 +131,7 @@ either-exact {A} {f} {g} d e apart = record {
 -- what f spells passes the test, and what g spells does not
 pub by-exact : {A : Type 0} (test : List Symbol → Bool) {f g : Form A} → Exact f → Exact g
     → ((ts : List Symbol) (x : A) → f.Spells ts x → test ts ≡ true)
-    → ((ts : List Symbol) (x : A) → g.Spells ts x → test ts ≡ false) → Exact (by test f g)
+    → ((ts : List Symbol) (x : A) → g.Spells ts x → test ts ≡ false) → Exact (choose_by test f g)
 by-exact {A} test {f} {g} d e passes fails = record {
   read = λ ts x s. elim s [
     | inl here ↦ rw (passes ts x here) (d.read ts x here)
@@ -140,7 +141,7 @@ by-exact {A} test {f} {g} d e passes fails = record {
 }
   where
     pick : (ts : List Symbol) (x : A) (b : Bool) → cond b (f.reads ts) (g.reads ts) ≡ Some x
-        → (by test f g).Spells ts x
+        → (choose_by test f g).Spells ts x
     pick ts x true h = inl (d.back ts x h)
     pick ts x false h = inr (e.back ts x h)
 
@@ -174,12 +175,13 @@ was-parted m (s ∷ ss) p e = by-test (is_mark m s) refl e (was-parted m ss)
 
 parted-back : {A B : Type 0} (m : Mark) (f : Form A) (g : Form B) → Exact f → Exact g
     → (ts : List Symbol) (x : A × B) (o : Option (List Symbol × List Symbol))
-    → split_at_mark m ts ≡ o → parted_of f.reads g.reads o ≡ Some x → (parted m f g).Spells ts x
+    → split_at_mark m ts ≡ o → split_form_of f.reads g.reads o ≡ Some x
+    → (split_form m f g).Spells ts x
 parted-back m f g d e ts x None is h = absurd cc
 parted-back {A} {B} m f g d e ts x (Some p) is h =
     let y = then-some (λ y. option_map (λ x. (x, y)) (f.reads p.0)) (g.reads p.1) x h in
     let z = map-some (λ z. (z, y.0)) (f.reads p.0) x y.2 in
-    subst (λ (q : A × B). (parted m f g).Spells ts q) z.2
+    subst (λ (q : A × B). (split_form m f g).Spells ts q) z.2
     (p.0, p.1, was-parted m ts p is, d.back p.0 z.0 z.1, e.back p.1 y.0 y.1)
 
 -- the mark stands in nothing that f spells
@@ -187,11 +189,11 @@ abbrev pub Lacks : {A : Type 0} → Mark → Form A → Type 0
 Lacks m f = (ts : List Symbol) (x : _) → f.Spells ts x → list_any (is_mark m) ts ≡ false
 
 pub parted-exact : {A B : Type 0} (m : Mark) {f : Form A} {g : Form B} → Exact f → Exact g
-    → Lacks m f → Exact (parted m f g)
+    → Lacks m f → Exact (split_form m f g)
 parted-exact m {f} {g} d e lacks = record {
   read = λ ts x s.
-      ap (λ (us : List Symbol). parted_of f.reads g.reads (split_at_mark m us)) s.2
-      ∙ ap (parted_of f.reads g.reads) (parted-at m s.0 s.1 (lacks s.0 x.0 s.3))
+      ap (λ (us : List Symbol). split_form_of f.reads g.reads (split_at_mark m us)) s.2
+      ∙ ap (split_form_of f.reads g.reads) (parted-at m s.0 s.1 (lacks s.0 x.0 s.3))
       ∙ rw (d.read s.0 x.0 s.3, e.read s.1 x.1 s.4) refl;
   back = λ ts x h. parted-back m f g d e ts x (split_at_mark m ts) refl h;
 }

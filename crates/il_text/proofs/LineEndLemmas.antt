@@ -6,7 +6,7 @@ use Rattle.il_text.specs.Characters.{are_linked}
 use Rattle.bay_base.specs.Names.{same_name}
 use Rattle.il_text.specs.Pieces.{without_comments, joins, join, pieces}
 use Rattle.il_text.specs.Places.{last_line}
-use Rattle.il_text.specs.Reading.{lines, reading, none_yet, program_of}
+use Rattle.il_text.specs.Reading.{lines, program_of_lines, none_yet, program_of}
 use Rattle.il_text.specs.Respelling.{ends_inside, ends_with_cr, LineEndsMayBeRespelled}
 use Rattle.il_text.specs.Symbols.{piece, pieces_of}
 use Rattle.il_text.specs.Tokens.{Piece, line_end}
@@ -122,9 +122,10 @@ same-program : (u v : List ℕ) → ends_inside false u ≡ false
     → program_of (u ++ 10 ∷ v) ≡ program_of (u ++ 13 ∷ 10 ∷ v)
 unfolding program_of
 same-program u v h c =
-    ap (λ (n : ℕ). reading n none_yet 1 (lines (pieces_of false (u ++ 10 ∷ v))))
+    ap (λ (n : ℕ). program_of_lines n none_yet 1 (lines (pieces_of false (u ++ 10 ∷ v))))
     (sym (last-line-parts u (13 ∷ 10 ∷ v) (10 ∷ v) (omega arith) (omega arith) (last-cr v)))
-    ∙ ap (λ (ps : List Piece). reading (last_line (u ++ 13 ∷ 10 ∷ v)) none_yet 1 (lines ps))
+    ∙ ap (λ (ps : List Piece). program_of_lines (last_line (u ++ 13 ∷ 10 ∷ v)) none_yet 1
+    (lines ps))
     (cut-lf u v h c ∙ sym (cut-cr u v h))
 
 pub line_ends : LineEndsMayBeRespelled

@@ -7,7 +7,7 @@ use Rattle.std.proofs.lemmas.Option.{same_Some}
 use Rattle.il_text.specs.Forms.{literal_of, type_of, elementary_of, output_named, input_named, place, operand, argument, argument_list, arguments, closed_arguments, call_action, parenthesis, operator_parts, statement, instruction, tail, declaration, is_mnemonic, may_follow_label, is_labelled, label_parts, begins_named, named_line, keyword_line, other_line, whole_line, LinesAreProduced}
 use Rattle.il_text.specs.Listing.{OperandData}
 use Rattle.il_text.specs.Parts.{LineContent}
-use Rattle.il_text.specs.TokenForms.{nothing_of, split_at_mark, name_of, is_mark, same_mark, names, spelled_names}
+use Rattle.il_text.specs.TokenForms.{no_token_of, split_at_mark, name_of, is_mark, same_mark, names, spelled_names}
 use Rattle.il_text.specs.Tokens.{Symbol, name, keyword_word, type_word, literal, mnemonic_word, mark_symbol}
 use Rattle.il_text.specs.declared.form.Tail.{Tail}
 use Rattle.il_text.specs.declared.program.DeclaredType.{DeclaredType}
@@ -59,7 +59,7 @@ none-joined m (x ∷ xs) ys none more =
     rw (two.0, none-joined m xs ys two.1 more) refl
 
 some-behind : {A : Type 0} (x : A) (front : List Symbol) (t : Symbol) (rest : List Symbol)
-    → nothing_of x (front ++ t ∷ rest) ≡ None
+    → no_token_of x (front ++ t ∷ rest) ≡ None
 some-behind x [] t rest = refl
 some-behind x (s ∷ front) t rest = refl
 
@@ -276,7 +276,7 @@ unfolding other_line
 other-unnamed (name n) ts ps s = absurd s
 other-unnamed t ts ps s = refl
 
-begun : {A : Type 0} (x : A) (ts : List Symbol) → begins_named ts ≡ true → nothing_of x ts ≡ None
+begun : {A : Type 0} (x : A) (ts : List Symbol) → begins_named ts ≡ true → no_token_of x ts ≡ None
 begun x [] named = absurd cc
 begun x (t ∷ ts) named = refl
 

@@ -5,12 +5,12 @@ use Rattle.std.proofs.lemmas.List.{map-append}
 use Rattle.std.proofs.Math.Bool.{and-false}
 use Rattle.il_text.specs.Characters.{are_linked}
 use Rattle.il_text.specs.Forms.{tail, declaration, named_line, other_line, whole_line, is_hopeless, parts_of}
-use Rattle.il_text.specs.TokenForms.{names, names_from, parted_of, split_at_mark, onto_front, is_mark}
+use Rattle.il_text.specs.TokenForms.{names, names_from, split_form_of, split_at_mark, onto_front, is_mark}
 use Rattle.bay_base.specs.Results.{◌>>=◌}
 use Rattle.il_text.specs.Listing.{PlainProgram}
 use Rattle.il_text.specs.declared.token.Mark.TheVariants as mark
 use Rattle.il_text.specs.Pieces.{opens, ends, closes, without_comments, pieces}
-use Rattle.il_text.specs.Reading.{Read, reading, lines, onto, tokens_of, after_line, whole, none_yet, program_of}
+use Rattle.il_text.specs.Reading.{Read, program_of_lines, lines, prepend_lexeme, tokens_of, after_line, complete_program, none_yet, program_of}
 use Rattle.il_text.specs.Places.{last_line}
 use Rattle.il_text.specs.ReaderViews.{read_on}
 use Rattle.il_text.specs.Runs.{IsPiece}
@@ -26,23 +26,23 @@ use Rattle.il_text.proofs.CutLemmas.{join-alone, not-N, within-of, and-right}
 -- good tokens in front of the first of the lines
 abbrev onto_all : List Symbol → List (List Piece) → List (List Piece)
 onto_all [] ls = ls
-onto_all (s ∷ ss) ls = onto (token s) (onto_all ss ls)
+onto_all (s ∷ ss) ls = prepend_lexeme (token s) (onto_all ss ls)
 
 lines-onto : (ss : List Symbol) (ps : List Piece)
     → lines (map token ss ++ ps) ≡ onto_all ss (lines ps)
 unfolding lines
 lines-onto [] ps = refl
-lines-onto (s ∷ ss) ps = ap (onto (token s)) (unfold lines in lines-onto ss ps)
+lines-onto (s ∷ ss) ps = ap (prepend_lexeme (token s)) (unfold lines in lines-onto ss ps)
 
 onto-line : (ss : List Symbol) (l : List Piece) (ls : List (List Piece))
     → onto_all ss (l ∷ ls) ≡ (map token ss ++ l) ∷ ls
 onto-line [] l ls = refl
-onto-line (s ∷ ss) l ls = ap (onto (token s)) (onto-line ss l ls)
+onto-line (s ∷ ss) l ls = ap (prepend_lexeme (token s)) (onto-line ss l ls)
 
 onto-more : (ss : List Symbol) (s : Symbol) (ls : List (List Piece))
-    → onto_all ss (onto (token s) ls) ≡ onto_all (ss ++ s ∷ []) ls
+    → onto_all ss (prepend_lexeme (token s) ls) ≡ onto_all (ss ++ s ∷ []) ls
 onto-more [] s ls = refl
-onto-more (t ∷ ss) s ls = ap (onto (token t)) (onto-more ss s ls)
+onto-more (t ∷ ss) s ls = ap (prepend_lexeme (token t)) (onto-more ss s ls)
 
 tokens-good : (line : ℕ) (ss : List Symbol) → tokens_of line (map token ss) ≡ Ok ss
 unfolding tokens_of
@@ -71,50 +71,51 @@ read-blank : (last : ℕ) (r : Read) (n : ℕ) (ss : List Symbol) (ps : List Pie
     → read_on last r n ss (blank ∷ ps) ≡ read_on last r n ss ps
 unfolding read_on lines
 read-blank last r n ss ps =
-    ap (reading last r n) (lines-onto ss (blank ∷ ps) ∙ sym (lines-onto ss ps))
+    ap (program_of_lines last r n) (lines-onto ss (blank ∷ ps) ∙ sym (lines-onto ss ps))
 
 read-token : (last : ℕ) (r : Read) (n : ℕ) (ss : List Symbol) (s : Symbol) (ps : List Piece)
     → read_on last r n ss (token s ∷ ps) ≡ read_on last r n (ss ++ s ∷ []) ps
 unfolding read_on lines
 read-token last r n ss s ps =
-    ap (reading last r n) (lines-onto ss (token s ∷ ps) ∙ onto-more ss s (lines ps)
+    ap (program_of_lines last r n) (lines-onto ss (token s ∷ ps) ∙ onto-more ss s (lines ps)
     ∙ sym (lines-onto (ss ++ s ∷ []) ps))
 
 -- a line of good tokens, and the lines after it
 reading-line : (last : ℕ) (r : Read) (n : ℕ) (ss : List Symbol) (ls : List (List Piece))
-    → reading last r n (map token ss ∷ ls)
-    ≡ (after_line n last r ss >>= (λ s. reading last s (n + 1) ls))
-unfolding reading
+    → program_of_lines last r n (map token ss ∷ ls)
+    ≡ (after_line n last r ss >>= (λ s. program_of_lines last s (n + 1) ls))
+unfolding program_of_lines
 reading-line last r n ss ls =
     ap (λ (t : Result (List Symbol) TextFault). t
-    >>= (λ ts. after_line n last r ts >>= (λ s. reading last s (n + 1) ls))) (tokens-good n ss)
+    >>= (λ ts. after_line n last r ts >>= (λ s. program_of_lines last s (n + 1) ls)))
+    (tokens-good n ss)
 
 read-line-end : (last : ℕ) (r : Read) (n : ℕ) (ss : List Symbol) (ps : List Piece)
     → read_on last r n ss (line_end ∷ ps)
     ≡ (after_line n last r ss >>= (λ s. read_on last s (n + 1) [] ps))
 unfolding read_on lines
 read-line-end last r n ss ps =
-    ap (reading last r n) (lines-onto ss (line_end ∷ ps) ∙ onto-line ss [] (lines ps)
+    ap (program_of_lines last r n) (lines-onto ss (line_end ∷ ps) ∙ onto-line ss [] (lines ps)
     ∙ ap (λ (l : List Piece). l ∷ lines ps) (append-nil (map token ss)))
     ∙ reading-line last r n ss (lines ps)
 
 pub read-end : (last : ℕ) (r : Read) (n : ℕ) (ss : List Symbol)
-    → read_on last r n ss [] ≡ (after_line n last r ss >>= (λ s. whole last s.reached))
-unfolding read_on lines reading
+    → read_on last r n ss [] ≡ (after_line n last r ss >>= (λ s. complete_program last s.reached))
+unfolding read_on lines program_of_lines
 read-end last r n ss =
-    ap (reading last r n) (lines-onto ss [] ∙ onto-line ss [] []
+    ap (program_of_lines last r n) (lines-onto ss [] ∙ onto-line ss [] []
     ∙ ap (λ (l : List Piece). l ∷ []) (append-nil (map token ss)))
     ∙ reading-line last r n ss []
 
 bad-lines : (last : ℕ) (r : Read) (n : ℕ) (ss : List Symbol) (ls : List (List Piece))
-    → reading last r n (onto_all ss (onto bad_token ls)) ≡ Err (BadToken n)
-unfolding reading
+    → program_of_lines last r n (onto_all ss (prepend_lexeme bad_token ls)) ≡ Err (BadToken n)
+unfolding program_of_lines
 bad-lines last r n ss [] = rw (onto-line ss (bad_token ∷ []) [], tokens-bad n ss []) refl
 bad-lines last r n ss (l ∷ ls) = rw (onto-line ss (bad_token ∷ l) ls, tokens-bad n ss l) refl
 
 bad-literal-lines : (last : ℕ) (r : Read) (n : ℕ) (ss : List Symbol) (ls : List (List Piece))
-    → reading last r n (onto_all ss (onto bad_literal ls)) ≡ Err (BadLiteral n)
-unfolding reading
+    → program_of_lines last r n (onto_all ss (prepend_lexeme bad_literal ls)) ≡ Err (BadLiteral n)
+unfolding program_of_lines
 bad-literal-lines last r n ss [] =
     rw (onto-line ss (bad_literal ∷ []) [], tokens-bad-literal n ss []) refl
 bad-literal-lines last r n ss (l ∷ ls) =
@@ -124,13 +125,14 @@ read-bad : (last : ℕ) (r : Read) (n : ℕ) (ss : List Symbol) (ps : List Piece
     → read_on last r n ss (bad_token ∷ ps) ≡ Err (BadToken n)
 unfolding read_on lines
 read-bad last r n ss ps =
-    ap (reading last r n) (lines-onto ss (bad_token ∷ ps)) ∙ bad-lines last r n ss (lines ps)
+    ap (program_of_lines last r n) (lines-onto ss (bad_token ∷ ps))
+    ∙ bad-lines last r n ss (lines ps)
 
 read-bad-literal : (last : ℕ) (r : Read) (n : ℕ) (ss : List Symbol) (ps : List Piece)
     → read_on last r n ss (bad_literal ∷ ps) ≡ Err (BadLiteral n)
 unfolding read_on lines
 read-bad-literal last r n ss ps =
-    ap (reading last r n) (lines-onto ss (bad_literal ∷ ps))
+    ap (program_of_lines last r n) (lines-onto ss (bad_literal ∷ ps))
     ∙ bad-literal-lines last r n ss (lines ps)
 
 -- the first piece from a place on
@@ -299,7 +301,7 @@ none-then (Some x) = refl
 
 fronted-names : (n : List ℕ) (c : Symbol) (o : Option (List Symbol × List Symbol))
     → is_mark mark.Comma c ≡ false
-    → parted_of names.reads tail.reads
+    → split_form_of names.reads tail.reads
     (option_map (onto_front (name n)) (option_map (onto_front c) o)) ≡ None
 unfolding names_from
 fronted-names n c None h = refl
@@ -373,22 +375,23 @@ hopeless_end n (Err e) = Err e
 
 hopeless-by : (last : ℕ) (r : Read) (n : ℕ) (ss : List Symbol) (ls : List (List Piece))
     (t : Result (List Symbol) TextFault) → is_hopeless ss ≡ true
-    → (with_front ss t >>= (λ ts. after_line n last r ts >>= (λ s. reading last s (n + 1) ls)))
+    → (with_front ss t >>= (λ ts. after_line n last r ts
+    >>= (λ s. program_of_lines last s (n + 1) ls)))
     ≡ hopeless_end n t
 hopeless-by last r n ss ls (Err e) h = refl
 hopeless-by last r n ss ls (Ok ts) h =
-    ap (λ (x : Result Read TextFault). x >>= (λ s. reading last s (n + 1) ls))
+    ap (λ (x : Result Read TextFault). x >>= (λ s. program_of_lines last s (n + 1) ls))
     (hopeless-line last r n ss ts h)
 
 hopeless-reads : (last : ℕ) (r : Read) (n : ℕ) (ss : List Symbol) (l : List Piece)
     (ls : List (List Piece)) → is_hopeless ss ≡ true
-    → reading last r n ((map token ss ++ l) ∷ ls) ≡ hopeless_end n (tokens_of n l)
-unfolding reading
+    → program_of_lines last r n ((map token ss ++ l) ∷ ls) ≡ hopeless_end n (tokens_of n l)
+unfolding program_of_lines
 hopeless-reads last r n ss l ls h =
     ap (λ (t : Result (List Symbol) TextFault). t
-    >>= (λ ts. after_line n last r ts >>= (λ s. reading last s (n + 1) ls)))
+    >>= (λ ts. after_line n last r ts >>= (λ s. program_of_lines last s (n + 1) ls)))
     (tokens-front n ss l)
-    ∙ (unfold reading in hopeless-by last r n ss ls (tokens_of n l) h)
+    ∙ (unfold program_of_lines in hopeless-by last r n ss ls (tokens_of n l) h)
 
 hopeless-more : (ss : List Symbol) (s : Symbol) → is_hopeless ss ≡ true
     → is_hopeless (ss ++ s ∷ []) ≡ true
@@ -398,28 +401,30 @@ hopeless-more (a ∷ b ∷ ss) s h = h
 
 onto-none : (s : Symbol) (ss : List Symbol) → onto_all (s ∷ ss) [] ≡ map token (s ∷ ss) ∷ []
 onto-none s [] = refl
-onto-none s (t ∷ ss) = ap (onto (token s)) (onto-none t ss)
+onto-none s (t ∷ ss) = ap (prepend_lexeme (token s)) (onto-none t ss)
 
 hopeless-empty : (last : ℕ) (r : Read) (n : ℕ) (ss : List Symbol) (s : Symbol)
-    → is_hopeless ss ≡ true → reading last r n (onto_all (ss ++ s ∷ []) [])
-    ≡ reading last r n (onto_all ss [])
+    → is_hopeless ss ≡ true → program_of_lines last r n (onto_all (ss ++ s ∷ []) [])
+    ≡ program_of_lines last r n (onto_all ss [])
 hopeless-empty last r n [] s h = absurd (false≢true h)
 hopeless-empty last r n (a ∷ ss) s h =
-    ap (reading last r n) (onto-none a (ss ++ s ∷ [])
+    ap (program_of_lines last r n) (onto-none a (ss ++ s ∷ [])
     ∙ ap (λ (l : List Piece). l ∷ []) (sym (append-nil (map token (a ∷ (ss ++ s ∷ []))))))
     ∙ hopeless-reads last r n (a ∷ (ss ++ s ∷ [])) [] [] (hopeless-more (a ∷ ss) s h)
     ∙ sym (hopeless-reads last r n (a ∷ ss) [] [] h)
-    ∙ ap (reading last r n) (sym
+    ∙ ap (program_of_lines last r n) (sym
     (onto-none a ss ∙ ap (λ (l : List Piece). l ∷ []) (sym (append-nil (map token (a ∷ ss))))))
 
 hopeless-lines : (last : ℕ) (r : Read) (n : ℕ) (ss : List Symbol) (s : Symbol)
     (ls : List (List Piece)) → is_hopeless ss ≡ true
-    → reading last r n (onto_all (ss ++ s ∷ []) ls) ≡ reading last r n (onto_all ss ls)
+    → program_of_lines last r n (onto_all (ss ++ s ∷ []) ls)
+    ≡ program_of_lines last r n (onto_all ss ls)
 hopeless-lines last r n ss s [] h = hopeless-empty last r n ss s h
 hopeless-lines last r n ss s (l ∷ ls) h =
-    ap (reading last r n) (onto-line (ss ++ s ∷ []) l ls)
+    ap (program_of_lines last r n) (onto-line (ss ++ s ∷ []) l ls)
     ∙ hopeless-reads last r n (ss ++ s ∷ []) l ls (hopeless-more ss s h)
-    ∙ sym (hopeless-reads last r n ss l ls h) ∙ ap (reading last r n) (sym (onto-line ss l ls))
+    ∙ sym (hopeless-reads last r n ss l ls h)
+    ∙ ap (program_of_lines last r n) (sym (onto-line ss l ls))
 
 -- a token behind such tokens makes no difference
 read-dropped : (last : ℕ) (r : Read) (n : ℕ) (ss : List Symbol) (s : Symbol) (ps : List Piece)
@@ -427,8 +432,9 @@ read-dropped : (last : ℕ) (r : Read) (n : ℕ) (ss : List Symbol) (s : Symbol)
 unfolding read_on
 read-dropped last r n ss s ps h =
     (unfold read_on in read-token last r n ss s ps)
-    ∙ ap (reading last r n) (lines-onto (ss ++ s ∷ []) ps)
-    ∙ hopeless-lines last r n ss s (lines ps) h ∙ sym (ap (reading last r n) (lines-onto ss ps))
+    ∙ ap (program_of_lines last r n) (lines-onto (ss ++ s ∷ []) ps)
+    ∙ hopeless-lines last r n ss s (lines ps) h
+    ∙ sym (ap (program_of_lines last r n) (lines-onto ss ps))
 
 pub step-dropped : (last : ℕ) (r : Read) (n : ℕ) (ss : List Symbol) (bs : List ℕ) (s e : ℕ)
     (t : Symbol) → is_hopeless ss ≡ true → IsPiece bs s e → piece (slice_range bs s e) ≡ token t
@@ -515,5 +521,5 @@ cut-none b bs i h = rw (none-left bs i h) refl
 pub text-end : (last : ℕ) (r : Read) (n : ℕ) (ss : List Symbol) (bs : List ℕ) (b : Bool) (i : ℕ)
     → length bs ≤ i
     → read_on last r n ss (pieces_of b (drop i bs))
-    ≡ (after_line n last r ss >>= (λ s. whole last s.reached))
+    ≡ (after_line n last r ss >>= (λ s. complete_program last s.reached))
 text-end last r n ss bs b i h = rw (cut-none b bs i h) (read-end last r n ss)

@@ -8,7 +8,7 @@ use Rattle.il_text.specs.Characters.{is_blank, are_linked}
 use Rattle.bay_base.specs.Names.{same_name}
 use Rattle.il_text.specs.Pieces.{opens, ends, closes, without_comments, blank_of, joins, join, pieces}
 use Rattle.il_text.specs.Places.{last_line}
-use Rattle.il_text.specs.Reading.{lines, onto, reading, none_yet, program_of}
+use Rattle.il_text.specs.Reading.{lines, prepend_lexeme, program_of_lines, none_yet, program_of}
 use Rattle.il_text.specs.Respelling.{ends_inside, AreBlanks, BlanksMayBeRespelled}
 use Rattle.il_text.specs.Symbols.{piece, pieces_of}
 use Rattle.il_text.specs.Tokens.{Piece, blank, line_end, token, bad_token, bad_literal}
@@ -185,9 +185,10 @@ lines-blank [] qs = refl
 lines-blank (blank ∷ ps) qs = unfold lines in lines-blank ps qs
 lines-blank (line_end ∷ ps) qs =
     ap (λ (l : List (List Piece)). [] ∷ l) (unfold lines in lines-blank ps qs)
-lines-blank (token s ∷ ps) qs = ap (onto (token s)) (unfold lines in lines-blank ps qs)
-lines-blank (bad_token ∷ ps) qs = ap (onto bad_token) (unfold lines in lines-blank ps qs)
-lines-blank (bad_literal ∷ ps) qs = ap (onto bad_literal) (unfold lines in lines-blank ps qs)
+lines-blank (token s ∷ ps) qs = ap (prepend_lexeme (token s)) (unfold lines in lines-blank ps qs)
+lines-blank (bad_token ∷ ps) qs = ap (prepend_lexeme bad_token) (unfold lines in lines-blank ps qs)
+lines-blank (bad_literal ∷ ps) qs =
+    ap (prepend_lexeme bad_literal) (unfold lines in lines-blank ps qs)
 
 lines-blanks : (bs t : List ℕ) (ps : List Piece) → list_all is_blank bs ≡ true
     → lines (ps ++ map piece (pieces (bs ++ t))) ≡ lines (ps ++ map piece (pieces t))
@@ -359,9 +360,9 @@ same-reading : (before blanks others after : List ℕ) → ends_inside false bef
     → program_of (before ++ (blanks ++ after)) ≡ program_of (before ++ (others ++ after))
 unfolding program_of
 same-reading u w s v h a b =
-    ap (λ (n : ℕ). reading n none_yet 1 (lines (pieces_of false (u ++ (w ++ v)))))
+    ap (λ (n : ℕ). program_of_lines n none_yet 1 (lines (pieces_of false (u ++ (w ++ v)))))
     (last_line_of u w s v a b)
-    ∙ ap (reading (last_line (u ++ (s ++ v))) none_yet 1)
+    ∙ ap (program_of_lines (last_line (u ++ (s ++ v))) none_yet 1)
     (lines_of u w v h a ∙ sym (lines_of u s v h b))
 
 -- texts that make the same program read as the same

@@ -10,7 +10,7 @@ use Rattle.il_text.specs.Grammar.{Numbered, Derives}
 use Rattle.il_text.specs.Listing.{label, action, PlainProgram}
 use Rattle.il_text.specs.Parts.{LineContent, heading, opening, declaring, closing, labelling, acting, entering, leaving, ending}
 use Rattle.il_text.specs.Places.{last_line}
-use Rattle.il_text.specs.Reading.{Read, tokens_of, is_instruction, has_instruction, past_limit, with_instruction, within_bounds, after_text_line, after_parts, after_line, whole_at, reading, none_yet, program_of, lines, most_instructions, most_open}
+use Rattle.il_text.specs.Reading.{Read, tokens_of, is_instruction, has_instruction, past_limit, with_instruction, within_bounds, after_text_line, after_parts, after_line, whole_at, program_of_lines, none_yet, program_of, lines, most_instructions, most_open}
 use Rattle.il_text.specs.Steps.{Reached, nothing_read, at_place, with_name, with_item, with_opened, with_declarations, declared_in, left_here, block_scope, is_start, is_between_blocks, may_stand, may_act, may_enter, may_leave, step, steps}
 use Rattle.il_text.specs.Symbols.{pieces_of}
 use Rattle.il_text.specs.Texts.{TextLine, numbered_parts, all_parts, is_entering, is_leaving, IsDeep, Allowed, no_program, too_deep, too_long, Refused, Ends, OnParts, OnTokens, Reads, ReadsAs}
@@ -210,7 +210,7 @@ Going last before n ls x ps =
     ⊎ Refused last n (before ++ (n, ps) ∷ []) x
 
 abbrev rest : ℕ → ℕ → List (List Piece) → Read → Result PlainProgram TextFault
-rest last n ls s = reading last s (n + 1) ls
+rest last n ls s = program_of_lines last s (n + 1) ls
 
 -- all that is to be shown of the lines behind
 abbrev More : ℕ → ℕ → List (List Piece) → Type 0
@@ -328,12 +328,12 @@ tokens-so last n before r ls (Err e) f a = refl
 tokens-so last n before r ls (Ok ts) f a = parts-so last n before r ls (parts_of ts) f a
 
 reads-so : (last : ℕ) (before : List TextLine) (r : Read) (n : ℕ) (ls : List (List Piece))
-    → After before r → Reads last before n ls (reading last r n ls)
-unfolding reading
+    → After before r → Reads last before n ls (program_of_lines last r n ls)
+unfolding program_of_lines
 reads-so last before r n [] a = ends-so last before r.reached r.reached.place refl a.runs
 reads-so last before r n (l ∷ ls) a =
     tokens-so last n before r ls (tokens_of n l)
-    (λ b s k. unfold reading in reads-so last b s (n + 1) ls k) a
+    (λ b s k. unfold program_of_lines in reads-so last b s (n + 1) ls k) a
 
 -- the program that is found, or the fault, is what the text reads as
 pub text-reads : (text : List ℕ) → ReadsAs text (program_of text)

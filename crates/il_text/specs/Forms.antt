@@ -6,7 +6,7 @@ use Rattle.il_text.specs.Listing.{Place, named, output, OperandData, constant, v
 use Rattle.il_text.specs.Parts.{LineContent, heading, opening, declaring, closing, labelling, acting, entering, leaving, ending}
 use Rattle.il_text.specs.Tokens.{Symbol, name, keyword_word, type_word, literal, mnemonic_word, mark_symbol}
 pub use Rattle.il_text.specs.TokenForms.{name_of, is_mark, split_at_mark}
-use Rattle.il_text.specs.TokenForms.{Form, map_form, such, none, nothing, one, one_of, bind_form, after, either, by, parted, has_mark, names, names_from}
+use Rattle.il_text.specs.TokenForms.{Form, map_form, try_map_form, none, no_token, one, one_of, bind_form, after_mark, either, choose_by, split_form, has_mark, names, names_from}
 use Rattle.il_text.specs.declared.form.Tail.{Tail}
 use Rattle.il_text.specs.declared.program.DeclaredType.{DeclaredType}
 use Rattle.il_text.specs.declared.program.DeclaredType.TheVariants.{Elementary}
@@ -73,8 +73,8 @@ is_one other = false
 -- place ::= name | name "." ("Q" | "ET")
 unfoldable pub place : Form Place
 place =
-    by is_one (map_form named (one name_of))
-    (bind_form name_of (λ timer. after mark.Dot (map_form (output timer) (one output_of))))
+    choose_by is_one (map_form named (one name_of))
+    (bind_form name_of (λ timer. after_mark mark.Dot (map_form (output timer) (one output_of))))
 
 -- operand ::= literal | place
 unfoldable pub operand : Form OperandData
@@ -92,7 +92,7 @@ input_of s = option_and_then input_named (name_of s)
 
 -- arg ::= ("IN" | "PT") ":=" operand
 unfoldable pub argument : Form (Input × OperandData)
-argument = bind_form input_of (λ k. after mark.Assign (map_form (λ x. (k, x)) operand))
+argument = bind_form input_of (λ k. after_mark mark.Assign (map_form (λ x. (k, x)) operand))
 
 -- whether two inputs are the same (own)
 abbrev pub same_input : Input → Input → Bool
@@ -110,19 +110,21 @@ both a b = if same_input a.0 b.0 then None else Some (a ∷ b ∷ [])
 -- arguments
 unfoldable pub argument_list : Form (List (Input × OperandData))
 argument_list =
-    by (has_mark mark.Comma) (such (λ p. both p.0 p.1) (parted mark.Comma argument argument))
+    choose_by (has_mark mark.Comma)
+    (try_map_form (λ p. both p.0 p.1) (split_form mark.Comma argument argument))
     (map_form (λ a. a ∷ []) argument)
 
 unfoldable pub arguments : Form (List (Input × OperandData))
-arguments = either (nothing []) argument_list
+arguments = either (no_token []) argument_list
 
 -- the arguments, and then `)` as the last token
 unfoldable pub closed_arguments : Form (List (Input × OperandData))
-closed_arguments = map_form (λ p. p.0) (parted mark.Close arguments (nothing true))
+closed_arguments = map_form (λ p. p.0) (split_form mark.Close arguments (no_token true))
 
 -- name "(" [arg {"," arg}] ")"
 unfoldable pub call_action : Form Action
-call_action = bind_form name_of (λ timer. after mark.Open (map_form (call timer) closed_arguments))
+call_action =
+    bind_form name_of (λ timer. after_mark mark.Open (map_form (call timer) closed_arguments))
 
 -- an instruction that is the only part (own)
 abbrev pub acts : Form Action → Form (List LineContent)
@@ -131,7 +133,7 @@ acts = map_form (λ a. acting a ∷ [])
 -- [operand]: the first item of the parenthesis is a load of the operand
 unfoldable pub parenthesis : Operator → Bool → Form (List LineContent)
 parenthesis o n =
-    either (nothing (entering o n ∷ []))
+    either (no_token (entering o n ∷ []))
     (map_form (λ x. entering o n ∷ acting (load false x) ∷ []) operand)
 
 -- whether the first token is `(` (own)
@@ -142,16 +144,17 @@ begins_open (s ∷ ss) = is_mark mark.Open s
 -- an operator's operand, or "(" [operand]
 unfoldable pub operator_parts : Operator → Bool → Form (List LineContent)
 operator_parts o n =
-    by begins_open (after mark.Open (parenthesis o n)) (acts (map_form (combine o n) operand))
+    choose_by begins_open (after_mark mark.Open (parenthesis o n))
+    (acts (map_form (combine o n) operand))
 
 -- the tokens after an operator
 unfoldable pub statement : Mnemonic → Form (List LineContent)
 statement (mnemonic.Load n) = acts (map_form (load n) operand)
 statement (mnemonic.Store k) = acts (map_form (store k) place)
 statement (mnemonic.Combine o n) = operator_parts o n
-statement mnemonic.Not = nothing (acting invert ∷ [])
-statement (mnemonic.Convert c) = nothing (acting (convert c) ∷ [])
-statement (mnemonic.Return c) = nothing (acting (leave c) ∷ [])
+statement mnemonic.Not = no_token (acting invert ∷ [])
+statement (mnemonic.Convert c) = no_token (acting (convert c) ∷ [])
+statement (mnemonic.Return c) = no_token (acting (leave c) ∷ [])
 statement (mnemonic.Jump c) = acts (map_form (jump c) (one name_of))
 statement mnemonic.Call = acts call_action
 
@@ -178,9 +181,11 @@ is_two other = false
 -- type [":=" literal] ";", with an initial value only for an elementary type
 unfoldable pub tail : Form Tail
 tail =
-    by is_two (bind_form type_of (λ kind. after mark.Semicolon (nothing (plain_tail kind))))
-    (bind_form elementary_of (λ kind. after mark.Assign
-    (bind_form literal_of (λ value. after mark.Semicolon (nothing (initial_tail kind value))))))
+    choose_by is_two (bind_form type_of
+    (λ kind. after_mark mark.Semicolon (no_token (plain_tail kind))))
+    (bind_form elementary_of (λ kind. after_mark mark.Assign
+    (bind_form literal_of (λ value. after_mark mark.Semicolon
+    (no_token (initial_tail kind value))))))
 
 -- the part that declares these names
 abbrev pub declared_part : List (List ℕ) → Tail → List LineContent
@@ -192,7 +197,7 @@ declared_names t ss = option_map (λ ns. declared_part ns t) (names_from false s
 
 -- decl ::= name {"," name} ":" type [":=" literal] ";"
 unfoldable pub declaration : Form (List LineContent)
-declaration = map_form (λ p. declared_part p.0 p.1) (parted mark.Colon names tail)
+declaration = map_form (λ p. declared_part p.0 p.1) (split_form mark.Colon names tail)
 
 -- ---- IEC 61131-3 B.2.1: labels
 
@@ -214,28 +219,29 @@ is_labelled (s ∷ c ∷ ss) = is_mark mark.Colon c && may_follow_label ss
 -- a label and the tokens after it: an instruction, or nothing
 unfoldable pub label_parts : List ℕ → Form (List LineContent)
 label_parts n =
-    either (nothing (labelling n ∷ [])) (map_form (λ ps. labelling n ∷ ps) instruction)
+    either (no_token (labelling n ∷ [])) (map_form (λ ps. labelling n ∷ ps) instruction)
 
 -- ---- IEC 61131-3 B.1.4.3, B.1.5.3, B.2.1: lines
 
 -- a line that begins with a name: a label and the tokens after it, or a declaration
 unfoldable pub named_line : Form (List LineContent)
 named_line =
-    by is_labelled (bind_form name_of (λ n. after mark.Colon (label_parts n))) declaration
+    choose_by is_labelled (bind_form name_of (λ n. after_mark mark.Colon (label_parts n)))
+    declaration
 
 -- the tokens after a keyword: a name after PROGRAM, no token after the others
 unfoldable pub keyword_line : Keyword → Form (List LineContent)
 keyword_line keyword.Program = map_form (λ n. heading n ∷ []) (one name_of)
-keyword_line keyword.EndProgram = nothing (ending ∷ [])
-keyword_line keyword.Var = nothing (opening Local ∷ [])
-keyword_line keyword.VarExternal = nothing (opening External ∷ [])
-keyword_line keyword.EndVar = nothing (closing ∷ [])
+keyword_line keyword.EndProgram = no_token (ending ∷ [])
+keyword_line keyword.Var = no_token (opening Local ∷ [])
+keyword_line keyword.VarExternal = no_token (opening External ∷ [])
+keyword_line keyword.EndVar = no_token (closing ∷ [])
 
 -- the tokens after a first token that is no name
 unfoldable pub other_line : Symbol → Form (List LineContent)
 other_line (keyword_word w) = keyword_line w
 other_line (mnemonic_word m) = statement m
-other_line (mark_symbol mark.Close) = nothing (leaving ∷ [])
+other_line (mark_symbol mark.Close) = no_token (leaving ∷ [])
 other_line other = none
 
 -- whether the first token is a name (own)
@@ -246,7 +252,8 @@ begins_named (s ∷ ss) = is_some (name_of s)
 -- A line: blank; PROGRAM with its name; a word of a block; a declaration; [name ":"] [instr]; `)`;
 -- END_PROGRAM.
 unfoldable pub whole_line : Form (List LineContent)
-whole_line = either (nothing []) (by begins_named named_line (bind_form (λ s. Some s) other_line))
+whole_line =
+    either (no_token []) (choose_by begins_named named_line (bind_form (λ s. Some s) other_line))
 
 -- the parts of a line, if it has a form
 abbrev pub parts_of : List Symbol → Option (List LineContent)

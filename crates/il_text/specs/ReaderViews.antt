@@ -3,7 +3,7 @@ use Rattle.std.specs.Prelude.{ℕ, ◌+◌, List, [], ◌++◌, map, drop, Resul
 use Rattle.bay_base.specs.Results.{◌>>=◌}
 use Rattle.il_text.specs.Listing.{PlainProgram}
 use Rattle.il_text.specs.ListingViews.{read_of}
-use Rattle.il_text.specs.Reading.{Read, reading, lines, after_line, whole}
+use Rattle.il_text.specs.Reading.{Read, program_of_lines, lines, after_line, complete_program}
 use Rattle.il_text.specs.Symbols.{pieces_of}
 use Rattle.il_text.specs.Tokens.{Symbol, Piece, token}
 use Rattle.il_text.specs.TokenViews.{symbols_of}
@@ -15,7 +15,7 @@ use Rattle.il_text.specs.declared.read.Reader as code
 -- the result of reading the lexemes on, after the tokens of an unfinished line and the lines before
 -- it
 unfoldable pub read_on : ℕ → Read → ℕ → List Symbol → List Piece → Result PlainProgram TextFault
-read_on last r line ss ps = reading last r line (lines (map token ss ++ ps))
+read_on last r line ss ps = program_of_lines last r line (lines (map token ss ++ ps))
 
 -- the result of reading on from a state of the reader
 abbrev pub left_of : code.Reader → Result PlainProgram TextFault
@@ -33,4 +33,4 @@ ended_of r =
 abbrev pub whole_of : code.Reader → Result PlainProgram TextFault
 whole_of r =
     after_line r.line r.last (read_of r.listing) (symbols_of r.tokens.items)
-    >>= (λ s. whole r.last s.reached)
+    >>= (λ s. complete_program r.last s.reached)

@@ -16,18 +16,18 @@ use Rattle.il_text.specs.declared.listing.Stage.TheVariants as place
 -- ---- own: how a program is read line by line
 
 -- a lexeme before those of the first line
-abbrev pub onto : Piece → List (List Piece) → List (List Piece)
-onto p [] = (p ∷ []) ∷ []
-onto p (l ∷ ls) = (p ∷ l) ∷ ls
+abbrev pub prepend_lexeme : Piece → List (List Piece) → List (List Piece)
+prepend_lexeme p [] = (p ∷ []) ∷ []
+prepend_lexeme p (l ∷ ls) = (p ∷ l) ∷ ls
 
 -- the lexemes of each line of a text, without blanks
 unfoldable pub lines : List Piece → List (List Piece)
 lines [] = [] ∷ []
 lines (blank ∷ ps) = lines ps
 lines (line_end ∷ ps) = [] ∷ lines ps
-lines (token s ∷ ps) = onto (token s) (lines ps)
-lines (bad_token ∷ ps) = onto bad_token (lines ps)
-lines (bad_literal ∷ ps) = onto bad_literal (lines ps)
+lines (token s ∷ ps) = prepend_lexeme (token s) (lines ps)
+lines (bad_token ∷ ps) = prepend_lexeme bad_token (lines ps)
+lines (bad_literal ∷ ps) = prepend_lexeme bad_literal (lines ps)
 
 -- the tokens of a line, or its leftmost fault
 unfoldable pub tokens_of : ℕ → List Piece → Result (List Symbol) TextFault
@@ -119,15 +119,16 @@ whole_at last s place.Finished = Ok (program_made s)
 whole_at last s other = Err (BadLine last)
 
 -- the program, if the text is complete
-abbrev pub whole : ℕ → Reached → Result PlainProgram TextFault
-whole last s = whole_at last s s.place
+abbrev pub complete_program : ℕ → Reached → Result PlainProgram TextFault
+complete_program last s = whole_at last s s.place
 
 -- the program of the lines after others; the first of them has the number `line`, and the first
 -- faulty one decides
-unfoldable pub reading : ℕ → Read → ℕ → List (List Piece) → Result PlainProgram TextFault
-reading last r line [] = whole last r.reached
-reading last r line (l ∷ ls) =
-    tokens_of line l >>= (λ ts. after_line line last r ts >>= (λ s. reading last s (line + 1) ls))
+unfoldable pub program_of_lines : ℕ → Read → ℕ → List (List Piece) → Result PlainProgram TextFault
+program_of_lines last r line [] = complete_program last r.reached
+program_of_lines last r line (l ∷ ls) =
+    tokens_of line l >>= (λ ts. after_line line last r ts
+    >>= (λ s. program_of_lines last s (line + 1) ls))
 
 -- the state before the first line
 abbrev pub none_yet : Read
@@ -135,4 +136,4 @@ none_yet = record { reached = nothing_read; instructions = 0 }
 
 -- the program of a text, or its fault
 unfoldable pub program_of : List ℕ → Result PlainProgram TextFault
-program_of text = reading (last_line text) none_yet 1 (lines (pieces_of false text))
+program_of text = program_of_lines (last_line text) none_yet 1 (lines (pieces_of false text))

@@ -21,8 +21,8 @@ map_form make f = record {
 }
 
 -- the same with a function that may have no result
-abbrev pub such : {A B : Type 0} → (A → Option B) → Form A → Form B
-such test f = record {
+abbrev pub try_map_form : {A B : Type 0} → (A → Option B) → Form A → Form B
+try_map_form test f = record {
   reads = λ ts. option_and_then test (f.reads ts);
   Spells = λ ts y. (x : _) × f.Spells ts x × (test x ≡ Some y);
 }
@@ -31,13 +31,13 @@ such test f = record {
 abbrev pub none : {A : Type 0} → Form A
 none = record { reads = λ ts. None; Spells = λ ts x. ⊥ }
 
-abbrev pub nothing_of : {A : Type 0} → A → List Symbol → Option A
-nothing_of x [] = Some x
-nothing_of x (t ∷ ts) = None
+abbrev pub no_token_of : {A : Type 0} → A → List Symbol → Option A
+no_token_of x [] = Some x
+no_token_of x (t ∷ ts) = None
 
 -- no token, read as this value
-abbrev pub nothing : {A : Type 0} → A → Form A
-nothing x = record { reads = nothing_of x; Spells = λ ts y. (ts ≡ []) × (x ≡ y) }
+abbrev pub no_token : {A : Type 0} → A → Form A
+no_token x = record { reads = no_token_of x; Spells = λ ts y. (ts ≡ []) × (x ≡ y) }
 
 abbrev pub one_of : {A : Type 0} → (Symbol → Option A) → List Symbol → Option A
 one_of is [] = None
@@ -51,15 +51,15 @@ one is = record {
   Spells = λ ts x. (t : Symbol) × (ts ≡ t ∷ []) × (is t ≡ Some x);
 }
 
-abbrev pub behind_of : {A B : Type 0} → (Symbol → Option A) → (A → List Symbol → Option B)
+abbrev pub bind_form_of : {A B : Type 0} → (Symbol → Option A) → (A → List Symbol → Option B)
     → List Symbol → Option B
-behind_of is f [] = None
-behind_of is f (t ∷ ts) = option_and_then (λ x. f x ts) (is t)
+bind_form_of is f [] = None
+bind_form_of is f (t ∷ ts) = option_and_then (λ x. f x ts) (is t)
 
 -- one token, and then the form that this token selects
 abbrev pub bind_form : {A B : Type 0} → (Symbol → Option A) → (A → Form B) → Form B
 bind_form is f = record {
-  reads = behind_of is (λ x. (f x).reads);
+  reads = bind_form_of is (λ x. (f x).reads);
   Spells = λ ts y. (t : Symbol) × (rest : List Symbol) × (x : _) × (ts ≡ t ∷ rest) × (is t ≡ Some x)
       × (f x).Spells rest y;
 }
@@ -80,14 +80,14 @@ abbrev pub is_mark : Mark → Symbol → Bool
 is_mark m (mark_symbol n) = same_mark m n
 is_mark m other = false
 
-abbrev pub after_of : {A : Type 0} → Mark → (List Symbol → Option A) → List Symbol → Option A
-after_of m f [] = None
-after_of m f (t ∷ ts) = if is_mark m t then f ts else None
+abbrev pub after_mark_of : {A : Type 0} → Mark → (List Symbol → Option A) → List Symbol → Option A
+after_mark_of m f [] = None
+after_mark_of m f (t ∷ ts) = if is_mark m t then f ts else None
 
 -- a mark, and then a form
-abbrev pub after : {A : Type 0} → Mark → Form A → Form A
-after m f = record {
-  reads = after_of m f.reads;
+abbrev pub after_mark : {A : Type 0} → Mark → Form A → Form A
+after_mark m f = record {
+  reads = after_mark_of m f.reads;
   Spells = λ ts x. (rest : List Symbol) × (ts ≡ mark_symbol m ∷ rest) × f.Spells rest x;
 }
 
@@ -103,8 +103,8 @@ either f g = record {
 }
 
 -- one of two forms; a test of the tokens selects the one to try
-abbrev pub by : {A : Type 0} → (List Symbol → Bool) → Form A → Form A → Form A
-by test f g = record {
+abbrev pub choose_by : {A : Type 0} → (List Symbol → Bool) → Form A → Form A → Form A
+choose_by test f g = record {
   reads = λ ts. if test ts then f.reads ts else g.reads ts;
   Spells = λ ts x. f.Spells ts x ⊎ g.Spells ts x;
 }
@@ -123,15 +123,15 @@ split_at_mark m (s ∷ ss) =
 abbrev pub has_mark : Mark → List Symbol → Bool
 has_mark m ts = is_some (split_at_mark m ts)
 
-abbrev pub parted_of : {A B : Type 0} → (List Symbol → Option A) → (List Symbol → Option B)
+abbrev pub split_form_of : {A B : Type 0} → (List Symbol → Option A) → (List Symbol → Option B)
     → Option (List Symbol × List Symbol) → Option (A × B)
-parted_of f g None = None
-parted_of f g (Some p) = option_and_then (λ y. option_map (λ x. (x, y)) (f p.0)) (g p.1)
+split_form_of f g None = None
+split_form_of f g (Some p) = option_and_then (λ y. option_map (λ x. (x, y)) (f p.0)) (g p.1)
 
 -- two forms, separated by a mark; tokens are split at the first one
-abbrev pub parted : {A B : Type 0} → Mark → Form A → Form B → Form (A × B)
-parted m f g = record {
-  reads = λ ts. parted_of f.reads g.reads (split_at_mark m ts);
+abbrev pub split_form : {A B : Type 0} → Mark → Form A → Form B → Form (A × B)
+split_form m f g = record {
+  reads = λ ts. split_form_of f.reads g.reads (split_at_mark m ts);
   Spells = λ ts x. (front : List Symbol) × (rest : List Symbol)
       × (ts ≡ front ++ mark_symbol m ∷ rest) × f.Spells front x.0 × g.Spells rest x.1;
 }

@@ -5,7 +5,7 @@ ghost use Rattle.il_text.specs.FormViews.{halves_of, line_parts, statement_parts
 ghost use Rattle.il_text.specs.Forms as spec;
 ghost use Rattle.il_text.specs.Listing as text;
 ghost use Rattle.il_text.specs.Parts.{acting};
-ghost use Rattle.il_text.specs.TokenForms.{nothing_of};
+ghost use Rattle.il_text.specs.TokenForms.{no_token_of};
 ghost use Rattle.il_text.specs.Tokens.{mark_symbol, name as text_name};
 ghost use Rattle.il_text.specs.TokenViews.{symbol_of, symbols_of};
 ghost use Rattle.il_text.specs.Views.{action_of, argument_of, arguments_of, place_of, source_of};
@@ -299,7 +299,7 @@ fn timer_call<'a>(tokens: &[Token<'a>]) -> Option<Instruction<'a>>
 // Returns the instruction if no token follows its operator.
 fn alone<'a>(instruction: Instruction<'a>, tokens: &[Token<'a>]) -> Option<Statement<'a>>
     ensures { option_map statement_parts result
-        ≡ nothing_of (acting (action_of instruction.entry) ∷ []) (symbols_of tokens.now) }
+        ≡ no_token_of (acting (action_of instruction.entry) ∷ []) (symbols_of tokens.now) }
 {
     if tokens.is_empty() {
         Some(Statement::Plain(instruction))

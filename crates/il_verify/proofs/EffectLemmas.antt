@@ -19,7 +19,7 @@ use Rattle.il_image.specs.declared.opcode.Widening.TheVariants.{IntToDint, DintT
 use Rattle.il_image.specs.declared.opcode.When.TheVariants.{Always, IfTrue, IfFalse}
 use Rattle.il_image.specs.declared.opcode.TimerUse.TheVariants.{SetInput, SetPreset, Run, LoadOutput, LoadElapsed}
 use Rattle.il_image.specs.Arithmetic.{type_of_width}
-use Rattle.il_image.specs.Effects.{are_compared, below, compares, effect, kind_of, looks_at, second_kind, two, type_of_kind, widens, with_truth}
+use Rattle.il_image.specs.Effects.{are_compared, below, compares, kinds_after, kind_of, looks_at, second_kind, two, type_of_kind, widens, with_truth}
 use Rattle.il_image.specs.Kinds.{AreWithin, is_within}
 use Rattle.il_image.proofs.KindLemmas.{within-along, within-self, same-self, same-is}
 
@@ -184,8 +184,8 @@ truth-lower slots n xs ys upper h e =
 
 pub effect-lower : (slots : List ElementaryType) (timers : ℕ) (i : Instr)
     (xs ys upper : List CellKind)
-    → AreWithin xs ys → effect slots timers i ys ≡ Some upper
-    → Lowers (effect slots timers i xs) upper
+    → AreWithin xs ys → kinds_after slots timers i ys ≡ Some upper
+    → Lowers (kinds_after slots timers i xs) upper
 effect-lower slots timers Halt xs ys upper h e = kept xs ys upper h e
 effect-lower slots timers (Push v) xs ys upper h e = pushed (kind_of v) xs ys upper h e
 effect-lower slots timers Drop xs ys upper h e = below-lower Any xs ys upper h e

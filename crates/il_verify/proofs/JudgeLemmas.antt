@@ -20,7 +20,7 @@ use Rattle.il_image.specs.declared.opcode.Widening.TheVariants.{IntToDint, DintT
 use Rattle.il_image.specs.declared.opcode.When.TheVariants.{IfTrue, IfFalse}
 use Rattle.il_image.specs.declared.opcode.TimerUse.TheVariants.{SetInput, SetPreset, Run, LoadOutput, LoadElapsed}
 use Rattle.il_image.specs.Arithmetic.{type_of_width}
-use Rattle.il_image.specs.Effects.{below, effect, looks_at, second_kind, two, with_timer, with_truth}
+use Rattle.il_image.specs.Effects.{below, kinds_after, looks_at, second_kind, two, with_timer, with_truth}
 use Rattle.il_image.specs.Images.{Image}
 use Rattle.il_image.specs.Kinds.{is_within}
 use Rattle.il_image.specs.Machine.{divides, most_cells}
@@ -29,7 +29,7 @@ use Rattle.il_image.proofs.KindLemmas.{same-self, within-along}
 use Rattle.il_verify.specs.declared.fault.VerifyFault.{VerifyFault}
 use Rattle.il_verify.specs.declared.fault.VerifyFault.TheVariants.{StackEmpty, StackFull, WrongKind, ZeroDivisor, NoSlot, NoTimer, BadTarget, Unreachable, DepthClash, NoHalt, BadBinding, OutOfMemory}
 use Rattle.il_verify.specs.declared.slots.SlotType.{SlotType}
-use Rattle.il_verify.specs.Judging.{◌or_else◌, fault_of, is_full, misfit, missing, operands, without_divisor, unfit, where_so, writes_read_only}
+use Rattle.il_verify.specs.Judging.{◌or_else◌, fault_of, is_full, kind_fault, missing_fault, operands, without_divisor, operand_fault, where_so, writes_read_only}
 use Rattle.il_verify.specs.Slots.{point_slot, slots_of, types_of, variable_slot}
 use Rattle.il_verify.proofs.EffectLemmas.{bind-some}
 
@@ -89,7 +89,8 @@ timer-made timers n made gives e = go (nat_lt n timers) e
     go false e = absurd cc
 
 nothing-missing : (slots : List SlotType) (timers : ℕ) (i : Instr) (kinds gives : List CellKind)
-    → effect (types_of slots) timers i kinds ≡ Some gives → missing (length slots) timers i ≡ None
+    → kinds_after (types_of slots) timers i kinds ≡ Some gives
+    → missing_fault (length slots) timers i ≡ None
 nothing-missing slots timers (Slot Load n) kinds gives e =
     slot-there slots n (λ (t : ElementaryType). Some (Plain t ∷ kinds)) gives e
 nothing-missing slots timers (Slot Store n) kinds gives e =
@@ -153,7 +154,7 @@ truth-some types n kinds gives e =
     go false f = absurd cc
 
 enough : (types : List ElementaryType) (timers : ℕ) (i : Instr) (kinds gives : List CellKind)
-    → effect types timers i kinds ≡ Some gives → operands i ≤ length kinds
+    → kinds_after types timers i kinds ≡ Some gives → operands i ≤ length kinds
 enough types timers Drop kinds gives e = let size : length kinds ≡ suc (length gives) =
     below-some Any kinds gives e in omega arith
 enough types timers (Slot Store n) kinds gives e =
@@ -202,8 +203,8 @@ second-within w false = same-self (type_of_width w)
 
 undivided-some : (types : List ElementaryType) (timers : ℕ) (i : Instr)
     (kinds gives : List CellKind)
-    → effect types timers i kinds ≡ Some gives
-    → effect types timers (without_divisor i) kinds ≡ Some gives
+    → kinds_after types timers i kinds ≡ Some gives
+    → kinds_after types timers (without_divisor i) kinds ≡ Some gives
 undivided-some types timers (Compute o w) kinds gives e =
     let number = Plain (type_of_width w) in
     let f = λ (more : List CellKind). below number more >>= (λ rest. Some (number ∷ rest)) in
@@ -214,7 +215,7 @@ undivided-some types timers (Compute o w) kinds gives e =
 undivided-some types timers i kinds gives e = e
 
 fits-all : (a b : Option (List CellKind)) (x y : List CellKind) → a ≡ Some x → b ≡ Some y
-    → unfit a b ≡ None
+    → operand_fault a b ≡ None
 fits-all a b x y e f = rw (e, f) refl
 
 -- ---- the faults behind an effect
@@ -225,22 +226,23 @@ behind-none (Some x) b r e f = absurd cc
 
 -- where an instruction is allowed on the kinds, what is behind the first faults is its fault
 allowed-behind : (slots : List SlotType) (timers : ℕ) (i : Instr) (kinds gives : List CellKind)
-    (r : Option VerifyFault) → effect (types_of slots) timers i kinds ≡ Some gives
+    (r : Option VerifyFault) → kinds_after (types_of slots) timers i kinds ≡ Some gives
     → (where_so (writes_read_only slots i) BadBinding or_else where_so (is_full (Some gives))
     StackFull) ≡ r → fault_of slots timers i kinds ≡ r
 unfolding fault_of
 allowed-behind slots timers i kinds gives r e last =
     let many : operands i ≤ length kinds = enough (types_of slots) timers i kinds gives e in
-    behind-none (missing (length slots) timers i) _ r (nothing-missing slots timers i kinds gives e)
+    behind-none (missing_fault (length slots) timers i) _ r
+    (nothing-missing slots timers i kinds gives e)
     (behind-none (where_so (nat_lt (length kinds) (operands i)) StackEmpty) _ r
     (not-where _ StackEmpty (le-ltb (length kinds) (operands i) many))
-    (behind-none (misfit slots timers i kinds) _ r
+    (behind-none (kind_fault slots timers i kinds) _ r
     (fits-all _ _ gives gives (undivided-some (types_of slots) timers i kinds gives e) e)
     (rw e last)))
 
 pub allowed-faultless : (slots : List SlotType) (timers : ℕ) (i : Instr)
     (kinds gives : List CellKind)
-    → effect (types_of slots) timers i kinds ≡ Some gives → writes_read_only slots i ≡ false
+    → kinds_after (types_of slots) timers i kinds ≡ Some gives → writes_read_only slots i ≡ false
     → length gives ≤ most_cells
     → fault_of slots timers i kinds ≡ None
 allowed-faultless slots timers i kinds gives e writes room =
@@ -248,13 +250,13 @@ allowed-faultless slots timers i kinds gives e writes room =
     (rw (writes, le-ltb most_cells (length gives) room) refl)
 
 pub write-fault : (slots : List SlotType) (timers : ℕ) (i : Instr) (kinds gives : List CellKind)
-    → effect (types_of slots) timers i kinds ≡ Some gives → writes_read_only slots i ≡ true
+    → kinds_after (types_of slots) timers i kinds ≡ Some gives → writes_read_only slots i ≡ true
     → fault_of slots timers i kinds ≡ Some BadBinding
 write-fault slots timers i kinds gives e writes =
     allowed-behind slots timers i kinds gives (Some BadBinding) e (rw writes refl)
 
 pub room-fault : (slots : List SlotType) (timers : ℕ) (i : Instr) (kinds gives : List CellKind)
-    → effect (types_of slots) timers i kinds ≡ Some gives → writes_read_only slots i ≡ false
+    → kinds_after (types_of slots) timers i kinds ≡ Some gives → writes_read_only slots i ≡ false
     → most_cells < length gives
     → fault_of slots timers i kinds ≡ Some StackFull
 room-fault slots timers i kinds gives e writes many =
@@ -264,18 +266,18 @@ room-fault slots timers i kinds gives e writes many =
 -- ---- the first faults
 
 pub missing-fault : (slots : List SlotType) (timers : ℕ) (i : Instr) (kinds : List CellKind)
-    (f : VerifyFault) → missing (length slots) timers i ≡ Some f
+    (f : VerifyFault) → missing_fault (length slots) timers i ≡ Some f
     → fault_of slots timers i kinds ≡ Some f
 unfolding fault_of
 missing-fault slots timers i kinds f e = rw e refl
 
 pub misfit-fault : (slots : List SlotType) (timers : ℕ) (i : Instr) (kinds : List CellKind)
-    (f : VerifyFault) → missing (length slots) timers i ≡ None → operands i ≤ length kinds
-    → misfit slots timers i kinds ≡ Some f
+    (f : VerifyFault) → missing_fault (length slots) timers i ≡ None → operands i ≤ length kinds
+    → kind_fault slots timers i kinds ≡ Some f
     → fault_of slots timers i kinds ≡ Some f
 unfolding fault_of
 misfit-fault slots timers i kinds f e many is =
-    behind-none (missing (length slots) timers i) _ (Some f) e
+    behind-none (missing_fault (length slots) timers i) _ (Some f) e
     (behind-none (where_so (nat_lt (length kinds) (operands i)) StackEmpty) _ (Some f)
     (not-where _ StackEmpty (le-ltb (length kinds) (operands i) many)) (rw is refl))
 
@@ -284,7 +286,7 @@ misfit-fault slots timers i kinds f e many is =
 pub record IsFine (slots : List SlotType) (timers : ℕ) (i : Instr) (kinds : List CellKind)
     : Type 0 where
   pub writes : writes_read_only slots i ≡ false
-  pub room : (gives : List CellKind) → effect (types_of slots) timers i kinds ≡ Some gives
+  pub room : (gives : List CellKind) → kinds_after (types_of slots) timers i kinds ≡ Some gives
       → length gives ≤ most_cells
 
 few : (n : ℕ) → nat_lt most_cells n ≡ false → n ≤ most_cells
@@ -297,15 +299,15 @@ pub faultless-fine : (slots : List SlotType) (timers : ℕ) (i : Instr) (kinds :
     → fault_of slots timers i kinds ≡ None → IsFine slots timers i kinds
 unfolding fault_of
 faultless-fine slots timers i kinds e =
-    let a = first-none (missing (length slots) timers i) _ e in
+    let a = first-none (missing_fault (length slots) timers i) _ e in
     let b = first-none (where_so (nat_lt (length kinds) (operands i)) StackEmpty) _ a.1 in
-    let c = first-none (misfit slots timers i kinds) _ b.1 in
+    let c = first-none (kind_fault slots timers i kinds) _ b.1 in
     let d = first-none (where_so (writes_read_only slots i) BadBinding) _ c.1 in
     record {
       writes = not-so (writes_read_only slots i) BadBinding d.0;
       room = λ gives is. few (length gives)
           (subst (λ (o : Option (List CellKind)). is_full o ≡ false) is
-          (not-so (is_full (effect (types_of slots) timers i kinds)) StackFull d.1));
+          (not-so (is_full (kinds_after (types_of slots) timers i kinds)) StackFull d.1));
     }
 
 -- ---- which faults an instruction has by itself
@@ -342,12 +344,12 @@ unless-own : (b : Bool) (f : VerifyFault) → IsOwn f → AllOwn (cond b None (S
 unless-own true f h = tt
 unless-own false f h = h
 
-unfit-own : (a b : Option (List CellKind)) → AllOwn (unfit a b)
+unfit-own : (a b : Option (List CellKind)) → AllOwn (operand_fault a b)
 unfit-own None b = tt
 unfit-own (Some x) None = tt
 unfit-own (Some x) (Some y) = tt
 
-missing-own : (slots timers : ℕ) (i : Instr) → AllOwn (missing slots timers i)
+missing-own : (slots timers : ℕ) (i : Instr) → AllOwn (missing_fault slots timers i)
 missing-own slots timers (Slot slot_use n) = unless-own (nat_lt n slots) NoSlot tt
 missing-own slots timers (Timer timer_use n) = unless-own (nat_lt n timers) NoTimer tt
 missing-own slots timers i = tt
@@ -358,9 +360,9 @@ pub own-of : (slots : List SlotType) (timers : ℕ) (i : Instr) (kinds : List Ce
 unfolding fault_of
 own-of slots timers i kinds f e =
     let all : AllOwn (fault_of slots timers i kinds) =
-    both-own (missing (length slots) timers i) _ (missing-own (length slots) timers i)
+    both-own (missing_fault (length slots) timers i) _ (missing-own (length slots) timers i)
     (both-own (where_so (nat_lt (length kinds) (operands i)) StackEmpty) _ (so-own _ StackEmpty tt)
-    (both-own (misfit slots timers i kinds) _ (unfit-own _ _)
+    (both-own (kind_fault slots timers i kinds) _ (unfit-own _ _)
     (both-own (where_so (writes_read_only slots i) BadBinding) _ (so-own _ BadBinding tt)
     (so-own _ StackFull tt)))) in
     subst AllOwn e all

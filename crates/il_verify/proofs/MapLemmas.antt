@@ -8,7 +8,7 @@ use Rattle.il_image.specs.declared.instr.Instr.{Instr}
 use Rattle.il_image.specs.declared.kind.CellKind.{CellKind}
 use Rattle.il_verify.specs.declared.frame.Frame.{Frame}
 use Rattle.il_image.proofs.SetLemmas.{set-elsewhere, set-here}
-use Rattle.il_verify.specs.Frames.{Clashing, Falls, Grows, PlainFrame, Pends, beside, frame_at, falls_through, plain_frame, plain_frames}
+use Rattle.il_verify.specs.Frames.{Clashing, Falls, Grows, PlainFrame, Pends, with_value_at, frame_at, falls_through, plain_frame, plain_frames}
 
 here-is : (p q : ℕ) → q ≡ p → (q == p) ≡ true
 here-is p q e = grind (arith, nat_tests)
@@ -17,11 +17,11 @@ not-here : (p q : ℕ) → (q ≡ p → ⊥) → (q == p) ≡ false
 not-here p q ne = grind (arith, nat_tests)
 
 pub beside-here : {A : Type 0} (p q : ℕ) (frame : Option A) (frames : ℕ → Option A) → q ≡ p
-    → beside p frame frames q ≡ frame
+    → with_value_at p frame frames q ≡ frame
 beside-here p q frame frames e = ap (λ (b : Bool). cond b frame (frames q)) (here-is p q e)
 
 pub beside-other : {A : Type 0} (p q : ℕ) (frame : Option A) (frames : ℕ → Option A) → (q ≡ p → ⊥)
-    → beside p frame frames q ≡ frames q
+    → with_value_at p frame frames q ≡ frames q
 beside-other p q frame frames ne = ap (λ (b : Bool). cond b frame (frames q)) (not-here p q ne)
 
 none-more : {A : Type 0} (xs : List (Option A)) (q : ℕ)
@@ -94,7 +94,7 @@ pub falls-to : (instr : Instr) (next : ℕ) (come : PlainFrame) (old mid : List 
     (o : Option Frame) (m : PlainFrame) → falls_through instr ≡ true → o ≡ frame_at old next
     → ((q : ℕ) → (q ≡ next → ⊥) → plain_frames mid q ≡ plain_frames old q)
     → Grows come (option_map plain_frame o) m
-    → Falls instr next come (plain_frames old) (beside next (Some m) (plain_frames mid))
+    → Falls instr next come (plain_frames old) (with_value_at next (Some m) (plain_frames mid))
 falls-to instr next come old mid o m on was gone grows to = elim (cases_eq to next) [
   | inl e ↦ inl (
     (on, e),
@@ -112,7 +112,7 @@ pub stays-so : (instr : Instr) (next : ℕ) (come : PlainFrame) (old mid : List 
     (o : Option Frame) → falls_through instr ≡ false → o ≡ frame_at old next
     → ((q : ℕ) → (q ≡ next → ⊥) → plain_frames mid q ≡ plain_frames old q)
     → Falls instr next come (plain_frames old)
-    (beside next (option_map plain_frame o) (plain_frames mid))
+    (with_value_at next (option_map plain_frame o) (plain_frames mid))
 stays-so instr next come old mid o off was gone to = inr (
   (λ h. let on : falls_through instr ≡ true = h.0 in cc),
   (elim (cases_eq to next) [

@@ -20,7 +20,7 @@ use Rattle.il_verify.specs.declared.fault.VerifyFault.{VerifyFault}
 use Rattle.il_verify.specs.declared.fault.VerifyFault.TheVariants.{StackEmpty, StackFull, WrongKind, ZeroDivisor, NoSlot, NoTimer, BadTarget, Unreachable, DepthClash, NoHalt, BadBinding, OutOfMemory}
 use Rattle.il_verify.specs.Judging.{fault_of}
 use Rattle.il_verify.specs.Slots.{slots_of}
-use Rattle.il_verify.specs.Refusals.{after, Arrives, Clashes, Comes, FailsAt, GoesPast, HasOwn, IsFaultAt, IsFront, IsJoin, IsRefusal, JumpsBadly, JumpsTo, Passes, own_fault}
+use Rattle.il_verify.specs.Refusals.{kinds_after_in, Arrives, Clashes, Comes, FailsAt, GoesPast, HasOwn, IsFaultAt, IsFront, IsJoin, IsRefusal, JumpsBadly, JumpsTo, Passes, own_fault}
 use Rattle.il_verify.proofs.TableLemmas.{leads-by-jump}
 
 -- ---- kinds
@@ -320,7 +320,8 @@ no-reason image t place fault p m (inr (inr (inr h))) =
     let c = h.1 in
     let e = met image t place c.at (arrives_there image t place p m) in
     let same =
-    ap (λ (x : Instr × ℕ). after image x.0 c.at.kinds) e.0 ∙ ap (after image p.instr) e.1 in
+    ap (λ (x : Instr × ℕ). kinds_after_in image x.0 c.at.kinds) e.0
+    ∙ ap (kinds_after_in image p.instr) e.1 in
     let gives = same_Some c.gives p.gives (sym c.effect ∙ same ∙ p.effect) in
     let leads = leads-same (c.at.instr, c.at.next) (p.instr, p.next) c.to e.0 c.leads in
     c.unequal (p.depths c.to leads c.others c.comes ∙ sym (ap length gives))

@@ -10,7 +10,7 @@ use Rattle.il_image.specs.declared.instr.Instr.{Instr}
 use Rattle.il_image.specs.Images.{Each, IsCode, all_spelled}
 use Rattle.il_image.specs.Reading.{instr_at}
 use Rattle.il_image.specs.Spelling.{IsInstr, spelling}
-use Rattle.il_image.specs.Tables.{IsPlace, behind_place, place_of}
+use Rattle.il_image.specs.Tables.{IsPlace, place_after, place_of}
 use Rattle.il_image.proofs.InstrLemmas.{back-instr}
 use Rattle.il_image.proofs.PlaceLemmas.{goes-forward}
 use Rattle.il_image.proofs.SetLemmas.{set-here, set-elsewhere}
@@ -23,7 +23,7 @@ pub place-behind : (code : List ℕ) (n place : ℕ) (i : Instr) (next : ℕ)
     → place_of code n ≡ Some place → instr_at code place ≡ Some (i, next)
     → place_of code (suc n) ≡ Some next
 place-behind code n place i next e here =
-    ap (behind_place code) e ∙ ap (option_map (λ (r : Instr × ℕ). r.1)) here
+    ap (place_after code) e ∙ ap (option_map (λ (r : Instr × ℕ). r.1)) here
 
 pub record Before (code : List ℕ) (n next : ℕ) : Type 0 where
   pub place : ℕ
@@ -32,7 +32,7 @@ pub record Before (code : List ℕ) (n next : ℕ) : Type 0 where
   pub here : instr_at code place ≡ Some (instr, next)
 
 before-case : (code : List ℕ) (n next : ℕ) (o : Option ℕ) → place_of code n ≡ o
-    → behind_place code o ≡ Some next → Before code n next
+    → place_after code o ≡ Some next → Before code n next
 before-case code n next None is e = absurd cc
 before-case code n next (Some place) is e = read (instr_at code place) refl e
   where

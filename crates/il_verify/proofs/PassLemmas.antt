@@ -12,7 +12,7 @@ use Rattle.il_image.specs.Tables.{Table, place_of}
 use Rattle.il_image.proofs.PlaceLemmas.{goes-forward}
 use Rattle.il_verify.specs.declared.fault.VerifyFault.{VerifyFault}
 use Rattle.il_verify.specs.declared.fault.VerifyFault.TheVariants.{BadTarget, Unreachable, DepthClash, NoHalt, OutOfMemory}
-use Rattle.il_verify.specs.Frames.{Clashing, Collides, ComesWhere, FailsVisit, GoesOn, Grows, PlainFrame, PlainFrames, MisLeads, Visits, beside}
+use Rattle.il_verify.specs.Frames.{Clashing, Collides, ComesWhere, FailsVisit, GoesOn, Grows, PlainFrame, PlainFrames, MisLeads, Visits, with_value_at}
 use Rattle.il_verify.specs.Passing.{raised_budget}
 use Rattle.il_verify.specs.Refusals.{Arrives, Clashes, FailsAt, HasOwn, IsFaultAt, IsFront, IsJoin, JumpsTo}
 use Rattle.il_verify.specs.Verdicts.{IsMeasured}
@@ -23,7 +23,7 @@ use Rattle.il_verify.proofs.OrderLemmas.{place-behind}
 use Rattle.il_verify.proofs.StepLemmas.{Framed, Standing, at_place, leads-join, framed-none, framed-some, not-at, right-targets, standing_first, standing_more, table_more}
 use Rattle.il_verify.proofs.TableLemmas.{agrees, first-place, is-depth, keeps-read-only, leads-on, join-room}
 use Rattle.il_verify.proofs.WithinLemmas.{within-length}
-use Rattle.il_image.specs.Effects.{effect}
+use Rattle.il_image.specs.Effects.{kinds_after}
 use Rattle.il_image.specs.Machine.{most_cells}
 use Rattle.bay_base.specs.declared.types.ElementaryType.{ElementaryType}
 
@@ -234,7 +234,7 @@ module _ (image : Image) (place : ℕ) (instr : Instr) (next : ℕ) (come : Plai
         gives = c.gives;
         faultless = c.faultless;
         effect =
-            sym (ap (λ (types : List ElementaryType). effect types (length image.timers) instr
+            sym (ap (λ (types : List ElementaryType). kinds_after types (length image.timers) instr
             come.kinds) (types-are image)) ∙ c.effect;
         targets =
             λ to way. right-targets image.code p.number place instr next to p.numbered here c.right
@@ -265,7 +265,8 @@ module _ (image : Image) (place : ℕ) (instr : Instr) (next : ℕ) (come : Plai
 
 where-beside : (P : ℕ → Type 0) (place : ℕ) (come : PlainFrame) (x : Option PlainFrame)
     (old new : PlainFrames) → (P place → ⊥) → ((to : ℕ) → ComesWhere (P to) come (old to) (new to))
-    → (to : ℕ) → ComesWhere (P to) come (beside place x old to) (beside place x new to)
+    → (to : ℕ) → ComesWhere (P to) come (with_value_at place x old to)
+    (with_value_at place x new to)
 where-beside P place come x old new not-here each to = elim (cases_eq to place) [
   | inl e ↦ inr (
     (λ h. not-here (subst P e h)),
@@ -294,13 +295,13 @@ leads-off code place instr next here h = let less : place < place =
 visits-beside : (image : Image) (place : ℕ) (instr : Instr) (next : ℕ) (come : PlainFrame)
     (x : Option PlainFrame) (old new : PlainFrames) → instr_at image.code place ≡ Some (instr, next)
     → Visits image instr next come old new
-    → Visits image instr next come (beside place x old) (beside place x new)
+    → Visits image instr next come (with_value_at place x old) (with_value_at place x new)
 visits-beside image place instr next come x old new here v = record {
   gives = v.gives;
   faultless = v.faultless;
   effect = v.effect;
   right = v.right;
-  mid = beside place x v.mid;
+  mid = with_value_at place x v.mid;
   jumps = where-beside (JumpsTo instr next) place _ x old v.mid
       (λ h. leads-off image.code place instr next here (inl h)) v.jumps;
   falls = where-beside (GoesOn instr next) place _ x v.mid new
@@ -310,7 +311,7 @@ visits-beside image place instr next come x old new here v = record {
 fails-beside : (image : Image) (place : ℕ) (instr : Instr) (next : ℕ) (come : PlainFrame)
     (x : Option PlainFrame) (old : PlainFrames) (fault : VerifyFault)
     → instr_at image.code place ≡ Some (instr, next) → FailsVisit image instr next come old fault
-    → FailsVisit image instr next come (beside place x old) fault
+    → FailsVisit image instr next come (with_value_at place x old) fault
 fails-beside image place instr next come x old fault here f = elim f [
   | inl own ↦ inl own
   | inr g ↦ elim g [
@@ -368,37 +369,41 @@ passing-same image done budget depth frames others same p = record {
 pub goes-over : (image : Image) (place : ℕ) (instr : Instr) (next : ℕ) (come : PlainFrame)
     (behind : Option PlainFrame) (old new : PlainFrames) (budget depth : ℕ) (halts : Bool)
     → instr_at image.code place ≡ Some (instr, next) → IsTrue halts ↔ (instr ≡ Halt)
-    → Visits image instr next come old (beside next behind new)
-    → Passing image place budget depth (beside place (Some come) old)
+    → Visits image instr next come old (with_value_at next behind new)
+    → Passing image place budget depth (with_value_at place (Some come) old)
     → Passing image next (raised_budget halts come.longest budget) (max (length come.kinds) depth)
-    (beside next behind new)
+    (with_value_at next behind new)
 goes-over image place instr next come behind old new budget depth halts here says v p =
     let f : place < next = (goes-forward image.code place instr next here).0 in
     passing-same image next (raised_budget halts come.longest budget)
     (max (length come.kinds) depth)
-    (beside place (Some come) (beside next behind new)) (beside next behind new)
-    (λ q h. sym (beside-other place q (Some come) (beside next behind new) (λ e. omega arith)))
-    (passing-more image place instr next come (beside place (Some come) old)
-    (beside place (Some come) (beside next behind new)) budget depth here
+    (with_value_at place (Some come) (with_value_at next behind new))
+    (with_value_at next behind new)
+    (λ q h. sym (beside-other place q (Some come) (with_value_at next behind new)
+    (λ e. omega arith)))
+    (passing-more image place instr next come (with_value_at place (Some come) old)
+    (with_value_at place (Some come) (with_value_at next behind new)) budget depth here
     (beside-here place place (Some come) old refl)
-    (visits-beside image place instr next come (Some come) old (beside next behind new) here v) p
+    (visits-beside image place instr next come (Some come) old (with_value_at next behind new) here
+    v) p
     halts says)
 
 pub fails-over : (image : Image) (place : ℕ) (instr : Instr) (next : ℕ) (come : PlainFrame)
     (old : PlainFrames) (budget depth : ℕ) (fault : VerifyFault)
     → instr_at image.code place ≡ Some (instr, next) → place < length image.code
     → FailsVisit image instr next come old fault
-    → Passing image place budget depth (beside place (Some come) old)
+    → Passing image place budget depth (with_value_at place (Some come) old)
     → FailsAt image fault place
 fails-over image place instr next come old budget depth fault here less f p =
-    fails-there image place instr next come (beside place (Some come) old) budget depth here
+    fails-there image place instr next come (with_value_at place (Some come) old) budget depth here
     (beside-here place place (Some come) old refl) p fault less
     (fails-beside image place instr next come (Some come) old fault here f)
 
 -- a pass begins with the first frame alone
 pub begins : (image : Image) (come : PlainFrame) (old : PlainFrames) → 0 < length image.code
     → come.kinds ≡ [] → come.longest ≡ 1 → ((q : ℕ) → old q ≡ None)
-    → Passing image 0 0 0 (beside 0 (Some come) old)
+    → Passing image 0 0 0 (with_value_at 0 (Some come) old)
 begins image come old some empty one none =
-    passing-first image (beside 0 (Some come) old) come some (beside-here 0 0 (Some come) old refl)
+    passing-first image (with_value_at 0 (Some come) old) come some
+    (beside-here 0 0 (Some come) old refl)
     empty one (λ q ne. beside-other 0 q (Some come) old ne ∙ none q)

@@ -7,14 +7,14 @@ use Rattle.il_image.specs.declared.instr.Instr.{Instr}
 use Rattle.il_image.specs.declared.instr.Instr.TheVariants.{Halt, Jump}
 use Rattle.il_image.specs.declared.kind.CellKind.{CellKind}
 use Rattle.il_image.specs.declared.opcode.When.TheVariants.{Always, IfTrue, IfFalse}
-use Rattle.il_image.specs.Effects.{effect}
+use Rattle.il_image.specs.Effects.{kinds_after}
 use Rattle.il_image.specs.Images.{Image}
 use Rattle.il_image.specs.Kinds.{AreWithin}
 use Rattle.il_image.specs.Reading.{instr_at}
 use Rattle.il_image.specs.Tables.{IsPlace, LeadsTo, Table, place_of}
 use Rattle.il_image.proofs.PlaceLemmas.{goes-forward}
-use Rattle.il_verify.specs.Frames.{ComesWhere, GoesOn, Grows, LeadsRight, PlainFrame, PlainFrames, Visits, beside}
-use Rattle.il_verify.specs.Refusals.{Comes, IsFront, IsJoin, JumpsTo, Passes, after}
+use Rattle.il_verify.specs.Frames.{ComesWhere, GoesOn, Grows, LeadsRight, PlainFrame, PlainFrames, Visits, with_value_at}
+use Rattle.il_verify.specs.Refusals.{Comes, IsFront, IsJoin, JumpsTo, Passes, kinds_after_in}
 use Rattle.il_verify.proofs.EffectLemmas.{not-both}
 use Rattle.il_verify.proofs.FrameLemmas.{grows-along}
 use Rattle.il_verify.proofs.JudgeLemmas.{types-are}
@@ -82,9 +82,10 @@ spreads image instr next come old new v to =
 
 pub effect-there : (image : Image) (instr : Instr) (next : ℕ) (come : PlainFrame)
     (old new : PlainFrames) (v : Visits image instr next come old new)
-    → after image instr come.kinds ≡ Some v.gives
+    → kinds_after_in image instr come.kinds ≡ Some v.gives
 effect-there image instr next come old new v =
-    sym (ap (λ (types : List ElementaryType). effect types (length image.timers) instr come.kinds)
+    sym (ap (λ (types : List ElementaryType). kinds_after types (length image.timers) instr
+    come.kinds)
     (types-are image)) ∙ v.effect
 
 -- where it leads rightly is a place
@@ -165,7 +166,7 @@ module _ (image : Image) (place : ℕ) (instr : Instr) (next : ℕ) (come : Plai
     (was : old place ≡ Some come) (v : Visits image instr next come old new)
     (s : Standing image place old) where
   abbrev pub table_more : Table
-  table_more = beside place (Some come.kinds) s.table
+  table_more = with_value_at place (Some come.kinds) s.table
 
   forward : place < next
   forward = (goes-forward image.code place instr next here).0
@@ -186,7 +187,7 @@ module _ (image : Image) (place : ℕ) (instr : Instr) (next : ℕ) (come : Plai
   same-so-far : SameBefore place s.table table_more
   same-so-far q less = sym (not-at q (λ e. omega arith))
 
-  effect_is : after image instr come.kinds ≡ Some v.gives
+  effect_is : kinds_after_in image instr come.kinds ≡ Some v.gives
   effect_is = effect-there image instr next come old new v
 
   from-here : (q : ℕ) → LeadsTo instr next q → Comes image table_more next q v.gives
@@ -224,8 +225,8 @@ module _ (image : Image) (place : ℕ) (instr : Instr) (next : ℕ) (come : Plai
           let known : f.before ≡ come.kinds =
           same_Some f.before come.kinds (sym f.known ∙ ap table_more e ∙ at_place) in
           let gives : Some kinds ≡ Some v.gives =
-          sym f.gives ∙ ap (λ (j : Instr). after image j f.before) same.0
-          ∙ ap (after image instr) known ∙ effect_is in
+          sym f.gives ∙ ap (λ (j : Instr). kinds_after_in image j f.before) same.0
+          ∙ ap (kinds_after_in image instr) known ∙ effect_is in
           inr (
             subst (λ (n : ℕ). LeadsTo instr n q) same.1
                 (subst (λ (j : Instr). LeadsTo j f.next q) same.0 f.leads),

@@ -10,7 +10,7 @@ use Rattle.il_image.specs.declared.instr.Instr.{Instr}
 use Rattle.il_image.specs.declared.instr.Instr.TheVariants.{Halt, Jump}
 use Rattle.il_image.specs.declared.kind.CellKind.{CellKind}
 use Rattle.il_image.specs.declared.opcode.When.TheVariants.{Always, IfTrue, IfFalse}
-use Rattle.il_image.specs.Effects.{effect}
+use Rattle.il_image.specs.Effects.{kinds_after}
 use Rattle.il_image.specs.Images.{Image}
 use Rattle.il_image.specs.Kinds.{AreWithin}
 use Rattle.il_image.specs.Reading.{instr_at}
@@ -21,7 +21,7 @@ use Rattle.il_verify.specs.declared.fault.VerifyFault.{VerifyFault}
 use Rattle.il_verify.specs.declared.fault.VerifyFault.TheVariants.{StackEmpty, StackFull, WrongKind, ZeroDivisor, NoSlot, NoTimer, BadTarget, Unreachable, DepthClash, NoHalt, BadBinding, OutOfMemory}
 use Rattle.il_verify.specs.Binding.{fits}
 use Rattle.il_verify.specs.Judging.{fault_of}
-use Rattle.il_verify.specs.Refusals.{Arrives, Clashes, Comes, GoesPast, IsFaultAt, IsFront, IsJoin, IsRefusal, JumpsBadly, JumpsTo, Passes, after, own_fault}
+use Rattle.il_verify.specs.Refusals.{Arrives, Clashes, Comes, GoesPast, IsFaultAt, IsFront, IsJoin, IsRefusal, JumpsBadly, JumpsTo, Passes, kinds_after_in, own_fault}
 use Rattle.il_verify.specs.Slots.{slots_of, types_of}
 use Rattle.il_verify.specs.Verdicts.{IsDepth, IsLongest, IsSafe, KeepsReadOnly}
 use Rattle.il_verify.proofs.EffectLemmas.{effect-lower, not-both}
@@ -93,11 +93,11 @@ passed-fault image table place i next kinds p here known =
 few-behind : (image : Image) (table : Table) (place : ℕ) (i : Instr) (next : ℕ)
     (kinds gives : List CellKind) → Passes image table place
     → instr_at image.code place ≡ Some (i, next) → table place ≡ Some kinds
-    → after image i kinds ≡ Some gives → length gives ≤ most_cells
+    → kinds_after_in image i kinds ≡ Some gives → length gives ≤ most_cells
 few-behind image table place i next kinds gives p here known effect_is =
     (faultless-fine (slots_of image) (length image.timers) i kinds
     (passed-fault image table place i next kinds p here known)).room gives
-    (ap (λ (types : List ElementaryType). effect types (length image.timers) i kinds)
+    (ap (λ (types : List ElementaryType). kinds_after types (length image.timers) i kinds)
     (types-are image) ∙ effect_is)
 
 -- What comes to a place together has at most 32 kinds.
@@ -152,7 +152,7 @@ module _ (image : Image) (table : Table) (front : IsFront image table (length im
         next = p.next;
         after = p.gives;
         here = p.here;
-        effect = ap (after image p.instr) (sym its) ∙ p.effect;
+        effect = ap (kinds_after_in image p.instr) (sym its) ∙ p.effect;
         enters = enters-next place p;
       }
 
@@ -226,7 +226,7 @@ module _ (image : Image) (table : Table) (done : ℕ) (front : IsFront image tab
         e.2 a.effect in
         let its : l.lower ≡ others =
         same_Some l.lower others
-        (sym l.is ∙ ap (λ (j : Instr). after image j f.before) same.0 ∙ f.gives) in
+        (sym l.is ∙ ap (λ (j : Instr). kinds_after_in image j f.before) same.0 ∙ f.gives) in
         let leads : LeadsTo a.instr a.next to =
         subst (λ (n : ℕ). LeadsTo a.instr n to) (sym same.1)
         (subst (λ (j : Instr). LeadsTo j f.next to) (sym same.0) f.leads) in
@@ -257,15 +257,15 @@ module _ (image : Image) (table : Table) (done : ℕ) (front : IsFront image tab
   -- what the instruction at a place does on the least kinds before it
   record Does (place : ℕ) (a : Arrives image table place) : Type 0 where
     gives : List CellKind
-    effect_is : after image a.instr a.kinds ≡ Some gives
+    effect_is : kinds_after_in image a.instr a.kinds ≡ Some gives
     enters : (to : ℕ) → LeadsTo a.instr a.next to → Enters other to gives
     room : length gives ≤ most_cells
 
   halts-small : (i : Instr) (kinds gives : List CellKind) → i ≡ Halt
-      → after image i kinds ≡ Some gives
+      → kinds_after_in image i kinds ≡ Some gives
       → kinds ≡ gives
   halts-small i kinds gives e is =
-      same_Some kinds gives (ap (λ (j : Instr). after image j kinds) (sym e) ∙ is)
+      same_Some kinds gives (ap (λ (j : Instr). kinds_after_in image j kinds) (sym e) ∙ is)
 
   does : (place : ℕ) (a : Arrives image table place) → IsPlace image.code place → Does place a
   does place a is =
@@ -275,8 +275,8 @@ module _ (image : Image) (table : Table) (done : ℕ) (front : IsFront image tab
       let same = same-instr image.code place b.instr a.instr b.next a.next b.here a.here in
       let l = effect-lower (slot_types image) (length image.timers) b.instr a.kinds e.0 b.after e.2
       b.effect in
-      let effect-there : after image a.instr a.kinds ≡ Some l.lower =
-      ap (λ (j : Instr). after image j a.kinds) (sym same.0) ∙ l.is in
+      let effect-there : kinds_after_in image a.instr a.kinds ≡ Some l.lower =
+      ap (λ (j : Instr). kinds_after_in image j a.kinds) (sym same.0) ∙ l.is in
       let enters_there : (to : ℕ) → LeadsTo a.instr a.next to → Enters other to l.lower = λ to way.
       let g = b.enters to (subst (λ (n : ℕ). LeadsTo b.instr n to) (sym same.1)
       (subst (λ (j : Instr). LeadsTo j a.next to) (sym same.0) way)) in
@@ -308,9 +308,11 @@ module _ (image : Image) (table : Table) (done : ℕ) (front : IsFront image tab
     no-own : (fault : VerifyFault) (a : Arrives image table place) → own_fault a ≡ Some fault → ⊥
     no-own fault a e =
         let d = does place a is in
-        let effect-so : effect (types_of (slots_of image)) (length image.timers) a.instr a.kinds
+        let effect-so : kinds_after (types_of (slots_of image)) (length image.timers) a.instr
+        a.kinds
         ≡ Some d.gives =
-        ap (λ (types : List ElementaryType). effect types (length image.timers) a.instr a.kinds)
+        ap (λ (types : List ElementaryType). kinds_after types (length image.timers) a.instr
+        a.kinds)
         (types-are image) ∙ d.effect_is in
         not-both (own_fault a) fault
         (allowed-faultless (slots_of image) (length image.timers) a.instr a.kinds d.gives

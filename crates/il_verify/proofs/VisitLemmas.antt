@@ -7,7 +7,7 @@ use Rattle.il_image.specs.declared.instr.Instr.{Instr}
 use Rattle.il_image.specs.declared.instr.Instr.TheVariants.{Jump}
 use Rattle.il_image.specs.declared.kind.CellKind.{CellKind}
 use Rattle.il_image.specs.declared.opcode.When.{When}
-use Rattle.il_image.specs.Effects.{effect}
+use Rattle.il_image.specs.Effects.{kinds_after}
 use Rattle.il_image.specs.Images.{Image}
 use Rattle.il_verify.specs.declared.fault.VerifyFault.{VerifyFault}
 use Rattle.il_verify.specs.declared.slots.SlotType.{SlotType}
@@ -26,11 +26,11 @@ fault-there image slots timers instr kinds o e f is =
 
 pub effect-so : (image : Image) (slots : List SlotType) (timers : ℕ) (instr : Instr)
     (kinds : List CellKind) (o : Option (List CellKind)) → slots ≡ slots_of image
-    → timers ≡ length image.timers → effect (types_of slots) timers instr kinds ≡ o
-    → effect (types_of (slots_of image)) (length image.timers) instr kinds ≡ o
+    → timers ≡ length image.timers → kinds_after (types_of slots) timers instr kinds ≡ o
+    → kinds_after (types_of (slots_of image)) (length image.timers) instr kinds ≡ o
 effect-so image slots timers instr kinds o e f is =
-    sym (ap (λ (s : List SlotType). effect (types_of s) timers instr kinds) e
-    ∙ ap (λ (n : ℕ). effect (types_of (slots_of image)) n instr kinds) f) ∙ is
+    sym (ap (λ (s : List SlotType). kinds_after (types_of s) timers instr kinds) e
+    ∙ ap (λ (n : ℕ). kinds_after (types_of (slots_of image)) n instr kinds) f) ∙ is
 
 -- A clash after the jump was one before it: what the jump brought has as many kinds.
 pub clash-before : (instr : Instr) (next : ℕ) (come : PlainFrame) (old mid : PlainFrames)

@@ -4,7 +4,7 @@ use Rattle.il_image.specs.declared.instr.Instr.{Instr}
 use Rattle.il_image.specs.declared.instr.Instr.TheVariants.{Halt, Push, Drop, Slot, Not, Combine, Compute, Compare, Widen, Jump, Timer}
 use Rattle.il_image.specs.declared.kind.CellKind.{CellKind}
 use Rattle.il_image.specs.declared.opcode.When.TheVariants.{Always, IfTrue, IfFalse}
-use Rattle.il_image.specs.Effects.{effect}
+use Rattle.il_image.specs.Effects.{kinds_after}
 use Rattle.il_image.specs.Images.{Image}
 use Rattle.il_image.specs.Kinds.{AreWithin, join}
 use Rattle.il_image.specs.Tables.{IsPlace}
@@ -53,8 +53,8 @@ unfoldable pub plain_frames : List (Option Frame) → PlainFrames
 plain_frames pending place = option_map plain_frame (frame_at pending place)
 
 -- the values `others`, with the value `known` at one place
-abbrev pub beside : {A : Type 0} → ℕ → Option A → (ℕ → Option A) → ℕ → Option A
-beside place known others q = if q == place then known else others q
+abbrev pub with_value_at : {A : Type 0} → ℕ → Option A → (ℕ → Option A) → ℕ → Option A
+with_value_at place known others q = if q == place then known else others q
 
 -- Another path leads to a place: the new frame is the join of the old one, if there is one, and of
 -- `come`, the frame that the path brings.
@@ -153,7 +153,7 @@ pub record Visits (image : Image) (instr : Instr) (next : ℕ) (come : PlainFram
     (old new : PlainFrames) : Type 0 where
   pub gives : List CellKind
   pub faultless : fault_of (slots_of image) (length image.timers) instr come.kinds ≡ None
-  pub effect : effect (types_of (slots_of image)) (length image.timers) instr come.kinds
+  pub effect : kinds_after (types_of (slots_of image)) (length image.timers) instr come.kinds
       ≡ Some gives
   pub right : LeadsRight image.code instr next
   pub mid : PlainFrames
@@ -172,7 +172,7 @@ pub record Collides (image : Image) (instr : Instr) (next : ℕ) (come : PlainFr
     (old : PlainFrames) : Type 0 where
   pub gives : List CellKind
   pub faultless : fault_of (slots_of image) (length image.timers) instr come.kinds ≡ None
-  pub effect : effect (types_of (slots_of image)) (length image.timers) instr come.kinds
+  pub effect : kinds_after (types_of (slots_of image)) (length image.timers) instr come.kinds
       ≡ Some gives
   pub right : LeadsRight image.code instr next
   pub to : ℕ

@@ -12,7 +12,7 @@ use Rattle.il_image.specs.declared.opcode.SlotUse.TheVariants.{Load, Store, SetI
 use Rattle.il_image.specs.declared.opcode.When.TheVariants.{Always, IfTrue, IfFalse}
 use Rattle.il_image.specs.declared.opcode.TimerUse.TheVariants.{SetInput, SetPreset, Run, LoadOutput, LoadElapsed}
 use Rattle.il_image.specs.Arithmetic.{type_of_width}
-use Rattle.il_image.specs.Effects.{effect, second_kind, two}
+use Rattle.il_image.specs.Effects.{kinds_after, second_kind, two}
 use Rattle.il_image.specs.Machine.{most_cells}
 use Rattle.il_verify.specs.declared.fault.VerifyFault.{VerifyFault}
 use Rattle.il_verify.specs.declared.fault.VerifyFault.TheVariants.{StackEmpty, StackFull, WrongKind, ZeroDivisor, NoSlot, NoTimer, BadBinding}
@@ -21,10 +21,10 @@ use Rattle.il_verify.specs.Slots.{types_of}
 
 -- the fault of an instruction whose slot or timer does not exist, given the numbers of slots and
 -- timers
-abbrev pub missing : ℕ → ℕ → Instr → Option VerifyFault
-missing slots timers (Slot slot_use n) = if nat_lt n slots then None else Some NoSlot
-missing slots timers (Timer timer_use n) = if nat_lt n timers then None else Some NoTimer
-missing slots timers other = None
+abbrev pub missing_fault : ℕ → ℕ → Instr → Option VerifyFault
+missing_fault slots timers (Slot slot_use n) = if nat_lt n slots then None else Some NoSlot
+missing_fault slots timers (Timer timer_use n) = if nat_lt n timers then None else Some NoTimer
+missing_fault slots timers other = None
 
 -- the number of values that an instruction pops or reads
 abbrev pub operands : Instr → ℕ
@@ -56,19 +56,20 @@ without_divisor other = other
 
 -- the kinds after an instruction, if it is allowed on these
 abbrev pub effect_on : List SlotType → ℕ → List CellKind → Instr → Option (List CellKind)
-effect_on slots timers kinds i = effect (types_of slots) timers i kinds
+effect_on slots timers kinds i = kinds_after (types_of slots) timers i kinds
 
 -- the fault of the operands: a wrong kind if the instruction that accepts any divisor is not
 -- allowed either; otherwise a divisor that may be zero
-abbrev pub unfit : Option (List CellKind) → Option (List CellKind) → Option VerifyFault
-unfit None actual = Some WrongKind
-unfit (Some with_any) None = Some ZeroDivisor
-unfit (Some with_any) (Some actual) = None
+abbrev pub operand_fault : Option (List CellKind) → Option (List CellKind) → Option VerifyFault
+operand_fault None actual = Some WrongKind
+operand_fault (Some with_any) None = Some ZeroDivisor
+operand_fault (Some with_any) (Some actual) = None
 
 -- the fault of the kinds that the instruction pops or reads
-abbrev pub misfit : List SlotType → ℕ → Instr → List CellKind → Option VerifyFault
-misfit slots timers i kinds =
-    unfit (effect_on slots timers kinds (without_divisor i)) (effect_on slots timers kinds i)
+abbrev pub kind_fault : List SlotType → ℕ → Instr → List CellKind → Option VerifyFault
+kind_fault slots timers i kinds =
+    operand_fault (effect_on slots timers kinds (without_divisor i))
+    (effect_on slots timers kinds i)
 
 -- the kind of a BOOL
 abbrev pub truth : CellKind
@@ -108,8 +109,8 @@ where_so b fault = if b then Some fault else None
 -- the first fault of an instruction on these kinds
 unfoldable pub fault_of : List SlotType → ℕ → Instr → List CellKind → Option VerifyFault
 fault_of slots timers i kinds =
-    missing (length slots) timers i
+    missing_fault (length slots) timers i
     or_else where_so (nat_lt (length kinds) (operands i)) StackEmpty
-    or_else misfit slots timers i kinds
+    or_else kind_fault slots timers i kinds
     or_else where_so (writes_read_only slots i) BadBinding
     or_else where_so (is_full (effect_on slots timers kinds i)) StackFull

@@ -4,7 +4,7 @@ use Rattle.bay_base.specs.declared.point.Point.{Point}
 use Rattle.il_image.specs.declared.instr.Instr.{Instr}
 use Rattle.il_image.specs.declared.instr.Instr.TheVariants.{Halt, Push, Drop, Slot, Not, Combine, Compute, Compare, Widen, Jump, Timer}
 use Rattle.il_image.specs.declared.kind.CellKind.{CellKind}
-use Rattle.il_image.specs.Effects.{effect}
+use Rattle.il_image.specs.Effects.{kinds_after}
 use Rattle.il_image.specs.Images.{Image}
 use Rattle.il_image.specs.Kinds.{AreWithin}
 use Rattle.il_image.specs.Reading.{instr_at}
@@ -18,8 +18,8 @@ use Rattle.il_verify.specs.Slots.{slots_of}
 -- ---- the kinds before a place
 
 -- the kinds after an instruction of the image, if it is allowed
-abbrev pub after : Image → Instr → List CellKind → Option (List CellKind)
-after image instr kinds = effect (slot_types image) (length image.timers) instr kinds
+abbrev pub kinds_after_in : Image → Instr → List CellKind → Option (List CellKind)
+kinds_after_in image instr kinds = kinds_after (slot_types image) (length image.timers) instr kinds
 
 -- The table has kinds before the instruction at the place `from`; the instruction leads to the
 -- place `to`, and these are the kinds after it.
@@ -30,7 +30,7 @@ pub record ComesFrom (image : Image) (table : Table) (from to : ℕ) (kinds : Li
   pub before : List CellKind
   pub here : instr_at image.code from ≡ Some (instr, next)
   pub known : table from ≡ Some before
-  pub gives : after image instr before ≡ Some kinds
+  pub gives : kinds_after_in image instr before ≡ Some kinds
   pub leads : LeadsTo instr next to
 
 -- These kinds reach the place: an empty list at the start of the code, and the kinds after each
@@ -59,7 +59,7 @@ pub record Passes (image : Image) (table : Table) (place : ℕ) : Type 0 where
   pub here : instr_at image.code place ≡ Some (instr, next)
   pub known : table place ≡ Some kinds
   pub faultless : fault_of (slots_of image) (length image.timers) instr kinds ≡ None
-  pub effect : after image instr kinds ≡ Some gives
+  pub effect : kinds_after_in image instr kinds ≡ Some gives
   pub targets : (to : ℕ) → LeadsTo instr next to → IsPlace image.code to
   pub depths : (to : ℕ) → LeadsTo instr next to → (others : List CellKind)
       → Comes image table place to others → length others ≡ length gives
@@ -125,7 +125,7 @@ pub record Clashes (image : Image) (table : Table) (place : ℕ) : Type 0 where
   pub at : Arrives image table place
   pub gives : List CellKind
   pub faultless : own_fault at ≡ None
-  pub effect : after image at.instr at.kinds ≡ Some gives
+  pub effect : kinds_after_in image at.instr at.kinds ≡ Some gives
   pub targets : (to : ℕ) → LeadsTo at.instr at.next to → IsPlace image.code to
   pub to : ℕ
   pub leads : LeadsTo at.instr at.next to

@@ -2,12 +2,12 @@
 // top is the last element.
 ghost use Rattle.std.specs.Prelude.{◌≡◌, ◌≤◌, Some, None, reverse, length, OnOk, OnErr, IfErr, IfSome, IfNone, IsTrue, MatchResult, [], ◌∷◌, ◌⊎◌, ℕ, List};
 ghost use Rattle.il_image.specs.Machine as spec_machine;
-ghost use Rattle.il_image.specs.Effects.{below, compares, effect, looks_at, second_kind, two, type_of_kind, widens, with_truth};
+ghost use Rattle.il_image.specs.Effects.{below, compares, kinds_after, looks_at, second_kind, two, type_of_kind, widens, with_truth};
 ghost use Rattle.il_image.specs.Effects as spec;
 ghost use Rattle.il_image.specs.declared.kind.CellKind.{CellKind};
 ghost use Rattle.il_image.specs.Machine.{most_cells};
-ghost use Rattle.il_verify.specs.Judging.{computes, truth, unfit};
-ghost use Rattle.il_verify.specs.Judging.{fault_of, is_read_only, misfit, missing};
+ghost use Rattle.il_verify.specs.Judging.{computes, truth, operand_fault};
+ghost use Rattle.il_verify.specs.Judging.{fault_of, is_read_only, kind_fault, missing_fault};
 ghost use Rattle.il_verify.specs.Judging as spec_judging;
 ghost use Rattle.il_verify.specs.Slots.{types_of};
 
@@ -100,7 +100,7 @@ fn compute(
     ensures ok { OnOk result
         (computes operation width (reverse kinds.old.items) ≡ Some (reverse kinds.new.items)) }
     ensures err { IfErr result
-        (λ f. unfit (computes ArithmeticOperation.Add width (reverse kinds.old.items))
+        (λ f. operand_fault (computes ArithmeticOperation.Add width (reverse kinds.old.items))
         (computes operation width (reverse kinds.old.items)) ≡ Some f) }
 {
     let number = CellKind::Plain(width.elementary());
@@ -224,10 +224,10 @@ fn use_slot(
 ) -> Result<(), VerifyFault>
     requires room { length kinds.old.items ≤ most_cells }
     ensures ok { OnOk result
-        (effect (types_of slots.now) 0 (Instr.Slot slot_use number) (reverse kinds.old.items)
+        (kinds_after (types_of slots.now) 0 (Instr.Slot slot_use number) (reverse kinds.old.items)
         ≡ Some (reverse kinds.new.items)) }
     ensures err { IfErr result (λ f. (f ≡ VerifyFault.WrongKind)
-        × (effect (types_of slots.now) 0 (Instr.Slot slot_use number) (reverse kinds.old.items)
+        × (kinds_after (types_of slots.now) 0 (Instr.Slot slot_use number) (reverse kinds.old.items)
         ≡ None)) }
 {
     match slot_use {
@@ -250,10 +250,10 @@ fn use_slot(
 fn use_timer(timer_use: TimerUse, kinds: &mut KindStack) -> Result<(), VerifyFault>
     requires room { length kinds.old.items ≤ most_cells }
     ensures ok { OnOk result
-        (effect [] 1 (Instr.Timer timer_use 0) (reverse kinds.old.items)
+        (kinds_after [] 1 (Instr.Timer timer_use 0) (reverse kinds.old.items)
         ≡ Some (reverse kinds.new.items)) }
     ensures err { IfErr result (λ f. (f ≡ VerifyFault.WrongKind)
-        × (effect [] 1 (Instr.Timer timer_use 0) (reverse kinds.old.items) ≡ None)) }
+        × (kinds_after [] 1 (Instr.Timer timer_use 0) (reverse kinds.old.items) ≡ None)) }
 {
     match timer_use {
         TimerUse::SetInput => take(kinds, CellKind::Plain(ElementaryType::Bool)),
@@ -277,13 +277,13 @@ fn apply(
     instr: Instr,
     kinds: &mut KindStack,
 ) -> Result<(), VerifyFault>
-    requires named { missing (length slots.now) timers instr ≡ None }
+    requires named { missing_fault (length slots.now) timers instr ≡ None }
     requires room { length kinds.old.items ≤ most_cells }
     ensures ok { OnOk result
-        (effect (types_of slots.now) timers instr (reverse kinds.old.items)
+        (kinds_after (types_of slots.now) timers instr (reverse kinds.old.items)
         ≡ Some (reverse kinds.new.items)) }
     ensures err { IfErr result
-        (λ f. misfit slots.now timers instr (reverse kinds.old.items) ≡ Some f) }
+        (λ f. kind_fault slots.now timers instr (reverse kinds.old.items) ≡ Some f) }
 {
     match instr {
         Instr::Halt | Instr::Jump(When::Always, _) => Ok(()),
@@ -310,8 +310,8 @@ fn apply(
 
 // Checks that the slot or the timer of an instruction exists.
 fn check_slot_or_timer(slots: usize, timers: usize, instr: Instr) -> Result<(), VerifyFault>
-    ensures { MatchResult result (λ _. missing slots timers instr ≡ None)
-        (λ f. missing slots timers instr ≡ Some f) }
+    ensures { MatchResult result (λ _. missing_fault slots timers instr ≡ None)
+        (λ f. missing_fault slots timers instr ≡ Some f) }
 {
     match instr {
         Instr::Slot(_, number) if usize::from(number) >= slots => Err(VerifyFault::NoSlot),
@@ -361,7 +361,7 @@ pub(crate) fn transfer(
 ) -> Result<(), VerifyFault>
     requires room { length kinds.old.items ≤ most_cells }
     ensures ok { OnOk result
-        (effect (types_of slots.now) timers instr (reverse kinds.old.items)
+        (kinds_after (types_of slots.now) timers instr (reverse kinds.old.items)
         ≡ Some (reverse kinds.new.items)) }
     ensures faultless { OnOk result
         (fault_of slots.now timers instr (reverse kinds.old.items) ≡ None) }

@@ -1,7 +1,7 @@
 // The frames of the places that are still to come, and how frames are joined.
 ghost use Rattle.std.specs.Prelude.{ℕ, ◌-◌, ◌≡◌, ◌≢◌, ◌+◌, ◌<◌, ◌≤◌, ◌^◌, [], Some, None, length, reverse, OnOk, IfOk, IfErr, IfSome, IsSome, option_map, true};
 ghost use Rattle.il_verify.specs.declared.frame.Frame.{Frame};
-ghost use Rattle.il_verify.specs.Frames.{Clashing, Falls, Grows, JumpClash, Jumps, PlainFrame, Pends, beside, frame_at, join_all, plain_frame, plain_frames};
+ghost use Rattle.il_verify.specs.Frames.{Clashing, Falls, Grows, JumpClash, Jumps, PlainFrame, Pends, with_value_at, frame_at, join_all, plain_frame, plain_frames};
 ghost use Rattle.il_verify.specs.Frames as spec;
 ghost use Rattle.il_verify.specs.Refusals.{JumpsTo};
 ghost use Rattle.il_image.specs.Machine.{most_cells};
@@ -187,7 +187,7 @@ pub(crate) fn fall(
     ensures size { length pending.new.items ≡ length pending.old.items }
     ensures ok { IfOk result
         (λ behind. Falls instr next (plain_frame frame) (plain_frames pending.old.items)
-        (beside next (option_map plain_frame behind) (plain_frames pending.new.items))) }
+        (with_value_at next (option_map plain_frame behind) (plain_frames pending.new.items))) }
     ensures err { IfErr result
         (λ f. (f ≡ VerifyFault.DepthClash)
         × ((spec.falls_through instr ≡ true)

@@ -4,7 +4,7 @@ ghost use Rattle.std.specs.Prelude.{◌≡◌, ◌<◌, ◌≤◌, ◌-◌, ◌^
 ghost use Rattle.std.specs.Bool.{OnFalse, OnTrue};
 ghost use Rattle.il_image.specs.Tables.{IsPlace};
 ghost use Rattle.il_image.specs.Machine.{most_cells};
-ghost use Rattle.il_verify.specs.Frames.{FailsVisit, IsPlan, JumpsWrong, LeadsRight, LeadsWrong, MarksPlaces, Visits, beside, plain_frame, plain_frames};
+ghost use Rattle.il_verify.specs.Frames.{FailsVisit, IsPlan, JumpsWrong, LeadsRight, LeadsWrong, MarksPlaces, Visits, with_value_at, plain_frame, plain_frames};
 ghost use Rattle.il_verify.specs.Refusals.{JumpsTo};
 
 use crate::effect::transfer;
@@ -61,7 +61,7 @@ pub(crate) fn visit(
     ensures size { length pending.new.items ≡ length pending.old.items }
     ensures ok { IfOk result
         (λ behind. Visits image.now instr next (plain_frame frame) (plain_frames pending.old.items)
-        (beside next (option_map plain_frame behind) (plain_frames pending.new.items))) }
+        (with_value_at next (option_map plain_frame behind) (plain_frames pending.new.items))) }
     ensures err { IfErr result
         (λ f. FailsVisit image.now instr next (plain_frame frame) (plain_frames pending.old.items)
         f) }

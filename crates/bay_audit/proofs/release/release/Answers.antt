@@ -5,7 +5,7 @@ use Rattle.std.proofs.lemmas.List.Elements.{All-nil}
 use Rattle.bay_audit_rules.specs.Process.{Process}
 use Rattle.bay_audit.specs.declared.demand.Demand.{Demand}
 use Rattle.bay_audit.specs.Process.{IsProcess}
-use Rattle.bay_audit.specs.Rules.{AreReported, HasProcess, IsVerdict, case_count, told_count}
+use Rattle.bay_audit.specs.Rules.{AreReported, HasProcess, IsVerdict, case_count, reported_count}
 use Rattle.bay_audit.specs.declared.answer.ReportedCase.{ReportedCase}
 use Rattle.bay_audit.specs.declared.case.TestAnswer.{TestAnswer}
 use Rattle.bay_audit.proofs.ReleaseLemmas.{one-split, one-told, told-full, told-more, verdict-told}
@@ -22,7 +22,7 @@ loop-init c =
       full = subst (All (λ (d : ReportedCase). HasProcess d.case)) none
           (All-nil (λ (d : ReportedCase). HasProcess d.case));
       left = subst (All HasProcess) (sym c.in_ok-left.ensures) first-full;
-      one = λ p is. subst (λ (ds : List ReportedCase). told_count ds p
+      one = λ p is. subst (λ (ds : List ReportedCase). reported_count ds p
           + case_count c.in_ok-left.left.items p ≡ 1) none
           (let e = ap (λ (cs : List (List TestAnswer)). case_count cs p) c.in_ok-left.ensures in
           omega (arith, e));
@@ -34,9 +34,9 @@ loop-preserved c =
     let k = c.args.switch in
     let operation = c.args.operation in
     let case = c.in-Some.case in
-    let before : (p : Process) → IsProcess p → told_count c.loop.cases.items p
+    let before : (p : Process) → IsProcess p → reported_count c.loop.cases.items p
     + case_count (c.pop.new.self.items ++ case ∷ []) p ≡ 1 =
-    λ p is. subst (λ (cs : List (List TestAnswer)). told_count c.loop.cases.items p
+    λ p is. subst (λ (cs : List (List TestAnswer)). reported_count c.loop.cases.items p
     + case_count cs p ≡ 1)
     c.in-Some.ensures.items (c.loop.invariant.one p is) in
     let full = full-last c.pop.new.self.items case
@@ -56,10 +56,11 @@ loop-preserved c =
                 (told-full c.loop.cases.items (record { case = case; told = w.in-Ok.told })
                 c.loop.invariant.full full.1);
             left = subst (All HasProcess) (sym (ap (λ v. v.items) w.left-is)) full.0;
-            one = λ p is. subst (λ (ds : List ReportedCase). told_count ds p
+            one = λ p is. subst (λ (ds : List ReportedCase). reported_count ds p
                 + case_count c.match-told_by.left.items p ≡ 1) (sym cases)
                 (subst (λ (cs : List (List TestAnswer)).
-                told_count (c.loop.cases.items ++ record { case = case; told = w.in-Ok.told } ∷ [])
+                reported_count (c.loop.cases.items
+                ++ record { case = case; told = w.in-Ok.told } ∷ [])
                 p
                 + case_count cs p ≡ 1) (sym (ap (λ v. v.items) w.left-is))
                 (one-told c.loop.cases.items c.pop.new.self.items
@@ -74,9 +75,9 @@ loop-preserved c =
             left = subst (All HasProcess)
                 (sym (ap (λ v. v.items) w.left-is ∙ w.in_ok-split-in-Err.ensures))
                 (full-more c.pop.new.self.items case w.in-Err.test full.0);
-            one = λ p is. subst (λ (ds : List ReportedCase). told_count ds p
+            one = λ p is. subst (λ (ds : List ReportedCase). reported_count ds p
                 + case_count c.match-told_by.left.items p ≡ 1) (sym cases)
-                (subst (λ (cs : List (List TestAnswer)). told_count c.loop.cases.items p
+                (subst (λ (cs : List (List TestAnswer)). reported_count c.loop.cases.items p
                 + case_count cs p ≡ 1)
                 (sym (ap (λ v. v.items) w.left-is ∙ w.in_ok-split-in-Err.ensures))
                 (one-split c.loop.cases.items c.pop.new.self.items case w.in-Err.test p is
@@ -96,7 +97,7 @@ returns-clause-right c =
     record {
       told = c.loop.invariant.told;
       full = c.loop.invariant.full;
-      one = λ p is. subst (λ (cs : List (List TestAnswer)). told_count c.loop.cases.items p
+      one = λ p is. subst (λ (cs : List (List TestAnswer)). reported_count c.loop.cases.items p
           + case_count cs p ≡ 1) left (c.loop.invariant.one p is);
       lost = c.in_ok-lost_release.ensures;
     }

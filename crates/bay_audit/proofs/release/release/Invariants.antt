@@ -2,7 +2,7 @@ use Rattle.std.proofs.Common.{◌≡◌, ◌+◌}
 use Rattle.std.specs.List.{All}
 use Rattle.bay_audit_rules.specs.Process.{Process}
 use Rattle.bay_audit.specs.Process.{IsProcess}
-use Rattle.bay_audit.specs.Rules.{AreReported, HasProcess, case_count, told_count}
+use Rattle.bay_audit.specs.Rules.{AreReported, HasProcess, case_count, reported_count}
 use Rattle.bay_audit.proofs.release.release.Given as goal
 
 abbrev pub invariant-loop : goal.invariant-loop
@@ -12,5 +12,5 @@ invariant-loop l = record {
   full : All (λ c. HasProcess c.case) l.cases.items;
   left : All HasProcess l.left.items;
   one : (p : Process) → IsProcess p
-      → told_count l.cases.items p + case_count l.left.items p ≡ 1;
+      → reported_count l.cases.items p + case_count l.left.items p ≡ 1;
 }

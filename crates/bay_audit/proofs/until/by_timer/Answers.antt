@@ -1,6 +1,6 @@
 use Rattle.std.proofs.Common.{ap, subst, ◌∙◌}
 use Rattle.std.specs.Prelude.{is_some}
-use Rattle.bay_audit.specs.Rules.{IsMet, idle}
+use Rattle.bay_audit.specs.Rules.{IsMet, idle_timer_demand}
 use Rattle.bay_audit.proofs.until.by_timer.Goals as goal
 
 pub returns : goal.returns
@@ -10,6 +10,6 @@ returns c given =
           (c.in_ok-late_demand.ensures (ap is_some c.in-Some.is)),
       subst (IsMet g)
           (c.in_ok-demand-2.ensures
-          ∙ ap (λ condition. idle condition c.args.timer) c.as_slice.ensures)
+          ∙ ap (λ condition. idle_timer_demand condition c.args.timer) c.as_slice.ensures)
           (c.in_ok-idle_demand.ensures (ap is_some c.in-Some-2.is)),
     )

@@ -24,7 +24,7 @@ returns-in-Stop c =
     ∙ turn-stop (phase_of c.loop-token.expects) (state c.loop-token.stack c.loop-token.draft)
     (state c.read_token.new.stack c.read_token.new.draft) c.in-Some.token.now c.loop-token.rest.now
     c.in-Some.others.now c.in-Some.ensures.cases.0 (rw c.in-Stop.is at c.in_ok-next.ensures) in
-    rw is c.ended.ensures
+    rw is c.end_condition.ensures
 
 pub returns-in-Refuse : goal.returns-in-Refuse
 returns-in-Refuse c =

@@ -1,9 +1,10 @@
 use Rattle.std.proofs.Common.{◌≡◌, length}
-use Rattle.bay_audit_rules.specs.Running.{settled}
+use Rattle.bay_audit_rules.specs.Running.{append_operators}
 use Rattle.bay_audit_rules.proofs.condition.settle.Given as goal
 
 abbrev pub invariant-loop-draft : goal.invariant-loop-draft
-invariant-loop-draft l = settled l.stack l.draft ≡ settled l.initial.stack l.initial.draft
+invariant-loop-draft l =
+    append_operators l.stack l.draft ≡ append_operators l.initial.stack l.initial.draft
 
 abbrev pub decreases-loop-draft : goal.decreases-loop-draft
 decreases-loop-draft l = length l.stack

@@ -1,6 +1,6 @@
 use Rattle.std.proofs.Common.{◌++◌, map, ap, ◌∙◌}
 use Rattle.bay_control.specs.Decisions.{state_of}
-use Rattle.bay_connection.specs.ConnectionStates.{Terms, sending, terms_of}
+use Rattle.bay_connection.specs.ConnectionStates.{Terms, octets_to_send, terms_of}
 use Rattle.bay_mms_services.specs.Answers.{Answered, pdu_answer}
 use Rattle.bay_mms_services.specs.Bay.{with_controls}
 use Rattle.bay_device.specs.Device.{State, bay_of}
@@ -27,6 +27,6 @@ returns-clause-ok c =
     (later_due s.due due)
     answered-as.left (ap (later_due d.due) (is ∙ ap (due_if a terms) answered-as.ending))
     (sends ∙ ap (λ pdus. c.args.made.now.sent.items
-    ++ map (λ pdu. sent_on a (sending terms pdu)) pdus) answered-as.sent)
+    ++ map (λ pdu. sent_on a (octets_to_send terms pdu)) pdus) answered-as.sent)
     (does ∙ ap (λ cs. c.args.made.now.commands.items ++ cs) answered-as.commands)
     (decides ∙ ap (λ ds. c.args.made.now.decisions.items ++ ds) answered-as.decisions))

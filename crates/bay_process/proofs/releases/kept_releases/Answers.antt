@@ -5,7 +5,7 @@ use Rattle.std.proofs.lemmas.Option.{slice_get_read}
 use Rattle.bay_tree.specs.Rows.{leaf_of}
 use Rattle.bay_nodes.specs.Names.{StatusNames, closing_of, opening_of}
 use Rattle.bay_process.specs.Layout.{switches_of}
-use Rattle.bay_process.specs.Releases.{digit, digits_from}
+use Rattle.bay_process.specs.Releases.{digit_octet, digits_from}
 use Rattle.bay_process.specs.Values.{is_truth}
 use Rattle.bay_process.specs.declared.switch.BoundSwitch.{BoundSwitch}
 use Rattle.bay_process.proofs.KeptLemmas.{first-kept, places-turn, rest-text, text-turn}
@@ -52,13 +52,13 @@ loop-place-preserved c =
     ∙ ap (λ u. (t ++ (32 ∷ [])) ++ u) (c.as_bytes.ensures.value ∙ c.as_str.ensures) in
     let whole : c.extend_from_slice-in-loop-place.new.self.items
     ≡ ((t ++ (32 ∷ [])) ++ b.switch.id)
-    ++ (61 ∷ digit c.is_truth.result ∷ digit c.is_truth-in-loop-place.result ∷ []) =
+    ++ (61 ∷ digit_octet c.is_truth.result ∷ digit_octet c.is_truth-in-loop-place.result ∷ []) =
     c.in_ok-extend_from_slice-2.ensures.items
-    ∙ ap (λ u. u ++ (61 ∷ c.digit-opens.result ∷ c.digit-closes.result ∷ [])) front
-    ∙ ap (λ x. ((t ++ (32 ∷ [])) ++ b.switch.id) ++ (61 ∷ x ∷ c.digit-closes.result ∷ []))
-    c.digit-opens.ensures
-    ∙ ap (λ x. ((t ++ (32 ∷ [])) ++ b.switch.id) ++ (61 ∷ digit c.is_truth.result ∷ x ∷ []))
-    c.digit-closes.ensures in
+    ∙ ap (λ u. u ++ (61 ∷ c.digit_octet-opens.result ∷ c.digit_octet-closes.result ∷ [])) front
+    ∙ ap (λ x. ((t ++ (32 ∷ [])) ++ b.switch.id) ++ (61 ∷ x ∷ c.digit_octet-closes.result ∷ []))
+    c.digit_octet-opens.ensures
+    ∙ ap (λ x. ((t ++ (32 ∷ [])) ++ b.switch.id) ++ (61 ∷ digit_octet c.is_truth.result ∷ x ∷ []))
+    c.digit_octet-closes.ensures in
     let n : c.len.result ≡ length ((t ++ (32 ∷ [])) ++ b.switch.id) =
     c.len.ensures ∙ c.extend_from_slice.new.self.ok.0 ∙ ap length front in
     record {

@@ -3,5 +3,6 @@ use Rattle.bay_server.proofs.change_lines.log_switches.Given as goal
 
 abbrev pub invariant-loop-place : goal.invariant-loop-place
 invariant-loop-place g l =
-    LogsSwitches g.W.Sink.contents g.W.Sink.does l.column l.moment l.device l.before l.initial.writer l.place
+    LogsSwitches g.W.Sink.contents g.W.Sink.does l.column l.moment l.device l.before
+    l.initial.writer l.place
     l.writer

@@ -1,6 +1,6 @@
 use Rattle.std.proofs.Common.{◌≤◌}
 use Rattle.bay_server_turn.specs.Calls.{Called}
-use Rattle.bay_server_turn.specs.Turns.{offer_calls, offer_one, turning}
+use Rattle.bay_server_turn.specs.Turns.{offer_calls, offer_one, turn_state}
 use Rattle.bay_server_turn.specs.Served.{PerformsEach}
 use Rattle.bay_server_turn.proofs.offering.offer_each.Given as goal
 
@@ -9,6 +9,6 @@ invariant-loop-place g l = record {
   within : l.place ≤ 8;
   each : PerformsEach (Called g.L.Link.does g.L.Link.failures) (offer_one l.now)
       (offer_calls l.now)
-      l.initial.link l.link l.place (turning l.initial.server l.initial.notes)
-      (turning l.server l.notes);
+      l.initial.link l.link l.place (turn_state l.initial.server l.initial.notes)
+      (turn_state l.server l.notes);
 }

@@ -1,6 +1,6 @@
 use Rattle.std.proofs.Common.{◌≤◌, length}
 use Rattle.bay_server_turn.specs.Calls.{Called}
-use Rattle.bay_server_turn.specs.Turns.{read_calls, read_one, turning}
+use Rattle.bay_server_turn.specs.Turns.{read_calls, read_one, turn_state}
 use Rattle.bay_server_turn.specs.Served.{PerformsEach}
 use Rattle.bay_server_turn.proofs.reading.read_clients.Given as goal
 
@@ -10,6 +10,6 @@ invariant-loop-place g l = record {
   room : length l.notes.commands ≤ l.place;
   each : PerformsEach (Called g.L.Link.does g.L.Link.failures) (read_one l.now)
       (read_calls l.now)
-      l.initial.link l.link l.place (turning l.initial.server l.initial.notes)
-      (turning l.server l.notes);
+      l.initial.link l.link l.place (turn_state l.initial.server l.initial.notes)
+      (turn_state l.server l.notes);
 }

@@ -1,5 +1,5 @@
 use Rattle.std.proofs.Common.{◌≡◌, ap, rules}
-use Rattle.bay_server_turn.specs.Turns.{moment_at, turning}
+use Rattle.bay_server_turn.specs.Turns.{moment_at, turn_state}
 use Rattle.bay_server_turn.proofs.PartLemmas.{serves-as, serves-with}
 use Rattle.bay_server_turn.proofs.turn.serve_event.Goals as goal
 
@@ -8,7 +8,7 @@ returns-clause-ok g c =
     let now : c.max-now.result ≡ moment_at c.args.clock c.args.server.now = search rules in
     serves-as _ _ _ _ _ _ _ _ _ _
     (serves-with _ _ _ _ _ _ _ _ _ _ _ _ _ _ _ _ _ _ _ _ _ _ _
-    (ap (turning c.args.server.now) c.new-notes.ensures) c.first.ensures
+    (ap (turn_state c.args.server.now) c.new-notes.ensures) c.first.ensures
     c.accept_one-opened.ensures.opens c.apply_event_if_any.ensures.talks
     c.apply_event_if_any.ensures.after
     c.read_clients.ensures

@@ -1,13 +1,13 @@
 use Rattle.std.proofs.Common.{◌+◌, subst, arith}
 use Rattle.std.proofs.lemmas.Result.{on_ok_weaker}
 use Rattle.il_range.specs.Effects.{Plain}
-use Rattle.il_range.specs.Pending.{Arrives, plain}
+use Rattle.il_range.specs.Pending.{Arrives, known_view}
 use Rattle.il_range.proofs.PendingLemmas.{branches-both}
 use Rattle.il_range.proofs.pass.branch.Goals as goal
 
 pub returns-in_ok-jump_past-in_default : goal.returns-in_ok-jump_past-in_default
 returns-in_ok-jump_past-in_default c =
-    let come = plain c.args.here in
+    let come = known_view c.args.here in
     let old = c.args.pending.now.items in
     let mid = c.jump_past-in_default.new.pending.items in
     let new = c.arrive-in_default.new.pending.items in

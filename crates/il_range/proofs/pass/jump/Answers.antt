@@ -4,7 +4,7 @@ use Rattle.il_image.specs.declared.instr.Instr.TheVariants.{Jump}
 use Rattle.il_image.specs.declared.opcode.When.{When}
 use Rattle.il_range.specs.declared.range.Range.{Range}
 use Rattle.il_range.specs.Effects.{Plain}
-use Rattle.il_range.specs.Pending.{Branches, Moves, plain}
+use Rattle.il_range.specs.Pending.{Branches, Moves, known_view}
 use Rattle.il_range.proofs.PendingLemmas.{always-moves, if-false-moves, if-true-moves}
 use Rattle.il_range.proofs.pass.jump.Goals as goal
 
@@ -13,13 +13,15 @@ returns-in-Always-clause-ok c =
     let old = c.args.pending.now.items in
     let new = c.jump_past.new.pending.items in
     subst (λ (w : When). OnOk c.jump_past.result
-    (Moves (Jump w c.args.distance) c.args.next (plain c.args.here) old new)) (sym c.in-Always.is)
+    (Moves (Jump w c.args.distance) c.args.next (known_view c.args.here) old new))
+    (sym c.in-Always.is)
     (on_ok_weaker c.jump_past.result
-    (always-moves c.args.distance c.args.next (plain c.args.here) old new) c.jump_past.ensures.ok)
+    (always-moves c.args.distance c.args.next (known_view c.args.here) old new)
+    c.jump_past.ensures.ok)
 
 pub returns-in_ok-top-in-IfTrue-clause-ok : goal.returns-in_ok-top-in-IfTrue-clause-ok
 returns-in_ok-top-in-IfTrue-clause-ok c =
-    let come = plain c.args.here in
+    let come = known_view c.args.here in
     let old = c.args.pending.now.items in
     let new = c.branch-alloc.new.pending.items in
     let r = c.in_ok-top-in-IfTrue.top in
@@ -34,7 +36,7 @@ returns-in_ok-top-in-IfTrue-clause-ok c =
 
 pub returns-in_ok-top-in-IfFalse-clause-ok : goal.returns-in_ok-top-in-IfFalse-clause-ok
 returns-in_ok-top-in-IfFalse-clause-ok c =
-    let come = plain c.args.here in
+    let come = known_view c.args.here in
     let old = c.args.pending.now.items in
     let new = c.branch-alloc-in-IfFalse.new.pending.items in
     let r = c.in_ok-top-in-IfFalse.top in
@@ -43,7 +45,7 @@ returns-in_ok-top-in-IfFalse-clause-ok c =
     (on_ok_weaker c.branch-alloc-in-IfFalse.result
     (λ b. if-false-moves r c.args.distance c.args.next c.in_ok-top-in-IfFalse.ensures.top.0 come old
     new c.in_ok-top-in-IfFalse.ensures.top.1
-    (subst (λ (j : Range). Branches j c.args.distance c.args.next come old new) c.not.ensures
-    (subst (λ (p : Plain). Branches c.not.result c.args.distance c.args.next p old new)
+    (subst (λ (j : Range). Branches j c.args.distance c.args.next come old new) c.not_range.ensures
+    (subst (λ (p : Plain). Branches c.not_range.result c.args.distance c.args.next p old new)
     c.in_ok-top-in-IfFalse.ensures.same b)))
     c.branch-alloc-in-IfFalse.ensures.ok)

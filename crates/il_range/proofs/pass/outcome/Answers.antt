@@ -1,5 +1,5 @@
 use Rattle.std.proofs.Common.{◌≡◌, ◌<◌, ℕ, length, reverse, arith, ap, subst}
-use Rattle.il_range.specs.Pending.{plain}
+use Rattle.il_range.specs.Pending.{known_view}
 use Rattle.il_range.proofs.PassLemmas.{Follows, follows-end, follows-first, follows-next}
 use Rattle.il_range.proofs.pass.outcome.Goals as goal
 
@@ -7,7 +7,8 @@ pub loop-place-init : goal.loop-place-init
 loop-place-init c = record {
   size = omega (arith, c.arrive.ensures.size, c.in_ok-pending.ensures);
   follows = λ given after h e t.
-      follows-first c.args.code.now given after (plain c.args.first) c.in_ok-pending.pending.items
+      follows-first c.args.code.now given after (known_view c.args.first)
+      c.in_ok-pending.pending.items
       c.arrive.new.pending.items (ap reverse c.requires) h c.in_ok-arrive.ensures.ok e t;
 }
 

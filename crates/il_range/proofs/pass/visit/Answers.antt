@@ -4,7 +4,7 @@ use Rattle.il_image.specs.declared.instr.Instr.{Instr}
 use Rattle.il_image.specs.declared.instr.Instr.TheVariants.{Halt, Jump}
 use Rattle.il_image.specs.Reading.{instr_at}
 use Rattle.il_range.specs.declared.known.Known.{Known}
-use Rattle.il_range.specs.Pending.{Arrives, Moves, Visits, plain}
+use Rattle.il_range.specs.Pending.{Arrives, Moves, Visits, known_view}
 use Rattle.il_range.proofs.PassLemmas.{visits-halt, visits-moves, visits-none}
 use Rattle.il_range.proofs.pass.visit.Goals as goal
 
@@ -27,7 +27,7 @@ returns-in-Halt-clause-ok c =
     sym c.in-Some-instr_at.ensures.value ∙ ap (λ (i : Instr). Some (i, next)) c.in-Halt.is in
     on_ok_weaker c.arrive.result
     (λ a. visits-halt code place next old new here reads c.in-Some.ensures.value
-    (subst (λ (mid : List (Option Known)). Arrives mid new (length code) (plain here))
+    (subst (λ (mid : List (Option Known)). Arrives mid new (length code) (known_view here))
     c.taken.ensures.after a))
     c.arrive.ensures.ok
 
@@ -44,7 +44,7 @@ returns-in-Jump-clause-ok c =
     on_ok_weaker c.jump.result
     (λ m. visits-moves code instr place next old new c.in-Some.here reads
     c.in-Some-instr_at.ensures.forward.0 c.in-Some.ensures.value
-    (subst (λ (mid : List (Option Known)). Moves instr next (plain c.in-Some.here) mid new)
+    (subst (λ (mid : List (Option Known)). Moves instr next (known_view c.in-Some.here) mid new)
     c.taken.ensures.after m))
     c.jump.ensures.ok
 
@@ -62,7 +62,8 @@ returns-in_default-instr c =
           (λ m. visits-moves code instr place next old new c.in-Some.here
           (sym c.in-Some-instr_at.ensures.value) c.in-Some-instr_at.ensures.forward.0
           c.in-Some.ensures.value
-          (subst (λ (mid : List (Option Known)). Moves instr next (plain c.in-Some.here) mid new)
+          (subst (λ (mid : List (Option Known)). Moves instr next (known_view c.in-Some.here) mid
+          new)
           c.taken.ensures.after m))
           c.step.ensures.ok;
     }

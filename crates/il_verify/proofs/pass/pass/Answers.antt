@@ -4,7 +4,7 @@ use Rattle.std.proofs.lemmas.List.{length-reverse}
 use Rattle.il_image.specs.Reading.{instr_at}
 use Rattle.il_image.specs.Machine.{most_cells}
 use Rattle.il_verify.specs.declared.frame.Frame.{Frame}
-use Rattle.il_verify.specs.Frames.{beside, plain_frame, plain_frames}
+use Rattle.il_verify.specs.Frames.{with_value_at, plain_frame, plain_frames}
 use Rattle.il_verify.specs.Passing.{raised_budget}
 use Rattle.il_verify.proofs.MapLemmas.{beside-here}
 use Rattle.il_verify.proofs.OrderLemmas.{always-there}
@@ -25,7 +25,7 @@ returns-in_default-clause-err c =
     let image = c.args.image.now in
     let place = c.loop-place.place in
     let frames =
-    beside place (option_map plain_frame c.loop-place.frame)
+    with_value_at place (option_map plain_frame c.loop-place.frame)
     (plain_frames c.loop-place.pending.items) in
     let less : place < length image.code =
     subst (λ (code : List ℕ). place < length code) c.code-code.ensures.value
@@ -56,7 +56,7 @@ overflow_cast-len c =
     let place = c.loop-place.place in
     let come = plain_frame c.in-Some.here in
     let frames =
-    beside place (option_map plain_frame c.loop-place.frame)
+    with_value_at place (option_map plain_frame c.loop-place.frame)
     (plain_frames c.loop-place.pending.items) in
     let is : frames place ≡ Some come =
     beside-here place place (option_map plain_frame c.loop-place.frame)
@@ -75,7 +75,7 @@ visit-requires-clause-few c =
     let place = c.loop-place.place in
     let come = plain_frame c.in-Some.here in
     let frames =
-    beside place (option_map plain_frame c.loop-place.frame)
+    with_value_at place (option_map plain_frame c.loop-place.frame)
     (plain_frames c.loop-place.pending.items) in
     let is : frames place ≡ Some come =
     beside-here place place (option_map plain_frame c.loop-place.frame)
@@ -93,7 +93,7 @@ visit-requires-clause-short c =
     let place = c.loop-place.place in
     let come = plain_frame c.in-Some.here in
     let frames =
-    beside place (option_map plain_frame c.loop-place.frame)
+    with_value_at place (option_map plain_frame c.loop-place.frame)
     (plain_frames c.loop-place.pending.items) in
     let is : frames place ≡ Some come =
     beside-here place place (option_map plain_frame c.loop-place.frame)
@@ -121,7 +121,8 @@ returns-in-Err-clause-err c =
     ≡ Some (c.in-Some-instr_at.instr, c.in-Some-instr_at.next)) c.code-code.ensures.value
     (sym c.in-Some-instr_at.ensures.value) in
     let p = subst (λ (o : Option Frame). Passing image place c.loop-place.budget c.loop-place.depth
-    (beside place (option_map plain_frame o) old)) c.in-Some.is c.loop-place.invariant.passing in
+    (with_value_at place (option_map plain_frame o) old)) c.in-Some.is
+    c.loop-place.invariant.passing in
     fails-over image place c.in-Some-instr_at.instr c.in-Some-instr_at.next come old
     c.loop-place.budget c.loop-place.depth c.in-Err.fault here less c.in-Err.ensures.err p
 
@@ -138,7 +139,8 @@ loop-place-preserved c =
     subst (λ (code : List ℕ). instr_at code place ≡ Some (c.in-Some-instr_at.instr, next))
     c.code-code.ensures.value (sym c.in-Some-instr_at.ensures.value) in
     let p = subst (λ (o : Option Frame). Passing image place c.loop-place.budget c.loop-place.depth
-    (beside place (option_map plain_frame o) old)) c.in-Some.is c.loop-place.invariant.passing in
+    (with_value_at place (option_map plain_frame o) old)) c.in-Some.is
+    c.loop-place.invariant.passing in
     let goes =
     goes-over image place c.in-Some-instr_at.instr next come behind old new c.loop-place.budget
     c.loop-place.depth c.is_halt.result here c.is_halt.ensures c.in-Ok.ensures.ok p in
@@ -150,11 +152,11 @@ loop-place-preserved c =
     c.max-depth.ensures ∙ ap (λ (n : ℕ). max n c.loop-place.depth) count in
     record {
       passing =
-          subst (λ (n : ℕ). Passing image next n c.max-depth.result (beside next behind new))
+          subst (λ (n : ℕ). Passing image next n c.max-depth.result (with_value_at next behind new))
           (sym c.raised-budget.ensures)
           (subst (λ (n : ℕ). Passing image next
           (raised_budget c.is_halt.result come.longest c.loop-place.budget)
-          n (beside next behind new)) (sym depth) goes);
+          n (with_value_at next behind new)) (sym depth) goes);
       room = omega (arith, c.loop-place.invariant.room, c.in-Ok.ensures.size);
     }
 
@@ -162,7 +164,7 @@ pub returns-clause-ok : goal.returns-clause-ok
 returns-clause-ok c =
     let image = c.args.image.now in
     let frames =
-    beside c.loop-place.place (option_map plain_frame c.loop-place.frame)
+    with_value_at c.loop-place.place (option_map plain_frame c.loop-place.frame)
     (plain_frames c.loop-place.pending.items) in
     let past : length image.code ≤ c.loop-place.place =
     subst (λ (code : List ℕ). length code ≤ c.loop-place.place) c.code-code.ensures.value

@@ -2,7 +2,7 @@ use Rattle.std.proofs.Common.{◌≡◌, ◌<◌, List, length, slice_get, Optio
 use Rattle.std.proofs.lemmas.Option.{slice_get-map}
 use Rattle.bay_process.specs.Layout.{meters_of}
 use Rattle.bay_process.specs.declared.meter.BoundMeter.{BoundMeter}
-use Rattle.bay_device.specs.Device.{State, doubt_taken}
+use Rattle.bay_device.specs.Device.{State, device_after_bad_measure}
 use Rattle.bay_device.specs.Outcomes.{Outcome, doubt_outcome}
 use Rattle.bay_device.specs.StateView.{state_view}
 use Rattle.bay_device.specs.Steps.{quiet_answer}
@@ -33,6 +33,7 @@ returns c connections =
           ap (λ (o : Option Sent). quiet_answer (Ok o)) (c.advance-over.ensures.sent connections)
           ∙ sym (ap (λ (o : Outcome). o.answer) whole);
       left = c.take_doubt.ensures.after connections
-          ∙ ap (doubt_taken c.args.now k c.args.field) (c.advance-over.ensures.after connections)
+          ∙ ap (device_after_bad_measure c.args.now k c.args.field)
+          (c.advance-over.ensures.after connections)
           ∙ sym (ap (λ (o : Outcome). o.after) whole);
     }

@@ -1,5 +1,5 @@
 use Rattle.std.proofs.Common.{◌≡◌, ◌<◌, [], length, slice_get, Option, Ok, ap, sym, ◌∙◌, arith}
-use Rattle.bay_device.specs.Device.{State, device_at, contact_taken, ended_at, reached_at}
+use Rattle.bay_device.specs.Device.{State, device_at, device_after_contact, ended_at, reached_at}
 use Rattle.bay_device.specs.Outcomes.{Outcome, contact_outcome, or_else}
 use Rattle.bay_device.specs.StateView.{state_view}
 use Rattle.bay_device.specs.Steps.{quiet_answer}
@@ -41,6 +41,6 @@ returns c connections =
       answered =
           ap (λ (o : Option Sent). quiet_answer (Ok o)) told
           ∙ sym (ap (λ (o : Outcome). o.answer) whole);
-      left = took ∙ ap (contact_taken c.args.now k here.0 c.args.position) after
+      left = took ∙ ap (device_after_contact c.args.now k here.0 c.args.position) after
           ∙ sym (ap (λ (o : Outcome). o.after) whole);
     }

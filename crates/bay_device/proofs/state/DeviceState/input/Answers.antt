@@ -1,6 +1,6 @@
 use Rattle.std.proofs.Common.{◌≡◌, ◌<◌, [], length, slice_get, Option, Some, Ok, ap, sym, ◌∙◌, arith}
 use Rattle.std.proofs.lemmas.Option.{slice_get_within}
-use Rattle.bay_device.specs.Device.{State, input_taken}
+use Rattle.bay_device.specs.Device.{State, device_after_input}
 use Rattle.bay_device.specs.Outcomes.{Outcome, input_outcome}
 use Rattle.bay_device.specs.StateView.{state_view}
 use Rattle.bay_device.specs.Steps.{quiet_answer}
@@ -31,6 +31,6 @@ returns c connections =
           ap (λ (o : Option Sent). quiet_answer (Ok o)) (c.advance-over.ensures.sent connections)
           ∙ sym (ap (λ (o : Outcome). o.answer) whole);
       left = rw (c.set.ensures)
-          (ap (input_taken c.args.input c.args.value c.in-Some.before) after
+          (ap (device_after_input c.args.input c.args.value c.in-Some.before) after
           ∙ sym (ap (λ (o : Outcome). o.after) whole));
     }

@@ -5,7 +5,7 @@ use Rattle.bay_tree.specs.declared.leaf.Dbpos.TheVariants.{Bad}
 use Rattle.bay_connection.specs.ConnectionStates.{ConnectionState}
 use Rattle.bay_process.specs.Layout.{switches_of}
 use Rattle.bay_process.specs.declared.switch.BoundSwitch.{BoundSwitch}
-use Rattle.bay_device.specs.Device.{State, contact_taken, positions_lost}
+use Rattle.bay_device.specs.Device.{State, device_after_contact, positions_lost}
 use Rattle.bay_device.specs.StateView.{state_view}
 use Rattle.bay_device.proofs.LostLemmas.{next-behind}
 use Rattle.bay_device.proofs.ProcessLemmas.{as-many, switch-there}
@@ -31,7 +31,7 @@ loop-switch-preserved c =
     ap (λ xs. slice_get xs k) c.loop-switch.invariant.switches ∙ here.1 in
     let took : (connections : List (Option ConnectionState))
     → state_view connections c.take_contact.new.self
-    ≡ contact_taken c.args.now k here.0 Bad (state_view connections c.loop-switch.self) =
+    ≡ device_after_contact c.args.now k here.0 Bad (state_view connections c.loop-switch.self) =
     λ connections. c.take_contact.ensures.after connections here.0 own in
     record {
       switches = ap (λ (s : State). s.switches) (took []) ∙ c.loop-switch.invariant.switches;

@@ -9,7 +9,7 @@ use Rattle.bay_process.proofs.ListLemmas.{got-some}
 use Rattle.bay_process.proofs.KeptLemmas.{kept-stays}
 use Rattle.bay_process.proofs.ToldLemmas.{keeps-measure, field-away}
 use Rattle.bay_mms_services.specs.Bay.{Bay}
-use Rattle.bay_device.specs.Device.{State, measure_taken, with_bay}
+use Rattle.bay_device.specs.Device.{State, device_after_measure, with_bay}
 use Rattle.bay_device.specs.Outcomes.{Outcome, measure_outcome}
 use Rattle.bay_device.specs.StateView.{state_view}
 use Rattle.bay_device.specs.Steps.{quiet_answer}
@@ -71,8 +71,8 @@ returns c connections =
       left = ap (λ (b : Bay). with_bay b
           (record t { is_stale = t.is_stale || c.measure-changed.result; is_lost = false })) did
           ∙ ap (λ (b : Bool). record
-          (measure_taken c.args.now c.args.meter c.args.field c.args.value t)
+          (device_after_measure c.args.now c.args.meter c.args.field c.args.value t)
           { is_stale = t.is_stale || b }) changed
-          ∙ ap (measure_taken c.args.now c.args.meter c.args.field c.args.value) after
+          ∙ ap (device_after_measure c.args.now c.args.meter c.args.field c.args.value) after
           ∙ sym (ap (λ (o : Outcome). o.after) whole);
     }

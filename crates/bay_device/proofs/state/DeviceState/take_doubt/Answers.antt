@@ -6,7 +6,7 @@ use Rattle.bay_process.specs.declared.meter.BoundMeter.{BoundMeter}
 use Rattle.bay_process.proofs.KeptLemmas.{kept-stays}
 use Rattle.bay_process.proofs.ToldLemmas.{keeps-doubt, field-away}
 use Rattle.bay_mms_services.specs.Bay.{Bay}
-use Rattle.bay_device.specs.Device.{State, doubt_taken, with_bay}
+use Rattle.bay_device.specs.Device.{State, device_after_bad_measure, with_bay}
 use Rattle.bay_device.specs.StateView.{state_view}
 use Rattle.bay_device.proofs.HeldLemmas.{all-noted}
 use Rattle.bay_device.proofs.state.DeviceState.take_doubt.Goals as goal
@@ -37,7 +37,7 @@ returns-clause-after c connections =
     ap (λ (b : Bay). with_bay b
     (record t { is_stale = t.is_stale || c.doubt-changed.result; is_lost = false }))
     c.doubt-changed.ensures.after
-    ∙ ap (λ (b : Bool). record (doubt_taken c.args.now c.args.meter c.args.field t)
+    ∙ ap (λ (b : Bool). record (device_after_bad_measure c.args.now c.args.meter c.args.field t)
     { is_stale = t.is_stale || b }) c.doubt-changed.ensures.changed
 
 pub doubt-changed-requires : goal.doubt-changed-requires

@@ -1,13 +1,13 @@
 use Rattle.std.proofs.Common.{◌≡◌, ◌++◌, Option, Ok, ap, refl, sym, ◌∙◌}
 use Rattle.bay_control.specs.Decisions.{operate_outcome}
 use Rattle.bay_control.specs.declared.request.Ask.{Ask}
-use Rattle.bay_mms.specs.ControlViews.{operating, result_view}
+use Rattle.bay_mms.specs.ControlViews.{operate_view, result_view}
 use Rattle.bay_mms.specs.Controls.{operate_in}
 use Rattle.bay_mms.specs.Views.{datum_of}
 use Rattle.bay_tree.specs.Rows.{name_at}
 use Rattle.bay_mms_services.specs.Controls.{endings, view_of}
-use Rattle.bay_mms_services.specs.Views.{bay_of, writing}
-use Rattle.bay_mms_services.specs.Writes.{operate_asked, after_operate, commands_for, later_ending}
+use Rattle.bay_mms_services.specs.Views.{bay_of, writing_view}
+use Rattle.bay_mms_services.specs.Writes.{write_operate, after_operate, commands_for, later_ending}
 use Rattle.bay_mms_services.specs.declared.answer.TerminationReports.{TerminationReports}
 use Rattle.bay_mms_services.proofs.ReplyLemmas.{both}
 use Rattle.bay_mms_services.proofs.WriteLemmas.{operated}
@@ -20,10 +20,10 @@ returns c =
     let a = c.args.self.now.client in
     let k = c.args.part.switch in
     let item = name_at d.tree c.args.part.row in
-    let w = writing d c.args.controls.now c.args.written.now in
-    let asking = operating c.in-Ok.operate in
+    let w = writing_view d c.args.controls.now c.args.written.now in
+    let asking = operate_view c.in-Ok.operate in
     let read : operate_in (datum_of c.args.given.now) ≡ Ok asking =
-    sym c.operate_of.ensures ∙ ap (result_view operating) c.in-Ok.is in
+    sym c.operate_of.ensures ∙ ap (result_view operate_view) c.in-Ok.is in
     let view = view_of a k b in
     let o = operate_outcome a.association k c.ask_of.result view a.now w.controls in
     let answer = c.operate-answer.result in
@@ -41,4 +41,4 @@ returns c =
     put.ending)
     ∙ ap (λ (x : Ask). after_operate a b k item asking
     (operate_outcome a.association k x view a.now w.controls) w) c.ask_of.ensures
-    ∙ sym (ap (operate_asked a b k item w) read))
+    ∙ sym (ap (write_operate a b k item w) read))

@@ -1,12 +1,12 @@
 use Rattle.std.proofs.Common.{◌≡◌, Ok, ap, refl, sym, ◌∙◌}
 use Rattle.bay_control.specs.Decisions.{select_with_outcome}
-use Rattle.bay_mms.specs.ControlViews.{operating, result_view}
+use Rattle.bay_mms.specs.ControlViews.{operate_view, result_view}
 use Rattle.bay_mms.specs.Controls.{operate_in}
 use Rattle.bay_mms.specs.Views.{datum_of}
 use Rattle.bay_tree.specs.Rows.{name_at}
 use Rattle.bay_control.specs.declared.request.Ask.{Ask}
-use Rattle.bay_mms_services.specs.Views.{bay_of, writing}
-use Rattle.bay_mms_services.specs.Writes.{select_with_asked, after_decision}
+use Rattle.bay_mms_services.specs.Views.{bay_of, writing_view}
+use Rattle.bay_mms_services.specs.Writes.{write_select_with, after_decision}
 use Rattle.bay_mms_services.specs.declared.target.ControlPart.TheVariants.{SelectWith}
 use Rattle.bay_mms_services.proofs.ReplyLemmas.{all_three}
 use Rattle.bay_mms_services.proofs.WriteLemmas.{put-down}
@@ -19,10 +19,10 @@ returns c =
     let a = c.args.self.now.client in
     let k = c.args.part.switch in
     let item = name_at d.tree c.args.part.row in
-    let w = writing d c.args.controls.now c.args.written.now in
-    let read : operate_in (datum_of c.args.given.now) ≡ Ok (operating c.in-Ok.operate) =
-    sym c.operate_of.ensures ∙ ap (result_view operating) c.in-Ok.is in
-    let control = (operating c.in-Ok.operate).control in
+    let w = writing_view d c.args.controls.now c.args.written.now in
+    let read : operate_in (datum_of c.args.given.now) ≡ Ok (operate_view c.in-Ok.operate) =
+    sym c.operate_of.ensures ∙ ap (result_view operate_view) c.in-Ok.is in
+    let control = (operate_view c.in-Ok.operate).control in
     let o = select_with_outcome a.association k c.ask_of.result a.now w.controls in
     all_three c.put_decision.result _ _ _ _ c.put_decision.ensures.response
     c.put_decision.ensures.reports c.put_decision.ensures.decisions
@@ -33,4 +33,4 @@ returns c =
     c.put_decision.ensures.ending
     ∙ ap (λ (x : Ask). after_decision a b k SelectWith item control
     (select_with_outcome a.association k x a.now w.controls) w) c.ask_of.ensures
-    ∙ sym (ap (select_with_asked a b k item w) read))
+    ∙ sym (ap (write_select_with a b k item w) read))

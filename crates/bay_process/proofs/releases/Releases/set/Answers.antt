@@ -38,6 +38,6 @@ pub returns-clause-shows : goal.returns-clause-shows
 returns-clause-shows c = λ ss told s.
     let at = c.index-at.ensures ∙ get_or_default c.args.self.now.places.items c.args.place
     c.index-at.result.now 0 c.requires.within in
-    rw (at, c.digit.ensures, c.digit-2.ensures)
+    rw (at, c.digit_octet.ensures, c.digit_octet-2.ensures)
     (told-new ss told c.args.self.now.text.items c.args.self.now.places.items s c.args.place
     c.requires.within c.args.enabled)

@@ -2,14 +2,14 @@ use Rattle.std.proofs.Common.{arith, ap, refl, map, ◌++◌, ◌∙◌}
 use Rattle.il_text.specs.Views.{entry_of}
 use Rattle.il_check.specs.ProgramViews.{item_view}
 use Rattle.il_check.specs.NamesView.{names_of}
-use Rattle.il_check.specs.WellTyped.{first, progress_after_items}
+use Rattle.il_check.specs.WellTyped.{start_progress, progress_after_items}
 use Rattle.il_check.proofs.WalkLemmas.{items-more, items-left, items-found}
 use Rattle.il_check.proofs.walk.Judge.items.Goals as goal
 
 pub loop-item-preserved : goal.loop-item-preserved
 loop-item-preserved c =
     items-more (names_of c.args.names.now) c.args.items.now c.args.self.now.found
-    (first c.args.arrivals.items)
+    (start_progress c.args.arrivals.items)
     c.loop-item.item-index c.item-item.result c.loop-item.self.found c.item.new.self.found
     c.loop-item.walk c.keep.new.self (omega arith) c.item-item.is
     c.loop-item.invariant
@@ -24,7 +24,7 @@ pub loop-item-init : goal.loop-item-init
 loop-item-init c = record {
   left = λ none. ap (λ xs. map item_view xs
       ++ progress_after_items (names_of c.args.names.now) (map entry_of c.args.items.now)
-      (first c.args.arrivals.items)) c.new.ensures.items;
+      (start_progress c.args.arrivals.items)) c.new.ensures.items;
   found = refl;
   few = omega arith;
 }
@@ -32,11 +32,11 @@ loop-item-init c = record {
 pub returns-clause-left : goal.returns-clause-left
 returns-clause-left c =
     items-left (names_of c.args.names.now) c.args.items.now c.args.self.now.found
-    (first c.args.arrivals.items) c.loop-item.item-index c.loop-item.self.found
+    (start_progress c.args.arrivals.items) c.loop-item.item-index c.loop-item.self.found
     c.loop-item.walk c.loop-item-test.false c.loop-item.invariant
 
 pub returns-clause-found : goal.returns-clause-found
 returns-clause-found c =
     items-found (names_of c.args.names.now) c.args.items.now c.args.self.now.found
-    (first c.args.arrivals.items) c.loop-item.item-index c.loop-item.self.found
+    (start_progress c.args.arrivals.items) c.loop-item.item-index c.loop-item.self.found
     c.loop-item.walk c.loop-item-test.false c.loop-item.invariant
