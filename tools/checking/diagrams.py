@@ -120,7 +120,7 @@ def diagram_on_the_panel(checks) -> None:
             with Page(port) as page:
                 checks.wants('a diagram on the panel', page.text, 0,
                              ['class="diagram wide"', 'data-switch="QB7"', '>TA1</text>'], 0)
-                state = page.until(lambda it: positions(it).get('QB1') == 'closed' and any(
+                state = page.known(lambda it: positions(it).get('QB1') == 'closed' and any(
                     one['open']['free'] for one in it['switches']))
                 free = {one['id']: (one['open']['free'], one['close']['free'])
                         for one in state['switches']}

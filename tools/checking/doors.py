@@ -199,7 +199,7 @@ def shown(checks, it: Guarded) -> None:
         found = re.search(r'http://127\.0\.0\.1:(\d+)/', running.waits_for('/\n'))
         with Page(int(found[1])) as page:
             checks.wants('a panel by TLS', page.text, 0, ['as O=Station, CN=panel, by TLS'], 0)
-            state = page.until(lambda it: it['connected'] and it['switches'])
+            state = page.known(lambda it: it['connected'] and it['switches'])
             checks.wants('a panel by TLS', state['told'], 0, ['of O=Station, CN=bay'], 0)
             said = page.asks('select', 'QA1', 'close') + page.asks('operate', 'QA1', 'close')
             checks.wants('an operate of a panel by TLS', said, 0, ['the command is given'], 0)

@@ -48,6 +48,10 @@ class Page:
         found = json.loads(self.ask('POST', f'/{verb}', body, {'X-Panel': self.token}))
         return f'{"good" if found["good"] else "refused"}: {found["told"]}'
 
+    def known(self, test) -> dict:
+        """The last state that it was sent if something is so of it, else the first such state."""
+        return self.state if test(self.state) else self.until(test)
+
     def until(self, test) -> dict:
         """The first state that it is sent from now on of which something is so."""
         end, kind = time.monotonic() + PATIENCE, ''
@@ -55,8 +59,10 @@ class Page:
             word, _, told = self.answer.readline().decode().rstrip('\n').partition(': ')
             if word == 'data' and kind == 'life':
                 self.moment, self.heard = json.loads(told)['moment'], time.monotonic()
-            elif word == 'data' and not kind and test(state := json.loads(told)):
-                return state
+            elif word == 'data' and not kind:
+                self.state = json.loads(told)
+                if test(self.state):
+                    return self.state
             kind = told if word == 'event' else kind if word else ''
         raise TimeoutError('the panel does not tell it')
 
@@ -92,7 +98,7 @@ def panel(checks) -> None:
                 simulator.kill()
                 gone(checks, page, server)
             with gear(server), Page(int(found[1])) as page:
-                page.until(lambda it: positions(it).get('QC1') == 'open')
+                page.known(lambda it: positions(it).get('QC1') == 'open')
                 checks.wants('the panel, with the process again', operated(page, 'QA1', 'open'), 0,
                              ['operate QA1 open has ended: done'], 0)
                 server.kill()
@@ -105,7 +111,7 @@ def shown(checks, page) -> None:
     """What a page has and is told, and two operates."""
     checks.wants('the page of the panel', page.text, 0,
                  [f'data-switch="{it}"' for it in ('QA1', 'QB1', 'QC1')], 0)
-    state = page.until(lambda it: positions(it).get('QA1') == 'closed' and all(
+    state = page.known(lambda it: positions(it).get('QA1') == 'closed' and all(
         'must be' in it['switches'][1][way]['why'] for way in ('open', 'close')))
     checks.wants('why not, on the panel', json.dumps(state['switches'][1]), 0,
                  ['QA1 is closed and must be open', '"quality": "good"'], 0)
