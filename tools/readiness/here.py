@@ -1,5 +1,4 @@
 """The steps on the machine of a bay, whose files are where examples/12_station puts them."""
-import contextlib
 import datetime
 import os
 import pathlib
@@ -20,6 +19,7 @@ TRUST = pathlib.Path('/etc/stunnel/bay')  # where stunnel.conf has its certifica
 LISTENS, LOCAL = '0A', ('0100007F',)  # of /proc/net/tcp: a state, and 127.0.0.1
 DATE = '%b %d %H:%M:%S %Y %Z'
 NOBODY = 'nobody'
+REACHED, REFUSED, UNTRIED = range(3)  # how a child ends that tries a port
 OPTIONS = ('--supervise', '--key', '--log')
 SUBJECT = re.compile(r'\[[^\]]*CN=[^\]]*\] operate .*')
 
@@ -154,16 +154,22 @@ class Machine:
 
 
 def reached_by(user: int, port: int) -> bool:
-    """Whether a user reaches a port of this machine: a child of this process becomes him."""
+    """Whether a user reaches a port of this machine: a child of this process becomes him. Fails if
+    the child could not try."""
     child = os.fork()
     if child == 0:
-        status = 1
-        with contextlib.suppress(OSError):
+        status = UNTRIED
+        try:
             os.setuid(user)
-            socket.create_connection(('127.0.0.1', port), 5).close()
-            status = 0
-        os._exit(status)
-    return os.waitstatus_to_exitcode(os.waitpid(child, 0)[1]) == 0
+            with socket.socket() as one:  # (no name is looked up: the user may not read Python)
+                one.settimeout(5)
+                status = REFUSED if one.connect_ex(('127.0.0.1', port)) else REACHED
+        finally:
+            os._exit(status)
+    status = os.waitstatus_to_exitcode(os.waitpid(child, 0)[1])
+    if status not in (REACHED, REFUSED):
+        raise Failed(f'port {port}: no program of {user_told(user)} could try it')
+    return status == REACHED
 
 
 def user_told(number: int) -> str:

@@ -9,6 +9,7 @@ from unittest import mock
 
 TOOLS = pathlib.Path(__file__).resolve().parent.parent
 sys.path.insert(0, str(TOOLS))
+from common.ending import Failed
 from readiness import here, looking, there
 from readiness.looking import GOOD, OPEN, WRONG, Step, Verdict, seen
 from tests.loopback import needs_loopback
@@ -117,6 +118,16 @@ class Here(Tools):
             self.assertEqual(found.state, OPEN if os.geteuid() else WRONG, found)
         self.assertEqual(seen(Step('', self.machine.by_others)).state,
                          OPEN if os.geteuid() else GOOD)
+
+    @needs_loopback
+    def test_a_port_that_could_not_be_tried_is_not_out_of_reach(self):
+        with socket.create_server(('127.0.0.1', 0)) as one:
+            port = one.getsockname()[1]
+            self.assertTrue(here.reached_by(os.getuid(), port))
+            with mock.patch('os.setuid', side_effect=LookupError), \
+                    self.assertRaisesRegex(Failed, 'could try it'):
+                here.reached_by(os.getuid(), port)
+        self.assertFalse(here.reached_by(os.getuid(), port))
 
 
 @needs_loopback
