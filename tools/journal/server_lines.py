@@ -1,6 +1,6 @@
-"""What a line says that `bayctl serve` prints or logs: SERVING, 'The log' and 'What a server
-prints'. What it logs begins with the time in UTC; what it prints, and logged up to version 1.4,
-with milliseconds since 1970."""
+"""What a line says that `bayctl serve` prints or logs: USER, 'The log' and 'Serving'. What it logs
+begins with the time in UTC; what it prints, and logged up to version 1.4, with milliseconds since
+1970."""
 import re
 from collections.abc import Iterable
 from dataclasses import dataclass

@@ -212,18 +212,23 @@ module _ {L B H W : Type 0} (below : B → L) (does : L → Call → L → Type 
             (reported_in n.given) held-before held-after turn) next-is serves-turn;
         told = told-to;
         reports =
-            subst (λ m. ReportsAndPolls (Called does failures) contents asks m count-before here.next
+            subst (λ m. ReportsAndPolls (Called does failures) contents asks m count-before
+            here.next
             (bay_seen held-before.device) turn held-after.device here.process process-after begun
             told-to answer) is-now
-            (subst (λ d. ReportsAndPolls (Called does failures) contents asks now count-before here.next
+            (subst (λ d. ReportsAndPolls (Called does failures) contents asks now count-before
+            here.next
             (bay_seen held-before.device) turn d here.process process-after begun told-to answer)
             is-s
-            (subst (λ p. ReportsAndPolls (Called does failures) contents asks now count-before here.next
+            (subst (λ p. ReportsAndPolls (Called does failures) contents asks now count-before
+            here.next
             (bay_seen held-before.device) turn s p process-after begun told-to answer) process-is
-            (subst (λ (n : NextInput). ReportsAndPolls (Called does failures) contents asks now count-before n
+            (subst (λ (n : NextInput). ReportsAndPolls (Called does failures) contents asks now
+            count-before n
             (bay_seen held-before.device) turn s process-chosen process-after begun told-to answer)
             next-is
-            (subst (λ (b : BayView). ReportsAndPolls (Called does failures) contents asks now count-before next b
+            (subst (λ (b : BayView). ReportsAndPolls (Called does failures) contents asks now
+            count-before next b
             turn s process-chosen process-after begun told-to answer) is-before reports))));
         count = subst (λ m. count-after ≡ count_after m turn count-before) is-now counted;
         end = end;
@@ -237,7 +242,8 @@ module _ {L H W : Type 0} (step : L → Call → L → Type 0) (acts : H → Hos
       (host-before host-after : H)
       (process-before : Option (PollOutcome L)) (lines-before : List (ℕ × List ℕ)) (clocks : Clocks)
       (clock now : ℕ) (next : NextInput) (shift : Option ClockShift) (device : State) (jump : ℕ)
-      (count : LineCount) (old begun new : Writing W) (fault : ServeFault) (answer : Result ℕ WriteFault)
+      (count : LineCount) (old begun new : Writing W) (fault : ServeFault)
+      (answer : Result ℕ WriteFault)
       → clock ≡ moment_read clocks clock-before → now ≡ moment_at clock held
       → shift ≡ shift_of clock-before.side (moment_read clocks clock-before) clocks.system
       → device ≡ held.device → jump ≡ jump_of clocks clock-before
@@ -257,7 +263,8 @@ module _ {L H W : Type 0} (step : L → Call → L → Type 0) (acts : H → Hos
         lines = lines-before;
       }) old host-after new answer
   turn-fails link held clock-before host-before host-after process-before lines-before clocks
-      clock now next shift device jump count old begun new fault answer same now-is is-shift is-device
+      clock now next shift device jump count old begun new fault answer same now-is is-shift
+      is-device
       jump-is is-next told logged at-clock tells =
       let is-now : now ≡ moment_at (moment_read clocks clock-before) held =
       subst (λ m. now ≡ moment_at m held) same now-is in
@@ -292,7 +299,8 @@ module _ {L H W : Type 0} (step : L → Call → L → Type 0) (acts : H → Hos
       }
 
   -- which fault it is makes no difference
-  tells-cut : (now : ℕ) (count : LineCount) (next : NextInput) (before : BayView) (turn : Turn) (s : State)
+  tells-cut : (now : ℕ) (count : LineCount) (next : NextInput) (before : BayView) (turn : Turn)
+      (s : State)
       (old new : Writing W) (one other : WriteFault)
       → ReportsTurn contents asks now count next before turn s old new (Err one)
       → ReportsTurn contents asks now count next before turn s old new (Err other)
@@ -330,10 +338,12 @@ module _ {L H W : Type 0} (step : L → Call → L → Type 0) (acts : H → Hos
     printed = news-cut now h.news old new one other h.printed;
   }
 
-  reports-cut : (now : ℕ) (count : LineCount) (next : NextInput) (seen : BayView) (turn : Turn) (s : State)
+  reports-cut : (now : ℕ) (count : LineCount) (next : NextInput) (seen : BayView) (turn : Turn)
+      (s : State)
       (before after : Option (PollOutcome L)) (old new : Writing W) (one other : WriteFault)
       → ReportsAndPolls step contents asks now count next seen turn s before after old new (Err one)
-      → ReportsAndPolls step contents asks now count next seen turn s before after old new (Err other)
+      → ReportsAndPolls step contents asks now count next seen turn s before after old new
+      (Err other)
   reports-cut now count next seen turn s before after old new one other goes =
       by-outcome goes.outcome goes.printed goes.hears
     where
@@ -343,7 +353,8 @@ module _ {L H W : Type 0} (step : L → Call → L → Type 0) (acts : H → Hos
           ((after ≡ before) × (new ≡ goes.between)
           × (◌≡◌ {A = Result ℕ WriteFault} (Err one) r))
           (Hears step contents asks now turn s before after goes.between new (Err one))
-          → ReportsAndPolls step contents asks now count next seen turn s before after old new (Err other)
+          → ReportsAndPolls step contents asks now count next seen turn s before after old new
+          (Err other)
       by-outcome (Ok status) printed hears = record {
         between = goes.between;
         outcome = Ok status;
@@ -358,7 +369,8 @@ module _ {L H W : Type 0} (step : L → Call → L → Type 0) (acts : H → Hos
       }
 
   -- its lines could not be printed, so the process was not attended to
-  pub report-cut : (now : ℕ) (count : LineCount) (next : NextInput) (seen : BayView) (turn : Turn) (s : State)
+  pub report-cut : (now : ℕ) (count : LineCount) (next : NextInput) (seen : BayView) (turn : Turn)
+      (s : State)
       (process : Option (PollOutcome L)) (old new : Writing W) (fault : WriteFault)
       (r : Result ℕ WriteFault) → IsErr r
       → ReportsTurn contents asks now count next seen turn s old new (Err fault)

@@ -119,13 +119,14 @@ lost_log now is_lost =
     if is_lost then joined (utc_text now ∷ codes " process lost\n" ∷ []) ∷ [] else []
 
 -- The lines of a turn with this input: how many lines of connections were left out in the second
--- before, if it has passed; an association was opened, the process was lost, the event of the line was
--- refused, controls were requested, associations were closed; operates ended; and the positions that
--- have changed, before the releases that have. Of the lines of associations that are opened and
--- closed only the first ten in a second are written; the count is of those before the turn.
+-- before, if it has passed; an association was opened, the process was lost, the event of the line
+-- was refused, controls were requested, associations were closed; operates ended; and the positions
+-- that have changed, before the releases that have. Of the lines of associations that are opened
+-- and closed only the first ten in a second are written; the count is of those before the turn.
 abbrev pub turn_log : ℕ → LineCount → NextInput → BayView → State → Turn → List (List ℕ)
 turn_log now count next before s turn =
-    left_out_log now (left_out now count) ++ first_ten (count_at now count) (opened_log now turn.opened)
+    left_out_log now (left_out now count)
+    ++ first_ten (count_at now count) (opened_log now turn.opened)
     ++ lost_log now (reported_in next.given).is_lost
     ++ refused_log now turn.refused next.shown
     ++ flat_map (asked_log now s) turn.decisions

@@ -1,5 +1,5 @@
--- The log lines of clients' connections that come and go: the first ten in a second are written, and
--- the others are counted.
+-- The log lines of clients' connections that come and go: the first ten in a second are written,
+-- and the others are counted.
 use Rattle.std.specs.Prelude.{ℕ, zero, suc, ◌+◌, ◌-◌, ◌/◌, ◌^◌, ◌==◌, min, List, [], ◌∷◌, codes, length, take, Option, None, Some, if◌then◌else◌}
 use Rattle.std.specs.Fmt.{decimal}
 use Rattle.std.specs.declared.net.socket_addr.SocketAddrV4.{SocketAddrV4}

@@ -110,9 +110,11 @@ fn count_opened(opened: Option<(u16, SocketAddrV4)>) -> usize
     }
 }
 
-/// Logs how many lines were left out in the second of a count, if this second has passed and any were.
+/// Logs how many lines were left out in the second of a count, if this second has passed and any
+/// were.
 pub fn log_left_out<W: Sink>(writer: &mut WatchedWriter<W>, moment: u64, count: LineCount)
-    ensures { LogsAll W.contents W.does writer.old (left_out_log moment (spec.left_out moment count))
+    ensures { LogsAll W.contents W.does writer.old
+        (left_out_log moment (spec.left_out moment count))
         writer.new }
 {
     let lines = count.left_out(moment);

@@ -97,13 +97,15 @@ module _ {L H : Type 0} (acts : H → HostCall L → H → Type 0) where
     where
       by-had : (had : Result L BindFault)
           → MatchResult had
-          (λ link. BindsProcess acts (is_some numbers.record_most) numbers.tells_releases duties s link
+          (λ link. BindsProcess acts (is_some numbers.record_most) numbers.tells_releases duties s
+          link
           numbers.process binds.1 after (Ok ports))
           (λ fault. (after ≡ binds.1) × ((let r : Result (Bound L) ServeStartFault = Ok ports in r)
           ≡ Err (unserved.Unbound numbers.port fault)))
           → ports.server ≡ made_of s
       by-had (Ok link) is =
-          process-made (is_some numbers.record_most) numbers.tells_releases duties s link numbers.process binds.1
+          process-made (is_some numbers.record_most) numbers.tells_releases duties s link
+          numbers.process binds.1
           after ports is
       by-had (Err fault) is = absurd (let e = is.1 in cc)
 

@@ -36,9 +36,9 @@ use std::alloc::{AllocError, AllocFailed, Global};
 use std::io::ErrorKind;
 
 /// The port for clients, the number of turns, the port for the process, if there is one, whether it
-/// is told of releases, for how many milliseconds it may be silent, if it is supervised, for how many
-/// seconds a client may send nothing, if that is limited, and the most octets of the record, if the
-/// session is recorded.
+/// is told of releases, for how many milliseconds it may be silent, if it is supervised, for how
+/// many seconds a client may send nothing, if that is limited, and the most octets of the record,
+/// if the session is recorded.
 #[derive(Clone, Copy)]
 pub struct Numbers {
     pub port: u16,
@@ -438,9 +438,9 @@ fn serve_loaded<F: FileSystem, L: Link + Drop, H: Host<L>, W: Sink>(
 /// Serves files by their names. Reads the bay, then the program or the image, then the trace and
 /// the key; loads them and writes the line of the load; opens the port for clients, and then that
 /// of the process, if there is one; creates the file of the record, if the session is recorded; and
-/// serves the given number of turns. Logs the ports and the record's room, or why no turn is served.
-/// Returns the exit status: 0 after the last turn, 1 if the load is refused, and 3 for any other
-/// fault. Fails if a write or a flush fails, or if the file of the record can't be created.
+/// serves the given number of turns. Logs the ports and the record's room, or why no turn is
+/// served. Returns the exit status: 0 after the last turn, 1 if the load is refused, and 3 for any
+/// other fault. Fails if a write or a flush fails, or if the file of the record can't be created.
 ///
 /// All turns are one run of the device, from load on. Behind each command that a turn tells, and so
 /// behind each line that is printed, or told the process, and reads as one, stand the octets of a
