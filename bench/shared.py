@@ -1,6 +1,6 @@
 """What the scripts of this folder share: where things are, compiling C, running, ports and times.
 
-Importing it also lets a script import from tools/."""
+Importing it also lets a script import baytools and devtools."""
 import argparse
 import contextlib
 import os
@@ -18,12 +18,12 @@ TOP = pathlib.Path(__file__).resolve().parent.parent
 CRATES, EXAMPLES = TOP / 'crates', TOP / 'examples'
 PROGRAM = os.path.abspath(os.environ.get('BAYCTL', CRATES / 'bayctl' / 'out' / 'bayctl'))
 MIB = 1_048_576
-sys.path.append(str(TOP / 'tools'))
+sys.path += [str(TOP / 'tools'), str(TOP / 'dev')]
 
 
 def say_measured() -> None:
     """Prints the line that stands above the script's figures in bench/RESULTS.md."""
-    from measuring.stamps import stamp_of_script
+    from devtools.figures.stamps import stamp_of_script
     print(stamp_of_script(), end='\n\n', flush=True)
 
 
@@ -50,7 +50,7 @@ def text_of(path: str | os.PathLike) -> str:
 
 def scenario_at(folder: pathlib.Path) -> bytes:
     """The scenario of an example that has its three parts."""
-    from report.joined import scenario_at
+    from baytools.report.joined import scenario_at
     return scenario_at(folder)
 
 

@@ -10,8 +10,8 @@ import threading
 import time
 
 import shared
-from wire.client import Client
-from wire.served import free_port
+from baytools.wire.client import Client
+from devtools.served import free_port
 
 EXAMPLE = shared.EXAMPLES / '10_remote_io'
 BAY, LOGIC = EXAMPLE / 'bay.toml', EXAMPLE / 'logic.il'

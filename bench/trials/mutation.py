@@ -5,8 +5,8 @@ import random
 import re
 from collections.abc import Iterator
 
-import shared  # (it lets a script import from tools/)
-from wire import ber, stream
+import shared  # (it lets a script import baytools)
+from baytools.wire import ber, stream
 
 Random = random.Random
 Seed = tuple[str, str, list[str]]  # a bay file, a program, the lines of a trace

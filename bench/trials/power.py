@@ -10,11 +10,11 @@ from collections.abc import Callable
 
 import shared
 from shared import EXAMPLES, TOP
-from bay.names import Names
-from common.ending import Failed
-from common.positions import OF_BITS, POSITIONS
-from wire.client import Client
-from wire.control import Control
+from baytools.bay.names import Names
+from baytools.common.ending import Failed
+from baytools.common.positions import OF_BITS, POSITIONS
+from baytools.wire.client import Client
+from baytools.wire.control import Control
 
 SERVED = EXAMPLES / '09_served'
 TRAVEL = 300  # ms of each switch

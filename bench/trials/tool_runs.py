@@ -14,8 +14,8 @@ from dataclasses import dataclass
 from unittest import mock
 
 import shared  # (it lets a script import from tools/)
-from common.ending import OF_TOOLS, UNREACHED, show_plainly, status_of
-from tests.tool import loaded
+from baytools.common.ending import OF_TOOLS, UNREACHED, show_plainly, status_of
+from devtools.commands import loaded
 
 LIMIT, KEPT = 20, 20  # seconds for a run; wrong runs of a kind that are kept
 WARNED = ('times go back', 'not count from 1970', 'combination')
@@ -74,7 +74,7 @@ class Trial:
         signal.setitimer(signal.ITIMER_REAL, self.limit)
         try:
             with stdin, streams, mock.patch.dict(os.environ, TOOLS_TRACEBACK='1'), \
-                    mock.patch('common.ending.stop_output', no_output), \
+                    mock.patch('baytools.common.ending.stop_output', no_output), \
                     contextlib.chdir(self.folder):
                 show_plainly()
                 status = status_of(loaded(tool).main)

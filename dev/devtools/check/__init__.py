@@ -1,0 +1,1 @@
+"""Parts of dev/check that serve a bay: the panel, sessions of clients and their captures."""

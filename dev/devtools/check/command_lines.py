@@ -1,0 +1,158 @@
+"""What stands in no contract: the words of the help, word for word, words that are no text, files
+that may not be read or written, and what reaches standard output and standard error. Each check has
+the name of the wrong behaviour that it refuses."""
+import os
+import pathlib
+import re
+import resource
+import shutil
+import signal
+import socket
+import subprocess
+import tempfile
+
+from devtools.paths import DATA
+
+from .limits import LOGIC, bay
+
+HELP = DATA / 'help.txt'
+NOBODY = 65_534  # the user who is no one, in whose place root runs a program
+OLD = [('out.image', b'old')]
+FULL = pathlib.Path('/dev/full')
+NO_TEXT = b'error: a word of the command line is no text\n'
+
+
+def helps(checks) -> None:
+    """The help of the program and of each command, which HELP holds behind the words that ask for
+    it."""
+    parts = re.split(r'^\$ bayctl (.*)\n', HELP.read_text(encoding='utf-8'), flags=re.M)[1:]
+    for asked, wanted in zip(parts[::2], parts[1::2]):
+        done = subprocess.run([checks.bayctl, *asked.split()], capture_output=True, text=True)
+        told = done.returncode, done.stdout, done.stderr
+        checks.holds(f'the help of {asked!r} tells otherwise', told == (2, '', wanted), str(told))
+
+
+def no_texts(checks) -> None:
+    """Words that are no UTF-8, alone and behind others."""
+    for asked in ([b'\xff'], [b'check', b'--bay', b'\xc3\x28'], [b'replay', b'\xed\xa0\x80']):
+        done = subprocess.run([os.fsencode(checks.bayctl), *asked], capture_output=True,
+                              stdin=subprocess.DEVNULL)
+        told = done.returncode, done.stdout, done.stderr
+        checks.holds('a word that is no text wants memory', told == (2, b'', NO_TEXT), str(told))
+
+
+def telling(checks) -> None:
+    """What a process can be told is `releases`, and there has to be one."""
+    words = [checks.bayctl, 'serve', '--bay', 'b', '--logic', 'l', '--port', '7', '--turns', '0']
+    for more, wrong in ((['--process', '8', '--tell', 'Releases'], '[possible values: releases]'),
+                        (['--tell', 'releases'], '--process <P>')):
+        told = printed([*words, *more])
+        checks.holds('words that tell a process nothing are taken',
+                     told[:2] == (2, '') and told[2].startswith('error: ') and wrong in told[2],
+                     str(told))
+
+
+def printed(words: list, **more) -> tuple[int, str, str]:
+    """The status of a program, and what it prints on both outputs."""
+    done = subprocess.run(words, capture_output=True, text=True, timeout=60, **more)
+    return done.returncode, done.stdout, done.stderr
+
+
+def full() -> None:
+    """A disk with room for ten octets of each file."""
+    signal.signal(signal.SIGXFSZ, signal.SIG_IGN)
+    resource.setrlimit(resource.RLIMIT_FSIZE, (10, 10))
+
+
+# Shows P-112.
+def files(checks) -> None:
+    """A write to a disk that is full leaves the file that was there, and nothing beside it."""
+    with tempfile.TemporaryDirectory() as folder:
+        out = pathlib.Path(folder) / 'out.image'
+        out.write_bytes(b'old')
+        words = [checks.bayctl, 'compile', '--bay', checks.file('bay.toml', bay()), '--logic',
+                 checks.file('logic.il', LOGIC), '--out', out]
+        told = printed(words, preexec_fn=full)
+        checks.holds('a failed write removes the file that was there',
+                     told[0] == 3 and told[2] == 'fault 122\n' and left(out.parent) == OLD,
+                     f'{told}, {left(out.parent)}')
+        told = printed(words)
+        checks.holds('no file is ever written',
+                     told[0] == 0 and out.read_bytes()[:4] == b'ILBC', str(told))
+
+
+def left(folder: pathlib.Path) -> list[tuple[str, bytes]]:
+    """The files of a folder."""
+    return [(it.name, it.read_bytes()) for it in sorted(folder.iterdir())]
+
+
+def closed(checks) -> None:
+    """A file that may not be read, and a folder that may not be written, by a user who may not do
+    everything."""
+    user = {'user': NOBODY, 'group': NOBODY, 'extra_groups': []} if os.geteuid() == 0 else {}
+    with tempfile.TemporaryDirectory() as name:
+        folder = pathlib.Path(name)
+        folder.chmod(0o755)
+        program = shutil.copy(checks.bayctl, folder / 'bayctl')
+        (folder / 'logic.il').write_text(LOGIC, encoding='utf-8')
+        for bay_file, mode in (('bay.toml', 0o644), ('closed.toml', 0)):
+            (folder / bay_file).write_text(bay(), encoding='utf-8')
+            (folder / bay_file).chmod(mode)
+        try:
+            printed([program, 'replay'], stdin=subprocess.DEVNULL, **user)
+        except OSError as error:
+            print(f'left out, since no other user can be had here: files that are closed ({error})')
+            return
+        shut = folder / 'shut'
+        shut.mkdir()
+        (shut / 'out.image').write_bytes(b'old')
+        shut.chmod(0o555)
+        words = ['--logic', 'logic.il', '--bay']
+        told = printed([program, 'check', *words, 'closed.toml'], cwd=folder, **user)
+        checks.holds('a file that may not be read wants memory', told == (3, 'fault 121\n', ''),
+                     str(told))
+        told = printed([program, 'compile', *words, 'bay.toml', '--out', shut / 'out.image'],
+                       cwd=folder, **user)
+        checks.holds('a write changes a folder that may not be written',
+                     told[0] == 3 and told[2] == 'fault 122\n' and left(shut) == OLD,
+                     f'{told}, {left(shut)}')
+        shut.chmod(0o755)
+
+
+# Shows P-099, P-110, P-121.
+def ends(checks) -> None:
+    """What the program prints, logs and ends with: a file that is not there, a refused load, a port
+    that is taken, and an output that is full."""
+    load = ['--bay', checks.file('bay.toml', bay()), '--logic']
+    none, wrong = (checks.folder / 'absent.il',
+                   checks.file('wrong.il', 'PROGRAM P\nLD A\nEND_PROGRAM\n'))
+    right = [*load, checks.file('logic.il', LOGIC)]
+    report = printed([checks.bayctl, 'check', *right])[1]
+    with socket.create_server(('127.0.0.1', 0)) as taken:
+        port = taken.getsockname()[1]
+        for name, words, wanted in (
+                ('the program has no report', ['check', '--log', *right], (0, report, '')),
+                ('a file that is not there is not logged', ['check', '--log', *load, none],
+                 (3, 'fault 121\n', f'bayctl: fault 121: {none}: there is no such file\n')),
+                ('a refused load is not logged', ['check', '--log', *load, wrong],
+                 (1, 'load refused 70 line 2\n',
+                  'bayctl: load refused 70 line 2: the name is unknown\n')),
+                ('a taken port is something else',
+                 ['serve', '--log', *right, '--turns', '1', '--port', str(port)],
+                 (3, f'{report}fault 121\n',
+                  f'bayctl: fault 121: port {port}: another program uses it\n'))):
+            told = printed([checks.bayctl, *words])
+            checks.holds(name, told == wanted and report.startswith('instructions='), str(told))
+    if not FULL.exists():
+        print(f'left out, since there is no {FULL}: output that is full')
+        return
+    why = "bayctl: fault 122: standard output: it can't be written\n"
+    for words, wanted in (([], 'fault 122\n'), (['--log'], f'{why}fault 122\n')):
+        with FULL.open('wb') as full:
+            done = subprocess.run([checks.bayctl, 'replay', *words], stdin=subprocess.DEVNULL,
+                                  stdout=full, stderr=subprocess.PIPE, text=True)
+        checks.holds('a full output is no fault', (done.returncode, done.stderr) == (3, wanted),
+                     f'{done.returncode} {done.stderr!r}')
+
+
+PARTS = (helps, no_texts, telling, files, closed, ends)

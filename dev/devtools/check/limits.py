@@ -1,0 +1,177 @@
+"""What is asked at the limits of bayctl with ample memory: nothing may answer want of memory. Each
+check has the name of the wrong behaviour that it refuses."""
+import contextlib
+import subprocess
+
+from baytools.wire import mms, stream
+from baytools.wire.client import Client
+from devtools.served import Server, free_port
+
+LEAST, MOST = 256, 65_000  # octets of a PDU
+FRAME = ('PROGRAM P\nVAR_EXTERNAL\nQA1_OPEN, QA1_ENA_OPN, QA1_ENA_CLS : BOOL;\nEND_VAR\n{}'
+         'LD TRUE\nST QA1_ENA_OPN\nST QA1_ENA_CLS\n{}END_PROGRAM\n')
+LOGIC = FRAME.format('', '')
+ROWS = 2_691  # of the largest bay: 32 enhanced disconnectors and 8 meters
+SCENARIO = 16_777_216  # octets at most
+
+
+def bay(switches: int = 1, inputs: int = 0, meters: int = 0, text: str = 'Demo') -> str:
+    """A bay of enhanced switches, inputs and meters; its vendor, model and revision are a text."""
+    return ('[bay]\ndomain = "BAY1"\nscan_max_age_ms = 1000\n'
+            + ''.join(f'{key} = "{text}"\n' for key in ('vendor', 'model', 'revision'))
+            + ''.join(f'[[switch]]\nid = "QA{at}"\nkind = "disconnector"\ncontrol = "sbo-enhanced"'
+                      '\nsbo_timeout_ms = 5000\ntravel_ms = 500\n'
+                      for at in range(1, switches + 1))
+            + ''.join(f'[[input]]\nname = "IN{at}"\n' for at in range(inputs))
+            + ''.join(f'[[meter]]\nid = "M{at}"\n' for at in range(meters)))
+
+
+class SmallClient(Client):
+    """A client whose PDUs are as small as can be."""
+
+    def open(self) -> None:
+        self.send(stream.connection_request())
+        self.size = self.first_answer().size
+        self.send(stream.wrapped(stream.association_request(mms.initiate_request(LEAST)),
+                                 self.size))
+        self.next('accept')
+
+
+def replay(checks, scenario: str | bytes) -> str:
+    """What a replay prints, with its status behind it."""
+    octets = scenario if isinstance(scenario, bytes) else scenario.encode()
+    done = subprocess.run([checks.bayctl, 'replay'], input=octets, capture_output=True, timeout=60)
+    return f'{done.stdout.decode()}status {done.returncode}'
+
+
+def asked(checks, of_bay: str, pdus: list[bytes], size: int = MOST) -> tuple[str, list[mms.Pdu]]:
+    """What a replay prints in which a client with PDUs of a size asks, and what it is answered."""
+    initiate = stream.association_request(mms.initiate_request(size))
+    sent = [stream.connection_request(), stream.wrapped(initiate)]
+    sent += [stream.wrapped(stream.data_tsdu(pdu)) for pdu in pdus]
+    trace = '1000 contact QA1 1\n1000 scan\n1000 open 1\n'
+    trace += ''.join(f'1000 recv 1 {octets.hex()}\n' for octets in sent)
+    printed = replay(checks, f'{of_bay}%%\n{LOGIC}%%\n{trace}')
+    answers = stream.Stream()
+    octets = b''.join(bytes.fromhex(line.split(' ')[3]) for line in printed.splitlines()
+                      if ' send 1 ' in line)
+    return printed, [mms.read_pdu(got.octets) for got in answers.feed(octets)
+                     if got.kind == 'mms']
+
+
+# Shows P-095.
+def names(checks) -> None:
+    """All names of the largest bay in the largest pages and in the smallest."""
+    path, logic = checks.file('bay.toml', bay(32, 0, 8)), checks.file('logic.il', LOGIC)
+    for kind, name in ((Client, 'the names of a large bay want memory'),
+                       (SmallClient, 'the second page of a small client wants memory')):
+        with Server(checks.bayctl, path, logic) as server:
+            found = []
+            with contextlib.suppress(Exception):
+                server.client().close()
+                client = kind('127.0.0.1', server.port)
+                found = client.names()
+                client.close()
+            checks.holds(name, len(found) == len(set(found)) == ROWS,
+                         f'{len(found)} names, {server.printed()!r}')
+
+
+def inputs(checks) -> None:
+    """The bay with the most of everything."""
+    told = loaded(checks, '--bay', checks.file('bay.toml', bay(32, 64, 8)),
+                  '--logic', checks.file('logic.il', LOGIC))
+    checks.holds('a bay of many inputs wants memory', told.startswith('instructions='), told)
+
+
+# Shows P-092, P-093.
+def messages(checks) -> None:
+    """The longest identity, and reads and writes of 32 variables in the smallest PDUs."""
+    printed, pdus = asked(checks, bay(text='~' * 64), [mms.request_octets(1, 0x82)])
+    checks.holds('a long nameplate wants memory', printed.count('7e' * 64) == 3, printed)
+    values = ['BAY1/CILO1$ST$EnaOpn$stVal'] * 32
+    printed, pdus = asked(checks, bay(), [mms.read_request(2, values)], LEAST)
+    checks.holds('a read on the smallest pdus wants memory',
+                 bool(pdus) and len(pdus[-1].data) == 32, printed)
+    written = mms.write_request(3, ['BAY1/CILO1$ST$EnaOpn$stVal'] * 32, [mms.control(True)] * 32)
+    printed, pdus = asked(checks, bay(), [written], LEAST)
+    checks.holds('a write of 32 variables finds no memory',
+                 bool(pdus) and len(pdus[-1].data) == 32, printed)
+
+
+# Shows P-096.
+def controls(checks) -> None:
+    """A select with value and its operate by the longest originator, with their report."""
+    value = mms.control(True, ident=b'\xFF' * 64)
+    written = [mms.write_request(at, [f'BAY1/CSWI1$CO$Pos${item}'], [value])
+               for at, item in ((1, 'SBOw'), (2, 'Oper'))]
+    printed, _ = asked(checks, bay(), written)
+    checks.holds('a long originator wants memory', '1000 command QA1 on\n' in printed, printed)
+
+
+def loaded(checks, *words) -> str:
+    """What a check prints."""
+    done = subprocess.run([checks.bayctl, 'check', *words], capture_output=True, timeout=60)
+    return done.stdout.decode()
+
+
+def programs(checks) -> None:
+    """Programs with many variables, on a line and on lines of their own, and none at all."""
+    path, names_of = checks.file('bay.toml', bay()), [f'v{at}' for at in range(300)]
+    long, many = (FRAME.format(f'VAR\n{lines} : BOOL;\nEND_VAR\n', '')
+                  for lines in (', '.join(names_of), ' : BOOL;\n'.join(names_of)))
+    told = loaded(checks, '--bay', path, '--logic', checks.file('logic.il', long))
+    checks.holds('a line of 61 tokens wants memory', told.startswith('instructions='), told)
+    out = checks.folder / 'out.image'
+    told = compiled(checks, path, checks.file('logic.il', many), out)
+    checks.holds('an image with many variables is not written',
+                 out.is_file() and told.startswith('instructions='), told)
+    told = loaded(checks, '--bay', path, '--logic', checks.file('empty.il', ''))
+    checks.holds('an empty text is out of memory', told == 'load refused 61 line 1\n', told)
+
+
+def compiled(checks, path, logic, out) -> str:
+    """What a compilation prints."""
+    out.unlink(missing_ok=True)
+    words = [checks.bayctl, 'compile', '--bay', path, '--logic', logic, '--out', out]
+    return subprocess.run(words, capture_output=True, timeout=60).stdout.decode()
+
+
+# Shows P-016, P-017, P-040.
+def images(checks) -> None:
+    """An image of nearly 65,535 octets is written, checked and served; a longer one is refused."""
+    path = checks.file('bay.toml', bay())
+    calls = 'CAL t1(IN := QA1_OPEN, PT := T#1s)\n' * 3_800
+    logic = checks.file('logic.il', FRAME.format('VAR\nt1 : TON;\nEND_VAR\n', calls))
+    out = checks.folder / 'out.image'
+    told = compiled(checks, path, logic, out)
+    checks.holds('a long image is not written',
+                 out.is_file() and 60_000 < out.stat().st_size < 65_536, told)
+    again = loaded(checks, '--bay', path, '--image', out)
+    checks.holds('an image over 32 kib is not loaded', again == told, again)
+    calls = 'CAL t1(IN := QA1_OPEN, PT := T#1s)\n' * 3_990
+    long = checks.file('long.il', FRAME.format('VAR\nt1 : TON;\nEND_VAR\n', calls))
+    told_long = loaded(checks, '--bay', path, '--logic', long)
+    checks.holds('a program with a longer image is loaded', told_long.startswith('load refused 85'),
+                 told_long)
+    words = ['--bay', path, '--image', out, '--turns', '1', '--port', str(free_port())]
+    done = subprocess.run([checks.bayctl, 'serve', *words], capture_output=True, timeout=60)
+    checks.holds('an image over 32 kib is not served',
+                 done.stdout.decode() == told and done.returncode == 0, repr(done.stdout))
+
+
+# Shows P-103, P-104.
+def texts(checks) -> None:
+    """The longest scenario, one that is longer, and a long line of a trace."""
+    begin = f'{bay()}%%\n{LOGIC}%%\n'.encode()
+    full = begin + b'\n' * (SCENARIO - len(begin) - 10) + b'1000 scan\n'
+    told = replay(checks, full)
+    checks.holds('a megabyte wants memory',
+                 told.startswith('instructions=') and told.endswith('QA1=11\nstatus 0'), told)
+    told = replay(checks, full + b'\n')
+    checks.holds('the longest scenario has no end', told == 'fault 121\nstatus 3', told)
+    told = replay(checks, begin + b'1 open 1\n1 recv 1 ' + b'00' * 65_535 + b'\n')
+    checks.holds('a long line is want of memory', told.endswith('\n1 closed 1 10\nstatus 0'),
+                 told)
+
+
+PARTS = (names, inputs, messages, controls, programs, images, texts)

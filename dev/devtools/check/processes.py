@@ -1,0 +1,153 @@
+"""What a process leaves that has gone, which of those that wait comes next, and what it is told of
+releases. Each check has the name of the wrong behaviour that it refuses."""
+import contextlib
+import re
+import socket
+import time
+
+from devtools.served import PATIENCE, Server, until, value
+
+BAY = '''[bay]
+domain = "B"
+vendor = "V"
+model = "M"
+revision = "1"
+scan_max_age_ms = 1000
+[[switch]]
+id = "QA1"
+kind = "breaker"
+control = "status"
+[[switch]]
+id = "QC1"
+kind = "earthing"
+control = "status"
+[[input]]
+name = "VT_DEAD"
+[[input]]
+name = "SPARE"
+[[input]]
+name = "ES"
+'''
+LOGIC = '''PROGRAM P
+VAR_EXTERNAL
+VT_DEAD, ES, QA1_ENA_OPN, QA1_ENA_CLS : BOOL;
+END_VAR
+LD VT_DEAD
+ST QA1_ENA_OPN
+LD ES
+ST QA1_ENA_CLS
+END_PROGRAM
+'''
+ROWS = ('CILO1$ST$EnaOpn$stVal', 'CILO1$ST$EnaCls$stVal')
+POSITIONS = ('CSWI1$ST$Pos$stVal', 'CSWI2$ST$Pos$stVal')
+COUNTS = ('XCBR1$ST$OpCnt$stVal', 'XSWI1$ST$OpCnt$stVal')
+BAD = '11'
+
+
+# Shows P-115.
+def gone(checks) -> None:
+    """A process tells of inputs and goes, and another comes that tells of a contact alone."""
+    bay, logic = checks.file('bay.toml', BAY), checks.file('logic.il', LOGIC)
+    with Server(checks.bayctl, bay, logic, with_process=True) as server, \
+            contextlib.closing(server.client()) as client:
+        with connected(server) as process:
+            process.sendall(b'0 contact QA1 1\n0 input VT_DEAD 1\n0 input ES 1\n')
+            until(lambda: all(value(client, row) for row in ROWS), 'the inputs are TRUE')
+        with contextlib.suppress(TimeoutError):
+            until(lambda: not any(value(client, row) for row in ROWS), 'the inputs are FALSE')
+        checks.holds('a process that has gone leaves an input true',
+                     not any(value(client, row) for row in ROWS)
+                     and all(value(client, row) == BAD for row in POSITIONS), server.printed())
+        with connected(server) as process:
+            process.sendall(b'0 contact QA1 1\n')
+            until(lambda: value(client, POSITIONS[0]) == '01', 'QA1 is open')
+            time.sleep(0.1)
+            checks.holds('what a process said is told for the next one',
+                         not any(value(client, row) for row in ROWS)
+                         and value(client, POSITIONS[1]) == BAD, server.printed())
+
+
+def connected(server: Server) -> socket.socket:
+    """A process that has connected."""
+    return socket.create_connection(('127.0.0.1', server.process))
+
+
+def leaves(server: Server, said: bytes) -> None:
+    """A process that connects, says something, and goes."""
+    with connected(server) as process:
+        process.sendall(said)
+
+
+def news(server: Server) -> list[str]:
+    """What a server has printed of its processes, without the moments."""
+    return re.findall(r'(?m)^\d+ (process .*)$', server.printed())
+
+
+# Shows P-115.
+def waited(checks) -> None:
+    """While a process is served three others come and go: one says nothing, one half a line, and
+    one a line. Then the first one goes."""
+    bay, logic = checks.file('bay.toml', BAY), checks.file('logic.il', LOGIC)
+    with Server(checks.bayctl, bay, logic, with_process=True) as server, \
+            contextlib.closing(server.client()) as client:
+        with connected(server) as first:
+            first.sendall(b'0 input ES 1\n')
+            until(lambda: value(client, ROWS[1]), 'the first one is served')
+            for said in (b'', b'0 contact QC1 1', b'0 contact QA1 1\n'):
+                leaves(server, said)
+            time.sleep(0.1)
+            checks.holds('two processes at once', news(server) == ['process open'],
+                         server.printed())
+        with contextlib.suppress(TimeoutError):
+            until(lambda: len(news(server)) > 3, 'two have come and gone')
+        time.sleep(0.1)
+        checks.holds('a process that waited and went is taken',
+                     news(server) == ['process open', 'process closed 0'] * 2
+                     and value(client, COUNTS[1]) == 0, server.printed())
+        checks.holds('what a process sent that waited and went is lost',
+                     value(client, COUNTS[0]) == 1 and value(client, POSITIONS[0]) == BAD,
+                     server.printed())
+
+
+def lines_of(process: socket.socket, count: int) -> list[str]:
+    """The next lines that a process is told, as many as come within the patience."""
+    process.settimeout(PATIENCE)
+    octets = b''
+    with contextlib.suppress(TimeoutError):
+        while octets.count(b'\n') < count:
+            piece = process.recv(4096)
+            if not piece:
+                break
+            octets += piece
+    return octets.decode().splitlines()
+
+
+# Shows P-115, P-116.
+def told(checks) -> None:
+    """A process is told all releases at first, and then each change; and none without the
+    option."""
+    bay, logic = checks.file('bay.toml', BAY), checks.file('logic.il', LOGIC)
+    with Server(checks.bayctl, bay, logic, '--tell', 'releases', with_process=True) as server, \
+            contextlib.closing(server.client()):
+        with connected(server) as process:
+            first = lines_of(process, 2)
+            process.sendall(b'0 input VT_DEAD 1\n0 input ES 1\n0 input VT_DEAD 0\n')
+            changes = lines_of(process, 3)
+            process.sendall(b'0 contact NONE 1\n')
+            refusal = lines_of(process, 1)
+        checks.holds('a release that fell is not told',
+                     (first, changes) == (['QA1=00', 'QC1=00'], ['QA1=10', 'QA1=11', 'QA1=01']),
+                     f'{first}, {changes}')
+        checks.holds('each turn tells releases', refusal[0].endswith(' refused 113'), str(refusal))
+        with connected(server) as process:
+            again = lines_of(process, 2)
+        checks.holds('a new process is told what has changed alone',
+                     again == ['QA1=00', 'QC1=00'], str(again))
+    with Server(checks.bayctl, bay, logic, with_process=True) as server, \
+            contextlib.closing(server.client()), connected(server) as process:
+        process.sendall(b'0 input VT_DEAD 1\n0 contact NONE 1\n')
+        first = lines_of(process, 1)
+        checks.holds('releases are told unasked', first[0].endswith(' refused 113'), str(first))
+
+
+PARTS = (gone, waited, told)

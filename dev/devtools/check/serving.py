@@ -1,0 +1,289 @@
+"""What only a served bay can show: clients that come, go and are silent, moments, and the pace of
+the turns. Each check has the name of the wrong behaviour that it refuses."""
+import contextlib
+import os
+import re
+import socket
+import subprocess
+import threading
+import time
+
+from baytools.common.paths import TOP
+from baytools.wire import mms, stream
+from devtools.served import PATIENCE, Server, free_port, until, value
+
+SERVED = TOP / 'examples' / '09_served'
+BAY, LOGIC, TRACE = SERVED / 'bay.toml', SERVED / 'logic.il', SERVED / 'trace'
+IDENTIFY = stream.wrapped(stream.data_tsdu(mms.request_octets(1, 0x82)))
+PAGE = stream.wrapped(stream.data_tsdu(mms.names_request(1, 'E05')))
+PAUSE = 0.010  # the longest rest of an idle server, in seconds
+TRIES = 5
+BUSY = 0.4  # of a processor: far more than an idle server takes
+
+
+def connected(port: int) -> socket.socket:
+    """A connection to a port, on which nothing was said yet."""
+    one = socket.create_connection(('127.0.0.1', port), PATIENCE)
+    one.settimeout(PATIENCE)
+    return one
+
+
+def number_of(one: socket.socket) -> int:
+    """Asks for a transport connection, and tells the association's number in the answer."""
+    one.sendall(stream.connection_request())
+    return int.from_bytes(one.recv(100)[8:10], 'big')
+
+
+def prints(server: Server, told: str) -> bool:
+    """Whether a server prints something within five seconds."""
+    end = time.monotonic() + 5
+    while told not in server.printed() and time.monotonic() < end:
+        time.sleep(0.05)
+    return told in server.printed()
+
+
+def took(do, *words) -> float:
+    """How many seconds a call takes."""
+    begun = time.monotonic()
+    do(*words)
+    return time.monotonic() - begun
+
+
+def rests_in(server: Server, do, *words) -> int:
+    """How often a server rests during a call: how often it gave up its processor. It is the least
+    of some tries, since another load of the machine may have octets come late."""
+    def given() -> int:
+        with open(f'/proc/{server.run.pid}/status', encoding='utf-8') as file:
+            return int(re.search(r'^voluntary_ctxt_switches:\s*(\d+)', file.read(), re.M)[1])
+
+    def tried() -> int:
+        before = given()
+        do(*words)
+        return given() - before
+
+    return min(tried() for _ in range(TRIES))
+
+
+def answered(client, request: bytes, count: int) -> None:
+    """Sends a request so many times at once, and waits for as many answers."""
+    client.socket.sendall(request * count)
+    for _ in range(count):
+        client.next('mms')
+
+
+def processor_seconds(server: Server) -> float:
+    """The processor's seconds that a server takes within one second."""
+    def taken() -> int:
+        with open(f'/proc/{server.run.pid}/stat', encoding='utf-8') as file:
+            return sum(map(int, file.read().rpartition(')')[2].split()[11:13]))
+
+    before = taken()
+    time.sleep(1)
+    return (taken() - before) / os.sysconf('SC_CLK_TCK')
+
+
+def silence(checks) -> None:
+    """Ten seconds of silence end a connection from its start on, and not behind its first octet."""
+    with Server(checks.bayctl, BAY, LOGIC) as server, contextlib.ExitStack() as kept:
+        client, begun = server.client(), time.monotonic()
+        client.domain()
+        with connected(server.port) as one:
+            is_closed = one.recv(1) == b''
+            waited = time.monotonic() - begun
+        checks.holds('a client that says nothing is never closed',
+                     is_closed and 9.5 < waited < 20 and prints(server, ' closed 2 131\n'),
+                     f'after {waited:.1f} s: {server.printed()!r}')
+        time.sleep(max(0, begun + 12 - time.monotonic()))
+        kept.callback(client.close)
+        checks.holds('a client that pauses for ten seconds is closed',
+                     not re.search(' closed 1 ', server.printed()) and is_served(client),
+                     repr(server.printed()))
+
+
+def is_served(client) -> bool:
+    """Whether a client is still answered."""
+    try:
+        return value(client, 'LPHD1$ST$PhyHealth$stVal') == 1
+    except Exception as error:  # the server may be gone in any way
+        print(f'no answer: {error!r}')
+        return False
+
+
+# Shows P-128.
+def clients(checks) -> None:
+    """A client that hangs up is told, and its number is the next one's."""
+    with Server(checks.bayctl, BAY, LOGIC) as server:
+        server.client().socket.close()
+        is_told = prints(server, ' closed 1 0\n')
+        with connected(server.port) as second:
+            second.sendall(stream.connection_request())
+            number = heard(second, 5)[8:10]
+        checks.holds('the end of a client is never seen', is_told and number == b'\0\1',
+                     f'number {number!r}, {server.printed()!r}')
+
+
+# Shows P-122.
+def eight(checks) -> None:
+    """Eight clients are served; a ninth waits until one of them goes."""
+    with Server(checks.bayctl, BAY, LOGIC) as server, contextlib.ExitStack() as kept:
+        eight = [kept.enter_context(server.client().socket)]
+        eight += [kept.enter_context(connected(server.port)) for _ in range(7)]
+        numbers = [number_of(one) for one in eight[1:]]
+        ninth = kept.enter_context(connected(server.port))
+        ninth.sendall(stream.connection_request())
+        early_answer = heard(ninth, 0.3)
+        checks.holds('eight clients end the server',
+                     server.run.poll() is None and numbers == [*range(2, 9)] and not early_answer,
+                     f'numbers {numbers}, {early_answer!r}, {server.printed()!r}')
+        eight[4].close()
+        late_answer = heard(ninth, 5)
+        checks.holds('a ninth client is never served', late_answer[8:10] == b'\0\5',
+                     f'{late_answer!r}, {server.printed()!r}')
+
+
+def heard(one: socket.socket, seconds: float) -> bytes:
+    """What comes within so many seconds."""
+    one.settimeout(seconds)
+    try:
+        return one.recv(100)
+    except (TimeoutError, ConnectionError):
+        return b''
+
+
+# Shows P-121.
+def moments(checks) -> None:
+    """A trace is done beside a process, at the moments of the system's clock."""
+    with Server(checks.bayctl, BAY, LOGIC, '--trace', TRACE, with_process=True) as server:
+        begun = time.time()
+        try:
+            client = server.client()
+        except RuntimeError as error:
+            checks.holds('a trace and a process want memory', False, str(error))
+            return
+        with connected(server.process) as process:
+            process.sendall(b'0 measure M1 AB 77\n')
+            seen = []
+            with contextlib.suppress(TimeoutError):
+                until(lambda: seen.append(values(client)) or seen[-1] == [212, 77], 'both')
+        checks.holds('a trace and a process want memory', seen[-1] == [212, 77],
+                     f'{seen[-1]}, {server.printed()!r}')
+        moment = value(client, 'XCBR1$ST$Pos$t') / 1000
+        checks.holds("the clock counts from the machine's start",
+                     begun - 1 < moment < time.time() + 1, f'{moment} at {time.time()}')
+        client.close()
+
+
+def values(client) -> list:
+    """A current of the trace and one of the process."""
+    return [value(client, f'MMXU1$MX$A$phs{phase}$cVal$mag$i') for phase in 'AB']
+
+
+# Shows P-121.
+def turns(checks) -> None:
+    """An idle server takes its turns: a hundred of them within two seconds, and not at once."""
+    words = [checks.bayctl, 'serve', '--bay', BAY, '--logic', LOGIC, '--turns', '100', '--port']
+
+    def served() -> None:
+        with contextlib.suppress(subprocess.TimeoutExpired):
+            subprocess.run([*words, str(free_port())], stdout=subprocess.DEVNULL, timeout=5)
+
+    least = min(took(served) for _ in range(2))
+    checks.holds('an idle server sleeps two seconds', least < 100 * 2 * PAUSE + 2,
+                 f'100 turns take {least:.2f} s')
+    checks.holds('an idle server never rests', least > 100 * PAUSE / 2,
+                 f'100 turns take {least:.2f} s')
+
+
+# Shows P-126.
+def pieces(checks) -> None:
+    """What comes at once is read in pieces of 4,096 octets, without a rest between them."""
+    with Server(checks.bayctl, BAY, LOGIC) as server:
+        client = server.client()
+        for name, octets in (('a read brings 64 octets', 4_000),
+                             ('a server rests though octets wait', 65_536)):
+            least = rests_in(server, answered, client, IDENTIFY, octets // len(IDENTIFY))
+            checks.holds(name, least < 10, f'{least} rests within {octets} octets')
+        client.close()
+
+
+def wakes(checks) -> None:
+    """Each port wakes an idle server. A request comes two milliseconds behind the answer to the
+    one before, when the server has just begun to rest."""
+    with Server(checks.bayctl, BAY, LOGIC, with_process=True) as server:
+        client = server.client()
+        waited = [later(answered, client, IDENTIFY, 1) for _ in range(100)]
+        checks.holds('only the last port wakes the server', early(waited) < PAUSE / 2,
+                     f'a request takes {early(waited) * 1000:.1f} ms')
+        with connected(server.process) as process:
+            waited = [later(refused, process) for _ in range(100)]
+        checks.holds('only the first port wakes the server', early(waited) < PAUSE / 2,
+                     f'a line of the process takes {early(waited) * 1000:.1f} ms')
+        client.close()
+
+
+def later(do, *words) -> float:
+    """How many seconds a call takes two milliseconds from now."""
+    time.sleep(0.002)
+    return took(do, *words)
+
+
+def early(times: list[float]) -> float:
+    """A time that three quarters of some times are not below."""
+    return sorted(times)[len(times) // 4]
+
+
+def refused(process: socket.socket) -> None:
+    """Tells of a switch that there is not, and waits for the refusal."""
+    process.sendall(b'0 contact NONE 1\n')
+    process.recv(100)
+
+
+# Shows P-130, P-131.
+def rests(checks) -> None:
+    """Neither a process that has nothing to say nor a client that reads nothing keeps the server
+    busy."""
+    with Server(checks.bayctl, BAY, LOGIC, with_process=True) as server:
+        client = server.client()
+        with connected(server.process) as process:
+            refused(process)
+            seconds = processor_seconds(server)
+            checks.holds('a process keeps the server awake', seconds < BUSY,
+                         f'{seconds} of one second')
+        client.close()
+    with Server(checks.bayctl, BAY, LOGIC) as server:
+        client = server.client()
+        fill(client, server.port)
+        seconds = processor_seconds(server)
+        checks.holds('a client that reads nothing keeps the server busy',
+                     seconds < BUSY and ' closed ' not in server.printed(),
+                     f'{seconds} of one second, {server.printed()!r}')
+        client.socket.close()
+
+
+def under_way(port: int) -> int:
+    """How many octets of answers the system keeps between a server and its client."""
+    with open('/proc/net/tcp', encoding='utf-8') as file:
+        rows = [line.split() for line in file][1:]
+    place = f'0100007F:{port:04X}'
+    return sum(int(row[4].split(':')[row[2] == place], 16) for row in rows
+               if row[3] == '01' and place in row[1:3])
+
+
+def fill(client, port: int) -> None:
+    """Asks for names, and reads none, until the system takes no more of them. What is asked at a
+    time fits the server's queue."""
+    client.socket.setsockopt(socket.SOL_SOCKET, socket.SO_RCVBUF, 4_096)
+    before = -1
+    while under_way(port) > before:
+        before = under_way(port)
+        client.socket.sendall(PAGE * 50)
+        time.sleep(0.05)
+
+
+def all_of(checks) -> None:
+    """Does all of it. The connections that are silent for ten seconds are so meanwhile."""
+    silent = threading.Thread(target=checks.goes, args=(silence,))
+    silent.start()
+    for part in (clients, eight, moments, turns, pieces, wakes, rests):
+        checks.goes(part)
+    silent.join()

@@ -1,0 +1,97 @@
+"""What was proved and run for a release: the gate from nothing, and the wrong bodies outside it."""
+import dataclasses
+import datetime
+import hashlib
+import json
+import os
+import pathlib
+import re
+import subprocess
+import time
+
+from baytools.common.ending import Failed
+from baytools.common.paths import TOP
+from devtools.figures.costs import FIGURES
+from devtools.figures.stamps import machine, output_of
+
+PASSED = re.compile(r'^(?:\w+: )?(\d+) passed, (\d+) failed$', re.M)
+GATE, BODIES = 'gate.log', 'wrong_bodies.log'
+
+
+@dataclasses.dataclass(frozen=True)
+class Run:
+    """What a command came to: its status, its minutes, and its last count."""
+    status: int
+    minutes: float
+    passed: int
+    failed: int
+
+    @property
+    def is_good(self) -> bool:
+        """Whether it is evidence of anything."""
+        return self.status == 0 and self.passed > 0 and not self.failed
+
+
+def is_clean() -> bool:
+    """Whether no file of the repository differs from its commit."""
+    done = subprocess.run(('git', 'status', '--porcelain'), cwd=TOP, capture_output=True, text=True)
+    return done.returncode == 0 and not done.stdout
+
+
+def clone(folder: pathlib.Path) -> pathlib.Path:
+    """A clone of the commit, in which nothing was built."""
+    path = folder / 'clone'
+    done = subprocess.run(('git', 'clone', '--quiet', TOP, path), capture_output=True, text=True)
+    if done.returncode:
+        raise Failed(f'git clone: {done.stderr.strip()}')
+    return path
+
+
+def counted(log: str) -> tuple[int, int]:
+    """The last count of a log."""
+    found = PASSED.findall(log)
+    return (int(found[-1][0]), int(found[-1][1])) if found else (0, 0)
+
+
+def run(words: list[str], place: pathlib.Path, log: pathlib.Path) -> Run:
+    """Runs a command, whose output goes to a log."""
+    begun = time.monotonic()
+    with open(log, 'w', encoding='utf-8') as file:
+        status = subprocess.run(words, cwd=place, stdin=subprocess.DEVNULL, stdout=file,
+                                stderr=subprocess.STDOUT, env={**os.environ, 'CI': 'true'}
+                                ).returncode
+    passed, failed = counted(log.read_text(encoding='utf-8', errors='replace'))
+    return Run(status, (time.monotonic() - begun) / 60, passed, failed)
+
+
+def measured_minutes() -> float:
+    """The minutes of a gate of this commit that `dev/gate_table` measured, or 0."""
+    runs = json.loads(FIGURES.read_text(encoding='utf-8')).get('runs', [])
+    commit = output_of('git', 'rev-parse', '--short', 'HEAD')
+    return next((it['minutes'] for it in reversed(runs) if it['commit'] == commit), 0.0)
+
+
+def kept(log: pathlib.Path, minutes: float = 0.0) -> Run:
+    """What a log of an earlier run says, which took so many minutes, or 0 for nobody knows."""
+    passed, failed = counted(log.read_text(encoding='utf-8', errors='replace'))
+    return Run(0 if passed and not failed else 1, minutes, passed, failed)
+
+
+def sums(folder: pathlib.Path) -> str:
+    """The SHA-256 of each file of a folder, as `sha256sum` checks them."""
+    files = sorted(it for it in folder.rglob('*') if it.is_file() and it.name != 'SHA256SUMS')
+    return ''.join(f'{hashlib.sha256(it.read_bytes()).hexdigest()}  {it.relative_to(folder)}\n'
+                   for it in files)
+
+
+def summary(version: str, gate: Run | None, bodies: Run | None) -> str:
+    """The row of bench/RELEASE.md."""
+    def told(it: Run | None) -> str:
+        if it is None:
+            return 'not run'
+        minutes = f', {it.minutes:.0f} minutes' if it.minutes else ''
+        return f'{it.passed} passed, {it.failed} failed{minutes}'
+    day = datetime.datetime.now(datetime.UTC).date()
+    commit = output_of('git', 'rev-parse', '--short', 'HEAD')
+    return (f'| {version} | {day} | {commit} | {output_of("rt", "version")} | {machine()} | '
+            f'{told(gate)} | {told(bodies)} |')

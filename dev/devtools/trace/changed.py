@@ -1,0 +1,67 @@
+"""What was changed of definitions, and what that broke: the tables that `dev/wrong_definitions`
+keeps, of laws and of what cites a definition."""
+import collections
+import functools
+import html
+import json
+
+from baytools.common.texts import counted
+from devtools.paths import DATA
+
+from .definitions import Named
+
+LAWS, CITING = DATA / 'laws.json', DATA / 'anchors.json'
+LAW, CODE, NOTHING = 'a law', 'the code or a lemma', 'nothing that was looked at'
+
+
+@functools.cache
+def outcomes() -> dict[str, dict[str, tuple[str, dict]]]:
+    """By a definition's name its changes, each with what holds it and the answer that says so: a
+    law where there is one. Changes that are no correct text are left out."""
+    found: dict[str, dict[str, tuple[str, dict]]] = collections.defaultdict(dict)
+    for path, kind in ((CITING, CODE), (LAWS, LAW)):
+        for name, answer in json.loads(path.read_text(encoding='utf-8')).items():
+            of = found[name.rpartition('.')[0]]
+            if answer['verdict'] == 'broken':
+                of[name] = (kind, answer)
+            elif answer['verdict'] == 'proves':
+                of.setdefault(name, (NOTHING, answer))
+    return {name: of for name, of in found.items() if of}
+
+
+def told_of(name: str) -> str:
+    """What was tried on a definition, in a sentence, or nothing."""
+    of = outcomes().get(name, {})
+    if not of:
+        return ''
+    laws = dict.fromkeys(answer['at'].partition('/')[0].partition(' ')[0]
+                         for kind, answer in of.values() if kind == LAW)
+    counts = collections.Counter(kind for kind, _ in of.values())
+    parts = [f'{counts[kind]} {"break" if counts[kind] > 1 else "breaks"} {kind}'
+             for kind in (LAW, CODE, NOTHING) if counts[kind]]
+    named = f' ({", ".join(laws)})' if laws else ''
+    told = f'Changed in {counted(len(of), "way")}: {", ".join(parts)}{named}.'
+    return f'<p class="quiet">{html.escape(told)}</p>'
+
+
+def name_of(it: Named) -> str:
+    """The name under which the tables have a definition."""
+    return f'{it.crate}.{it.path.stem}.{it.name}'
+
+
+def held_by_no_law() -> str:
+    """The changes that break no law, with what they break."""
+    rows = [f'<tr><td>{html.escape(name)}</td><td><pre>- {html.escape(answer["before"])}\n'
+            f'+ {html.escape(answer["after"])}</pre></td><td>{html.escape(told_in(kind, answer))}'
+            '</td></tr>' for of in outcomes().values() for name, (kind, answer) in of.items()
+            if kind != LAW]
+    count = sum(len(of) for of in outcomes().values())
+    return (f'<h2 id="changed">Definitions that were changed</h2><p>{count} changes of definitions '
+            f'that the headline rests on were tried, one at a time; {count - len(rows)} break a '
+            'law. These break none:</p><table><tr><th>Change</th><th>Lines</th><th>It breaks</th>'
+            f'</tr>{"".join(rows)}</table>')
+
+
+def told_in(kind: str, answer: dict) -> str:
+    """What an answer says that a change breaks."""
+    return f'{answer["crate"]}, {answer["at"]}' if kind == CODE else kind

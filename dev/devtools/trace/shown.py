@@ -1,0 +1,90 @@
+"""The cases that show a promise: what is behind a line `Shows P-001, P-002.` in the programs of
+cases, the tests and the checks of the built program."""
+import dataclasses
+import functools
+import pathlib
+import re
+
+from .calls import CRATES, TOP
+from .promises import Promise, borne_by, promises
+
+PLACES = ('crates/layer_cases/stdin', 'crates/bayctl_cases/stdin', 'crates/bayctl_tests/src/*.rt',
+          'dev/devtools/check/*.py', 'bench/speed/allocations', 'bench/trials/faults')
+SHOWS = re.compile(r'^(?:#|//|== note) Shows (P-\d{3}(?:, P-\d{3})*)\.$')
+TITLE = re.compile(r'^(?:# (?!Shows )|== note (?!Shows )|== (?=report|eight|hostile|bay'
+                   r'|tree|controls)|def |fn )(.*)$')
+ONE_LINE = 'no case can: each lack of memory of a load is told by the same line'
+OWN_RUNS = 'it speaks of definitions, on runs of its own'
+NONE = {
+    'P-011': 'each run of each case shows it: none prints two commands of an event',
+    'P-014': 'no program of cases keeps what led to its controls',
+    'P-037': 'no case can: nothing else makes a typed program',
+    'P-053': ONE_LINE,
+    'P-054': 'no case can: the verifier lets no such program pass',
+    'P-058': ONE_LINE,
+    'P-068': 'no program of cases calls it',
+    'P-071': 'no case can: it speaks of every run',
+    'P-082': 'no case looks at what is lent behind a later piece',
+    'P-124': 'no trial refuses memory to a server that begins',
+    'P-140': OWN_RUNS,
+    'P-141': OWN_RUNS}
+
+
+@dataclasses.dataclass(frozen=True)
+class Place:
+    """Where cases stand: the file, its line, and what is said of them there."""
+    name: str
+    path: pathlib.Path
+    line: int
+
+
+def title_of(lines: list[str], number: int, is_case: bool) -> str:
+    """What is said of the cases whose promises stand in a line: of cases the last words before it,
+    or else, as of a test, the next name behind it."""
+    before = TITLE.match(lines[number - 1]) if is_case and number else None
+    behind = (it for it in map(TITLE.match, lines[number + 1:]) if it)
+    found = before or next(behind, None)
+    return re.sub(r'\(.*', '', found[1]).strip() if found else ''
+
+
+def places_in(path: pathlib.Path) -> list[tuple[str, Place]]:
+    """The promises that a file's cases show, each with its place."""
+    lines, found = path.read_text(encoding='utf-8').split('\n'), []
+    is_case = path.name == 'stdin'
+    crate = path.relative_to(CRATES).parts[0] if CRATES in path.parents else ''
+    for number, line in enumerate(lines):
+        shows = SHOWS.match(line)
+        if shows:
+            told = title_of(lines, number, is_case)
+            name = f'{crate or path.stem}: {told}'
+            found += [(it, Place(name, path, number + 1)) for it in shows[1].split(', ')]
+    return found
+
+
+@functools.cache
+def all_places() -> dict[str, list[Place]]:
+    """The places of the cases of each promise, by its id."""
+    found: dict[str, list[Place]] = {}
+    for pattern in PLACES:
+        for path in sorted(TOP.glob(pattern)):
+            for known, place in places_in(path):
+                found.setdefault(known, []).append(place)
+    return found
+
+
+def cases_of(promise: Promise) -> list[Place]:
+    """The cases that show a promise."""
+    return all_places().get(promise.id, [])
+
+
+def no_cases(promise: Promise) -> str:
+    """Why there are none, or an empty text."""
+    return NONE.get(promise.id, '') if promise.id else 'the rows of PROVED that this one sums up ' \
+        'have them'
+
+
+@functools.cache
+def shown_of(crate: str) -> list[str]:
+    """The promises of a crate's calls that cases show, by their ids."""
+    return [it.id for it in promises() if cases_of(it)
+            and any(call.crate == crate for call in borne_by(it).calls)]

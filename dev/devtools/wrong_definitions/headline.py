@@ -1,0 +1,53 @@
+"""Which definitions the headline reaches, and which crates cite one of them."""
+import functools
+from collections.abc import Iterator
+
+from devtools.trace.calls import CRATES, calls_of, crates
+from devtools.trace.definitions import Definition, Named, below, cited, definitions_in
+from devtools.trace.inner import crates_below
+from devtools.trace.promises import borne_by, promises
+from devtools.trace.trace_page import rests_on
+
+# The headline, and that no operate is without its own select.
+HEADLINE = ('P-001', 'P-012')
+
+
+@functools.cache
+def reached() -> list[Definition]:
+    """The definitions that the headline's clauses cite, and those that these rest on."""
+    borne = [borne_by(it) for it in promises() if it.id in HEADLINE]
+    found = dict.fromkeys(it for of in borne for it in rests_on(of))
+    return [it for it in found if isinstance(it, Definition)]
+
+
+@functools.cache
+def definitions_of(crate: str) -> list[Definition]:
+    """All definitions of a crate."""
+    return [it for path in sorted((CRATES / crate / 'specs').glob('*.antt'))
+            for it in definitions_in(path).values()]
+
+
+def resting_on(definition: Definition) -> set[Named]:
+    """A definition, with those of its crate that rest on it."""
+    found: set[Named] = {definition}
+    new = found
+    while new:
+        new = {it for it in definitions_of(definition.crate)
+               if it not in found and found.intersection(below(it))}
+        found |= new
+    return found
+
+
+@functools.cache
+def said_by(crate: str) -> frozenset[Named]:
+    """What the clauses and the definitions of a crate name."""
+    clauses = {it for call in calls_of(crate) for it in cited(call)}
+    return frozenset(clauses.union(*map(below, definitions_of(crate))))
+
+
+def citing(definition: Definition) -> Iterator[str]:
+    """The other crates that cite a definition, or one of its crate that rests on it, in the order
+    of crates.txt."""
+    meant = resting_on(definition)
+    return (it for it in crates() if it != definition.crate
+            and definition.crate in crates_below(it) and meant & said_by(it))

@@ -1,0 +1,126 @@
+"""The copy on which wrong bodies are tried; each edit can be applied; how many the gate has."""
+import contextlib
+import io
+import os
+import pathlib
+import unittest
+from unittest import mock
+
+from baytools.common.paths import TOP
+from devtools.commands import loaded
+from devtools.trace.calls import calls_of
+from devtools.trace.refusals import TRIED, answers_in, kept
+from tests.tool import Tools
+
+CRATES = TOP / 'crates'
+
+
+def applied(crate: pathlib.Path, edit: str) -> dict[str, str]:
+    """The texts that an edit makes of the files of a crate: each `old` stands in its file once."""
+    path, old, texts = '', '', {}
+    for kind, _, text in (line.partition(': ') for line in edit.splitlines()):
+        if kind == 'file':
+            path = text
+        elif kind == 'old':
+            old = text
+        elif kind in ('new', 'new:'):
+            before = texts.get(path) or (crate / path).read_text(encoding='utf-8')
+            if before.count(old) != 1:
+                raise ValueError(f'{old} stands in {path} {before.count(old)} times')
+            texts[path] = before.replace(old, text)
+    return texts
+
+
+class Copy(Tools):
+    """A crate with a library that was built, an edit of the gate and a wrong body."""
+
+    def setUp(self) -> None:
+        super().setUp()
+        self.file('crates.txt', 'low:\n')
+        self.file('HANDLES', 'Handles allowed: none.\n')
+        self.crates, self.room = self.folder / 'crates', self.folder / 'room'
+        for name in ('src/lib.rt', 'out/rlib/stamp', 'out/incremental/kept', 'must-fail/a.edit',
+                     'wrong-bodies/b.edit'):
+            path = self.crates / 'low' / name
+            path.parent.mkdir(parents=True, exist_ok=True)
+            path.write_text(name)
+        self.room.mkdir()
+
+    def copied(self, names: list[str], with_gate: bool) -> set[str]:
+        """What stands in the copy of the crate."""
+        loaded('wrong_bodies').copy_of(self.crates, self.room, names, with_gate, {'rlib'})
+        top = self.room / 'crates' / 'low'
+        return {str(it.relative_to(top)) for it in top.rglob('*') if it.is_file()}
+
+    def test_a_wrong_body_stands_where_the_gates_edits_did(self) -> None:
+        self.assertEqual(self.copied(['low'], False),
+                         {'src/lib.rt', 'out/rlib/stamp', 'must-fail/b.edit'})
+
+    def test_with_those_of_the_gate(self) -> None:
+        self.assertEqual(self.copied(['low'], True),
+                         {'src/lib.rt', 'out/rlib/stamp', 'must-fail/a.edit', 'must-fail/b.edit'})
+
+    def test_a_crate_that_is_not_named(self) -> None:
+        self.assertEqual(self.copied([], True), {'src/lib.rt', 'out/rlib/stamp'})
+
+    def test_the_sources_stay_as_they_are(self) -> None:
+        self.copied(['low'], True)
+        (self.room / 'crates' / 'low' / 'src' / 'lib.rt').write_text('changed')
+        self.assertEqual((self.crates / 'low' / 'src' / 'lib.rt').read_text(), 'src/lib.rt')
+
+
+class Tried(Tools):
+    def test_it_is_no_merge_gate(self) -> None:
+        command = pathlib.Path(self.file('rt', '#!/bin/sh\necho "$CI" "$@"\n'))
+        command.chmod(0o755)
+        with mock.patch.dict(os.environ, CI='true', PATH=f'{self.folder}:{os.environ["PATH"]}'), \
+                contextlib.redirect_stdout(io.StringIO()):
+            self.assertEqual(loaded('wrong_bodies').tried('ci', ['low'], self.folder),
+                             (0, ' ci low\n'))
+
+
+class Answers(unittest.TestCase):
+    """What the prover says of an edit is kept with the call and the clause at which it stands."""
+
+    def test_a_log(self) -> None:
+        step = next(it for it in calls_of('bay_device') if it.title == 'Device::step')
+        clause = next(it for it in step.clauses if it.label == 'steps')
+        name = step.path.relative_to(CRATES / 'bay_device')
+        log = (f'must-fail bay_device/one.edit: refused, as it must be: {name}:{clause.line}:5: '
+               'error: a goal\nmust-fail bay_device/two.edit: refused, as it must be: '
+               'note: proofs/x/Answers.antt:3:1: none\n'
+               'must-fail bay_device/three.edit: NOT REFUSED\n')
+        self.assertEqual([bool(it) for it in TRIED.findall(log)], [True, True, False])
+        found = {name: (it.call, it.clause, it.goal) for name, it in answers_in(log).items()}
+        self.assertEqual(found, {'bay_device/one': ('Device::step', 'steps', 'error: a goal'),
+                                 'bay_device/two': ('', '', 'none')})
+
+    def test_the_table_is_of_edits_that_are_there(self) -> None:
+        there = {f'{it.parent.parent.name}/{it.stem}' for it in CRATES.glob('*/*/*.edit')}
+        self.assertEqual(set(kept()) - there, set())
+
+
+class Edits(unittest.TestCase):
+    def test_each_can_be_applied(self) -> None:
+        """The gate tries only a part of them, so this tells of code that moved."""
+        for folder in ('must-fail', 'wrong-bodies'):
+            for path in CRATES.glob(f'*/{folder}/*'):
+                with self.subTest(path.relative_to(CRATES)):
+                    crate = path.parent.parent
+                    texts = applied(crate, path.read_text(encoding='utf-8'))
+                    self.assertTrue(texts)
+                    for name, text in texts.items():
+                        self.assertNotEqual(text, (crate / name).read_text(encoding='utf-8'))
+
+    def test_the_gate_has_few_in_few_crates(self) -> None:
+        found = list(CRATES.glob('*/must-fail/*.edit'))
+        self.assertLessEqual(len(found), 40)
+        self.assertLessEqual(len({it.parent for it in found}), 13)
+
+    def test_each_stands_in_one_folder(self) -> None:
+        for path in CRATES.glob('*/must-fail/*.edit'):
+            self.assertFalse((path.parent.parent / 'wrong-bodies' / path.name).exists(), path)
+
+
+if __name__ == '__main__':
+    unittest.main()

@@ -1,0 +1,44 @@
+"""What tools/audit shows while bayctl proves."""
+import io
+import sys
+import time
+import unittest
+from unittest import mock
+
+from baytools.audit import progress
+from tests.tool import Tools
+
+
+class Terminal(io.StringIO):
+    def isatty(self) -> bool:
+        return True
+
+
+class Waiting(Tools):
+    def shown(self, stream: io.StringIO, seconds: float) -> str:
+        with mock.patch.multiple(progress, FIRST=0.05, EVERY=0.02), \
+                mock.patch.multiple(sys, stderr=stream, __stderr__=stream):
+            with progress.shown_while('bayctl audit proves 3 rules'):
+                time.sleep(seconds)
+        return stream.getvalue()
+
+    def test_on_a_terminal(self):
+        found = self.shown(Terminal(), 0.5)
+        self.assertTrue(found.startswith('\rbayctl audit proves 3 rules: 0 s '), found)
+        self.assertGreater(found.count('\r'), 2)
+        self.assertTrue(found.endswith('\r\x1b[K'))
+
+    def test_what_is_soon_over_shows_nothing(self):
+        self.assertEqual(self.shown(Terminal(), 0), '')
+
+    def test_nowhere_else(self):
+        self.assertEqual(self.shown(io.StringIO(), 0.3), '')
+
+    def test_what_fails_within_it_is_handed_on(self):
+        with self.assertRaises(ZeroDivisionError):
+            with mock.patch.object(sys, 'stderr', Terminal()), progress.shown_while('x'):
+                1 / 0
+
+
+if __name__ == '__main__':
+    unittest.main()

@@ -1,0 +1,1 @@
+"""What a single line diagram asks of an interlocking, as rules and as a page."""

@@ -1,0 +1,43 @@
+"""The rules of a single line diagram as a page of HTML that needs no other file: the picture, and
+each rule with why and by which path, to be printed and signed."""
+import itertools
+from collections.abc import Sequence
+
+from baytools.common import page_head
+from baytools.common.html_page import A4, code, escaped, page, signatures, table
+from baytools.diagram.network import Network
+
+from .demands import demands_of, kept_elsewhere
+
+
+def page_of(network: Network, bay: dict, picture: str, sources: Sequence[page_head.Source]) -> str:
+    """The page. `bay` is the table of the bay file, `picture` the drawn diagram, and `sources` are
+    the files that were read."""
+    title, moment = f'Rules of the diagram of bay {bay["domain"]}', page_head.moment_told(
+        page_head.now())
+    about = [('Bay', bay['domain']),
+             ('Device', f'{bay["vendor"]} {bay["model"]}, {bay["revision"]}'),
+             ('Diagram', network.title)]
+    parts = [f'<h1>{escaped(title)}</h1>', *page_head.head('tools/rules', moment, about, sources),
+             '<p>What the diagram asks of the interlocking. No program was asked whether it keeps '
+             'the rules: tools/audit does that. A position that is not known counts as the worse '
+             'of both.</p>', *elsewhere(network), signatures(),
+             f'<h2>Single line diagram</h2><div class="figure">{picture}</div>', *rules(network)]
+    return page(title, A4 % f'Bay {bay["domain"]}, {moment}', parts)
+
+
+def elsewhere(network: Network) -> list[str]:
+    """What the programs of other bays must keep."""
+    inputs = kept_elsewhere(network)
+    return [f'<p class="bad">While a disconnector of this bay moves beside a closed path, the '
+            f'programs of other bays must keep it closed: {code(", ".join(inputs))}.</p>'
+            ] if inputs else []
+
+
+def rules(network: Network) -> list[str]:
+    """The rules under what each of them is for."""
+    found = []
+    for head, some in itertools.groupby(demands_of(network), lambda it: it.head):
+        rows = [(code(it.text()), '<br>'.join(escaped(why) for why in it.why)) for it in some]
+        found += [f'<h2>{escaped(head)}</h2>', table(['Rule', 'Why, and by which path'], rows)]
+    return found

@@ -1,0 +1,25 @@
+"""The talk of a captured connection, from its beginning or from the middle, and behind a gap."""
+from baytools.bay.names import Names
+
+from .capture import Event
+from .conversation import Conversation
+from .stream import Stream
+
+
+def first_stream(event: Event) -> Stream:
+    """The stream of one direction, as a connection begins in a capture."""
+    return Stream() if event.kind == 'open' else Stream.behind_a_gap()
+
+
+def conversation_of(event: Event, bay: Names) -> Conversation:
+    found = Conversation(bay)
+    found.stream = first_stream(event)
+    return found
+
+
+def go_on_behind(event: Event, conversation: Conversation, servers: dict) -> None:
+    """Goes on behind octets that are missing."""
+    if event.side == 'client':
+        conversation.stream = Stream.behind_a_gap()
+    else:
+        servers[event.place] = Stream.behind_a_gap()

@@ -1,0 +1,183 @@
+"""What stands in MMS, in the words of those who switch: positions, qualities, causes, errors, names
+of a bay."""
+from baytools.common import moments, positions
+
+from . import mms
+from .mms import Data, Failure
+
+ADD_CAUSES = {
+    0: 'unknown', 1: 'not supported', 2: 'blocked by switching hierarchy', 3: 'select failed',
+    4: 'invalid position', 5: 'position reached',
+    6: 'parameter change in execution', 7: 'step limit', 8: 'blocked by mode',
+    9: 'blocked by process', 10: 'blocked by interlocking',
+    11: 'blocked by synchrocheck', 12: 'command already in execution', 13: 'blocked by health',
+    14: '1 of n control', 15: 'abortion by cancel',
+    16: 'time limit over', 17: 'abortion by trip', 18: 'object not selected',
+    19: 'object already selected', 20: 'no access authority',
+    21: 'ended with overshoot', 22: 'abortion due to deviation',
+    23: 'abortion by communication loss', 24: 'blocked by command',
+    25: 'none', 26: 'inconsistent parameters', 27: 'locked by other client'}
+HERE = {9: 'the process is lost'}  # the one thing that a cause comes of in bayctl
+PROCESS_LOST = 'every position is bad: the process is lost'
+ACCESS_ERRORS = {0: 'object invalidated', 1: 'hardware fault', 2: 'temporarily unavailable',
+                 3: 'object access denied', 4: 'object undefined',
+                 5: 'invalid address', 6: 'type unsupported', 7: 'type inconsistent',
+                 8: 'object attribute inconsistent',
+                 9: 'object access unsupported', 10: 'object non-existent',
+                 11: 'object value invalid'}
+ERROR_CLASSES = {0: 'vmd state', 1: 'application reference', 2: 'definition', 3: 'resource',
+                 4: 'service', 5: 'service preempt',
+                 6: 'time resolution', 7: 'access', 8: 'initiate', 9: 'conclude', 10: 'cancel',
+                 11: 'file', 12: 'others'}
+ERRORS = {(3, 0): 'too much is asked, or the answer is longer than the PDU size',
+          (7, 2): 'there is no such object'}
+REJECTS = {(1, 1): 'unrecognized service', (5, 1): 'invalid PDU'}
+ORIGINATORS = ['not supported', 'bay control', 'station control', 'remote control', 'automatic bay',
+               'automatic station', 'automatic remote',
+               'maintenance', 'process']
+POSITIONS = positions.OF_BITS
+VALIDITIES = {'00': 'good', '01': 'invalid', '10': 'reserved', '11': 'questionable'}
+CONTROL_MODELS = {0: 'status only', 1: 'direct', 2: 'select before operate', 3: 'direct, enhanced',
+                  4: 'select before operate, enhanced'}
+CHECKS = {'00': 'none', '10': 'synchrocheck', '01': 'interlocking',
+          '11': 'synchrocheck and interlocking'}
+STATES = {'Mod': {1: 'on'}, 'Beh': {1: 'on'}, 'Health': {1: 'ok'}, 'PhyHealth': {1: 'ok'},
+          'SwTyp': {2: 'disconnector', 3: 'earthing switch'}}
+
+# The names below each name, down to leaves: None, or the tag that a leaf has.
+VALUE = dict.fromkeys(('stVal', 'q', 't'))
+MEASURED = {'mag': {'i': None}, 'q': None, 't': None}
+CURRENT = {'cVal': {'mag': {'i': None}}, 'q': None, 't': None}
+SWITCH = {'ST': dict.fromkeys(('Pos', 'BlkOpn', 'BlkCls', 'OpCnt'), VALUE),
+          'CF': {'Pos': {'ctlModel': None}}}
+ORIGIN = {'orCat': mms.INTEGER, 'orIdent': mms.OCTETS}
+CANCEL = {'ctlVal': mms.BOOLEAN, 'origin': ORIGIN, 'ctlNum': mms.UNSIGNED, 'T': mms.TIME,
+          'Test': mms.BOOLEAN}
+OPER = CANCEL | {'Check': mms.BITS}
+LAST_APPL_ERROR = {'CntrlObj': mms.TEXT, 'Error': mms.INTEGER, 'Origin': ORIGIN,
+                   'ctlNum': mms.UNSIGNED, 'AddCause': mms.INTEGER}
+NODES = {
+    'LLN0': {'ST': dict.fromkeys(('Mod', 'Beh', 'Health'), VALUE),
+             'CF': {'Mod': {'ctlModel': None}},
+             'DC': {'NamPlt': dict.fromkeys(('vendor', 'swRev', 'd'))}},
+    'LPHD': {'ST': dict.fromkeys(('PhyHealth', 'Proxy'), VALUE),
+             'DC': {'PhyNam': {'vendor': None}}},
+    'XCBR': SWITCH,
+    'XSWI': SWITCH | {'ST': SWITCH['ST'] | {'SwTyp': VALUE}},
+    'CILO': {'ST': dict.fromkeys(('EnaOpn', 'EnaCls'), VALUE)},
+    'MMXU': {'MX': dict.fromkeys(('TotW', 'TotVAr', 'Hz'), MEASURED)
+             | {'A': dict.fromkeys(('phsA', 'phsB', 'phsC'), CURRENT)}}}
+POSITION = {'ST': {'Pos': VALUE | {'stSeld': None}}}
+SETTINGS = {'CF': {'Pos': dict.fromkeys(('ctlModel', 'sboTimeout'))}}
+CONTROLS = {'direct': {'Oper': OPER}, 'sbo': {'SBO': None, 'Oper': OPER, 'Cancel': CANCEL},
+            'sbo-enhanced': {'SBOw': OPER, 'Oper': OPER, 'Cancel': CANCEL}}
+CONTROL_NODES = [POSITION | SETTINGS, *(POSITION | {'CO': {'Pos': control}} | SETTINGS
+                                        for control in CONTROLS.values())]
+
+
+def nodes_of(node) -> list:
+    """The shapes that a logical node may have; which one a control's has goes by the bay."""
+    kind = node if node == 'LLN0' else node.rstrip('0123456789')
+    return CONTROL_NODES if kind == 'CSWI' else [NODES[kind]] if kind in NODES else []
+
+
+def below(shape, words) -> dict | None:
+    """The shape at a name below another, or None."""
+    for word in words:
+        if not isinstance(shape, dict) or word not in shape:
+            return None
+        shape = shape[word]
+    return shape
+
+
+def fits(shape, value) -> bool:
+    """Whether a value has a shape: a dict of names, a tag, or None for any value without parts."""
+    if not isinstance(shape, dict):
+        return isinstance(value, Data) and value.tag != mms.STRUCTURE and shape in (None, value.tag)
+    return (isinstance(value, Data) and value.tag == mms.STRUCTURE
+            and len(shape) == len(value.value) and all(map(fits, shape.values(), value.value)))
+
+
+def told(item, value) -> str:
+    """A value or a failure in words; `item` is its name without the domain."""
+    if isinstance(value, Failure):
+        return f'{ACCESS_ERRORS.get(value.code, "error")} ({value.code})'
+    node, *words = item.split('$')
+    shapes = [below(shape, words) for shape in nodes_of(node)]
+    return shaped(words, value,
+                  next((shape for shape in shapes if shape and fits(shape, value)), None))
+
+
+def shaped(words, value, shape) -> str:
+    """A value in words, its parts by the names of its shape, where there is one."""
+    if value.tag != mms.STRUCTURE:
+        return leaf_told(words, value)
+    names = list(shape) if shape else [''] * len(value.value)
+    parts = [f'{name} {shaped([*words, name], part, shape and shape[name])}'.lstrip()
+             for name, part in zip(names, value.value)]
+    return '{' + ', '.join(parts) + '}'
+
+
+def leaf_told(words, value) -> str:
+    """A value without parts, by the last word of its name."""
+    word, owner = words[-1] if words else '', words[-2] if len(words) > 1 else ''
+    tag, it = value.tag, value.value
+    if tag == mms.BITS:
+        return bits_told(word, it)
+    if tag == mms.BOOLEAN:
+        return positions.way_of(it) if word == 'ctlVal' else 'TRUE' if it else 'FALSE'
+    if tag == mms.TIME:
+        return moment_told(it)
+    if tag == mms.TEXT:
+        return quoted(it)
+    if tag == mms.INTEGER and word in ('ctlModel', 'orCat', 'stVal'):
+        named = {'ctlModel': CONTROL_MODELS, 'orCat': dict(enumerate(ORIGINATORS)),
+                 'stVal': STATES.get(owner, {})}[word].get(it)
+        return f'{it} ({named})' if named else str(it)
+    return octets_told(it) if isinstance(it, bytes) else str(it)
+
+
+def bits_told(word, bits) -> str:
+    if word == 'Check':
+        return CHECKS.get(bits, bits)
+    if len(bits) == 2:
+        return POSITIONS[bits]
+    if len(bits) == 13:
+        more = bits[2:]
+        return VALIDITIES[bits[:2]] + (f' +{more}' if '1' in more else '')
+    return bits
+
+
+def moment_told(moment) -> str:
+    """A moment in milliseconds, and as a date where it is one of our days; octets of another length
+    as they are."""
+    if isinstance(moment, bytes):
+        return octets_told(moment)
+    if not moments.is_clock(moment):
+        return f'{moment} ms'
+    return moments.stamp_told(moment)
+
+
+def octets_told(octets) -> str:
+    printable = all(0x20 <= octet < 0x7f for octet in octets)
+    if printable:
+        return quoted(octets.decode('ascii'))
+    return octets[:12].hex(' ').upper() + (f' .. ({len(octets)} octets)' if len(octets) > 12
+                                           else '')
+
+
+def quoted(text) -> str:
+    return "'" + text.replace("'", "\\'") + "'"
+
+
+def cause_told(code) -> str:
+    """An AddCause."""
+    here = f': {HERE[code]}' if code in HERE else ''
+    return f'{ADD_CAUSES.get(code, "cause")} ({code}){here}'
+
+
+def error_told(kind, code) -> str:
+    """The class and the code of a confirmed error, or of a reject."""
+    if kind == 'reject':
+        return f'rejected: {REJECTS.get(code, "reason {}, {}".format(*code))}'
+    return ERRORS.get(code, f'error of class {ERROR_CLASSES.get(code[0], code[0])}, code {code[1]}')

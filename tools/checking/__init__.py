@@ -1,1 +1,0 @@
-"""Parts of tools/check that serve a bay: the panel, sessions of clients and their captures."""
