@@ -5,7 +5,6 @@ import random
 import re
 from collections.abc import Iterator
 
-import shared  # (it lets a script import baytools)
 from baytools.wire import ber, stream
 
 Random = random.Random

@@ -2,7 +2,8 @@
 import re
 import unittest
 
-from tests.repository.test_crates import CRATES, crates
+from devtools.paths import CRATES
+from tests.repository.test_crates import crates
 
 # What runs cases and tests.
 TESTING = {'bayctl_tests', 'bayctl_cases', 'layer_cases', 'cases'}

@@ -3,7 +3,9 @@ each file that CONTRIBUTING names for a change is there."""
 import re
 import unittest
 
-from devtools.trace.calls import CRATES, TOP, crates
+from baytools.common.paths import TOP
+from devtools.paths import CRATES
+from devtools.trace.calls import crates
 from devtools.trace.promises import promises
 from devtools.trace.trace_page import Sheet, head_of
 

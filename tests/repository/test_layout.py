@@ -3,7 +3,9 @@ and the lengths of files."""
 import re
 import unittest
 
-from tests.repository.test_crates import CRATES, TOP
+from baytools.common.paths import TOP
+from devtools.paths import CRATES
+
 
 LONGEST = 620
 ITEM = re.compile(r'\s*(pub(?:\(\w+\))? )?(?:const fn|unsafe fn|fn|struct|enum|const|static|type) '

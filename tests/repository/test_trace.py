@@ -9,8 +9,9 @@ import tempfile
 import unittest
 from unittest import mock
 
+from baytools.common.paths import TOP
 from devtools.trace import changed, inner, lacking, shown, standards
-from devtools.trace.calls import TOP, Source, all_calls, crates, quiet
+from devtools.trace.calls import Source, all_calls, crates, quiet
 from devtools.trace.definitions import Reader, scope_of_call, unfound
 from devtools.trace.edits import broken, edits_of, laws_about, refused_of
 from devtools.trace.lacking import key_of

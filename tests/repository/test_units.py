@@ -1,4 +1,4 @@
-"""The unit files of examples/12_station: their keys and values, users, paths and variables, and how
+"""The unit files of packaging/: their keys and values, users, paths and variables, and how
 far systemd would shut each service in."""
 import os
 import pathlib
@@ -13,7 +13,8 @@ from baytools.station.bays import PORT, settings_of
 from devtools.paths import DATA
 from tests.tool import Tools
 
-STATION = TOP / 'examples' / '12_station'
+EXAMPLES = TOP / 'examples'
+UNITS, CONFIGURATION = (TOP / 'packaging' / name for name in ('units', 'configuration'))
 HELP = DATA / 'help.txt'
 YES, NO, TIME = 'yes', 'no', r'\d+(s|min)?'
 NAMES = r'[\w%@. -]+'
@@ -79,18 +80,19 @@ class Entries:
 
 
 def services() -> list[Entries]:
-    return [Entries(path) for path in sorted(STATION.glob('*.service'))]
+    return [Entries(path) for path in sorted(UNITS.glob('*.service'))]
 
 
 def files() -> list[Entries]:
     """All that has sections."""
     names = ('simulate.conf', 'journald.conf', 'watchdog.conf', 'time.conf')
-    return [*services(), Entries(STATION / 'bays.target'), *(Entries(STATION / it) for it in names)]
+    return [*services(), Entries(UNITS / 'bays.target'),
+            *(Entries(CONFIGURATION / it) for it in names)]
 
 
 def rows_of(name: str) -> list[list[str]]:
     """The lines of a sysusers or a tmpfiles file, in their columns."""
-    text = (STATION / name).read_text(encoding='utf-8')
+    text = (CONFIGURATION / name).read_text(encoding='utf-8')
     return [line.split() for line in text.splitlines() if line and not line.startswith('#')]
 
 
@@ -115,13 +117,13 @@ class Units(Tools):
             for key, section in (('StartLimitIntervalSec', 'Unit'), ('PartOf', 'Unit'),
                                  ('WantedBy', 'Install')):
                 self.assertTrue(unit.one(key, section), unit.name)
-        self.assertEqual(Entries(STATION / 'bays.target').one('WantedBy', 'Install'),
+        self.assertEqual(Entries(UNITS / 'bays.target').one('WantedBy', 'Install'),
                          'multi-user.target')
 
     def test_the_driver_and_the_door_stop_before_the_server_and_the_network(self):
         """They do not start it: a server whose file is refused would be started with each."""
         for name in ('bayctl-driver@.service', 'bayctl-tls@.service'):
-            unit = Entries(STATION / name)
+            unit = Entries(UNITS / name)
             self.assertEqual(unit.one('After', 'Unit').split(),
                              ['bayctl@%i.service', 'network.target'])
             self.assertEqual(unit.all('Wants', 'Unit'), [])
@@ -144,7 +146,7 @@ class Units(Tools):
         modes = {path: (mode, user) for kind, path, mode, user, *_ in rows_of('tmpfiles.conf')
                  if path.startswith('/etc/bayctl/')}
         named = set()
-        for unit in [*services(), Entries(STATION / 'simulate.conf')]:
+        for unit in [*services(), Entries(CONFIGURATION / 'simulate.conf')]:
             text = re.sub(r'(?m)^#.*$', '', unit.text)
             for name in re.findall(r'/etc/bayctl/%i/([\w.]+)', text):
                 mode, user = modes[f'/etc/bayctl/*/{name}']
@@ -159,7 +161,7 @@ class Units(Tools):
     def test_the_door(self):
         """The configuration of the networked example stays in the foreground, as a service must,
         and what it names has its owner and mode."""
-        text = (STATION.parent / '11_networked' / 'stunnel.conf').read_text(encoding='utf-8')
+        text = (EXAMPLES / '11_networked' / 'stunnel.conf').read_text(encoding='utf-8')
         self.assertRegex(text, r'(?m)^foreground = yes$')
         modes = {row[1]: (row[2], row[3]) for row in rows_of('tmpfiles.conf')}
         named = re.findall(r'(?m)^(?:cert|key|CAfile|CRLfile) = (\S+)$', text)
@@ -178,7 +180,7 @@ class Units(Tools):
                 for program in programs:
                     self.assertTrue(any(program == path or program.startswith(f'{path}/')
                                         for path in allowed), f'{unit.name}: {program}')
-        for unit in [*services(), Entries(STATION / 'simulate.conf')]:
+        for unit in [*services(), Entries(CONFIGURATION / 'simulate.conf')]:
             for command in unit.commands():
                 for word in command:
                     if tool := re.fullmatch('/usr/local/lib/bayctl/tools/(.*)', word):
@@ -186,7 +188,7 @@ class Units(Tools):
 
     def test_options_are_those_of_the_programs(self):
         helps = {'bayctl': HELP.read_text(encoding='utf-8')}
-        for unit in [*services(), Entries(STATION / 'simulate.conf')]:
+        for unit in [*services(), Entries(CONFIGURATION / 'simulate.conf')]:
             for command in unit.commands():
                 at = max(place for place, word in enumerate(command)
                          if re.match(r'/usr/local/|/usr/bin/stunnel', word))
@@ -200,9 +202,9 @@ class Units(Tools):
                         self.assertRegex(helps[name], rf'{word}\b', f'{unit.name}: {name}')
 
     def test_variables_and_specifiers(self):
-        settings = settings_of(STATION / 'env')
+        settings = settings_of(EXAMPLES / '12_station' / 'env')
         used = set()
-        for unit in [*services(), Entries(STATION / 'simulate.conf')]:
+        for unit in [*services(), Entries(CONFIGURATION / 'simulate.conf')]:
             names = set(re.findall(r'\$\{?(\w+)', unit.text))
             if names and unit.name != 'simulate.conf':
                 self.assertEqual(unit.one('EnvironmentFile'), '/etc/bayctl/%i/env')
@@ -223,7 +225,7 @@ class Units(Tools):
 
     def test_only_the_server_has_another_priority(self):
         """The two streams of the server have theirs by systemd-cat, the others by the unit."""
-        server = Entries(STATION / 'bayctl@.service')
+        server = Entries(UNITS / 'bayctl@.service')
         self.assertEqual(server.one('ExecStart').split()[:5], [
             '/usr/bin/systemd-cat', '--identifier=%p@%i', '--priority=notice',
             '--stderr-priority=info', '--level-prefix=false'])
@@ -262,7 +264,7 @@ class Folders(unittest.TestCase):
                 (bay / name).write_text('')
                 (bay / name).chmod(0o666)
             for tool in ('systemd-sysusers', 'systemd-tmpfiles'):
-                name = STATION / f'{tool.removeprefix("systemd-")}.conf'
+                name = CONFIGURATION / f'{tool.removeprefix("systemd-")}.conf'
                 words = [tool, f'--root={root}', *(['--create'] if 'tmp' in tool else []), name]
                 done = subprocess.run(words, capture_output=True, text=True, timeout=60)
                 self.assertEqual(done.returncode, 0, done.stderr)

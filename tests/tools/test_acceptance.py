@@ -270,7 +270,8 @@ class ServedBays(Tools):
         gear = Gear()
         port = Port(gear, greeting)
         with served(Bay(gear)) as server, port.server, \
-                mock.patch('baytools.acceptance.on_server.compared', lambda *given: mock.Mock(lines=list)), \
+                mock.patch('baytools.acceptance.on_server.compared',
+                           lambda *given: mock.Mock(lines=list)), \
                 mock.patch('baytools.acceptance.on_server.PATIENCE', 0.3):
             found = self.call_tool(
                 'acceptance', self.file('steps', steps), '--bay', self.file('bay', BAY), '--port',

@@ -3,7 +3,7 @@ import unittest
 
 from devtools.formats.asn1 import MODULES, Module, form_of, module
 from devtools.formats.terms import Term, read
-from devtools.trace.calls import CRATES
+from devtools.paths import CRATES
 from devtools.trace.definitions import Definition
 from tests.tool import Tools
 

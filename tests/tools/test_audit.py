@@ -91,7 +91,8 @@ def audited(rules, time=5000, logic=LOGIC, kind=Interlocking, pause=None, file=F
     looks = looked_at(read_looks(rules), known) | looked_at(list(given), known)
     bay = bay_of(file, ('bay', logic), found, looks, named)
     with mock.patch('baytools.audit.rule_findings.scans_of', kind(time).scans), \
-            mock.patch('baytools.audit.proofs.scans_of', kind(time).scans), mock.patch('sys.stderr'):
+            mock.patch('baytools.audit.proofs.scans_of', kind(time).scans), \
+            mock.patch('sys.stderr'):
         return rule_findings.audit(bay, read, None, pause, answer, is_table_asked)
 
 

@@ -205,7 +205,8 @@ class Trial(unittest.TestCase):
         self.assertGreater(asked, 0)
 
     def test_the_moments_of_scans(self):
-        bay = bay_of(self.trial.file_of, (TRIAL.BAY, ''), program_inputs.read(''), {}, {(INPUT, 'I1')})
+        bay = bay_of(self.trial.file_of, (TRIAL.BAY, ''), program_inputs.read(''), {},
+                     {(INPUT, 'I1')})
         with mock.patch.object(TRIAL, 'scans_of', side_effect=lambda _, octets: iter(
                 [released(True)] * octets.count(b' scan'))):
             found = TRIAL.scanned(bay, [(0,), (1,)], [0, 49, 100])
@@ -229,7 +230,8 @@ class Large(unittest.TestCase):
         rules = read_rules(SPEED.rules(), keys_of(file))
         self.assertEqual({rule.switch for rule in rules}, set(SPEED.SWITCHES))
         self.assertTrue(all(rule.can_apply() and not rule.since for rule in rules))
-        bay = bay_of(file, (SPEED.bay(), SPEED.program()), program_inputs.read(SPEED.program()), {}, set())
+        bay = bay_of(file, (SPEED.bay(), SPEED.program()), program_inputs.read(SPEED.program()), {},
+                     set())
         self.assertEqual(len(bay.things), 16 + 20 + 4)
         self.assertEqual(bay.unread, [])
 

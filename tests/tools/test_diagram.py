@@ -352,7 +352,8 @@ class Checked(Tools):
 
         def asked_of(bayctl, bay_file, logic, rules, keys) -> Answer:
             return by_path[bay_file](bayctl, bay_file, logic, rules, keys)
-        with mock.patch.multiple('devtools.check.diagrams.questions', asked=changed or asked_of, run=run):
+        with mock.patch.multiple('devtools.check.diagrams.questions', asked=changed or asked_of,
+                                 run=run):
             for part in parts:
                 part(checks)
         return told

@@ -13,7 +13,7 @@ from baytools.wire.tls import CIPHERS
 from devtools import guarded
 from devtools.check import doors, reachable
 
-PAGE_OF_ALL = TOP / 'examples' / '12_station' / 'bayctl-station.service'
+PAGE_OF_ALL = TOP / 'packaging' / 'units' / 'bayctl-station.service'
 PAGE = TOP / 'examples' / '11_networked' / 'README.md'
 SECURITY = TOP / 'docs' / 'SECURITY.md'
 
@@ -66,12 +66,11 @@ class Shipped(unittest.TestCase):
             self.assertEqual(numbers, [str(at) for at in range(1, len(found) + 1)], act)
 
     def test_both_pages_have_one_layout(self):
-        """What the page names of a bay is what examples/12_station installs."""
+        """What the page names of a bay is what packaging/ installs."""
         page = PAGE.read_text(encoding='utf-8')
-        station = PAGE_OF_ALL.parent
-        units = {path.name.partition('@')[0] for path in station.glob('*@.service')}
+        units = {path.name.partition('@')[0] for path in PAGE_OF_ALL.parent.glob('*@.service')}
         self.assertLessEqual(set(re.findall(r'([\w-]+)@E05', page)), units)
-        rows = (station / 'tmpfiles.conf').read_text(encoding='utf-8')
+        rows = (TOP / 'packaging/configuration/tmpfiles.conf').read_text(encoding='utf-8')
         for path in re.findall(r'/etc/(?:bayctl|stunnel)/[\w./-]*\w', page):
             self.assertTrue(path == '/etc/bayctl/bay.nft' or path.replace('E05', '*') in rows
                             or path == '/etc/bayctl/E05', path)

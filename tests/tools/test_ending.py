@@ -128,7 +128,8 @@ class Errors(unittest.TestCase):
             raise TimeoutError('timed out')
 
         told = io.StringIO()
-        with mock.patch('sys.stderr', told), mock.patch('baytools.common.ending.stop_output') as stop:
+        with mock.patch('sys.stderr', told), \
+                mock.patch('baytools.common.ending.stop_output') as stop:
             self.assertEqual(status_of(main), 3)
         self.assertTrue(told.getvalue().endswith(': timed out\n'))
         stop.assert_not_called()

@@ -26,7 +26,8 @@ class Heads(Tools):
         """The head of a page, which has what each of them has."""
         text = page.read_text()
         self.assertEqual(text.count('<table class="evidence">'), 2, tool)
-        for told in ('>Machine<', page_head.escaped(page_head.machine()), f'>{command(tool).relative_to(TOP)} of ',
+        made_by = command(tool).relative_to(TOP)
+        for told in ('>Machine<', page_head.escaped(page_head.machine()), f'>{made_by} of ',
                      'commit ', '>Made at<', '>Time<', 'SHA-256'):
             self.assertIn(told, text, tool)
         for path in sources:

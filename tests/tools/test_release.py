@@ -9,9 +9,9 @@ from unittest import mock
 
 from baytools.common.ending import Failed
 from baytools.common.paths import TOP
+from devtools.paths import CRATES
 from devtools.release import evidence
 from devtools.release.package import COMMANDS, laid_out, listed, moved, package
-from devtools.trace.calls import CRATES
 from devtools.trace.definitions import Definition
 from devtools.trusted.checked import axioms_in, counts_in, libraries_in, verdict_in
 from devtools.trusted.sizes import definitions, kind_of
@@ -40,7 +40,9 @@ class Package(Tools):
                      'usr/lib/systemd/system/bayctl@.service', 'usr/lib/tmpfiles.d/bayctl.conf',
                      'usr/share/doc/bayctl/docs/SERVING.md', 'usr/share/doc/bayctl/copyright'):
             self.assertTrue((self.folder / 'root' / name).exists(), name)
-        self.assertFalse((self.folder / 'root/usr/share/bayctl/tests').exists())
+        share = self.folder / 'root/usr/share/bayctl'
+        self.assertEqual({it.name for it in share.iterdir()}, {'tools', 'docs', 'CHANGELOG.md'})
+        self.assertEqual({it.name for it in (share / 'tools').iterdir()}, {*COMMANDS, 'baytools'})
         for path in (self.folder / 'root/usr/lib/systemd/system').iterdir():
             self.assertNotIn('/usr/local', path.read_text(encoding='utf-8'), path.name)
 
@@ -80,9 +82,10 @@ class Package(Tools):
         listed_there = page.partition('    for name in ')[2].partition('\n    do ')[0]
         self.assertEqual(listed_there.replace('\\', ' ').split(), list(COMMANDS))
 
-    def test_tests_are_left_out(self):
-        self.assertIn('tools/client', listed('tools'))
-        self.assertEqual([it for it in listed('tools') if 'tests/' in it], [])
+    def test_what_checks_the_examples_is_left_out(self):
+        found = listed('examples')
+        self.assertIn('examples/first.scenario', found)
+        self.assertEqual([it for it in found if it.endswith(('/check', '/run'))], [])
 
     @unittest.skipUnless(shutil.which('dpkg-deb'), 'dpkg-deb is not there')
     def test_the_package(self):

@@ -6,8 +6,8 @@ import unittest
 from unittest import mock
 
 from devtools.crate_copy import KEPT, LIBRARY, copy_of
-from devtools.paths import DATA
-from devtools.trace.calls import CRATES, calls_of
+from devtools.paths import CRATES, DATA
+from devtools.trace.calls import calls_of
 from devtools.trace.definitions import Definition, definitions_in
 from devtools.trace.inner import all_below
 from devtools.wrong_definitions.anchors import kept, keep, merged, row
@@ -221,8 +221,8 @@ class Laws(Tools):
 
     def test_crates_up_to_the_law_are_sources(self):
         self.assertEqual(all_below('bay_stdio'), ('bay_io', 'bay_lines'))
-        with mock.patch('devtools.wrong_definitions.laws.copy_of'), mock.patch('devtools.wrong_definitions.laws.kit',
-                                                              return_value='/kit'):
+        with mock.patch('devtools.wrong_definitions.laws.copy_of'), \
+                mock.patch('devtools.wrong_definitions.laws.kit', return_value='/kit'):
             room = Room(self.folder)
             for it in all_below('bay_device_example_laws'):
                 room.library(it).mkdir(parents=True)

@@ -10,10 +10,11 @@ import sys
 import time
 from collections.abc import Callable, Iterator
 
+from baytools.common.paths import TOOLS
 from devtools.served import PATIENCE, Running, Server, free_port
 
 from .chromium import SHIFT, Broken, Browser, Page, program
-from .panels import SERVED, TOOLS, gear
+from .panels import SERVED, gear
 
 BAY, LOGIC = SERVED / 'bay.toml', SERVED / 'logic.il'
 DIAGRAMS = SERVED.parent / '07_diagrams'

@@ -13,13 +13,14 @@ from dataclasses import dataclass
 
 from baytools.bay.names import Names
 from baytools.certify.authority import LIST, SETTINGS, Authority
+from baytools.common.paths import TOOLS
 from baytools.wire import stream
 from baytools.wire.client import Client
 from devtools.guarded import Door, authority_in, missing, tls_of, words_of
 from devtools.served import PATIENCE, Running, Server, free_port, until, value
 
 from .cables import pulled
-from .panels import SERVED, TOOLS, Page, gear
+from .panels import SERVED, Page, gear
 from .reachable import packets
 
 BAY, LOGIC = SERVED / 'bay.toml', SERVED / 'logic.il'

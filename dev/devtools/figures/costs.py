@@ -1,11 +1,13 @@
 """What each crate costs the gate: the figures of dev/gate_table, and what they lack."""
 import json
 import re
+from typing import Any
 
+from baytools.common.paths import TOP
 from devtools.paths import DATA
 
 from .kinds import KINDS
-from .stamps import TOP, changed_since
+from .stamps import changed_since
 
 FIGURES = DATA / 'gate_figures.json'
 PAGE = TOP / 'bench' / 'GATE.md'
@@ -19,9 +21,10 @@ def crates() -> list[str]:
     return re.findall(r'^(\w+)(?: staticlib)?:', (TOP / 'crates.txt').read_text(), re.M)
 
 
-def figures() -> dict:
+def figures() -> dict[str, Any]:
     """The figures that were measured, if any."""
-    return json.loads(FIGURES.read_text()) if FIGURES.exists() else {}
+    found: dict[str, Any] = json.loads(FIGURES.read_text()) if FIGURES.exists() else {}
+    return found
 
 
 def kinds_in(crate: str) -> set[str]:
@@ -41,7 +44,7 @@ def lines_in(crate: str, part: str, ending: str) -> int:
     return sum(it.read_text(encoding='utf-8').count('\n') for it in files)
 
 
-def row_of(crate: str, of: dict) -> Row:
+def row_of(crate: str, of: dict[str, Any]) -> Row:
     """A crate's row: lines of code, definitions, proofs, edits, and its figures. What a run does
     and no figure tells is `-`; what a run no longer does is 0."""
     edits = len(list((TOP / 'crates' / crate / 'must-fail').glob('*.edit')))
@@ -53,7 +56,7 @@ def row_of(crate: str, of: dict) -> Row:
     return [crate, *lines, edits, *seconds, told]
 
 
-def is_old(crate: str, of: dict) -> bool:
+def is_old(crate: str, of: dict[str, Any]) -> bool:
     """Whether a crate was changed after its figures were measured, but for its wrong bodies, which
     the gate does not try, and for what its program reads and prints."""
     parts = tuple(f'crates/{crate}/{it}' for it in ('src', 'specs', 'proofs', 'must-fail'))
@@ -68,7 +71,7 @@ def rows() -> list[Row]:
 
 def missing(rows: list[Row]) -> str:
     """What the rows lack, in words; an empty text where they lack nothing."""
-    lacking = {kind: [row[0] for row in rows if row[place] == '-']
+    lacking = {kind: [str(row[0]) for row in rows if row[place] == '-']
                for place, kind in enumerate(KINDS, len(HEADS) - 1 - len(KINDS))}
     return '; '.join(f'{kind}: {", ".join(it)}' for kind, it in lacking.items() if it)
 

@@ -27,7 +27,7 @@ class Figures:
     page: str
     line: int
     head: str
-    stamp: re.Match | None
+    stamp: re.Match[str] | None
 
 
 def output_of(*words: str) -> str:

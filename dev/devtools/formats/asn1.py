@@ -3,7 +3,7 @@ import dataclasses
 import re
 import textwrap
 
-from devtools.trace.calls import CRATES
+from devtools.paths import CRATES
 from devtools.trace.definitions import Definition, Reader
 
 from .terms import Term, read

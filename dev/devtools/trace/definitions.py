@@ -4,7 +4,9 @@ import functools
 import pathlib
 import re
 
-from .calls import CRATES, Call, Declared, types_of, uses_in
+from devtools.paths import CRATES
+
+from .calls import Call, Declared, types_of, uses_in
 
 WORDS = r'(?:(?:abbrev|unfoldable|opaque|pub|record|data) +)+'
 BEGINS = re.compile(rf'(?:{WORDS}([^\s:]+)|([^\s:(]+) +: )')

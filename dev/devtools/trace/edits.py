@@ -5,10 +5,10 @@ import functools
 import pathlib
 import re
 
-from devtools.paths import DATA
+from devtools.paths import CRATES, DATA
 
 from . import refusals
-from .calls import CRATES, Call, calls_of, crates
+from .calls import Call, calls_of, crates
 from .definitions import Definition, Named, below, cited
 from .promises import Borne, Promise, borne_by, promises, public_laws
 

@@ -4,7 +4,9 @@ import collections
 import functools
 import re
 
-from .calls import TOP, Call, Clause, all_calls, crates
+from baytools.common.paths import TOP
+
+from .calls import Call, Clause, all_calls, crates
 from .promises import Promise, borne_by, promises
 
 STANDS_ON = re.compile(r'^(\w+)(?: staticlib)?:(.*)$', re.M)

@@ -5,9 +5,10 @@ import functools
 import pathlib
 import re
 
+from baytools.common.paths import TOP
 from devtools.paths import DATA
 
-from .calls import TOP, Call, all_calls, calls_of, crates, types_of
+from .calls import Call, all_calls, calls_of, crates, types_of
 from .definitions import Named, scope_of_call
 
 PAGES = (TOP / 'README.md', TOP / 'docs' / 'PROVED.md', TOP / 'docs' / 'SECURITY.md')

@@ -7,9 +7,9 @@ import json
 import re
 
 from devtools.figures.stamps import output_of
-from devtools.paths import DATA
+from devtools.paths import CRATES, DATA
 
-from .calls import CRATES, Call, Clause, calls_of
+from .calls import Call, Clause, calls_of
 
 TABLE = DATA / 'refusals.json'
 ANSWER = re.compile(r'^(?:\S+ )?must-fail (\w+)/([\w.-]+)\.edit: refused, as it must be'

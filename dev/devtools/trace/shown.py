@@ -5,7 +5,9 @@ import functools
 import pathlib
 import re
 
-from .calls import CRATES, TOP
+from baytools.common.paths import TOP
+from devtools.paths import CRATES
+
 from .promises import Promise, borne_by, promises
 
 PLACES = ('crates/layer_cases/stdin', 'crates/bayctl_cases/stdin', 'crates/bayctl_tests/src/*.rt',

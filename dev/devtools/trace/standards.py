@@ -3,7 +3,9 @@ heading under which it stands, or the head of its file."""
 import functools
 import re
 
-from .calls import CRATES, Call, crates
+from devtools.paths import CRATES
+
+from .calls import Call, crates
 from .definitions import Definition, Reader, cited
 from .promises import public_laws
 

@@ -6,10 +6,12 @@ import pathlib
 import re
 
 from baytools.common import page_head
+from baytools.common.paths import TOP
 from baytools.common.texts import counted
+from devtools.paths import CRATES
 
 from . import changed, inner, lacking, refusals, shown, standards
-from .calls import CRATES, TOP, Call, crates
+from .calls import Call, crates
 from .definitions import NAMED, Declared, Named, Scope, below, cited, scope_of, scope_of_call
 from .edits import Edit, broken, laws_about, obeying, refused_of
 from .markdown import inline, section

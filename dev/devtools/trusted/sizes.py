@@ -5,9 +5,11 @@ import hashlib
 import pathlib
 import re
 import shutil
+from collections.abc import Iterable
 
 from baytools.common.ending import Failed
-from devtools.trace.calls import CRATES, crates
+from devtools.paths import CRATES
+from devtools.trace.calls import crates
 from devtools.trace.definitions import Definition, Reader
 
 DATA = re.compile(r'(?:record|data) [^\s:]+ : Type 0\b')
@@ -32,7 +34,7 @@ def kind_of(it: Definition) -> str:
     return 'propositions' if signature.rstrip().endswith('Type 0') else 'functions'
 
 
-def lines_of(paths) -> int:
+def lines_of(paths: Iterable[pathlib.Path]) -> int:
     """The lines of files that are not blank."""
     return sum(bool(line.strip()) for path in paths
                for line in path.read_text(encoding='utf-8').split('\n'))

@@ -4,24 +4,28 @@ import dataclasses
 import datetime
 import json
 import pathlib
+from typing import Any
 
 from baytools.common.ending import Failed
 from devtools.figures.stamps import output_of
 
 from .trying import Answer
 
-Table = dict[str, dict]
+Row = dict[str, Any]
+Table = dict[str, Row]
 
 
 def kept(path: pathlib.Path | None) -> Table:
     """The table of a file, or an empty one."""
     try:
-        return json.loads(path.read_text(encoding='utf-8')) if path and path.exists() else {}
+        text = path.read_text(encoding='utf-8') if path and path.exists() else '{}'
+        found: Table = json.loads(text)
+        return found
     except ValueError as error:
         raise Failed(f'{path}: it is no table of answers') from error
 
 
-def row(before: str, after: str, answer: Answer) -> dict:
+def row(before: str, after: str, answer: Answer) -> Row:
     """A row: the lines of a change, and its answer."""
     return {'before': before, 'after': after, **dataclasses.asdict(answer),
             'commit': output_of('git', 'log', '-1', '--format=%h', '--', 'crates'),

@@ -127,7 +127,8 @@ class Changer:
         """Two arguments of one type, each in the place of the other, of a call at a place."""
         called = scope_of(self.definition).meaning(tokens[place].text)
         types = types_of(called) if isinstance(called, Definition) else []
-        atoms, at = [], place + 1
+        at = place + 1
+        atoms: list[tuple[int, int]] = []
         while len(atoms) < len(types) and at < len(tokens) and is_atom(tokens[at]):
             end = behind_group(tokens, at)
             atoms.append((tokens[at].start, tokens[end - 1].end))

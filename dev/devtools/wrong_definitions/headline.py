@@ -2,7 +2,8 @@
 import functools
 from collections.abc import Iterator
 
-from devtools.trace.calls import CRATES, calls_of, crates
+from devtools.paths import CRATES
+from devtools.trace.calls import calls_of, crates
 from devtools.trace.definitions import Definition, Named, below, cited, definitions_in
 from devtools.trace.inner import crates_below
 from devtools.trace.promises import borne_by, promises

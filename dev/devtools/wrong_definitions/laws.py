@@ -11,7 +11,8 @@ from collections.abc import Iterator
 
 from baytools.common.ending import Failed
 from devtools.crate_copy import LIBRARY, copy_of
-from devtools.trace.calls import CRATES, Call, crates
+from devtools.paths import CRATES
+from devtools.trace.calls import Call, crates
 from devtools.trace.definitions import Definition, Named, cited
 from devtools.trace.inner import all_below, crates_below
 from devtools.trace.promises import public_laws

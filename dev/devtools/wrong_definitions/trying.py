@@ -6,7 +6,7 @@ import subprocess
 import tempfile
 
 from devtools.crate_copy import KEPT, LIBRARY, copy_of
-from devtools.trace.calls import CRATES
+from devtools.paths import CRATES
 from devtools.trace.inner import crates_below
 from devtools.trace.refusals import NAMED, place_of
 

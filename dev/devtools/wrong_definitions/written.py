@@ -58,7 +58,7 @@ def trimmed(text: str, start: int, end: int) -> int:
 
 def equations(text: str, name: str) -> list[Part]:
     """The equations of a definition in a text that is silenced: `name patterns = what it says`."""
-    indent = re.match(' *', text)[0]
+    indent = ' ' * (len(text) - len(text.lstrip(' ')))
     heads = [it.start() for it in re.finditer(rf'^{indent}{re.escape(name)} ', text, re.M)]
     found = []
     for begin, end in zip(heads, [*heads[1:], len(text)]):
@@ -90,7 +90,8 @@ def parts(text: str, name: str) -> list[Part]:
 def without_fact(text: str, name: str, names: frozenset[str]) -> str:
     """A file of proofs without what gives a fact of a record, wherever all fields of it are
     given: `record { a = x; b = y }`."""
-    tokens, gone = tokens_in(silenced(text)), []
+    tokens = tokens_in(silenced(text))
+    gone: list[tuple[int, int]] = []
     for place, it in enumerate(tokens[1:], 1):
         if it.text == '{' and tokens[place - 1].text == 'record':
             last, heads = behind_group(tokens, place) - 1, [place + 1]

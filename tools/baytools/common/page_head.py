@@ -93,9 +93,8 @@ def version(command: str) -> str:
     """The version of a command, such as tools/audit: the newest of CHANGELOG.md, its commit, and a
     sum of its files."""
     newest = re.search(r'^## (\d\S*)', CHANGES.read_text(encoding='utf-8'), re.M)
-    files = {TOP / command} | {pathlib.Path(it.__file__).resolve()
-                               for it in list(sys.modules.values())
-                               if getattr(it, '__file__', None)}
+    modules = [getattr(it, '__file__', None) for it in list(sys.modules.values())]
+    files = {TOP / command} | {pathlib.Path(it).resolve() for it in modules if it}
     found = source_of_many('', (it for it in files if it.is_relative_to(TOP)))
     return (f'{command} of {newest[1] if newest else "no version"}, commit {commit()}; SHA-256 '
             f'of its files {found.digest[:16]}')

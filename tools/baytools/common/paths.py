@@ -1,6 +1,6 @@
-"""Where things are: bayctl, and what the commands read. In the repository the commands are in tools/
-of its top. A package has them, and what they read, below one folder too, and puts each on the path
-as bayctl-NAME."""
+"""Where things are: bayctl, and what the commands read. In the repository the commands are in
+tools/. A package has them, and what they read, below one folder too, and puts each on the path as
+bayctl-NAME."""
 import pathlib
 import re
 import shutil

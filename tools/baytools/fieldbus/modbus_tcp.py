@@ -22,6 +22,7 @@ EXCEPTIONS = {1: 'illegal function', 2: 'illegal data address', 3: 'illegal data
 NOT_BEGUN = (1, 2, 3, 6)  # exceptions after which a write will not be done later
 HEAD = struct.Struct('>HHHB')  # transaction, protocol, octets that follow, unit
 ON, OFF = b'\xff\x00', b'\x00\x00'
+USER_TIMEOUT = 18  # TCP_USER_TIMEOUT of linux/tcp.h
 LONGEST = 254  # octets that follow: the unit, and a PDU of at most 253
 MOST_BITS, MOST_REGISTERS = 2000, 125  # of one request
 
@@ -70,7 +71,7 @@ class ModbusLink:
         it = self.streams[1].get_extra_info('socket')
         it.setsockopt(socket.IPPROTO_TCP, socket.TCP_NODELAY, 1)
         it.setsockopt(socket.SOL_SOCKET, socket.SO_LINGER, RESET)
-        it.setsockopt(socket.IPPROTO_TCP, socket.TCP_USER_TIMEOUT, int(1000 * self.timeout))
+        it.setsockopt(socket.IPPROTO_TCP, USER_TIMEOUT, int(1000 * self.timeout))
         self.number += 1
 
     def reset(self) -> None:

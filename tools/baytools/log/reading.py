@@ -5,7 +5,7 @@ import pathlib
 import sys
 from collections.abc import Iterator
 from dataclasses import dataclass, field, replace
-from typing import BinaryIO
+from typing import Any, BinaryIO
 
 from baytools.common.ending import Failed
 from baytools.common.page_head import Source
@@ -43,7 +43,7 @@ class Summing(io.RawIOBase):
     def readable(self) -> bool:
         return True
 
-    def readinto(self, room) -> int:
+    def readinto(self, room: Any) -> int:
         octets = self.file.read(len(room))
         room[:len(octets)] = octets
         self.size += len(octets)

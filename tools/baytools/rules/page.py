@@ -2,6 +2,7 @@
 each rule with why and by which path, to be printed and signed."""
 import itertools
 from collections.abc import Sequence
+from typing import Any
 
 from baytools.common import page_head
 from baytools.common.html_page import A4, code, escaped, page, signatures, table
@@ -10,7 +11,8 @@ from baytools.diagram.network import Network
 from .demands import demands_of, kept_elsewhere
 
 
-def page_of(network: Network, bay: dict, picture: str, sources: Sequence[page_head.Source]) -> str:
+def page_of(network: Network, bay: dict[str, Any], picture: str,
+            sources: Sequence[page_head.Source]) -> str:
     """The page. `bay` is the table of the bay file, `picture` the drawn diagram, and `sources` are
     the files that were read."""
     title, moment = f'Rules of the diagram of bay {bay["domain"]}', page_head.moment_told(

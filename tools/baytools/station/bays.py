@@ -2,6 +2,7 @@
 import argparse
 import pathlib
 from dataclasses import dataclass
+from typing import Any
 
 from baytools.bay.accepted import accepted_bay_at
 from baytools.bay.files import BadFile, text_of
@@ -16,7 +17,7 @@ class Listed:
     """A bay of the page: its name there, its bay file and the port of its clients; or what is wrong
     with its folder, and then it has neither."""
     name: str
-    file: dict
+    file: dict[str, Any]
     text: str
     port: int
     trouble: str = ''
@@ -49,7 +50,8 @@ def folder_of(path: pathlib.Path) -> Listed:
         settings = settings_of(path / SETTINGS)
         if PORT not in settings:
             raise BadFile(f'{path / SETTINGS}: it has no line {PORT}=..')
-        return Listed(path.name, *reversed(accepted_bay_at(path / BAY)), port_of(settings[PORT]))
+        text, file = accepted_bay_at(path / BAY)
+        return Listed(path.name, file, text, port_of(settings[PORT]))
     except (Failed, argparse.ArgumentTypeError) as error:
         return Listed(path.name, {}, '', 0, str(error))
 

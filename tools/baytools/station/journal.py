@@ -3,6 +3,7 @@ the process, and the links of clients."""
 import collections
 import subprocess
 import threading
+from typing import Any
 
 from baytools.log import server_lines as lines
 from baytools.log.entries import Entry
@@ -17,7 +18,7 @@ class Journal:
     """What the lines of a server come to: with `--log` all of it, else commands and the process."""
 
     def __init__(self) -> None:
-        self.commands: collections.deque[dict] = collections.deque(maxlen=KEPT)
+        self.commands: collections.deque[dict[str, Any]] = collections.deque(maxlen=KEPT)
         self.links: dict[int, str] = {}
         self.process, self.is_logged, self.moment = '', False, 0
 
@@ -53,7 +54,7 @@ class Journal:
         self.commands.append({'time': time_told(event.moment), 'good': is_good,
                               'told': f'{event.switch}{way}: {told}'})
 
-    def told(self) -> dict:
+    def told(self) -> dict[str, Any]:
         return {'commands': list(self.commands), 'process': self.process,
                 'links': sorted(self.links.items()) if self.is_logged else None}
 
@@ -100,7 +101,7 @@ class Follower:
             self.trouble = f'the journal can\'t be read: {self.words[0]}: {why}'
         self.changed.set()
 
-    def told(self) -> dict:
+    def told(self) -> dict[str, Any]:
         """What the page shows."""
         with self.lock:
             return self.journal.told() | {'trouble': self.trouble}

@@ -1,8 +1,10 @@
 """What the servers of several bays tell, gathered for one page."""
 import json
+import operator
 import threading
 import time
 from dataclasses import dataclass
+from typing import Any
 
 from baytools.panel.broadcast import Telling
 from baytools.panel.lost_process import process_told
@@ -43,12 +45,12 @@ class BayWatcher(Watcher):
             self.shown = self.row()
         self.changed.set()
 
-    def row(self) -> dict:
+    def row(self) -> dict[str, Any]:
         """What the page shows. Of a server that doesn't answer no position is shown."""
         is_there = self.state['connected']
         switches = self.state['switches'] if is_there and self.is_read else []
         moves = sorted((it for it in self.events if it['kind'] == 'position'),
-                       key=lambda it: it['moment'])
+                       key=operator.itemgetter('moment'))
         return {'connected': is_there, 'told': self.state['told'], 'barred': bool(self.differs),
                 'switches': switches,
                 'process': process_told(switches, self.state['measures'] if switches else []),
@@ -62,7 +64,7 @@ class Shown:
     watcher: BayWatcher | None
     follower: Follower | None
 
-    def told(self) -> dict:
+    def told(self) -> dict[str, Any]:
         """What the page shows of it."""
         found = {'name': self.bay.name, 'port': self.bay.port, 'device': '', 'read': 0,
                  'journal': self.follower.told() if self.follower else None}
