@@ -9,7 +9,7 @@ from unittest import mock
 
 from baytools.common.ending import Failed
 from baytools.common.paths import TOP
-from devtools.paths import CRATES
+from devtools.paths import CRATES, DATA
 from devtools.release import evidence
 from devtools.release.package import COMMANDS, laid_out, listed, moved, package
 from devtools.trace.definitions import Definition
@@ -36,7 +36,8 @@ class Package(Tools):
     def test_what_is_installed(self):
         program = self.file('bayctl', 'PROGRAM')
         laid_out(self.folder / 'root', pathlib.Path(program))
-        for name in ('usr/bin/bayctl', 'usr/share/bayctl/tools/client', 'etc/bayctl',
+        for name in ('usr/bin/bayctl', 'usr/share/bash-completion/completions/bayctl',
+                     'usr/share/bayctl/tools/client', 'etc/bayctl',
                      'usr/lib/systemd/system/bayctl@.service', 'usr/lib/tmpfiles.d/bayctl.conf',
                      'usr/share/doc/bayctl/docs/SERVING.md', 'usr/share/doc/bayctl/copyright'):
             self.assertTrue((self.folder / 'root' / name).exists(), name)
@@ -98,6 +99,32 @@ class Package(Tools):
                                check=True).stdout
         self.assertIn('root/root', names.split('\n')[0])
         self.assertIn('./usr/bin/bayctl', names)
+
+
+class Completions(Tools):
+    FILE = TOP / 'packaging' / 'completions' / 'bayctl'
+
+    def completed(self, *words: str) -> set[str]:
+        """What bash offers behind these words."""
+        typed = ' '.join(map(repr, words))
+        done = subprocess.run(['bash', '-c', f'. {self.FILE}; COMP_WORDS=({typed}); COMP_CWORD='
+                               f'{len(words) - 1}; _bayctl; echo "${{COMPREPLY[@]}}"'],
+                              capture_output=True, text=True, timeout=60)
+        self.assertEqual(done.stderr, '')
+        return set(done.stdout.split())
+
+    def test_the_options_are_those_of_the_help(self):
+        parts = re.split(r'(?m)^\$ bayctl ', (DATA / 'help.txt').read_text(encoding='utf-8'))[2:]
+        self.assertEqual(len(parts), 5)
+        names = [part.split()[0] for part in parts]
+        self.assertEqual(self.completed('bayctl', ''), {*names, 'help', '--help', '--version'})
+        for name, part in zip(names, parts):
+            told = re.findall(r'(?m)^ +(?:-\w, +)?(--[\w-]+)', part.partition('Options:')[2])
+            self.assertEqual(self.completed('bayctl', name, '--'), set(told), name)
+
+    def test_a_file_is_left_to_bash(self):
+        self.assertEqual(self.completed('bayctl', 'serve', '--bay', 'x'), set())
+        self.assertEqual(self.completed('bayctl', 'serve', '--rec'), {'--record', '--record-most'})
 
 
 class Evidence(Tools):

@@ -78,6 +78,8 @@ def laid_out(root: pathlib.Path, program: pathlib.Path) -> None:
     manual = (PACKAGING / 'bayctl.1').read_text(encoding='utf-8')
     put(root, 'usr/share/man/man1/bayctl.1.gz', packed(manual))
     put(root, 'usr/share/lintian/overrides/bayctl', debian('lintian-overrides').encode())
+    put(root, 'usr/share/bash-completion/completions/bayctl',
+        (PACKAGING / 'completions' / 'bayctl').read_bytes())
     for it in sorted((PACKAGING / 'units').iterdir()):
         text = moved(it.read_text(encoding='utf-8'))
         put(root, f'usr/lib/systemd/system/{it.name}', text.encode())
