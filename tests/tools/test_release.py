@@ -85,7 +85,7 @@ class Package(Tools):
 
     def test_what_checks_the_examples_is_left_out(self):
         found = listed('examples')
-        self.assertIn('examples/first.scenario', found)
+        self.assertTrue([it for it in found if it.endswith('/bay.toml')])
         self.assertEqual([it for it in found if it.endswith(('/check', '/run'))], [])
 
     @unittest.skipUnless(shutil.which('dpkg-deb'), 'dpkg-deb is not there')
