@@ -210,9 +210,9 @@ pub record IsEarlyBy (inputs : List Value) (first : Held) (place : Option ℕ) (
     pub now : ℕ
     pub soon : now < time
     pub after : Held
-    pub passes : Passes inputs before now sufficient_demand
+    pub passes : Passes inputs before now after
     pub released : is_true (output_at place
-        (outputs_of sufficient_demand.image.points sufficient_demand.slots)) ≡ true
+        (outputs_of after.image.points after.slots)) ≡ true
 
 -- the index of a release among the writable points
 abbrev pub place_of : BoundProgram → Rule → Option ℕ

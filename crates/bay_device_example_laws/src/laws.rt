@@ -38,11 +38,11 @@ pub fn a_select_backs_its_own_operate()
     ensures missing { (choice : Choice) → IsBackedBehind choice 1999 [] → ⊥ }
     ensures of_another { (choice : Choice)
         → IsBackedBehind choice 1999 (selected_by 2 ∷ []) → ⊥ }
-    ensures cancel_entry { (choice : Choice)
+    ensures cancelled { (choice : Choice)
         → IsBackedBehind choice 1999 (selected_by 1 ∷ cancel_entry ∷ []) → ⊥ }
     ensures used { (choice : Choice)
         → IsBackedBehind choice 1999 (selected_by 1 ∷ operate_entry choice ∷ []) → ⊥ }
-    ensures refused_select { (choice : Choice) → IsBackedBehind choice 1999 (refused_select ∷ [])
+    ensures refused { (choice : Choice) → IsBackedBehind choice 1999 (refused_select ∷ [])
         → ⊥ }
     ensures closed { (choice : Choice)
         → IsBackedBehind choice 1999 (selected_by 1 ∷ accepted_entry (Closed 1) ∷ []) → ⊥ }
@@ -125,7 +125,7 @@ pub fn a_close_needs_its_own_release()
 /// The command is neither left out nor doubled, and no other takes its place. No other event has a
 /// command. The association is one that has just been opened.
 pub fn a_command_is_of_octets_that_asked_for_it()
-    ensures accepted_entry { (now : ℕ) (names : Bay) (octets : Bor (List ℕ)) (step : Step)
+    ensures accepted { (now : ℕ) (names : Bay) (octets : Bor (List ℕ)) (step : Step)
         → IsAccepted now names octets step → AreOperates now (Recv 1 octets) names
         (Some (initial_connection 1) ∷ []) (step_with_commands (open_command ∷ []) step) }
     ensures left_out { (now : ℕ) (names : Bay) (octets : Bor (List ℕ)) (step : Step)
@@ -144,7 +144,7 @@ pub fn a_command_is_of_octets_that_asked_for_it()
     ensures unasked { (now : ℕ) (names : Bay) (octets : Bor (List ℕ)) (step : Step)
         → octets.now ≡ [] → AreRepliedAt now (Recv 1 octets) names
         (Some (initial_connection 1) ∷ []) (step_with_commands (open_command ∷ []) step) → ⊥ }
-    ensures refused_select { (now : ℕ) (names : Bay) (octets : Bor (List ℕ)) (step : Step)
+    ensures refused { (now : ℕ) (names : Bay) (octets : Bor (List ℕ)) (step : Step)
         → IsRefused now names step → AreRepliedAt now (Recv 1 octets) names
         (Some (initial_connection 1) ∷ []) (step_with_commands (open_command ∷ []) step) → ⊥ }
     ensures closed { (now : ℕ) (names : Bay) (octets : Bor (List ℕ)) (step : Step)
@@ -154,7 +154,7 @@ pub fn a_command_is_of_octets_that_asked_for_it()
         → IsOther event
         → AreRepliedAt now event names s.connections (step_with_commands (open_command ∷ []) step)
         → ⊥ }
-    ensures empty_program { (now : ℕ) (event : Event) (names : Bay) (s : State) (step : Step)
+    ensures nothing { (now : ℕ) (event : Event) (names : Bay) (s : State) (step : Step)
         → IsOther event → AreOperates now event names s.connections (step_with_commands [] step) }
 {}
 
@@ -169,7 +169,7 @@ pub fn a_command_is_of_an_association_that_was_opened()
         → AllOperate names (None ∷ []) ((now, Scan) ∷ (now, Recv 1 octets) ∷ [])
         (Ok (step_with_commands [] step) ∷ Ok (step_with_commands (open_command ∷ []) step) ∷ [])
         → ⊥ }
-    ensures refused_select { (now : ℕ) (names : Bay) (octets : Bor (List ℕ)) (fault : StepFault)
+    ensures refused { (now : ℕ) (names : Bay) (octets : Bor (List ℕ)) (fault : StepFault)
         (step : Step)
         → AllOperate names (None ∷ []) ((now, Open 1) ∷ (now, Recv 1 octets) ∷ [])
         (Err fault ∷ Ok (step_with_commands (open_command ∷ []) step) ∷ []) → ⊥ }
@@ -191,7 +191,7 @@ pub fn a_scan_stands_until_something_changes()
     ensures missing { (now age : ℕ) → HasScan now age [] → ⊥ }
     ensures other { (s : State) (step : Step) (age : ℕ)
         → HasScan age age (contact_past s step ∷ []) → ⊥ }
-    ensures refused_select { (s : State) (fault : StepFault) (age : ℕ)
+    ensures refused { (s : State) (fault : StepFault) (age : ℕ)
         → HasScan age age (refused_past s fault ∷ []) → ⊥ }
     ensures unchanged { (s t : State) (step : Step) (age : ℕ) → IsSameProcess s t
         → HasScan age age (contact_past t step ∷ scan_past s step ∷ []) }
@@ -234,7 +234,7 @@ pub fn a_loss_lasts_until_the_process_is_heard()
         → is_heard_after_loss (Measure k field value) (Ok step) s step ≡ true }
     ensures doubt { (k : ℕ) (field : MeterField) (s : State) (step : Step)
         → is_heard_after_loss (BadMeasure k field) (Ok step) s step ≡ true }
-    ensures refused_select { (event : Event) (fault : StepFault) (s : State) (step : Step)
+    ensures refused { (event : Event) (fault : StepFault) (s : State) (step : Step)
         → is_heard_after_loss event (Err fault) s step ≡ false }
     ensures client { (a : ℕ) (octets : Bor (List ℕ)) (s : State) (step : Step)
         → is_heard_after_loss (Open a) (Ok step) s step ≡ false
@@ -254,7 +254,7 @@ pub fn a_command_says_that_a_scan_is_behind_it()
         → HasScan now s.scan_max_age_ms past }
     ensures silent { (now : ℕ) (event : Event) (s t : State) (step : Step)
         → FreshAt now event s (Ok (step_with_commands [] step)) t }
-    ensures refused_select { (now : ℕ) (event : Event) (s t : State) (fault : StepFault)
+    ensures refused { (now : ℕ) (event : Event) (s t : State) (fault : StepFault)
         → FreshAt now event s (Err fault) t }
     ensures loaded { (now : ℕ) (event : Event) (s t : State) (step : Step)
         → Tells open_command step → Came [] s → FreshAt now event s (Ok step) t → ⊥ }
@@ -272,7 +272,7 @@ pub fn a_program_of_halt_takes_one_step()
     ensures two { (s : State) (step : Step)
         → HaltsAt 0 Scan (halting_device s) (Ok (record step { scan = Some 2 })) (halting_device s)
         → ⊥ }
-    ensures refused_select { (s : State) (fault : StepFault)
+    ensures refused { (s : State) (fault : StepFault)
         → HaltsAt 0 Scan (halting_device s) (Err fault) (halting_device s) → ⊥ }
     ensures trapped { (s : State) (step : Step)
         → HaltsAt 0 Scan (with_code [] s) (Ok step) (with_code [] s) → ⊥ }

@@ -22,7 +22,7 @@
 //   `gone NAME` a file that does not exist.
 // - In `jobs` each line is a case, `WORDS -> JOB`: the job of a command line.
 //
-// The sections after `== note examples` are those of examples/, as `tools/examples_stdin` makes
+// The sections after `== note examples` are those of examples/, as `dev/examples_stdin` makes
 // them from the files of the examples.
 #![tactic(auto)]
 

@@ -98,14 +98,14 @@ pub fn the_last_scan_releases_a_command()
 pub fn a_reported_command_needs_each_of_its_parts()
     ensures heard { (s : State) (octet : ℕ) (octets : List ℕ) (told : Turn)
         → IsHeard (server_with_client s) (turn_with (octets_arrived (octet ∷ octets)) told) }
-    ensures server_without_clients { (s : State) (octets : List ℕ) (told : Turn)
+    ensures closed { (s : State) (octets : List ℕ) (told : Turn)
         → IsHeard (server_without_clients s) (turn_with (octets_arrived octets) told) → ⊥ }
-    ensures no_octets { (first : State) (h : ServerData) (told : Turn) (past : List Past)
+    ensures silent { (first : State) (h : ServerData) (told : Turn) (past : List Past)
         (command : Command) → IsOrdered first h (turn_with no_octets told) past command → ⊥ }
     ensures part { (first s : State) (told : Turn) (past : List Past) (command : Command)
         → IsOrdered first (server_with_client s) (turn_with (octets_arrived (3 ∷ [])) told) past
         command → ⊥ }
-    ensures octets_refused { (first s : State) (octet : ℕ) (octets : List ℕ) (told : Turn)
+    ensures refused { (first s : State) (octet : ℕ) (octets : List ℕ) (told : Turn)
         (past : List Past) (command : Command)
         → IsOrdered first (server_with_client s) (turn_with (octets_refused (octet ∷ octets)) told)
         past
