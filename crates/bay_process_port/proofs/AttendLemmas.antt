@@ -5,12 +5,12 @@ use Rattle.std.specs.List.{position}
 use Rattle.std.specs.declared.net.socket_addr.SocketAddrV4.{SocketAddrV4}
 use Rattle.bay_lines.specs.FirstLines.{LineSearchData, Overlong, Waiting, Whole, first_line_of, front_at, is_end}
 use Rattle.bay_server_turn.proofs.TalkLemmas.{Talks-append}
-use Rattle.bay_process_port.specs.Polling.{Attended, all_told, Attends, ClosesDismissed, Does, Leads, AttendedPart, Script, accepted_in, attendance, attended_here, and_then, dismissed, first_part, greet_part, left_alone, offer_part, offered_of, on_taken, read_by, exchange_part, with_report_queued, welcomed}
+use Rattle.bay_process_port.specs.Polling.{Attended, all_told, Attends, ClosesDismissed, Does, Leads, AttendedPart, Script, accepted_in, attendance, attended_here, and_then, close_dismissed, first_part, greet_part, left_alone, offer_part, offered_of, on_taken, read_by, exchange_part, with_report_queued, after_greeting}
 use Rattle.bay_server_turn.specs.Calls.{Call, Accepts, Closes, ReadOutcome, Octets, Silence, Reads, Writes, MakesCalls}
 use Rattle.bay_process_port.specs.Fit.{is_waiting}
-use Rattle.bay_process_port.specs.Ports.{PortData, emptied}
+use Rattle.bay_process_port.specs.Ports.{PortData, with_no_data}
 use Rattle.bay_device.specs.Device.{State}
-use Rattle.bay_process_port.specs.ProcessOutput.{ReportedTurn, fits_in, greeting}
+use Rattle.bay_process_port.specs.ProcessOutput.{ReportedTurn, fits_in, greeting_text}
 use Rattle.bay_process_port.specs.declared.connection_event.ConnectionEvent.{ConnectionEvent}
 use Rattle.bay_process_port.specs.declared.connection_event.ConnectionEvent.TheVariants.{Opened, Closed}
 use Rattle.bay_process_port.specs.declared.connection_event.DisconnectReason.{DisconnectReason}
@@ -45,9 +45,9 @@ told-calls t s p = by-room (fits_in p.queue (all_told t s p)) refl
     by-room false e = rw e refl
 
 pub greet-calls : (now : ℕ) (s : State) (p : PortData) → (greet_part now s p).calls ≡ []
-greet-calls now s p = by-room (fits_in p.queue (greeting now s p.watch)) refl
+greet-calls now s p = by-room (fits_in p.queue (greeting_text now s p.watch)) refl
   where
-    by-room : (v : Bool) → fits_in p.queue (greeting now s p.watch) ≡ v
+    by-room : (v : Bool) → fits_in p.queue (greeting_text now s p.watch) ≡ v
         → (greet_part now s p).calls ≡ []
     by-room true e = rw e refl
     by-room false e = rw e refl
@@ -311,8 +311,8 @@ module _ {L : Type 0} (step : L → Call → L → Type 0) where
       (news : Option ConnectionEvent)
       → step old (Accepts 1 (Some (Some from))) mid
       → Attends step
-      (λ script. welcomed before
-      (first_part now s (script.heard, script.again) (emptied Here before))) mid new after news
+      (λ script. after_greeting before
+      (first_part now s (script.heard, script.again) (with_no_data Here before))) mid new after news
       → Attends step (λ script. accepted_in now s script.accepted
       (script.heard, script.again) before)
       old new after news
@@ -333,12 +333,12 @@ module _ {L : Type 0} (step : L → Call → L → Type 0) where
 
   -- it is taken
   pub welcomes-taken : (now : ℕ) (s : State) (old new : L) (before after : PortData)
-      → Does step (first_part now s) old new (emptied Here before) after (Ok tt)
-      → Attends step (λ script. welcomed before
-      (first_part now s (script.heard, script.again) (emptied Here before)))
+      → Does step (first_part now s) old new (with_no_data Here before) after (Ok tt)
+      → Attends step (λ script. after_greeting before
+      (first_part now s (script.heard, script.again) (with_no_data Here before)))
       old new after (Some Opened)
   welcomes-taken now s old new before after does =
-      let part = first_part now s does.answers (emptied Here before) in
+      let part = first_part now s does.answers (with_no_data Here before) in
       let is = led part.after part.calls after does.leads in
       record {
         script = record {
@@ -355,13 +355,13 @@ module _ {L : Type 0} (step : L → Call → L → Type 0) where
   -- or it has gone
   pub welcomes-gone : (now : ℕ) (s : State) (old mid new : L) (before after : PortData)
       (why : DisconnectReason)
-      → Does step (first_part now s) old mid (emptied Here before) after (Err why)
+      → Does step (first_part now s) old mid (with_no_data Here before) after (Err why)
       → step mid (Closes 1) new
-      → Attends step (λ script. welcomed before
-      (first_part now s (script.heard, script.again) (emptied Here before)))
-      old new (emptied Away before) None
+      → Attends step (λ script. after_greeting before
+      (first_part now s (script.heard, script.again) (with_no_data Here before)))
+      old new (with_no_data Away before) None
   welcomes-gone now s old mid new before after why does closes =
-      let part = first_part now s does.answers (emptied Here before) in
+      let part = first_part now s does.answers (with_no_data Here before) in
       let is = ended part.after part.calls after why does.leads in
       record {
         script = record {
@@ -408,7 +408,8 @@ module _ {L : Type 0} (step : L → Call → L → Type 0) where
     -- or it is closed
     pub attends-closed : (new : L) (why : DisconnectReason) → before.standing ≡ Here
         → Does step (exchange_part t s) old mid before after (Err why) → step mid (Closes 1) new
-        → Attends step (λ script. attendance t s script before) old new (emptied Leaving before)
+        → Attends step (λ script. attendance t s script before) old new
+        (with_no_data Leaving before)
         (Some (Closed why))
     attends-closed new why here does closes =
         let part = exchange_part t s does.answers before in
@@ -416,7 +417,7 @@ module _ {L : Type 0} (step : L → Call → L → Type 0) where
         attends-as (λ script. attendance t s script before)
         (λ script. attended_here before (exchange_part t s (script.taken, script.heard) before))
         old new
-        (emptied Leaving before) (Some (Closed why)) (λ script. attended-here script here)
+        (with_no_data Leaving before) (Some (Closed why)) (λ script. attended-here script here)
         (record {
           script = record {
             accepted = None;
@@ -455,7 +456,7 @@ module _ {L : Type 0} (step : L → Call → L → Type 0) where
         subst (λ standing. ClosesDismissed step standing old new before after news) leaving closes
         in
         attends-as (λ script. attendance t s script before)
-        (λ script. dismissed why before) old new after news
+        (λ script. close_dismissed why before) old new after news
         (λ script. rw leaving refl)
         (record {
           script =

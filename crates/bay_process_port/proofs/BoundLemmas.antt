@@ -1,9 +1,9 @@
 -- What stays of a port: whether its process is told of releases, and what it owes.
 use Rattle.std.proofs.Common.{◌≡◌, ℕ, List, Option, None, Some, is_some, option_map, if◌then◌else◌, refl, ap, ap₂, ◌∙◌}
 use Rattle.bay_device.specs.Device.{State}
-use Rattle.bay_process_port.specs.Ports.{PortData, StaysBound, bare, emptied}
+use Rattle.bay_process_port.specs.Ports.{PortData, StaysBound, empty_port, with_no_data}
 use Rattle.bay_process_port.specs.Releases.{Release, nothing_told, told_after}
-use Rattle.bay_process_port.specs.Supervised.{Watched, answered, settings_in, heard_at, unheard}
+use Rattle.bay_process_port.specs.Supervised.{Watched, after_alive_answer, settings_in, heard_at, initial_watch}
 use Rattle.bay_process_port.specs.declared.port.Presence.{Presence}
 
 pub bound-same : (p : PortData) → StaysBound p p
@@ -14,15 +14,16 @@ bound-trans p q r a b = record { told = b.told ∙ a.told; duties = b.duties ∙
 
 -- the port with nothing in it is the same then
 pub emptied-same : (standing : Presence) (p q : PortData) → StaysBound p q
-    → emptied standing q ≡ emptied standing p
-emptied-same standing p q b = ap₂ (λ t d. bare t d standing) b.told b.duties
+    → with_no_data standing q ≡ with_no_data standing p
+emptied-same standing p q b = ap₂ (λ t d. empty_port t d standing) b.told b.duties
 
 told-some : (s : State) (told : Option (List (Option Release)))
     → is_some (told_after s told) ≡ is_some told
 told-some s None = refl
 told-some s (Some told) = refl
 
-answered-duties : (watch : Option Watched) → settings_in (answered watch) ≡ settings_in watch
+answered-duties : (watch : Option Watched)
+    → settings_in (after_alive_answer watch) ≡ settings_in watch
 answered-duties None = refl
 answered-duties (Some w) = refl
 
@@ -32,7 +33,8 @@ heard-duties moment None = refl
 heard-duties moment (Some w) = refl
 
 -- where only this was changed
-pub bound-answered : (p q : PortData) → q ≡ record p { watch = answered p.watch } → StaysBound p q
+pub bound-answered : (p q : PortData) → q ≡ record p { watch = after_alive_answer p.watch }
+    → StaysBound p q
 bound-answered p q is = record {
   told = ap (λ (d : PortData). is_some d.told) is;
   duties = ap (λ (d : PortData). settings_in d.watch) is ∙ answered-duties p.watch;
@@ -46,7 +48,7 @@ bound-heard moment p q is = record {
 }
 
 pub bound-told : (s : State) (p q : PortData) → q.told ≡ told_after s p.told
-    → q.watch ≡ answered p.watch → StaysBound p q
+    → q.watch ≡ after_alive_answer p.watch → StaysBound p q
 bound-told s p q told watch = record {
   told = ap is_some told ∙ told-some s p.told;
   duties = ap settings_in watch ∙ answered-duties p.watch;
@@ -62,12 +64,12 @@ told-again None = refl
 told-again (Some told) = refl
 
 duties-again : (watch : Option Watched)
-    → settings_in (option_map unheard (settings_in watch)) ≡ settings_in watch
+    → settings_in (option_map initial_watch (settings_in watch)) ≡ settings_in watch
 duties-again None = refl
 duties-again (Some w) = refl
 
 -- a port that was emptied twice
 pub emptied-twice : (one other : Presence) (p : PortData)
-    → emptied one (emptied other p) ≡ emptied one p
+    → with_no_data one (with_no_data other p) ≡ with_no_data one p
 emptied-twice one other p =
-    ap₂ (λ t d. bare t d one) (told-again p.told) (duties-again p.watch)
+    ap₂ (λ t d. empty_port t d one) (told-again p.told) (duties-again p.watch)

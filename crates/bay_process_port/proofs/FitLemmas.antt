@@ -11,7 +11,7 @@ use Rattle.bay_server_turn.proofs.SupervisedLemmas.{timed-told}
 use Rattle.bay_trace.specs.Trace.{LineData, NamedData, blank, at_moment, connects, receives, disconnects, contact, input, measure, bad_measure, lost, scan, process_of, trace_line_of}
 use Rattle.bay_trace.specs.Trace as trace
 use Rattle.bay_process_port.specs.Fit.{is_told, line_or_none}
-use Rattle.bay_process_port.specs.Supervised.{SupervisionSettings, Watched, event_in, introduction, is_timely, judged, line_in, plain, report, timely, word_of}
+use Rattle.bay_process_port.specs.Supervised.{SupervisionSettings, Watched, event_in, judge_introduction, is_timely, judge_line, line_in, judge_plain_line, judge_later_line, judge_moment, word_of}
 use Rattle.bay_process_port.specs.declared.connection_event.DisconnectReason.{DisconnectReason}
 use Rattle.bay_process_port.specs.declared.connection_event.DisconnectReason.TheVariants.{OutOfOrder}
 use Rattle.bay_process_port.specs.declared.supervision.ProcessMessage.{ProcessMessage}
@@ -51,7 +51,7 @@ pub record IsTimely (limit now moment : ℕ) (word : ProcessMessage) (said : Tim
 
 -- what can be taken was said in time
 pub timely-is : (limit now moment : ℕ) (word : ProcessMessage) (said : TimedMessage)
-    → timely limit now moment word ≡ Ok said → IsTimely limit now moment word said
+    → judge_moment limit now moment word ≡ Ok said → IsTimely limit now moment word said
 timely-is limit now moment word said e = by-time (is_timely limit now moment) refl
   where
     by-time : (v : Bool) → is_timely limit now moment ≡ v → IsTimely limit now moment word said
@@ -72,13 +72,14 @@ word-event None = refl
 word-event (Some event) = refl
 
 plain-told : (s : State) (now : ℕ) (line : List ℕ) (said : TimedMessage)
-    → plain now line (event_in_line s line) ≡ Ok said → event_in_line s line ≡ event_in said.word
+    → judge_plain_line now line (event_in_line s line) ≡ Ok said
+    → event_in_line s line ≡ event_in said.word
 plain-told s now [] said e =
     let same : record { moment = now; word = Blank } ≡ said = cc in
     ap (λ (x : TimedMessage). event_in x.word) same
 plain-told s now (b ∷ bs) said e = by-event (event_in_line s (b ∷ bs)) e
   where
-    by-event : (o : Option ProcessEvent) → plain now (b ∷ bs) o ≡ Ok said
+    by-event : (o : Option ProcessEvent) → judge_plain_line now (b ∷ bs) o ≡ Ok said
         → o ≡ event_in said.word
     by-event None is = absurd cc
     by-event (Some event) is =
@@ -91,7 +92,7 @@ pub record IsReport (w : Watched) (now : ℕ) (timed : TimedLine) (said : TimedM
   pub timely : IsTimely w.duties.limit now timed.moment (word_of timed.event) said
 
 pub report-is : (line : List ℕ) (w : Watched) (now : ℕ) (timed : TimedLine) (said : TimedMessage)
-    → report line w now (Some timed) ≡ Ok said → IsReport w now timed said
+    → judge_later_line line w now (Some timed) ≡ Ok said → IsReport w now timed said
 report-is line w now timed said e = by-order (nat_lt timed.moment w.last) refl
   where
     by-order : (v : Bool) → nat_lt timed.moment w.last ≡ v → IsReport w now timed said
@@ -103,11 +104,12 @@ report-is line w now timed said e = by-order (nat_lt timed.moment w.last) refl
     }
 
 report-told : (s : State) (line : List ℕ) (w : Watched) (now : ℕ) (said : TimedMessage)
-    → report line w now (timed_line_of s line) ≡ Ok said
+    → judge_later_line line w now (timed_line_of s line) ≡ Ok said
     → event_in_line s line ≡ event_in said.word
 report-told s line w now said e = by-line (timed_line_of s line) refl e
   where
-    by-line : (o : Option TimedLine) → timed_line_of s line ≡ o → report line w now o ≡ Ok said
+    by-line : (o : Option TimedLine) → timed_line_of s line ≡ o
+        → judge_later_line line w now o ≡ Ok said
         → event_in_line s line ≡ event_in said.word
     by-line None read is = absurd cc
     by-line (Some timed) read is =
@@ -117,13 +119,13 @@ report-told s line w now said e = by-line (timed_line_of s line) refl e
 
 introduction-told : (s : State) (line : List ℕ) (duties : SupervisionSettings) (now : ℕ)
     (said : TimedMessage)
-    → introduction duties now (introduced_at duties.key s.domain s.revision line) ≡ Ok said
+    → judge_introduction duties now (introduced_at duties.key s.domain s.revision line) ≡ Ok said
     → event_in_line s line ≡ event_in said.word
 introduction-told s line duties now said e =
     by-moment (introduced_at duties.key s.domain s.revision line) refl e
   where
     by-moment : (o : Option ℕ) → introduced_at duties.key s.domain s.revision line ≡ o
-        → introduction duties now o ≡ Ok said → event_in_line s line ≡ event_in said.word
+        → judge_introduction duties now o ≡ Ok said → event_in_line s line ≡ event_in said.word
     by-moment None read is = absurd cc
     by-moment (Some moment) read is =
         introduced-untold s duties.key s.domain s.revision line moment read
@@ -132,7 +134,7 @@ introduction-told s line duties now said e =
 
 -- what a turn has of a line is the event that it tells of
 pub judged-told : (watch : Option Watched) (s : State) (now : ℕ) (line : List ℕ)
-    (said : TimedMessage) → judged watch s now line ≡ Ok said
+    (said : TimedMessage) → judge_line watch s now line ≡ Ok said
     → event_in_line s line ≡ event_in said.word
 judged-told None s now line said e = plain-told s now line said e
 judged-told (Some w) s now line said e = by-known w.introduced refl
@@ -150,7 +152,7 @@ line-by-event Lives line = refl
 
 -- and the line is had where it tells of one
 pub judged-line : (watch : Option Watched) (s : State) (now : ℕ) (line : List ℕ)
-    (said : TimedMessage) → judged watch s now line ≡ Ok said
+    (said : TimedMessage) → judge_line watch s now line ≡ Ok said
     → line_in said.word line ≡ line_or_none line
 judged-line watch s now line said e =
     line-by-event said.word line
@@ -173,7 +175,8 @@ had-line Lives line had e = absurd cc
 
 -- a line that a turn has can be read as what the turn is given
 pub judged-readable : (watch : Option Watched) (s : State) (now : ℕ) (line had : List ℕ)
-    (said : TimedMessage) → judged watch s now line ≡ Ok said → line_in said.word line ≡ Some had
+    (said : TimedMessage) → judge_line watch s now line ≡ Ok said
+    → line_in said.word line ≡ Some had
     → input_of_event (event_in_line s had) ≡ Ok (report_of_event (event_in said.word))
 judged-readable watch s now line had said e is =
     ap (λ l. input_of_event (event_in_line s l)) (sym (had-line said.word line had is))

@@ -3,13 +3,13 @@ use Rattle.std.proofs.Common.{◌≡◌, ℕ, ◌-◌, Bool, ◌||◌, true, fal
 use Rattle.std.specs.declared.net.socket_addr.SocketAddrV4.{SocketAddrV4}
 use Rattle.bay_device.specs.Device.{State}
 use Rattle.bay_lines.specs.FirstLines.{LineSearchData, Waiting, Overlong, Whole, first_line_of}
-use Rattle.bay_process_port.specs.Polling.{Attended, all_told, AttendedPart, Script, accepted_in, attendance, attended_as, attended_here, and_then, closed_or_kept, first_part, greet_part, offer_part, offered_of, on_read, read_by, taken_or_closed, exchange_part, with_report_queued, welcomed}
+use Rattle.bay_process_port.specs.Polling.{Attended, all_told, AttendedPart, Script, accepted_in, attendance, attended_as, attended_here, and_then, closed_or_kept, first_part, greet_part, offer_part, offered_of, on_read, read_by, taken_or_closed, exchange_part, with_report_queued, after_greeting}
 use Rattle.bay_process_port.specs.Fit.{is_waiting}
 use Rattle.bay_process_port.specs.Laws.{IsReadable, IsSilent, TellsInOrder, hears_end, is_end, taken_of}
-use Rattle.bay_process_port.specs.Ports.{PortData, Taken, dismissed_of, emptied, judged_at, taken_as, taken_by}
+use Rattle.bay_process_port.specs.Ports.{PortData, Taken, dismissed_of, with_no_data, judged_at, taken_as, taken_by}
 use Rattle.bay_process_port.specs.Releases.{told_after}
 use Rattle.bay_process_port.specs.ProcessOutput.{ReportedTurn, fits_in}
-use Rattle.bay_process_port.specs.Supervised.{answered}
+use Rattle.bay_process_port.specs.Supervised.{after_alive_answer}
 use Rattle.bay_process_port.specs.declared.connection_event.ConnectionEvent.TheVariants.{Closed, Opened}
 use Rattle.bay_process_port.specs.declared.connection_event.DisconnectReason.{DisconnectReason}
 use Rattle.bay_process_port.specs.declared.port.Presence.{Presence}
@@ -53,14 +53,14 @@ is-readable s now jump p line e = taken-readable p.standing s now jump p line e
 
 closed-empty : (before : PortData) (r : Result PortData DisconnectReason) (calls : List Call)
     (why : DisconnectReason) → (closed_or_kept before r calls).news ≡ Some (Closed why)
-    → (closed_or_kept before r calls).port ≡ emptied Leaving before
+    → (closed_or_kept before r calls).port ≡ with_no_data Leaving before
 closed-empty before (Ok p) calls why e = absurd cc
 closed-empty before (Err w) calls why e = refl
 
 -- one that has gone while it waited
 record Untaken (p : PortData) (a : Attended) : Type 0 where
   news : a.news ≡ None
-  port : a.port ≡ emptied Away p
+  port : a.port ≡ with_no_data Away p
 
 -- a call that brought no end
 ends-none : (calls : List Call) (call : Call) → hears_end (call ∷ []) ≡ false
@@ -127,15 +127,15 @@ behind-ended before (Ok p) calls heard first ends = by-calls (hears_end calls) r
     by-calls false e = read-ended before heard p calls e ends
 
 first-untaken : (now : ℕ) (s : State) (before : PortData) (heard : ReadOutcome × ReadOutcome)
-    → hears_end (first_part now s heard (emptied Here before)).calls ≡ true
-    → Untaken before (welcomed before (first_part now s heard (emptied Here before)))
+    → hears_end (first_part now s heard (with_no_data Here before)).calls ≡ true
+    → Untaken before (after_greeting before (first_part now s heard (with_no_data Here before)))
 first-untaken now s before heard =
-    let g = greet_part now s (emptied Here before) in
+    let g = greet_part now s (with_no_data Here before) in
     let a = and_then g (read_by heard.0) in
     behind-ended before a.after a.calls heard.1
     (behind-ended before g.after g.calls heard.0
     (λ ends. let no : false ≡ true =
-    ap hears_end (sym (greet-calls now s (emptied Here before))) ∙ ends in absurd cc))
+    ap hears_end (sym (greet-calls now s (with_no_data Here before))) ∙ ends in absurd cc))
 
 -- a closing ends nothing
 closes-nothing : (calls : List Call) → hears_end (calls ++ Closes 1 ∷ []) ≡ hears_end calls
@@ -157,7 +157,7 @@ accepted-untaken : (now : ℕ) (s : State) (taken : Option (Option SocketAddrV4)
 accepted-untaken now s None heard p ends = absurd cc
 accepted-untaken now s (Some None) heard p ends = absurd cc
 accepted-untaken now s (Some (Some from)) heard p ends =
-    let part = first_part now s heard (emptied Here p) in
+    let part = first_part now s heard (with_no_data Here p) in
     let u = first-untaken now s p heard (sym (welcomed-ends p part.after part.calls) ∙ ends) in
     record { news = u.news; port = u.port }
 
@@ -251,7 +251,7 @@ tells-told t s p = by-room (fits_in p.queue all) refl
           let same : record p {
             queue = p.queue ++ all;
             told = told_after s p.told;
-            watch = answered p.watch;
+            watch = after_alive_answer p.watch;
           }
           ≡ q = cc in
           ap (λ (d : PortData). d.queue) (sym same);

@@ -12,11 +12,11 @@ use Rattle.bay_device.specs.LookUps.{enabled_of, may_close, may_open}
 use Rattle.bay_lines.specs.FirstLines.{LineSearchData, Overlong, Waiting, Whole, first_line_of}
 use Rattle.bay_process_port.specs.Polling.{AttendedPart, Script, accepted_in, all_told, attended_as, and_then, closed_or_kept, first_part, greet_part, offer_part, offered_of, on_read, read_by, taken_or_closed, exchange_part, with_report_queued}
 use Rattle.bay_process_port.specs.Fit.{is_waiting}
-use Rattle.bay_process_port.specs.Ports.{PortData, emptied, bare, judged_at, taken_as, taken_by}
+use Rattle.bay_process_port.specs.Ports.{PortData, with_no_data, empty_port, judged_at, taken_as, taken_by}
 use Rattle.bay_process_port.specs.Releases.{Release, is_same, last_said, nothing_told, release_part, releases_text, said_at, said_from, said_in, told_after}
-use Rattle.bay_process_port.specs.ProcessOutput.{ReportedTurn, fits_in, greeting}
+use Rattle.bay_process_port.specs.ProcessOutput.{ReportedTurn, fits_in, greeting_text}
 use Rattle.bay_process_port.specs.Uses.{IsUpToDate, StaysHere, Use, Takes, Attends, after_uses, all_said, port_after, said_as, said_of}
-use Rattle.bay_process_port.specs.Supervised.{SupervisionSettings, answered, heard_at}
+use Rattle.bay_process_port.specs.Supervised.{SupervisionSettings, after_alive_answer, heard_at}
 use Rattle.bay_process_port.specs.declared.connection_event.DisconnectReason.{DisconnectReason}
 use Rattle.bay_process_port.specs.declared.connection_event.DisconnectReason.TheVariants.{QueueFull}
 use Rattle.bay_process_port.specs.declared.supervision.TimedMessage.{TimedMessage}
@@ -217,7 +217,7 @@ has-told t s p = by-room (fits_in p.queue (all_told t s p)) refl
         let same : record p {
           queue = p.queue ++ all_told t s p;
           told = told_after s p.told;
-          watch = answered p.watch;
+          watch = after_alive_answer p.watch;
         } ≡ q = cc in
         ap (λ (d : PortData). d.told) (sym same))
     by-room false e = rw e (λ q is. absurd cc)
@@ -244,13 +244,13 @@ has-read heard p = by-front (is_waiting (first_line_of p.kept)) refl
     by-front false e = rw e (has-port p p.told refl)
 
 has-greeted : (now : ℕ) (s : State) (p : PortData) → HasTold p.told (greet_part now s p).after
-has-greeted now s p = by-room (fits_in p.queue (greeting now s p.watch)) refl
+has-greeted now s p = by-room (fits_in p.queue (greeting_text now s p.watch)) refl
   where
-    by-room : (v : Bool) → fits_in p.queue (greeting now s p.watch) ≡ v
+    by-room : (v : Bool) → fits_in p.queue (greeting_text now s p.watch) ≡ v
         → HasTold p.told (greet_part now s p).after
     by-room true e =
         rw e (has-port
-        (record p { queue = p.queue ++ greeting now s p.watch; watch = heard_at now p.watch })
+        (record p { queue = p.queue ++ greeting_text now s p.watch; watch = heard_at now p.watch })
         p.told refl)
     by-room false e = rw e (has-closed QueueFull p.told)
 
@@ -276,7 +276,7 @@ here-known s said p (Err why) calls h told =
     knows-emptied said (said ++ said_in s p.told) p.told h
 
 come-known : (said : List (ℕ × Release)) (p : PortData) (r : Result PortData DisconnectReason)
-    (calls : List Call) → KnowsIn said p.told → HasTold (emptied Here p).told r
+    (calls : List Call) → KnowsIn said p.told → HasTold (with_no_data Here p).told r
     → KnowsIn (said ++ []) (taken_or_closed p r calls).port.told
 come-known said p (Ok q) calls h told =
     subst (KnowsIn (said ++ [])) (sym (told q refl)) (knows-emptied said (said ++ []) p.told h)
@@ -289,7 +289,7 @@ away-known : (said : List (ℕ × Release)) (now : ℕ) (s : State)
 away-known said now s None heard p h = knows-same said p.told p.told h refl
 away-known said now s (Some None) heard p h = knows-same said p.told p.told h refl
 away-known said now s (Some (Some from)) heard p h =
-    let q = emptied Here p in
+    let q = with_no_data Here p in
     let g = greet_part now s q in
     let a = and_then g (read_by heard.0) in
     let part = first_part now s heard q in
@@ -358,10 +358,10 @@ known-here s said (Some told) h k r lt is = said-known s said told h k r lt is
 
 pub is-up-to-date : (duties : Option SupervisionSettings) (uses : List Use) (t : ReportedTurn)
     (s : State)
-    (script : Script) → StaysHere uses (bare true duties Away)
+    (script : Script) → StaysHere uses (empty_port true duties Away)
     → IsUpToDate duties uses t s script
 is-up-to-date duties uses t s script stays here none k lt within =
-    let p0 = bare true duties Away in
+    let p0 = empty_port true duties Away in
     let p = after_uses uses p0 in
     let start : KnowsIn [] p0.told = knows-nothing [] in
     let known : KnowsIn (all_said uses p0) p.told = uses-known uses [] p0 start in

@@ -10,13 +10,13 @@ use Rattle.bay_process_port.specs.Introduction.{introduced_at}
 use Rattle.bay_server_turn.specs.Supervised.{timed_line_of}
 use Rattle.bay_server_turn.specs.declared.process_input.ProcessEvent.{ProcessEvent}
 use Rattle.bay_server_turn.specs.declared.supervised.TimedLine.{TimedLine}
-use Rattle.bay_process_port.specs.Ports.{PortData, Taken, bare, judged_at, taken_as, taken_by, taken_line}
+use Rattle.bay_process_port.specs.Ports.{PortData, Taken, empty_port, judged_at, taken_as, taken_by, taken_line}
 use Rattle.bay_process_port.specs.Supervision.{AreOf, IsOfThisBay, IsOnTime}
 use Rattle.bay_process_port.specs.Uses.{StaysHere, Use, Takes, Attends, after_uses, octets_given, port_after}
 use Rattle.bay_process_port.proofs.UseLemmas.{attends-keep, comes-keep, cut-is, cut_by, moves_of, starts-follow}
 use Rattle.bay_process_port.proofs.FitLemmas.{report-is, timely-event, timely-is, word-event}
 use Rattle.bay_process_port.proofs.WatchLemmas.{accepted-same, attended-same, known-duties, line-judged}
-use Rattle.bay_process_port.specs.Supervised.{SupervisionSettings, Watched, event_in, introduction, is_timely, judged, known_as, known_behind, known_by, report, timely, unheard, word_of}
+use Rattle.bay_process_port.specs.Supervised.{SupervisionSettings, Watched, event_in, judge_introduction, is_timely, judge_line, known_as, known_behind, known_by, judge_later_line, judge_moment, initial_watch, word_of}
 use Rattle.bay_process_port.specs.declared.connection_event.DisconnectReason.{DisconnectReason}
 use Rattle.bay_process_port.specs.declared.port.Presence.{Presence}
 use Rattle.bay_process_port.specs.declared.port.Presence.TheVariants.{Away, Leaving, Dismissed, Here}
@@ -38,12 +38,12 @@ record ReportsOf (s : State) (now : ℕ) (w : Watched) (line : List ℕ) (event 
 
 report-of : (s : State) (now : ℕ) (w : Watched) (line : List ℕ) (said : TimedMessage)
     (event : ProcessEvent) → w.introduced ≡ true
-    → report line w now (timed_line_of s line) ≡ Ok said
+    → judge_later_line line w now (timed_line_of s line) ≡ Ok said
     → event_in said.word ≡ Some event → ReportsOf s now w line event
 report-of s now w line said event known e is = by-line (timed_line_of s line) refl e
   where
     by-line : (o : Option TimedLine) → timed_line_of s line ≡ o
-        → report line w now o ≡ Ok said → ReportsOf s now w line event
+        → judge_later_line line w now o ≡ Ok said → ReportsOf s now w line event
     by-line None read r = absurd cc
     by-line (Some timed) read r =
         let word = word_of timed.event in
@@ -61,7 +61,7 @@ report-of s now w line said event known e is = by-line (timed_line_of s line) re
         }
 
 introduction-none : (duties : SupervisionSettings) (now : ℕ) (o : Option ℕ) (said : TimedMessage)
-    (event : ProcessEvent) → introduction duties now o ≡ Ok said
+    (event : ProcessEvent) → judge_introduction duties now o ≡ Ok said
     → event_in said.word ≡ Some event → ⊥
 introduction-none duties now None said event e is = absurd cc
 introduction-none duties now (Some moment) said event e is =
@@ -70,7 +70,7 @@ introduction-none duties now (Some moment) said event e is =
     (timely-is duties.limit now moment Introduces said e) ∙ is in cc
 
 judged-of : (s : State) (now : ℕ) (w : Watched) (line : List ℕ) (said : TimedMessage)
-    (event : ProcessEvent) → judged (Some w) s now line ≡ Ok said
+    (event : ProcessEvent) → judge_line (Some w) s now line ≡ Ok said
     → event_in said.word ≡ Some event → ReportsOf s now w line event
 judged-of s now w line said event e is = by-known w.introduced refl
   where
@@ -89,8 +89,9 @@ by-on-time s now jump p w event (Ok None) f is there watched e = absurd cc
 by-on-time s now jump p w event (Ok (Some said)) Waiting is there watched e = absurd cc
 by-on-time s now jump p w event (Ok (Some said)) Overlong is there watched e = absurd cc
 by-on-time s now jump p w event (Ok (Some said)) (Whole line rest) is there watched e =
-    let judges : judged (Some w) s now line ≡ Ok said =
-    ap (λ o. judged o s now line) (sym watched) ∙ line-judged s now jump p line rest said there is
+    let judges : judge_line (Some w) s now line ≡ Ok said =
+    ap (λ o. judge_line o s now line) (sym watched)
+    ∙ line-judged s now jump p line rest said there is
     in
     let r = judged-of s now w line said event judges e in
     let both = and_parts (nat_le (now - r.timed.moment) w.duties.limit)
@@ -187,18 +188,18 @@ introduction-starts : (duties : SupervisionSettings) (s : State) (now : ℕ)
     (domain revision line : List ℕ)
     (lines : List (List ℕ)) (said : TimedMessage) (o : Option ℕ)
     → introduced_at duties.key domain revision line ≡ o
-    → introduction duties now o ≡ Ok said → Starts duties.key domain revision (line ∷ lines)
+    → judge_introduction duties now o ≡ Ok said → Starts duties.key domain revision (line ∷ lines)
 introduction-starts duties s now domain revision line lines said None read e = absurd cc
 introduction-starts duties s now domain revision line lines said (Some moment) read e =
     record { first = line; rest = lines; is = refl; moment = moment; introduces = read }
 
 judged-starts : (w : Watched) (s : State) (now : ℕ) (domain revision line : List ℕ)
     (lines : List (List ℕ)) (said : TimedMessage) → w.introduced ≡ false → s.domain ≡ domain
-    → s.revision ≡ revision → judged (Some w) s now line ≡ Ok said
+    → s.revision ≡ revision → judge_line (Some w) s now line ≡ Ok said
     → Starts w.duties.key domain revision (line ∷ lines)
 judged-starts w s now domain revision line lines said new d r e =
     let o = introduced_at w.duties.key s.domain s.revision line in
-    let is : introduction w.duties now o ≡ Ok said = rw new at e in
+    let is : judge_introduction w.duties now o ≡ Ok said = rw new at e in
     subst (λ x. Starts w.duties.key domain x (line ∷ lines)) r
     (subst (λ x. Starts w.duties.key x s.revision (line ∷ lines)) d
     (introduction-starts w.duties s now s.domain s.revision line lines said o refl is))
@@ -226,8 +227,9 @@ module _ (w : Watched) (domain revision : List ℕ) (new : w.introduced ≡ fals
       more =
       let q = record p { kept = rest; watch = known_behind now said p.watch } in
       let k = uses-watched (known_by now said w) us q here (ap (known_behind now said) is) stays in
-      let judges : judged (Some w) s now line ≡ Ok said =
-      ap (λ o. judged o s now line) (sym is) ∙ line-judged s now jump p line rest said there e in
+      let judges : judge_line (Some w) s now line ≡ Ok said =
+      ap (λ o. judge_line o s now line) (sym is)
+      ∙ line-judged s now jump p line rest said there e in
       record {
         later = k.later;
         is = k.is;
@@ -285,13 +287,13 @@ begins-uses w domain revision (Attends t s script ∷ us) p new here is stays of
 -- from the acceptance on
 begins-away : (tells : Bool) (duties : SupervisionSettings) (domain revision : List ℕ)
     (us : List Use)
-    → StaysHere us (bare tells (Some duties) Away) → AreOf domain revision us
+    → StaysHere us (empty_port tells (Some duties) Away) → AreOf domain revision us
     → Begins duties domain revision
-    (cutting_of (moves_of us (bare tells (Some duties) Away)) []).lines
-    (after_uses us (bare tells (Some duties) Away)).watch
+    (cutting_of (moves_of us (empty_port tells (Some duties) Away)) []).lines
+    (after_uses us (empty_port tells (Some duties) Away)).watch
 unfolding moves_of
 begins-away tells duties domain revision [] stays of = record {
-  later = unheard duties;
+  later = initial_watch duties;
   is = refl;
   owes = refl;
   starts = λ e. absurd cc;
@@ -299,9 +301,9 @@ begins-away tells duties domain revision [] stays of = record {
 begins-away tells duties domain revision (Takes s now jump ∷ us) stays of = absurd cc
 begins-away tells duties domain revision (Attends t s script ∷ us) stays of =
     let u = Attends t s script in
-    let p0 = bare tells (Some duties) Away in
+    let p0 = empty_port tells (Some duties) Away in
     let q = port_after u p0 in
-    let w = unheard duties in
+    let w = initial_watch duties in
     let h = accepted-same w t.now s script.accepted (script.heard, script.again) p0 refl refl
     stays.0 in
     let more = begins-uses h.later domain revision us q h.introduced stays.0 h.is stays.1 of in
@@ -317,12 +319,13 @@ begins-away tells duties domain revision (Attends t s script ∷ us) stays of =
 pub is-of-this-bay : (tells : Bool) (duties : SupervisionSettings) (domain revision : List ℕ)
     (us : List Use)
     (s : State) (now jump : ℕ) (event : ProcessEvent)
-    → StaysHere us (bare tells (Some duties) Away)
+    → StaysHere us (empty_port tells (Some duties) Away)
     → AreOf domain revision us
-    → (taken_line s now jump (after_uses us (bare tells (Some duties) Away))).event ≡ Some event
+    → (taken_line s now jump (after_uses us (empty_port tells (Some duties) Away))).event
+    ≡ Some event
     → IsOfThisBay tells duties domain revision us
 is-of-this-bay tells duties domain revision us s now jump event stays of e =
-    let p0 = bare tells (Some duties) Away in
+    let p0 = empty_port tells (Some duties) Away in
     let p = after_uses us p0 in
     let b = begins-away tells duties domain revision us stays of in
     let on = is-on-time s now jump p b.later event b.is e in

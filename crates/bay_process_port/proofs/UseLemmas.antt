@@ -10,12 +10,12 @@ use Rattle.bay_lines.proofs.FrontLemmas.{nothing-is-lost}
 use Rattle.bay_server_turn.specs.Calls.{Call, Accepts, Reads, Writes, Closes, ReadOutcome, Octets, Silence, Over, Broken}
 use Rattle.bay_process_port.specs.Polling.{Attended, all_told, AttendedPart, Script, accepted_in, attendance, attended_as, attended_here, and_then, closed_or_kept, first_part, greet_part, offer_part, offered_of, on_read, read_by, taken_or_closed, exchange_part, with_report_queued}
 use Rattle.bay_process_port.specs.Fit.{is_told, is_waiting, line_or_none}
-use Rattle.bay_process_port.specs.Ports.{PortData, Taken, emptied, bare, judged_at, taken_as, taken_by, taken_line}
+use Rattle.bay_process_port.specs.Ports.{PortData, Taken, with_no_data, empty_port, judged_at, taken_as, taken_by, taken_line}
 use Rattle.bay_process_port.specs.Releases.{told_after}
-use Rattle.bay_process_port.specs.ProcessOutput.{ReportedTurn, fits_in, greeting}
+use Rattle.bay_process_port.specs.ProcessOutput.{ReportedTurn, fits_in, greeting_text}
 use Rattle.bay_process_port.specs.Uses.{LosesNoLine, StaysHere, Use, Takes, Attends, after_uses, all_given, all_had, given_of, octets_given, octets_in, port_after}
 use Rattle.bay_process_port.specs.declared.connection_event.DisconnectReason.{DisconnectReason}
-use Rattle.bay_process_port.specs.Supervised.{SupervisionSettings, answered, heard_at, known_behind}
+use Rattle.bay_process_port.specs.Supervised.{SupervisionSettings, after_alive_answer, heard_at, known_behind}
 use Rattle.bay_process_port.specs.declared.connection_event.DisconnectReason.TheVariants.{Ended, QueueFull, LinkFailed}
 use Rattle.bay_process_port.specs.declared.supervision.TimedMessage.{TimedMessage}
 use Rattle.bay_process_port.proofs.FitLemmas.{judged-line}
@@ -71,7 +71,11 @@ keeps-told t s p = by-room (fits_in p.queue all) refl
         → Keeps p.kept (with_report_queued t s p).after (with_report_queued t s p).calls
     by-room true e =
         rw e (keeps-port
-        (record p { queue = p.queue ++ all; told = told_after s p.told; watch = answered p.watch })
+        (record p {
+          queue = p.queue ++ all;
+          told = told_after s p.told;
+          watch = after_alive_answer p.watch;
+        })
         p.kept
         [] refl refl)
     by-room false e = rw e (keeps-closed QueueFull p.kept [])
@@ -105,13 +109,13 @@ keeps-read heard p = by-front (is_waiting (first_line_of p.kept)) refl
 
 keeps-greeted : (now : ℕ) (s : State) (p : PortData)
     → Keeps p.kept (greet_part now s p).after (greet_part now s p).calls
-keeps-greeted now s p = by-room (fits_in p.queue (greeting now s p.watch)) refl
+keeps-greeted now s p = by-room (fits_in p.queue (greeting_text now s p.watch)) refl
   where
-    by-room : (v : Bool) → fits_in p.queue (greeting now s p.watch) ≡ v
+    by-room : (v : Bool) → fits_in p.queue (greeting_text now s p.watch) ≡ v
         → Keeps p.kept (greet_part now s p).after (greet_part now s p).calls
     by-room true e =
         rw e (keeps-port
-        (record p { queue = p.queue ++ greeting now s p.watch; watch = heard_at now p.watch })
+        (record p { queue = p.queue ++ greeting_text now s p.watch; watch = heard_at now p.watch })
         p.kept [] refl refl)
     by-room false e = rw e (keeps-closed QueueFull p.kept [])
 
@@ -158,17 +162,17 @@ taken-keep before (Err why) calls kept k here = absurd cc
 
 pub comes-keep : (tells : Bool) (duties : Option SupervisionSettings) (now : ℕ) (s : State)
     (accepted : Option (Option SocketAddrV4)) (heard : ReadOutcome × ReadOutcome)
-    → (accepted_in now s accepted heard (bare tells duties Away)).port.standing ≡ Here
-    → (accepted_in now s accepted heard (bare tells duties Away)).port.kept
-    ≡ given_of (accepted_in now s accepted heard (bare tells duties Away)).calls
+    → (accepted_in now s accepted heard (empty_port tells duties Away)).port.standing ≡ Here
+    → (accepted_in now s accepted heard (empty_port tells duties Away)).port.kept
+    ≡ given_of (accepted_in now s accepted heard (empty_port tells duties Away)).calls
 comes-keep tells duties now s None heard here = absurd cc
 comes-keep tells duties now s (Some None) heard here = absurd cc
 comes-keep tells duties now s (Some (Some from)) heard here =
-    let p = emptied Here (bare tells duties Away) in
+    let p = with_no_data Here (empty_port tells duties Away) in
     let g = greet_part now s p in
     let a = and_then g (read_by heard.0) in
     let part = first_part now s heard p in
-    taken-keep (bare tells duties Away) part.after part.calls []
+    taken-keep (empty_port tells duties Away) part.after part.calls []
     (keeps-behind [] a.after a.calls (read_by heard.1)
     (keeps-behind [] g.after g.calls (read_by heard.0) (keeps-greeted now s p) (keeps-read heard.0))
     (keeps-read heard.1))
@@ -308,13 +312,13 @@ uses-follow (Attends t s script ∷ us) p here stays =
 
 -- from the acceptance on
 pub starts-follow : (tells : Bool) (duties : Option SupervisionSettings) (us : List Use)
-    → StaysHere us (bare tells duties Away) → UseFollows us (bare tells duties Away)
+    → StaysHere us (empty_port tells duties Away) → UseFollows us (empty_port tells duties Away)
 unfolding moves_of
 starts-follow tells duties [] stays = record { keeps = refl; had_is = refl; all_is = refl }
 starts-follow tells duties (Takes s now jump ∷ us) stays = absurd cc
 starts-follow tells duties (Attends t s script ∷ us) stays =
     let u = Attends t s script in
-    let p0 = bare tells duties Away in
+    let p0 = empty_port tells duties Away in
     let q = port_after u p0 in
     let later : UseFollows us q = uses-follow us q stays.0 stays.1 in
     let same =
@@ -326,9 +330,9 @@ starts-follow tells duties (Attends t s script ∷ us) stays =
     }
 
 pub loses-no-line : (tells : Bool) (duties : Option SupervisionSettings) (us : List Use)
-    → StaysHere us (bare tells duties Away) → LosesNoLine tells duties us
+    → StaysHere us (empty_port tells duties Away) → LosesNoLine tells duties us
 loses-no-line tells duties us stays =
-    let p = bare tells duties Away in
+    let p = empty_port tells duties Away in
     let f : UseFollows us p = starts-follow tells duties us stays in
     let cut : LosesNothing (moves_of us p) = nothing-is-lost (moves_of us p) in
     record {

@@ -11,12 +11,12 @@ use Rattle.bay_server_turn.specs.Supervised.{timed_line_of}
 use Rattle.bay_server_turn.specs.declared.supervised.TimedLine.{TimedLine}
 use Rattle.bay_process_port.specs.Polling.{Attended, AttendedPart, Script, accepted_in, all_told, attendance, attended_as, attended_here, and_then, closed_or_kept, first_part, greet_part, offer_part, offered_of, on_read, read_by, taken_or_closed, exchange_part, with_report_queued}
 use Rattle.bay_process_port.specs.Fit.{is_waiting}
-use Rattle.bay_process_port.specs.Ports.{PortData, Taken, emptied, has_jumped, judged_at, judged_front, line_taken, message_of, nothing_of, silence, taken_as, taken_by, taken_here, taken_line}
+use Rattle.bay_process_port.specs.Ports.{PortData, Taken, with_no_data, has_jumped, judged_at, judge_buffer, line_taken, message_of, nothing_of, silence, taken_as, taken_by, taken_here, taken_line}
 use Rattle.bay_process_port.proofs.FitLemmas.{IsTimely, report-is, timely-is}
 use Rattle.bay_process_port.specs.Releases.{told_after}
 use Rattle.bay_process_port.specs.Supervision.{IsBelieved, IsHeard}
-use Rattle.bay_process_port.specs.ProcessOutput.{ReportedTurn, fits_in, greeting}
-use Rattle.bay_process_port.specs.Supervised.{SupervisionSettings, Watched, answered, settings_in, heard_at, introduction, is_timely, judged, known_as, known_behind, known_by, overlong, report, unheard, word_of}
+use Rattle.bay_process_port.specs.ProcessOutput.{ReportedTurn, fits_in, greeting_text}
+use Rattle.bay_process_port.specs.Supervised.{SupervisionSettings, Watched, after_alive_answer, settings_in, heard_at, judge_introduction, is_timely, judge_line, known_as, known_behind, known_by, overlong_reason, judge_later_line, initial_watch, word_of}
 use Rattle.bay_process_port.specs.declared.connection_event.DisconnectReason.{DisconnectReason}
 use Rattle.bay_process_port.specs.declared.connection_event.DisconnectReason.TheVariants.{Ended, QueueFull, LinkFailed, Silent, Jumped}
 use Rattle.bay_process_port.specs.declared.port.Presence.{Presence}
@@ -76,7 +76,7 @@ steady-told w t s p h = by-room (fits_in p.queue (all_told t s p)) refl
     told = record p {
       queue = p.queue ++ all_told t s p;
       told = told_after s p.told;
-      watch = answered p.watch;
+      watch = after_alive_answer p.watch;
     }
 
     by-room : (v : Bool) → fits_in p.queue (all_told t s p) ≡ v
@@ -85,7 +85,7 @@ steady-told w t s p h = by-room (fits_in p.queue (all_told t s p)) refl
       here = h.here;
       watch = record {
         later = record h.watch.later { lives = false };
-        is = ap answered h.watch.is;
+        is = ap after_alive_answer h.watch.is;
         introduced = h.watch.introduced;
         duties = h.watch.duties;
       };
@@ -117,13 +117,13 @@ steady-read w heard p h = by-front (is_waiting (first_line_of p.kept)) refl
 
 steady-greeted : (w : Watched) (now : ℕ) (s : State) (p : PortData) → SamePort w p
     → Steady w (greet_part now s p).after
-steady-greeted w now s p h = by-room (fits_in p.queue (greeting now s p.watch)) refl
+steady-greeted w now s p h = by-room (fits_in p.queue (greeting_text now s p.watch)) refl
   where
     greeted : PortData
     greeted =
-        record p { queue = p.queue ++ greeting now s p.watch; watch = heard_at now p.watch }
+        record p { queue = p.queue ++ greeting_text now s p.watch; watch = heard_at now p.watch }
 
-    by-room : (v : Bool) → fits_in p.queue (greeting now s p.watch) ≡ v
+    by-room : (v : Bool) → fits_in p.queue (greeting_text now s p.watch) ≡ v
         → Steady w (greet_part now s p).after
     by-room true e = rw e (steady-port w greeted
         (record { here = h.here; watch = heard-watch now w p.watch h.watch }))
@@ -178,17 +178,17 @@ attended-same w t s script p here is still =
 
 pub accepted-same : (w : Watched) (now : ℕ) (s : State) (taken : Option (Option SocketAddrV4))
     (heard : ReadOutcome × ReadOutcome) (p : PortData) → p.standing ≡ Away
-    → (emptied Here p).watch ≡ Some w → (accepted_in now s taken heard p).port.standing ≡ Here
+    → (with_no_data Here p).watch ≡ Some w → (accepted_in now s taken heard p).port.standing ≡ Here
     → SameWatch w (accepted_in now s taken heard p).port.watch
 accepted-same w now s None heard p away is here =
     let no : Away ≡ Here = sym away ∙ here in absurd cc
 accepted-same w now s (Some None) heard p away is here =
     let no : Away ≡ Here = sym away ∙ here in absurd cc
 accepted-same w now s (Some (Some from)) heard p away is here =
-    let part = first_part now s heard (emptied Here p) in
+    let part = first_part now s heard (with_no_data Here p) in
     come-same w p part.after part.calls
-    (steady-begun w now s heard (emptied Here p)
-    (record { here = refl; watch = same-watch w (emptied Here p).watch is })) here
+    (steady-begun w now s heard (with_no_data Here p)
+    (record { here = refl; watch = same-watch w (with_no_data Here p).watch is })) here
 
 -- ---- what a turn takes was said in time
 
@@ -201,7 +201,7 @@ said-near limit now moment word said t =
     subst (λ (x : TimedMessage). now - min now x.moment ≤ limit) t.is few
 
 report-near : (line : List ℕ) (w : Watched) (now : ℕ) (o : Option TimedLine)
-    (said : TimedMessage) → report line w now o ≡ Ok said
+    (said : TimedMessage) → judge_later_line line w now o ≡ Ok said
     → now - min now said.moment ≤ w.duties.limit
 report-near line w now None said e = absurd cc
 report-near line w now (Some timed) said e =
@@ -209,14 +209,14 @@ report-near line w now (Some timed) said e =
     (report-is line w now timed said e).timely
 
 introduction-near : (duties : SupervisionSettings) (now : ℕ) (o : Option ℕ) (said : TimedMessage)
-    → introduction duties now o ≡ Ok said → now - min now said.moment ≤ duties.limit
+    → judge_introduction duties now o ≡ Ok said → now - min now said.moment ≤ duties.limit
 introduction-near duties now None said e = absurd cc
 introduction-near duties now (Some moment) said e =
     said-near duties.limit now moment Introduces said
     (timely-is duties.limit now moment Introduces said e)
 
 judged-near : (s : State) (now : ℕ) (w : Watched) (line : List ℕ) (said : TimedMessage)
-    → judged (Some w) s now line ≡ Ok said → now - min now said.moment ≤ w.duties.limit
+    → judge_line (Some w) s now line ≡ Ok said → now - min now said.moment ≤ w.duties.limit
 judged-near s now w line said e = by-known w.introduced refl
   where
     by-known : (v : Bool) → w.introduced ≡ v → now - min now said.moment ≤ w.duties.limit
@@ -230,7 +230,7 @@ judged-near s now w line said e = by-known w.introduced refl
 pub record Judged (s : State) (now jump : ℕ) (p : PortData) (f : LineSearchData)
     (m : Option TimedMessage) : Type 0 where
   pub no_jump : has_jumped jump p.watch ≡ false
-  pub front : judged_front s now p f ≡ Ok m
+  pub front : judge_buffer s now p f ≡ Ok m
 
 pub judged-is : (s : State) (now jump : ℕ) (p : PortData) (f : LineSearchData)
     (m : Option TimedMessage) → first_line_of p.kept ≡ f → judged_at s now jump p ≡ Ok m
@@ -241,7 +241,7 @@ judged-is s now jump p f m there e = by-jump (has_jumped jump p.watch) refl
     by-jump true far = let none : Err Jumped ≡ Ok m = rw far at e in absurd cc
     by-jump false near = record {
       no_jump = near;
-      front = ap (λ f. judged_front s now p f) (sym there) ∙ (rw near at e);
+      front = ap (λ f. judge_buffer s now p f) (sym there) ∙ (rw near at e);
     }
 
 message-is : (r : Result TimedMessage DisconnectReason) (said : TimedMessage)
@@ -252,9 +252,9 @@ message-is (Ok x) said e = cc
 -- the message of a whole line
 pub line-judged : (s : State) (now jump : ℕ) (p : PortData) (line rest : List ℕ)
     (said : TimedMessage) → first_line_of p.kept ≡ Whole line rest
-    → judged_at s now jump p ≡ Ok (Some said) → judged p.watch s now line ≡ Ok said
+    → judged_at s now jump p ≡ Ok (Some said) → judge_line p.watch s now line ≡ Ok said
 line-judged s now jump p line rest said there e =
-    message-is (judged p.watch s now line) said
+    message-is (judge_line p.watch s now line) said
     (judged-is s now jump p (Whole line rest) (Some said) there e).front
 
 no-message : (r : Result TimedMessage DisconnectReason) → message_of r ≡ Ok None → ⊥
@@ -284,11 +284,11 @@ silence-near now w (Some v) is e = by-span (nat_le (now - v.heard) v.duties.limi
         let none : Err (Silent v.duties.limit) ≡ Ok None = rw few at e in absurd cc
 
 front-near : (s : State) (now : ℕ) (w : Watched) (p : PortData) (f : LineSearchData)
-    → p.watch ≡ Some w → judged_front s now p f ≡ Ok None → now - w.heard ≤ w.duties.limit
+    → p.watch ≡ Some w → judge_buffer s now p f ≡ Ok None → now - w.heard ≤ w.duties.limit
 front-near s now w p Waiting is e = silence-near now w p.watch is e
 front-near s now w p Overlong is e = absurd cc
 front-near s now w p (Whole line rest) is e =
-    absurd (no-message (judged p.watch s now line) e)
+    absurd (no-message (judge_line p.watch s now line) e)
 
 -- ---- what is known after a line
 
@@ -312,14 +312,14 @@ stays-introduced Introduces w known = refl
 stays-introduced Lives w known = known
 
 known-first : (w : Watched) (now : ℕ) (o : Option ℕ) (said : TimedMessage)
-    → introduction w.duties now o ≡ Ok said → (known_by now said w).introduced ≡ true
+    → judge_introduction w.duties now o ≡ Ok said → (known_by now said w).introduced ≡ true
 known-first w now None said e = absurd cc
 known-first w now (Some moment) said e =
     sym (ap (λ (x : TimedMessage). (known_by now x w).introduced)
     (timely-is w.duties.limit now moment Introduces said e).is)
 
 known-later : (s : State) (now : ℕ) (w : Watched) (line : List ℕ) (said : TimedMessage)
-    → judged (Some w) s now line ≡ Ok said → (known_by now said w).introduced ≡ true
+    → judge_line (Some w) s now line ≡ Ok said → (known_by now said w).introduced ≡ true
 known-later s now w line said e = by-known w.introduced refl
   where
     by-known : (v : Bool) → w.introduced ≡ v → (known_by now said w).introduced ≡ true
@@ -381,11 +381,11 @@ took-some : (s : State) (now jump : ℕ) (p : PortData) (w : Watched) (f : LineS
 took-some s now jump p w Waiting said here watched j =
     absurd (not-silent now p.watch said j.front)
 took-some s now jump p w Overlong said here watched j =
-    let none : Err (overlong p.watch p.kept) ≡ Ok (Some said) = j.front in absurd cc
+    let none : Err (overlong_reason p.watch p.kept) ≡ Ok (Some said) = j.front in absurd cc
 took-some s now jump p w (Whole line rest) said here watched j =
-    let e : judged (Some w) s now line ≡ Ok said =
-    ap (λ o. judged o s now line) (sym watched)
-    ∙ message-is (judged p.watch s now line) said j.front in
+    let e : judge_line (Some w) s now line ≡ Ok said =
+    ap (λ o. judge_line o s now line) (sym watched)
+    ∙ message-is (judge_line p.watch s now line) said j.front in
     let before : Watched = record w { heard = min now said.moment; last = said.moment } in
     let near : now - min now said.moment ≤ w.duties.limit = judged-near s now w line said e in
     record {
@@ -429,7 +429,7 @@ took s now jump p w here watched =
 -- one that is not supervised is not watched after it
 unwatched : (now : ℕ) (r : Result (Option TimedMessage) DisconnectReason) (f : LineSearchData)
     (p : PortData) → p.watch ≡ None → (taken_by now r f p).port.watch ≡ None
-unwatched now (Err why) f p is = ap (λ watch. option_map unheard (settings_in watch)) is
+unwatched now (Err why) f p is = ap (λ watch. option_map initial_watch (settings_in watch)) is
 unwatched now (Ok None) f p is = is
 unwatched now (Ok (Some said)) Waiting p is = is
 unwatched now (Ok (Some said)) Overlong p is = is
@@ -515,11 +515,11 @@ stays-known t s script p w here watched known = elim (attended-here w t s script
 -- ---- what it owes stays
 
 owes-emptied : (standing : Presence) (p : PortData)
-    → settings_in (emptied standing p).watch ≡ settings_in p.watch
+    → settings_in (with_no_data standing p).watch ≡ settings_in p.watch
 owes-emptied standing p = by-watch p.watch
   where
     by-watch : (watch : Option Watched)
-        → settings_in (option_map unheard (settings_in watch)) ≡ settings_in watch
+        → settings_in (option_map initial_watch (settings_in watch)) ≡ settings_in watch
     by-watch None = refl
     by-watch (Some w) = refl
 
@@ -560,10 +560,10 @@ kept-owes w before (Err why) calls is h = owes-emptied Leaving before ∙ ap set
 
 come-owes : (w : Watched) (before : PortData) (r : Result PortData DisconnectReason)
     (calls : List Call)
-    → before.watch ≡ Some w → Steady (unheard w.duties) r
+    → before.watch ≡ Some w → Steady (initial_watch w.duties) r
     → settings_in (taken_or_closed before r calls).port.watch ≡ Some w.duties
 come-owes w before (Ok q) calls is h =
-    let same : SameWatch (unheard w.duties) q.watch = (h q refl).watch in
+    let same : SameWatch (initial_watch w.duties) q.watch = (h q refl).watch in
     ap settings_in same.is ∙ ap (λ d. let o : Option SupervisionSettings = Some d in o) same.duties
 come-owes w before (Err why) calls is h = owes-emptied Away before ∙ ap settings_in is
 
@@ -579,13 +579,13 @@ attended-owes t s script p w is = by-standing p.standing refl
     by-accepted (Some None) = ap settings_in is
     by-accepted (Some (Some from)) =
         let heard : ReadOutcome × ReadOutcome = (script.heard, script.again) in
-        let part = first_part t.now s heard (emptied Here p) in
+        let part = first_part t.now s heard (with_no_data Here p) in
         come-owes w p part.after part.calls is
-        (steady-begun (unheard w.duties) t.now s heard (emptied Here p)
+        (steady-begun (initial_watch w.duties) t.now s heard (with_no_data Here p)
         (record {
           here = refl;
-          watch = same-watch (unheard w.duties) (emptied Here p).watch
-              (ap (λ watch. option_map unheard (settings_in watch)) is);
+          watch = same-watch (initial_watch w.duties) (with_no_data Here p).watch
+              (ap (λ watch. option_map initial_watch (settings_in watch)) is);
         }))
 
     by-standing : (standing : Presence) → p.standing ≡ standing

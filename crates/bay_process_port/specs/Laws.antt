@@ -1,8 +1,8 @@
 -- Laws of the port of a process, turn after turn.
 use Rattle.std.specs.Prelude.{◌≡◌, ℕ, Bool, ◌||◌, true, false, List, [], ◌∷◌, ◌++◌, take, None, Some, Ok}
 use Rattle.bay_device.specs.Device.{State}
-use Rattle.bay_process_port.specs.Polling.{Script, all_told, attendance, dismissed}
-use Rattle.bay_process_port.specs.Ports.{PortData, dismissed_of, emptied, lost_of, taken_line}
+use Rattle.bay_process_port.specs.Polling.{Script, all_told, attendance, close_dismissed}
+use Rattle.bay_process_port.specs.Ports.{PortData, dismissed_of, with_no_data, lost_of, taken_line}
 use Rattle.bay_process_port.specs.ProcessOutput.{ReportedTurn}
 use Rattle.bay_process_port.specs.declared.connection_event.ConnectionEvent.TheVariants.{Closed}
 use Rattle.bay_process_port.specs.declared.connection_event.DisconnectReason.{DisconnectReason}
@@ -34,17 +34,17 @@ pub record IsSilent (t : ReportedTurn) (s : State) (now jump : ℕ) (script : Sc
     : Type 0 where
   pub closed : (why : DisconnectReason) → p.standing ≡ Here
       → (attendance t s script p).news ≡ Some (Closed why)
-      → (attendance t s script p).port ≡ emptied Leaving p
+      → (attendance t s script p).port ≡ with_no_data Leaving p
   pub lost : p.standing ≡ Leaving → taken_line s now jump p ≡ lost_of p
   pub dismisses : (why : DisconnectReason) → p.standing ≡ Here
       → (taken_line s now jump p).port.standing ≡ Dismissed why
       → taken_line s now jump p ≡ dismissed_of why p
   pub parts : (why : DisconnectReason) → p.standing ≡ Dismissed why
-      → attendance t s script p ≡ dismissed why p
+      → attendance t s script p ≡ close_dismissed why p
   pub calls : p.standing ≡ Leaving → (attendance t s script p).calls ≡ []
   pub untaken : p.standing ≡ Away → hears_end (attendance t s script p).calls ≡ true
       → ((attendance t s script p).news ≡ None)
-      × ((attendance t s script p).port ≡ emptied Away p)
+      × ((attendance t s script p).port ≡ with_no_data Away p)
 
 -- a line that the port has can be read, and tells of what the turn is given
 abbrev pub IsReadable : State → ℕ → ℕ → PortData → Type 0

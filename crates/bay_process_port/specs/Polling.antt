@@ -5,10 +5,10 @@ use Rattle.std.specs.declared.net.socket_addr.SocketAddrV4.{SocketAddrV4}
 use Rattle.bay_device.specs.Device.{State}
 use Rattle.bay_lines.specs.FirstLines.{first_line_of}
 use Rattle.bay_process_port.specs.Fit.{is_waiting}
-use Rattle.bay_process_port.specs.Ports.{PortData, emptied}
+use Rattle.bay_process_port.specs.Ports.{PortData, with_no_data}
 use Rattle.bay_process_port.specs.Releases.{releases_text, said_in, told_after}
-use Rattle.bay_process_port.specs.ProcessOutput.{ReportedTurn, alive_text, fits_in, greeting, lives_in, over_for, over_text}
-use Rattle.bay_process_port.specs.Supervised.{answered, heard_at}
+use Rattle.bay_process_port.specs.ProcessOutput.{ReportedTurn, alive_text, fits_in, greeting_text, lives_in, over_for, over_text}
+use Rattle.bay_process_port.specs.Supervised.{after_alive_answer, heard_at}
 use Rattle.bay_process_port.specs.declared.connection_event.ConnectionEvent.{ConnectionEvent}
 use Rattle.bay_process_port.specs.declared.connection_event.ConnectionEvent.TheVariants.{Opened, Closed}
 use Rattle.bay_process_port.specs.declared.connection_event.DisconnectReason.{DisconnectReason}
@@ -31,11 +31,11 @@ pub record AttendedPart : Type 0 where
   pub after : Result PortData DisconnectReason
   pub calls : List Call
 
-abbrev pub going : PortData → List Call → AttendedPart
-going p calls = record { after = Ok p; calls = calls }
+abbrev pub stays_open : PortData → List Call → AttendedPart
+stays_open p calls = record { after = Ok p; calls = calls }
 
-abbrev pub parting : DisconnectReason → List Call → AttendedPart
-parting why calls = record { after = Err why; calls = calls }
+abbrev pub must_close : DisconnectReason → List Call → AttendedPart
+must_close why calls = record { after = Err why; calls = calls }
 
 -- ---- the parts
 
@@ -50,21 +50,21 @@ all_told t s p =
 abbrev pub with_report_queued : ReportedTurn → State → PortData → AttendedPart
 with_report_queued t s p =
     if fits_in p.queue (all_told t s p)
-    then going (record p {
+    then stays_open (record p {
       queue = p.queue ++ all_told t s p;
       told = told_after s p.told;
-      watch = answered p.watch;
+      watch = after_alive_answer p.watch;
     }) []
-    else parting QueueFull []
+    else must_close QueueFull []
 
 -- after a write of which the link took this
 abbrev pub on_taken : Option ℕ → PortData → List Call → AttendedPart
-on_taken None p calls = parting LinkFailed calls
-on_taken (Some n) p calls = going (record p { queue = drop n p.queue }) calls
+on_taken None p calls = must_close LinkFailed calls
+on_taken (Some n) p calls = stays_open (record p { queue = drop n p.queue }) calls
 
 -- the queue is offered once, if there is anything in it
 abbrev pub offered_of : List ℕ → Option ℕ → PortData → AttendedPart
-offered_of [] taken p = going p []
+offered_of [] taken p = stays_open p []
 offered_of (b ∷ bs) taken p = on_taken taken p (Writes 1 (b ∷ bs) taken ∷ [])
 
 abbrev pub offer_part : Option ℕ → PortData → AttendedPart
@@ -72,23 +72,23 @@ offer_part taken p = offered_of p.queue taken p
 
 -- after a read with this result
 abbrev pub on_read : ReadOutcome → PortData → List Call → AttendedPart
-on_read (Octets octets) p calls = going (record p { kept = p.kept ++ octets }) calls
-on_read Silence p calls = going p calls
-on_read Over p calls = parting Ended calls
-on_read Broken p calls = parting LinkFailed calls
+on_read (Octets octets) p calls = stays_open (record p { kept = p.kept ++ octets }) calls
+on_read Silence p calls = stays_open p calls
+on_read Over p calls = must_close Ended calls
+on_read Broken p calls = must_close LinkFailed calls
 
 -- if no whole line is buffered, the process is read once, up to 4,096 octets
 abbrev pub read_by : ReadOutcome → PortData → AttendedPart
 read_by heard p =
     if is_waiting (first_line_of p.kept)
     then on_read heard p (Reads 1 4096 heard ∷ [])
-    else going p []
+    else stays_open p []
 
 -- ---- one after the other
 
 abbrev pub part_then : Result PortData DisconnectReason → List Call → (PortData → AttendedPart)
     → AttendedPart
-part_then (Err why) calls next = parting why calls
+part_then (Err why) calls next = must_close why calls
 part_then (Ok p) calls next =
     record { after = (next p).after; calls = calls ++ (next p).calls }
 
@@ -112,7 +112,7 @@ pub record Attended : Type 0 where
 abbrev pub closed_or_kept : PortData → Result PortData DisconnectReason → List Call → Attended
 closed_or_kept before (Ok p) calls = record { port = p; news = None; calls = calls }
 closed_or_kept before (Err why) calls = record {
-  port = emptied Leaving before;
+  port = with_no_data Leaving before;
   news = Some (Closed why);
   calls = calls ++ Closes 1 ∷ [];
 }
@@ -123,12 +123,12 @@ attended_here before part = closed_or_kept before part.after part.calls
 -- a process that was accepted is greeted, if it is supervised
 abbrev pub greet_part : ℕ → State → PortData → AttendedPart
 greet_part now s p =
-    if fits_in p.queue (greeting now s p.watch)
-    then going (record p {
-      queue = p.queue ++ greeting now s p.watch;
+    if fits_in p.queue (greeting_text now s p.watch)
+    then stays_open (record p {
+      queue = p.queue ++ greeting_text now s p.watch;
       watch = heard_at now p.watch;
     }) []
-    else parting QueueFull []
+    else must_close QueueFull []
 
 -- the process is greeted and read twice: if it closed while it waited to be accepted, it has left
 -- its last octets, then the end of the stream
@@ -140,10 +140,10 @@ first_part now s answers p =
 abbrev pub taken_or_closed : PortData → Result PortData DisconnectReason → List Call → Attended
 taken_or_closed before (Ok p) calls = record { port = p; news = Some Opened; calls = calls }
 taken_or_closed before (Err why) calls =
-    record { port = emptied Away before; news = None; calls = calls ++ Closes 1 ∷ [] }
+    record { port = with_no_data Away before; news = None; calls = calls ++ Closes 1 ∷ [] }
 
-abbrev pub welcomed : PortData → AttendedPart → Attended
-welcomed before part = taken_or_closed before part.after part.calls
+abbrev pub after_greeting : PortData → AttendedPart → Attended
+after_greeting before part = taken_or_closed before part.after part.calls
 
 abbrev pub with_call : Call → Attended → Attended
 with_call call a = record a { calls = call ∷ a.calls }
@@ -155,16 +155,17 @@ accepted_in now s None heard p = record { port = p; news = None; calls = Accepts
 accepted_in now s (Some None) heard p =
     record { port = p; news = None; calls = Accepts 1 (Some None) ∷ [] }
 accepted_in now s (Some (Some from)) heard p =
-    with_call (Accepts 1 (Some (Some from))) (welcomed p (first_part now s heard (emptied Here p)))
+    with_call (Accepts 1 (Some (Some from)))
+    (after_greeting p (first_part now s heard (with_no_data Here p)))
 
 -- the port does nothing until a turn has handled the loss of the process
 abbrev pub left_alone : PortData → Attended
 left_alone p = record { port = p; news = None; calls = [] }
 
 -- a process that the turn has dismissed is closed
-abbrev pub dismissed : DisconnectReason → PortData → Attended
-dismissed why p = record {
-  port = emptied Away p;
+abbrev pub close_dismissed : DisconnectReason → PortData → Attended
+close_dismissed why p = record {
+  port = with_no_data Away p;
   news = Some (Closed why);
   calls = Closes 1 ∷ [];
 }
@@ -173,7 +174,7 @@ abbrev pub attended_as : Presence → ReportedTurn → State → Script → Port
 attended_as Away t s script p =
     accepted_in t.now s script.accepted (script.heard, script.again) p
 attended_as Leaving t s script p = left_alone p
-attended_as (Dismissed why) t s script p = dismissed why p
+attended_as (Dismissed why) t s script p = close_dismissed why p
 attended_as Here t s script p = attended_here p (exchange_part t s (script.taken, script.heard) p)
 
 -- What the port does after a turn with this report, given the device after the turn.
@@ -214,7 +215,7 @@ module _ {L : Type 0} (step : L → Call → L → Type 0) where
   abbrev pub ClosesDismissed : Presence → L → L → PortData → PortData → Option ConnectionEvent
       → Type 0
   ClosesDismissed (Dismissed why) old new before after news =
-      step old (Closes 1) new × (after ≡ emptied Away before) × (news ≡ Some (Closed why))
+      step old (Closes 1) new × (after ≡ with_no_data Away before) × (news ≡ Some (Closed why))
   ClosesDismissed Away old new before after news = Unit {0}
   ClosesDismissed Leaving old new before after news = Unit {0}
   ClosesDismissed Here old new before after news = Unit {0}

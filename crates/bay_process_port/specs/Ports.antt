@@ -4,7 +4,7 @@ use Rattle.bay_device.specs.Device.{State}
 use Rattle.bay_lines.specs.FirstLines.{LineSearchData, Waiting, Overlong, Whole, first_line_of}
 use Rattle.bay_lines.specs.Escaped.{shown_text}
 use Rattle.bay_process_port.specs.Releases.{Release, nothing_told}
-use Rattle.bay_process_port.specs.Supervised.{SupervisionSettings, Watched, settings_in, event_in, judged, known_behind, line_in, overlong, unheard}
+use Rattle.bay_process_port.specs.Supervised.{SupervisionSettings, Watched, settings_in, event_in, judge_line, known_behind, line_in, overlong_reason, initial_watch}
 use Rattle.bay_process_port.specs.declared.connection_event.DisconnectReason.{DisconnectReason}
 use Rattle.bay_process_port.specs.declared.connection_event.DisconnectReason.TheVariants.{Jumped, Silent}
 use Rattle.bay_process_port.specs.declared.port.Presence.{Presence}
@@ -22,18 +22,18 @@ pub record PortData : Type 0 where
   pub watch : Option Watched
 
 -- an empty port, by whether a process receives releases, and by the supervision settings
-abbrev pub bare : Bool → Option SupervisionSettings → Presence → PortData
-bare tells duties standing = record {
+abbrev pub empty_port : Bool → Option SupervisionSettings → Presence → PortData
+empty_port tells duties standing = record {
   standing = standing;
   kept = [];
   queue = [];
   told = if tells then Some nothing_told else None;
-  watch = option_map unheard duties;
+  watch = option_map initial_watch duties;
 }
 
 -- the same port, emptied
-abbrev pub emptied : Presence → PortData → PortData
-emptied standing p = bare (is_some p.told) (settings_in p.watch) standing
+abbrev pub with_no_data : Presence → PortData → PortData
+with_no_data standing p = empty_port (is_some p.told) (settings_in p.watch) standing
 
 -- whether a process receives releases, and its supervision settings, are unchanged
 pub record StaysBound (old new : PortData) : Type 0 where
@@ -41,12 +41,12 @@ pub record StaysBound (old new : PortData) : Type 0 where
   pub duties : settings_in new.watch ≡ settings_in old.watch
 
 -- The initial state of a process: a supervised one counts as lost until it is connected.
-abbrev pub first_standing : Option SupervisionSettings → Presence
-first_standing None = Away
-first_standing (Some duties) = Leaving
+abbrev pub initial_presence : Option SupervisionSettings → Presence
+initial_presence None = Away
+initial_presence (Some duties) = Leaving
 
-abbrev pub begun : Bool → Option SupervisionSettings → PortData
-begun tells duties = bare tells duties (first_standing duties)
+abbrev pub initial_port : Bool → Option SupervisionSettings → PortData
+initial_port tells duties = empty_port tells duties (initial_presence duties)
 
 -- why a turn has dismissed the process, if one has
 abbrev pub reason_in : Presence → Option DisconnectReason
@@ -56,11 +56,11 @@ reason_in (Dismissed why) = Some why
 reason_in Here = None
 
 -- the port after the connection of a dismissed process was closed
-abbrev pub settled : Presence → PortData → PortData
-settled Away p = p
-settled Leaving p = p
-settled (Dismissed why) p = emptied Away p
-settled Here p = p
+abbrev pub after_dismissal : Presence → PortData → PortData
+after_dismissal Away p = p
+after_dismissal Leaving p = p
+after_dismissal (Dismissed why) p = with_no_data Away p
+after_dismissal Here p = p
 
 -- what a turn takes: whether the process is lost; an event, if there is one, and the line that
 -- reports it; and the port after it
@@ -79,7 +79,7 @@ dismissed_of why p = record {
   is_lost = true;
   event = None;
   line = None;
-  port = emptied (Dismissed why) p;
+  port = with_no_data (Dismissed why) p;
 }
 
 -- ---- whether a connected process is believed at a moment
@@ -102,17 +102,17 @@ message_of (Err why) = Err why
 message_of (Ok said) = Ok (Some said)
 
 -- the first line is judged, if it is whole
-abbrev pub judged_front : State → ℕ → PortData → LineSearchData
+abbrev pub judge_buffer : State → ℕ → PortData → LineSearchData
     → Result (Option TimedMessage) DisconnectReason
-judged_front s now p Waiting = silence now p.watch
-judged_front s now p Overlong = Err (overlong p.watch p.kept)
-judged_front s now p (Whole line rest) = message_of (judged p.watch s now line)
+judge_buffer s now p Waiting = silence now p.watch
+judge_buffer s now p Overlong = Err (overlong_reason p.watch p.kept)
+judge_buffer s now p (Whole line rest) = message_of (judge_line p.watch s now line)
 
 -- What the process reports at a moment, if anything, or why it is believed no more.
 abbrev pub judged_at : State → ℕ → ℕ → PortData → Result (Option TimedMessage) DisconnectReason
 judged_at s now jump p =
     if has_jumped jump p.watch then Err Jumped
-    else judged_front s now p (first_line_of p.kept)
+    else judge_buffer s now p (first_line_of p.kept)
 
 -- ---- what a turn takes
 
@@ -138,7 +138,7 @@ taken_here s now jump p = taken_by now (judged_at s now jump p) (first_line_of p
 
 -- the loss of a process that has disconnected
 abbrev pub lost_of : PortData → Taken
-lost_of p = record { is_lost = true; event = None; line = None; port = emptied Away p }
+lost_of p = record { is_lost = true; event = None; line = None; port = with_no_data Away p }
 
 abbrev pub taken_as : Presence → State → ℕ → ℕ → PortData → Taken
 taken_as Away s now jump p = nothing_of p

@@ -54,9 +54,9 @@ abbrev pub alive_text : ℕ → Bool → List ℕ
 alive_text now lives = if lives then decimal now ++ codes " alive\n" else []
 
 -- the greeting: the longest silence, and the bay of the server
-abbrev pub greeting : ℕ → State → Option Watched → List ℕ
-greeting now s None = []
-greeting now s (Some w) =
+abbrev pub greeting_text : ℕ → State → Option Watched → List ℕ
+greeting_text now s None = []
+greeting_text now s (Some w) =
     decimal now ++ codes " process " ++ decimal w.duties.limit ++ codes " " ++ s.domain ++ codes " "
     ++ s.revision ++ codes "\n"
 

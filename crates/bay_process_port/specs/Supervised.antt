@@ -31,8 +31,8 @@ pub record Watched : Type 0 where
   pub lives : Bool
 
 -- nothing is known of the process yet
-abbrev pub unheard : SupervisionSettings → Watched
-unheard duties =
+abbrev pub initial_watch : SupervisionSettings → Watched
+initial_watch duties =
     record { duties = duties; introduced = false; heard = 0; last = 0; lives = false }
 
 abbrev pub settings_in : Option Watched → Option SupervisionSettings
@@ -49,15 +49,16 @@ abbrev pub is_timely : ℕ → ℕ → ℕ → Bool
 is_timely limit now moment = nat_le (now - moment) limit && nat_le (moment - now) limit
 
 -- or the connection ends
-abbrev pub timely : ℕ → ℕ → ℕ → ProcessMessage → Result TimedMessage DisconnectReason
-timely limit now moment word =
+abbrev pub judge_moment : ℕ → ℕ → ℕ → ProcessMessage → Result TimedMessage DisconnectReason
+judge_moment limit now moment word =
     if is_timely limit now moment then Ok (record { moment = moment; word = word })
     else Err Untimely
 
 -- the first line has the name and the key of this bay
-abbrev pub introduction : SupervisionSettings → ℕ → Option ℕ → Result TimedMessage DisconnectReason
-introduction duties now None = Err Foreign
-introduction duties now (Some moment) = timely duties.limit now moment Introduces
+abbrev pub judge_introduction : SupervisionSettings → ℕ → Option ℕ
+    → Result TimedMessage DisconnectReason
+judge_introduction duties now None = Err Foreign
+judge_introduction duties now (Some moment) = judge_moment duties.limit now moment Introduces
 
 -- a later line reports an event, or that the process is alive
 abbrev pub word_of : Option ProcessEvent → ProcessMessage
@@ -66,30 +67,32 @@ word_of (Some event) = Reports event
 
 -- but the moments of a process do not go back: a line whose moment is before that of the last line
 -- that was taken ends the connection
-abbrev pub report : List ℕ → Watched → ℕ → Option TimedLine → Result TimedMessage DisconnectReason
-report line w now None = Err (BadLine (shown_text line))
-report line w now (Some timed) =
+abbrev pub judge_later_line : List ℕ → Watched → ℕ → Option TimedLine
+    → Result TimedMessage DisconnectReason
+judge_later_line line w now None = Err (BadLine (shown_text line))
+judge_later_line line w now (Some timed) =
     if nat_lt timed.moment w.last then Err OutOfOrder
-    else timely w.duties.limit now timed.moment (word_of timed.event)
+    else judge_moment w.duties.limit now timed.moment (word_of timed.event)
 
 -- a line of a process that is not supervised reports an event of this moment, or is empty
-abbrev pub plain : ℕ → List ℕ → Option ProcessEvent → Result TimedMessage DisconnectReason
-plain now [] event = Ok (record { moment = now; word = Blank })
-plain now (b ∷ bs) None = Err (BadLine (shown_text (b ∷ bs)))
-plain now (b ∷ bs) (Some event) = Ok (record { moment = now; word = Reports event })
+abbrev pub judge_plain_line : ℕ → List ℕ → Option ProcessEvent
+    → Result TimedMessage DisconnectReason
+judge_plain_line now [] event = Ok (record { moment = now; word = Blank })
+judge_plain_line now (b ∷ bs) None = Err (BadLine (shown_text (b ∷ bs)))
+judge_plain_line now (b ∷ bs) (Some event) = Ok (record { moment = now; word = Reports event })
 
 -- The message of a line at a moment, with the moment from which it counts, or why the connection
 -- must be closed.
-abbrev pub judged : Option Watched → State → ℕ → List ℕ → Result TimedMessage DisconnectReason
-judged None s now line = plain now line (event_in_line s line)
-judged (Some w) s now line =
-    if w.introduced then report line w now (timed_line_of s line)
-    else introduction w.duties now (introduced_at w.duties.key s.domain s.revision line)
+abbrev pub judge_line : Option Watched → State → ℕ → List ℕ → Result TimedMessage DisconnectReason
+judge_line None s now line = judge_plain_line now line (event_in_line s line)
+judge_line (Some w) s now line =
+    if w.introduced then judge_later_line line w now (timed_line_of s line)
+    else judge_introduction w.duties now (introduced_at w.duties.key s.domain s.revision line)
 
 -- why the connection must be closed if there are more octets than a line may have, without an end
-abbrev pub overlong : Option Watched → List ℕ → DisconnectReason
-overlong None kept = BadLine (shown_text kept)
-overlong (Some w) kept = if w.introduced then BadLine (shown_text kept) else Foreign
+abbrev pub overlong_reason : Option Watched → List ℕ → DisconnectReason
+overlong_reason None kept = BadLine (shown_text kept)
+overlong_reason (Some w) kept = if w.introduced then BadLine (shown_text kept) else Foreign
 
 -- ---- what a turn takes of it
 
@@ -123,5 +126,5 @@ abbrev pub known_behind : ℕ → TimedMessage → Option Watched → Option Wat
 known_behind now said watch = option_map (known_by now said) watch
 
 -- the process was answered that the server is alive
-abbrev pub answered : Option Watched → Option Watched
-answered watch = option_map (λ (w : Watched). record w { lives = false }) watch
+abbrev pub after_alive_answer : Option Watched → Option Watched
+after_alive_answer watch = option_map (λ (w : Watched). record w { lives = false }) watch

@@ -4,7 +4,7 @@ use Rattle.std.specs.Prelude.{◌≡◌, ◌⊎◌, ℕ, ◌-◌, ◌≤◌, Boo
 use Rattle.bay_device.specs.Device.{State}
 use Rattle.bay_lines.specs.Cuttings.{AreLines}
 use Rattle.bay_lines.specs.FirstLines.{Whole, first_line_of}
-use Rattle.bay_process_port.specs.Ports.{PortData, bare, taken_line}
+use Rattle.bay_process_port.specs.Ports.{PortData, empty_port, taken_line}
 use Rattle.bay_process_port.specs.Uses.{Attends, Takes, Use, all_given}
 use Rattle.bay_process_port.specs.Supervised.{SupervisionSettings, Watched}
 use Rattle.bay_process_port.specs.declared.port.Presence.TheVariants.{Away, Here}
@@ -49,7 +49,7 @@ pub record IsOfThisBay (tells : Bool) (duties : SupervisionSettings) (domain rev
   pub text : List ℕ
   pub rest : List ℕ
   pub are : AreLines (first ∷ lines) text
-  pub given : all_given uses (bare tells (Some duties) Away) ≡ text ++ rest
+  pub given : all_given uses (empty_port tells (Some duties) Away) ≡ text ++ rest
   pub moment : ℕ
   pub introduces : introduced_at duties.key domain revision first ≡ Some moment
 

@@ -7,7 +7,7 @@ use Rattle.bay_lines.specs.Cuttings.{AreLines}
 use Rattle.bay_server_turn.specs.Calls.{Call, Accepts, Reads, Writes, Closes, ReadOutcome, Octets, Silence, Over, Broken}
 use Rattle.bay_process_port.specs.Polling.{Script, attendance}
 use Rattle.bay_process_port.specs.Fit.{is_told}
-use Rattle.bay_process_port.specs.Ports.{PortData, bare, taken_line}
+use Rattle.bay_process_port.specs.Ports.{PortData, empty_port, taken_line}
 use Rattle.bay_process_port.specs.Releases.{Release, last_said, said_in}
 use Rattle.bay_process_port.specs.ProcessOutput.{ReportedTurn}
 use Rattle.bay_process_port.specs.Supervised.{SupervisionSettings}
@@ -76,9 +76,9 @@ pub record LosesNoLine (tells : Bool) (duties : Option SupervisionSettings) (use
   pub lines : List (List ℕ)
   pub text : List ℕ
   pub are : AreLines lines text
-  pub given : all_given uses (bare tells duties Away)
-      ≡ text ++ (after_uses uses (bare tells duties Away)).kept
-  pub had : all_had uses (bare tells duties Away) ≡ filter is_told lines
+  pub given : all_given uses (empty_port tells duties Away)
+      ≡ text ++ (after_uses uses (empty_port tells duties Away)).kept
+  pub had : all_had uses (empty_port tells duties Away) ≡ filter is_told lines
 
 -- ---- releases
 
@@ -101,8 +101,8 @@ all_said (u ∷ us) p = said_of u p ++ all_said us (port_after u p)
 -- last for each switch is its release.
 abbrev pub IsUpToDate : Option SupervisionSettings → List Use → ReportedTurn → State → Script
     → Type 0
-IsUpToDate duties uses t s script = (after_uses uses (bare true duties Away)).standing ≡ Here
-    → (attendance t s script (after_uses uses (bare true duties Away))).news ≡ None
+IsUpToDate duties uses t s script = (after_uses uses (empty_port true duties Away)).standing ≡ Here
+    → (attendance t s script (after_uses uses (empty_port true duties Away))).news ≡ None
     → (k : ℕ) → k < 32 → k < length s.switches
-    → last_said k None (all_said (uses ++ Attends t s script ∷ []) (bare true duties Away))
+    → last_said k None (all_said (uses ++ Attends t s script ∷ []) (empty_port true duties Away))
     ≡ Some (may_open s k, may_close s k)

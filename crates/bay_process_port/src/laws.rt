@@ -5,7 +5,7 @@ ghost use Rattle.bay_device.specs.Device.{State};
 ghost use Rattle.bay_process_port.specs.Polling.{Script};
 ghost use Rattle.bay_process_port.specs.Examples.{front_sent};
 ghost use Rattle.bay_process_port.specs.Laws.{IsReadable, IsSilent, TellsInOrder};
-ghost use Rattle.bay_process_port.specs.Ports.{PortData, bare, taken_line};
+ghost use Rattle.bay_process_port.specs.Ports.{PortData, empty_port, taken_line};
 ghost use Rattle.bay_process_port.specs.Supervision.{AreOf, IsHeard, IsOfThisBay, IsOnTime};
 ghost use Rattle.bay_process_port.specs.ProcessOutput.{ReportedTurn};
 ghost use Rattle.bay_process_port.specs.Uses.{IsUpToDate, LosesNoLine, StaysHere, Use, after_uses};
@@ -42,7 +42,7 @@ pub fn a_process_gets_reports_in_order()
 /// turns take lines, and in whatever pieces the octets arrive.
 pub fn a_process_loses_no_line()
     ensures { (tells : Bool) (duties : Option SupervisionSettings) (uses : List Use)
-        → StaysHere uses (bare tells duties Away) → LosesNoLine tells duties uses }
+        → StaysHere uses (empty_port tells duties Away) → LosesNoLine tells duties uses }
 {}
 
 /// The beginning of a line that a process has sent is buffered while the process is connected, and
@@ -60,7 +60,7 @@ pub fn a_partial_line_ends_with_its_process()
 /// its acceptance sends all of them.
 pub fn a_process_knows_the_releases()
     ensures { (duties : Option SupervisionSettings) (uses : List Use) (t : ReportedTurn) (s : State)
-        (script : Script) → StaysHere uses (bare true duties Away)
+        (script : Script) → StaysHere uses (empty_port true duties Away)
         → IsUpToDate duties uses t s script }
 {}
 
@@ -80,8 +80,8 @@ pub fn a_supervised_process_is_of_this_bay()
     ensures { (tells : Bool) (duties : SupervisionSettings) (domain revision : List ℕ)
         (uses : List Use)
         (s : State) (now jump : ℕ) (event : ProcessEvent)
-        → StaysHere uses (bare tells (Some duties) Away) → AreOf domain revision uses
-        → (taken_line s now jump (after_uses uses (bare tells (Some duties) Away))).event
+        → StaysHere uses (empty_port tells (Some duties) Away) → AreOf domain revision uses
+        → (taken_line s now jump (after_uses uses (empty_port tells (Some duties) Away))).event
         ≡ Some event
         → IsOfThisBay tells duties domain revision uses }
 {}

@@ -1,8 +1,8 @@
 // Serves the connection of the process after a turn.
 ghost use Rattle.std.specs.Prelude.{◌≡◌};
 ghost use Rattle.bay_server_turn.specs.Calls.{Called};
-ghost use Rattle.bay_process_port.specs.Polling.{Attends, ClosesDismissed, Does, accepted_in, attendance, first_part, exchange_part, welcomed};
-ghost use Rattle.bay_process_port.specs.Ports.{StaysBound, emptied};
+ghost use Rattle.bay_process_port.specs.Polling.{Attends, ClosesDismissed, Does, accepted_in, attendance, first_part, exchange_part, after_greeting};
+ghost use Rattle.bay_process_port.specs.Ports.{StaysBound, with_no_data};
 ghost use Rattle.bay_process_port.specs.ProcessOutput.{reported_turn};
 
 use crate::connection_event::{ConnectionEvent, DisconnectReason};
@@ -38,8 +38,8 @@ fn start_connection<L: Link>(
     moment: u64,
 ) -> Option<ConnectionEvent>
     ensures { Attends (Called L.does L.failures)
-        (λ script. welcomed port.old (first_part moment device.now
-        (script.heard, script.again) (emptied Presence.Here port.old)))
+        (λ script. after_greeting port.old (first_part moment device.now
+        (script.heard, script.again) (with_no_data Presence.Here port.old)))
         link.old link.new port.new result }
 {
     port.set_presence(Presence::Here);

@@ -2,11 +2,11 @@
 ghost use Rattle.std.specs.Prelude.{◌≡◌, false, None, IfOk, option_map};
 ghost use Rattle.bay_server_turn.specs.Calls.{Called};
 ghost use Rattle.bay_process_port.specs.Polling.{Does, Leads, first_part, greet_part, offer_part, read_by, with_report_queued};
-ghost use Rattle.bay_process_port.specs.Ports.{StaysBound, begun, emptied, judged_at, line_taken, reason_in, settled, shown_line, taken_here, taken_line, taken_loss};
+ghost use Rattle.bay_process_port.specs.Ports.{StaysBound, initial_port, with_no_data, judged_at, line_taken, reason_in, after_dismissal, shown_line, taken_here, taken_line, taken_loss};
 ghost use Rattle.bay_process_port.specs.Ports as spec;
 ghost use Rattle.bay_lines.specs.FirstLines.{first_line_of};
 ghost use Rattle.bay_process_port.specs.ProcessOutput.{lives_in, reported_turn};
-ghost use Rattle.bay_process_port.specs.Supervised.{answered, event_in, heard_at, line_in, unheard};
+ghost use Rattle.bay_process_port.specs.Supervised.{after_alive_answer, event_in, heard_at, line_in, initial_watch};
 
 use crate::connection_event::DisconnectReason;
 use crate::process_output::{ProcessQueue, put_alive, put_greeting, put_over, put_turn_report};
@@ -121,7 +121,7 @@ impl Model for Port {
 
 // Returns the initial state of a process: a supervised one counts as lost.
 fn initial_presence(duties: &Option<SupervisionSettings>) -> Presence
-    ensures { result ≡ spec.first_standing duties.now }
+    ensures { result ≡ spec.initial_presence duties.now }
 {
     match duties {
         Some(_) => Presence::Leaving,
@@ -131,7 +131,7 @@ fn initial_presence(duties: &Option<SupervisionSettings>) -> Presence
 
 // Returns the supervision of a process that has not connected yet, if it is supervised.
 fn supervision_for(duties: Option<SupervisionSettings>) -> Option<SupervisedProcess>
-    ensures { result ≡ option_map unheard duties }
+    ensures { result ≡ option_map initial_watch duties }
 {
     match duties {
         Some(duties) => Some(SupervisedProcess::new(duties)),
@@ -148,7 +148,7 @@ impl Port {
         tells_releases: bool,
         duties: Option<SupervisionSettings>,
     ) -> Result<Self, AllocError>
-        ensures { IfOk result (λ port. port ≡ begun tells_releases duties) }
+        ensures { IfOk result (λ port. port ≡ initial_port tells_releases duties) }
     {
         let kept = BoundedBuffer::new(alloc)?;
         let queue = BoundedBuffer::new(alloc)?;
@@ -178,7 +178,7 @@ impl Port {
     /// Sets the state of the process. Drops all octets that are buffered or queued, and forgets
     /// which releases were sent and what is known of the process.
     pub(crate) fn set_presence(&mut self, presence: Presence)
-        ensures { self.new ≡ emptied presence self.old }
+        ensures { self.new ≡ with_no_data presence self.old }
     {
         self.presence = presence;
         self.kept.clear();
@@ -305,7 +305,7 @@ impl Port {
     /// Returns why a turn has dismissed the process, if one has, and forgets that.
     pub(crate) fn take_dismissal(&mut self) -> Option<DisconnectReason>
         ensures reason { result ≡ reason_in self.old.standing }
-        ensures port { self.new ≡ settled self.old.standing self.old }
+        ensures port { self.new ≡ after_dismissal self.old.standing self.old }
     {
         if !matches!(self.presence, Presence::Dismissed(_)) {
             return None;
@@ -321,7 +321,7 @@ impl Port {
     // Returns whether the process must be answered that the server is alive, and forgets that.
     fn answer(&mut self) -> bool
         ensures lives { result ≡ lives_in self.old.watch }
-        ensures after { self.new ≡ record self.old { watch = answered self.old.watch } }
+        ensures after { self.new ≡ record self.old { watch = after_alive_answer self.old.watch } }
         ensures bound { StaysBound self.old self.new }
     {
         match &mut self.watch {

@@ -1,7 +1,7 @@
 // Queues what a process receives after a turn.
 ghost use Rattle.std.specs.Prelude.{◌≡◌, slice_get};
 ghost use Rattle.bay_report.specs.Lines.{command_line, command_text, commands_text, refusal_line};
-ghost use Rattle.bay_process_port.specs.ProcessOutput.{PutsWhole, alive_text, greeting, over_line, over_text, refusal_text, process_turn_text};
+ghost use Rattle.bay_process_port.specs.ProcessOutput.{PutsWhole, alive_text, greeting_text, over_line, over_text, refusal_text, process_turn_text};
 ghost use Rattle.bay_process_port.specs.ProcessOutput as spec;
 
 use crate::supervision::SupervisedProcess;
@@ -153,7 +153,7 @@ pub fn put_greeting(
     moment: u64,
     watch: &Option<SupervisedProcess>,
 ) -> bool
-    ensures { PutsWhole queue.old (greeting moment device.now watch.now) queue.new result }
+    ensures { PutsWhole queue.old (greeting_text moment device.now watch.now) queue.new result }
 {
     let Some(watch) = watch else {
         return queue.put_parts(&[]);

@@ -1,6 +1,6 @@
 // Supervision of a process: its settings, its state, and how its lines are classified.
 ghost use Rattle.std.specs.Prelude.{◌≡◌, ◌≤◌, ◌-◌, false, Some, length, max, nat_le, option_map};
-ghost use Rattle.bay_process_port.specs.Supervised.{answered, settings_in, heard_at, introduction, is_timely, judged, plain, report, timely, unheard, word_of};
+ghost use Rattle.bay_process_port.specs.Supervised.{after_alive_answer, settings_in, heard_at, judge_introduction, is_timely, judge_line, judge_plain_line, judge_later_line, judge_moment, initial_watch, word_of};
 ghost use Rattle.bay_process_port.specs.Ports as spec_ports;
 ghost use Rattle.bay_process_port.specs.Ports.{silence};
 ghost use Rattle.bay_process_port.specs.Supervised as spec;
@@ -65,7 +65,7 @@ impl SupervisionSettings {
         moment: u64,
         word: ProcessMessage,
     ) -> Result<TimedMessage, DisconnectReason>
-        ensures { result ≡ timely self.now.limit now moment word }
+        ensures { result ≡ judge_moment self.now.limit now moment word }
     {
         if self.is_timely(now, moment) {
             Ok(TimedMessage { moment, word })
@@ -81,7 +81,7 @@ impl SupervisionSettings {
         now: u64,
         line: &[u8],
     ) -> Result<TimedMessage, DisconnectReason>
-        ensures { result ≡ introduction self.now now
+        ensures { result ≡ judge_introduction self.now now
             (introduced_at self.now.key device.now.domain device.now.revision line.now) }
     {
         match introduced_at(
@@ -166,7 +166,7 @@ impl Model for SupervisedProcess {
 impl SupervisedProcess {
     /// Creates the state of a supervised process that has not sent anything.
     pub(crate) fn new(duties: SupervisionSettings) -> Self
-        ensures { result ≡ unheard duties }
+        ensures { result ≡ initial_watch duties }
     {
         SupervisedProcess {
             duties,
@@ -179,7 +179,7 @@ impl SupervisedProcess {
 
     /// Forgets what is known of the process.
     pub(crate) fn forget(&mut self)
-        ensures { self.new ≡ unheard self.old.duties }
+        ensures { self.new ≡ initial_watch self.old.duties }
     {
         self.introduced = false;
         self.heard = 0;
@@ -232,7 +232,8 @@ impl SupervisedProcess {
         now: u64,
         line: &[u8],
     ) -> Result<TimedMessage, DisconnectReason>
-        ensures { result ≡ report line.now self.now now (timed_line_of device.now line.now) }
+        ensures { result ≡ judge_later_line line.now self.now now
+            (timed_line_of device.now line.now) }
     {
         match read_timed_line(device, line) {
             Some(timed) if timed.moment < self.last => Err(DisconnectReason::OutOfOrder),
@@ -251,7 +252,7 @@ impl SupervisedProcess {
         now: u64,
         line: &[u8],
     ) -> Result<TimedMessage, DisconnectReason>
-        ensures { result ≡ judged (Some self.now) device.now now line.now }
+        ensures { result ≡ judge_line (Some self.now) device.now now line.now }
     {
         if self.introduced {
             self.report(device, now, line)
@@ -263,7 +264,7 @@ impl SupervisedProcess {
 
 // Returns the message of a line of a process that is not supervised, or `BadLine`.
 fn judge_plain(device: &Device, now: u64, line: &[u8]) -> Result<TimedMessage, DisconnectReason>
-    ensures { result ≡ plain now line.now (event_in_line device.now line.now) }
+    ensures { result ≡ judge_plain_line now line.now (event_in_line device.now line.now) }
 {
     let word = match read_process_event(device, line) {
         _ if line.is_empty() => ProcessMessage::Blank,
@@ -281,7 +282,7 @@ pub(crate) fn check_line(
     now: u64,
     line: &[u8],
 ) -> Result<TimedMessage, DisconnectReason>
-    ensures { result ≡ judged watch.now device.now now line.now }
+    ensures { result ≡ judge_line watch.now device.now now line.now }
 {
     match watch {
         Some(watch) => watch.check_line(device, now, line),
@@ -291,7 +292,7 @@ pub(crate) fn check_line(
 
 /// Returns why the connection must be closed if there are too many octets without an end of line.
 pub(crate) fn overlong_reason(watch: &Option<SupervisedProcess>, kept: &[u8]) -> DisconnectReason
-    ensures { result ≡ spec.overlong watch.now kept.now }
+    ensures { result ≡ spec.overlong_reason watch.now kept.now }
 {
     match watch {
         Some(watch) if !watch.introduced => DisconnectReason::Foreign,

@@ -1,7 +1,7 @@
 -- Lemmas on the clock of a server.
 use Rattle.std.proofs.Common.{◌≡◌, ◌+◌, ◌%◌, ◌^◌, ◌<◌, List, [], ◌∷◌, ap, arith}
 use Rattle.std.proofs.lemmas.Bool.Decides.{nat_tests}
-use Rattle.bay_server.specs.Clock.{ClockData, KeepsPace, after_reading, elapsed, read_all}
+use Rattle.bay_server.specs.Clock.{ClockData, KeepsPace, after_reading, elapsed_time, read_all}
 use Rattle.bay_server.specs.declared.clock.Clocks.{Clocks}
 
 pace-none : (c : ClockData) → KeepsPace c c
@@ -16,7 +16,7 @@ pace-none c = record {
 pace-one : (clocks : Clocks) (c : ClockData) → c.carry < 100 → c.moment < 2 ^ 64
     → KeepsPace c (after_reading clocks c)
 pace-one clocks c small fits = record {
-  passed = elapsed clocks c;
+  passed = elapsed_time clocks c;
   steady = omega arith;
   forward = grind (arith, nat_tests);
   least = grind (arith, nat_tests);
@@ -39,7 +39,7 @@ pub pace-all : (readings : List Clocks) (c : ClockData) → c.carry < 100 → c.
 pace-all [] c small fits = pace-none c
 pace-all (clocks ∷ readings) c small fits =
     let one = pace-one clocks c small fits in
-    let passed : elapsed clocks c ≡ one.passed = omega (arith, one.steady) in
+    let passed : elapsed_time clocks c ≡ one.passed = omega (arith, one.steady) in
     pace-then c (after_reading clocks c) (read_all readings (after_reading clocks c)) one
     (ap (λ n. (c.carry + n) % 100) passed)
     (pace-all readings (after_reading clocks c) (omega arith) (omega arith))

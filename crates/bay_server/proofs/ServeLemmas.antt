@@ -11,7 +11,7 @@ use Rattle.bay_server.specs.Clock.{ClockData, after_reading, jump_of, moment_rea
 use Rattle.bay_server.specs.Host.{HostCall, Pauses, Tells}
 use Rattle.bay_report.specs.Report.{IsLast, Prints}
 use Rattle.bay_report.specs.TextLines.{CutsLine, lines_of}
-use Rattle.bay_server.specs.ServeReport.{AfterTurn, Chosen, PollOutcome, Hears, MayPause, Serving, ServesTurns, ReportsAndPolls, ReportsConnectionEvent, ReportsTurn, ReportsUnserved, TurnFails, TurnGoes, choice_of, chosen, moment_of, told_lines}
+use Rattle.bay_server.specs.ServeReport.{AfterTurn, Chosen, PollOutcome, Hears, MayPause, Serving, ServesTurns, ReportsAndPolls, ReportsConnectionEvent, ReportsTurn, ReportsUnserved, TurnFails, TurnGoes, choice_of, choose_input, moment_of, told_lines}
 use Rattle.bay_process_port.specs.declared.connection_event.ConnectionEvent.{ConnectionEvent}
 use Rattle.bay_server.specs.Serving.{TriesTurn}
 use Rattle.bay_server.specs.ChangeLines.{bay_seen}
@@ -124,9 +124,9 @@ module _ {L B H W : Type 0} (below : B → L) (does : L → Call → L → Type 
       → now ≡ moment_at clock held-before
       → shift ≡ shift_of clock-before.side clock-after.moment clocks.system
       → device ≡ held-before.device → jump ≡ jump_of clocks clock-before
-      → next ≡ (chosen device now jump lines-before process-before).next
-      → process-chosen ≡ (chosen device now jump lines-before process-before).process
-      → lines-after ≡ (chosen device now jump lines-before process-before).lines
+      → next ≡ (choose_input device now jump lines-before process-before).next
+      → process-chosen ≡ (choose_input device now jump lines-before process-before).process
+      → lines-after ≡ (choose_input device now jump lines-before process-before).lines
       → s ≡ held-after.device
       → acts host-before (Tells clocks.system clocks.steady) host-after
       → LogsAll contents asks old (shift_log now shift) begun
@@ -176,12 +176,14 @@ module _ {L B H W : Type 0} (below : B → L) (does : L → Call → L → Type 
       (λ b. failures (below b))) link-before link-after (moment_at m held-before)
       (reported_in next.given) held-before held-after turn) same at-clock-serves in
       let here : Chosen L =
-      chosen held-before.device (moment_at k held-before) (jump_of clocks clock-before) lines-before
+      choose_input held-before.device (moment_at k held-before) (jump_of clocks clock-before)
+      lines-before
       process-before in
-      let here-is : chosen device now jump lines-before process-before ≡ here =
-      ap (λ d. chosen d now jump lines-before process-before) by-device
-      ∙ ap (λ m. chosen held-before.device m jump lines-before process-before) is-now
-      ∙ ap (λ j. chosen held-before.device (moment_at k held-before) j lines-before process-before)
+      let here-is : choose_input device now jump lines-before process-before ≡ here =
+      ap (λ d. choose_input d now jump lines-before process-before) by-device
+      ∙ ap (λ m. choose_input held-before.device m jump lines-before process-before) is-now
+      ∙ ap (λ j. choose_input held-before.device (moment_at k held-before) j lines-before
+      process-before)
       jump-is in
       let next-is : next ≡ here.next = is-next ∙ ap (λ (x : Chosen L). x.next) here-is in
       let process-is : process-chosen ≡ here.process =
@@ -247,7 +249,7 @@ module _ {L H W : Type 0} (step : L → Call → L → Type 0) (acts : H → Hos
       → clock ≡ moment_read clocks clock-before → now ≡ moment_at clock held
       → shift ≡ shift_of clock-before.side (moment_read clocks clock-before) clocks.system
       → device ≡ held.device → jump ≡ jump_of clocks clock-before
-      → next ≡ (chosen device now jump lines-before process-before).next
+      → next ≡ (choose_input device now jump lines-before process-before).next
       → acts host-before (Tells clocks.system clocks.steady) host-after
       → LogsAll contents asks old (shift_log now shift) begun
       → turn_refusal clock next.given held ≡ Some fault
@@ -272,12 +274,13 @@ module _ {L H W : Type 0} (step : L → Call → L → Type 0) (acts : H → Hos
       subst (λ m. turn_refusal m next.given held ≡ Some fault) same at-clock in
       let k : ℕ = moment_read clocks clock-before in
       let here : Chosen L =
-      chosen held.device (moment_at k held) (jump_of clocks clock-before) lines-before
+      choose_input held.device (moment_at k held) (jump_of clocks clock-before) lines-before
       process-before in
-      let here-is : chosen device now jump lines-before process-before ≡ here =
-      ap (λ d. chosen d now jump lines-before process-before) is-device
-      ∙ ap (λ m. chosen held.device m jump lines-before process-before) is-now
-      ∙ ap (λ j. chosen held.device (moment_at k held) j lines-before process-before) jump-is in
+      let here-is : choose_input device now jump lines-before process-before ≡ here =
+      ap (λ d. choose_input d now jump lines-before process-before) is-device
+      ∙ ap (λ m. choose_input held.device m jump lines-before process-before) is-now
+      ∙ ap (λ j. choose_input held.device (moment_at k held) j lines-before process-before) jump-is
+      in
       let next-is : next ≡ here.next = is-next ∙ ap (λ (x : Chosen L). x.next) here-is in
       record {
         clocks = clocks;

@@ -12,7 +12,7 @@ use Rattle.bay_mms_services.specs.declared.answer.Command.{Command}
 use Rattle.bay_server_turn.specs.Served.{reported_in}
 use Rattle.bay_server_turn.specs.declared.turn_report.Turn.{Turn}
 use Rattle.bay_server.specs.ConnectionLines.{count_at, count_at_closings, count_at_memory, first_ten, left_out, left_out_log}
-use Rattle.bay_server.specs.LogLines.{asked_log, closed_line, id_of, joined, memory_line, opened_log, refused_log}
+use Rattle.bay_server.specs.LogLines.{asked_log, closed_line, id_of, concat, memory_line, opened_log, refused_log}
 use Rattle.bay_server.specs.declared.change_lines.Column.{Column}
 use Rattle.bay_server.specs.declared.change_lines.Column.TheVariants.{Position, Release}
 use Rattle.bay_server.specs.declared.change_lines.SwitchView.{SwitchView}
@@ -59,7 +59,7 @@ release_word (Some (false, false)) = codes " open=0 close=0\n"
 -- a word on a switch, if it is another than before
 abbrev pub word_log : ℕ → List ℕ → List ℕ → List ℕ → List ℕ → List (List ℕ)
 word_log now what id before after =
-    if bytes_eq before after then [] else joined (utc_text now ∷ what ∷ id ∷ after ∷ []) ∷ []
+    if bytes_eq before after then [] else concat (utc_text now ∷ what ∷ id ∷ after ∷ []) ∷ []
 
 -- the position or the release of a switch, if it has changed from the first view to the second
 abbrev pub seen_log : Column → ℕ → List ℕ → SwitchView → SwitchView → List (List ℕ)
@@ -82,16 +82,16 @@ switches_log column now s k (before ∷ more) =
 
 -- the operate of a switch has ended, and why
 abbrev pub end_line : ℕ → State → List ℕ → ℕ → List ℕ
-end_line now s why k = joined (utc_text now ∷ codes " operate of " ∷ id_of s k ∷ why ∷ [])
+end_line now s why k = concat (utc_text now ∷ codes " operate of " ∷ id_of s k ∷ why ∷ [])
 
 abbrev pub end_log : ℕ → State → List ℕ → Option ℕ → List (List ℕ)
 end_log now s why None = []
 end_log now s why (Some k) = end_line now s why k ∷ []
 
 -- the switch of the first command
-abbrev pub commanded : List Command → Option ℕ
-commanded [] = None
-commanded (command ∷ commands) = Some command.switch
+abbrev pub commanded_switch : List Command → Option ℕ
+commanded_switch [] = None
+commanded_switch (command ∷ commands) = Some command.switch
 
 -- the switch that operates in a turn: the one that did before, unless its time has expired, or else
 -- that of a command
@@ -109,14 +109,15 @@ abbrev pub ends_log : ℕ → BayView → State → Turn → List (List ℕ)
 ends_log now before s turn =
     end_log now s (codes " ended: time over\n") turn.over
     ++ end_log now s (codes " ended: position reached\n")
-    (reached_in (operating_in s) (operates_in turn.over before.operating (commanded turn.commands)))
+    (reached_in (operating_in s)
+    (operates_in turn.over before.operating (commanded_switch turn.commands)))
 
 -- ---- a turn
 
 -- the process is lost
 abbrev pub lost_log : ℕ → Bool → List (List ℕ)
 lost_log now is_lost =
-    if is_lost then joined (utc_text now ∷ codes " process lost\n" ∷ []) ∷ [] else []
+    if is_lost then concat (utc_text now ∷ codes " process lost\n" ∷ []) ∷ [] else []
 
 -- The lines of a turn with this input: how many lines of connections were left out in the second
 -- before, if it has passed; an association was opened, the process was lost, the event of the line

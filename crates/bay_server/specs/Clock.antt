@@ -37,8 +37,8 @@ shift_of was moment system =
     else Some (record { side = side; distance = (system - moment) + (moment - system) })
 
 -- the clock as it starts
-abbrev pub started : Clocks → ClockData
-started clocks = record {
+abbrev pub initial_clock : Clocks → ClockData
+initial_clock clocks = record {
   moment = clocks.system;
   steady = clocks.steady;
   system = clocks.system;
@@ -47,28 +47,29 @@ started clocks = record {
 }
 
 -- the time that has passed by the steady clock since the last reading; 0 if that clock went back
-abbrev pub elapsed : Clocks → ClockData → ℕ
-elapsed clocks c = clocks.steady - c.steady
+abbrev pub elapsed_time : Clocks → ClockData → ℕ
+elapsed_time clocks c = clocks.steady - c.steady
 
 -- how far the system's clock has gone on beyond the steady one since the last reading: while a
 -- machine sleeps the steady clock stops and the system's goes on
 abbrev pub jump_of : Clocks → ClockData → ℕ
-jump_of clocks c = (clocks.system - c.system) - elapsed clocks c
+jump_of clocks c = (clocks.system - c.system) - elapsed_time clocks c
 
 -- by how much the moment may be drawn toward the system's time: a millisecond in each hundred
 abbrev pub draw : Clocks → ClockData → ℕ
-draw clocks c = (c.carry + elapsed clocks c) / 100
+draw clocks c = (c.carry + elapsed_time clocks c) / 100
 
 -- A moment is adjusted toward the system's time, by no more than that, and not beyond it.
-abbrev pub drawn : ℕ → ℕ → ℕ → ℕ
-drawn moment by system =
+abbrev pub adjusted_moment : ℕ → ℕ → ℕ → ℕ
+adjusted_moment moment by system =
     if nat_le moment system then min (moment + by) system else max (moment - by) system
 
 -- The moment of a reading: the time that has passed is added to the last moment, and the sum is
 -- adjusted toward the system's time, up to the largest number of 64 bits.
 abbrev pub moment_read : Clocks → ClockData → ℕ
 moment_read clocks c =
-    min (drawn (c.moment + elapsed clocks c) (draw clocks c) clocks.system) (2 ^ 64 - 1)
+    min (adjusted_moment (c.moment + elapsed_time clocks c) (draw clocks c) clocks.system)
+    (2 ^ 64 - 1)
 
 -- the clock after a reading
 abbrev pub after_reading : Clocks → ClockData → ClockData
@@ -76,7 +77,7 @@ after_reading clocks c = record {
   moment = moment_read clocks c;
   steady = max c.steady clocks.steady;
   system = clocks.system;
-  carry = (c.carry + elapsed clocks c) % 100;
+  carry = (c.carry + elapsed_time clocks c) % 100;
   side = side_of (moment_read clocks c) clocks.system;
 }
 

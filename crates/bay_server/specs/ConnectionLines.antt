@@ -5,7 +5,7 @@ use Rattle.std.specs.Fmt.{decimal}
 use Rattle.std.specs.declared.net.socket_addr.SocketAddrV4.{SocketAddrV4}
 use Rattle.bay_io.specs.Moments.{utc_text}
 use Rattle.bay_server_turn.specs.declared.turn_report.Turn.{Turn}
-use Rattle.bay_server.specs.LogLines.{joined}
+use Rattle.bay_server.specs.LogLines.{concat}
 use Rattle.bay_server.specs.declared.connection_lines.LineCount.{LineCount}
 
 -- ---- the count
@@ -39,7 +39,7 @@ left_out now c = if now / 1000 == c.second then 0 else c.lines - 10
 -- the line that says how many were left out
 abbrev pub left_out_line : ℕ → ℕ → List ℕ
 left_out_line now n =
-    joined (utc_text now ∷ codes " " ∷ decimal n ∷ codes " lines of connections left out\n" ∷ [])
+    concat (utc_text now ∷ codes " " ∷ decimal n ∷ codes " lines of connections left out\n" ∷ [])
 
 abbrev pub left_out_log : ℕ → ℕ → List (List ℕ)
 left_out_log now zero = []

@@ -33,9 +33,9 @@ use Rattle.bay_server.specs.declared.host.BindFault.{BindFault}
 use Rattle.bay_server.specs.declared.host.BindFault.TheVariants.{InUse, Denied, NoDescriptor, Failed}
 
 -- these texts, one after the other
-abbrev pub joined : List (List ℕ) → List ℕ
-joined [] = []
-joined (text ∷ texts) = text ++ joined texts
+abbrev pub concat : List (List ℕ) → List ℕ
+concat [] = []
+concat (text ∷ texts) = text ++ concat texts
 
 -- ---- ports
 
@@ -48,15 +48,15 @@ reason_of Failed = codes "the system does not open it"
 
 abbrev pub unbound_log : ℕ → BindFault → List ℕ
 unbound_log port fault =
-    joined (codes "bayctl: fault 121: port " ∷ decimal port ∷ codes ": " ∷ reason_of fault
+    concat (codes "bayctl: fault 121: port " ∷ decimal port ∷ codes ": " ∷ reason_of fault
     ∷ codes "\n" ∷ [])
 
 -- the ports that are listened on: that of the clients, and that of the process, if there is one
 abbrev pub ports_log : ℕ → ℕ → Option ℕ → List ℕ
 ports_log now port None =
-    joined (utc_text now ∷ codes " clients on 127.0.0.1:" ∷ decimal port ∷ codes "\n" ∷ [])
+    concat (utc_text now ∷ codes " clients on 127.0.0.1:" ∷ decimal port ∷ codes "\n" ∷ [])
 ports_log now port (Some process) =
-    joined (utc_text now ∷ codes " clients on 127.0.0.1:" ∷ decimal port
+    concat (utc_text now ∷ codes " clients on 127.0.0.1:" ∷ decimal port
     ∷ codes ", process on 127.0.0.1:" ∷ decimal process ∷ codes "\n" ∷ [])
 
 -- ---- the clock
@@ -64,12 +64,12 @@ ports_log now port (Some process) =
 -- a change of the side of the system's time, relative to the server's clock
 abbrev pub side_line : ℕ → ℕ → ClockSide → List ℕ
 side_line now distance Near =
-    joined (utc_text now ∷ codes " the system's clock agrees again\n" ∷ [])
+    concat (utc_text now ∷ codes " the system's clock agrees again\n" ∷ [])
 side_line now distance Ahead =
-    joined (utc_text now ∷ codes " the system's clock is " ∷ decimal distance
+    concat (utc_text now ∷ codes " the system's clock is " ∷ decimal distance
     ∷ codes " ms ahead\n" ∷ [])
 side_line now distance Behind =
-    joined (utc_text now ∷ codes " the system's clock is " ∷ decimal distance
+    concat (utc_text now ∷ codes " the system's clock is " ∷ decimal distance
     ∷ codes " ms behind\n" ∷ [])
 
 abbrev pub shift_log : ℕ → Option ClockShift → List (List ℕ)
@@ -106,7 +106,7 @@ octet_text from k = decimal (slice_index (ipv4_octets (v4_ip from)) k)
 -- an association was opened from an address
 abbrev pub opened_line : ℕ → ℕ × SocketAddrV4 → List ℕ
 opened_line now opened =
-    joined (utc_text now ∷ codes " association " ∷ decimal opened.0 ∷ codes " open from "
+    concat (utc_text now ∷ codes " association " ∷ decimal opened.0 ∷ codes " open from "
     ∷ octet_text opened.1 0 ∷ codes "." ∷ octet_text opened.1 1 ∷ codes "." ∷ octet_text opened.1 2
     ∷ codes "." ∷ octet_text opened.1 3 ∷ codes ":" ∷ decimal (v4_port opened.1) ∷ codes "\n" ∷ [])
 
@@ -117,13 +117,13 @@ opened_log now (Some opened) = opened_line now opened ∷ []
 -- an association was closed
 abbrev pub closed_line : ℕ → ℕ × CloseReason → List ℕ
 closed_line now closed =
-    joined (utc_text now ∷ codes " association " ∷ decimal closed.0 ∷ codes " closed "
+    concat (utc_text now ∷ codes " association " ∷ decimal closed.0 ∷ codes " closed "
     ∷ decimal (code_of closed.1) ∷ codes ": " ∷ closing_words closed.1 ∷ codes "\n" ∷ [])
 
 -- an association was closed because memory ran out
 abbrev pub memory_line : ℕ → ℕ → List ℕ
 memory_line now a =
-    joined (utc_text now ∷ codes " association " ∷ decimal a ∷ codes " closed memory\n" ∷ [])
+    concat (utc_text now ∷ codes " association " ∷ decimal a ∷ codes " closed memory\n" ∷ [])
 
 -- ---- controls
 
@@ -175,7 +175,7 @@ id_of s k = unwrap_or (option_map (λ (switch : Switch). switch.id) (slice_get s
 -- what was written to a control, with its orIdent escaped, and the decision
 abbrev pub written_line : ℕ → List ℕ → List ℕ → ControlDecision → ControlRequest → List ℕ
 written_line now id ident decision asked =
-    joined (utc_text now ∷ codes " association " ∷ decimal decision.association
+    concat (utc_text now ∷ codes " association " ∷ decimal decision.association
     ∷ service_words decision.part ∷ id ∷ position_words asked.operation ∷ sign_text asked.origin.cat
     ∷ decimal (unsigned_abs asked.origin.cat) ∷ codes " orIdent="
     ∷ ident ∷ codes " ctlNum=" ∷ decimal asked.ctl_num
@@ -184,7 +184,7 @@ written_line now id ident decision asked =
 -- a select by a read
 abbrev pub selected_line : ℕ → List ℕ → ControlDecision → List ℕ
 selected_line now id decision =
-    joined (utc_text now ∷ codes " association " ∷ decimal decision.association
+    concat (utc_text now ∷ codes " association " ∷ decimal decision.association
     ∷ service_words decision.part ∷ id ∷ verdict_words decision.answer ∷ [])
 
 abbrev pub line_of : ℕ → List ℕ → ControlDecision → Option ControlRequest → List ℕ
@@ -205,7 +205,7 @@ asked_log now s (Some decisions) = map (decision_line now s) decisions
 -- the device refused the event of a line
 abbrev pub refused_line : ℕ → ℕ → List ℕ → List ℕ
 refused_line now code shown =
-    joined (utc_text now ∷ codes " refused " ∷ decimal code ∷ codes ": " ∷ shown ∷ codes "\n" ∷ [])
+    concat (utc_text now ∷ codes " refused " ∷ decimal code ∷ codes ": " ∷ shown ∷ codes "\n" ∷ [])
 
 abbrev pub refused_log : ℕ → Option ℕ → List ℕ → List (List ℕ)
 refused_log now None shown = []
@@ -214,24 +214,24 @@ refused_log now (Some code) shown = refused_line now code shown ∷ []
 -- a turn was refused, with a line of the trace, by its number and escaped
 abbrev pub unserved_log : ServeFault → ℕ → List ℕ → List ℕ
 unserved_log BadLine k shown =
-    joined (codes "bayctl: fault 120 line " ∷ decimal k ∷ codes ": " ∷ shown ∷ codes "\n" ∷ [])
+    concat (codes "bayctl: fault 120 line " ∷ decimal k ∷ codes ": " ∷ shown ∷ codes "\n" ∷ [])
 unserved_log MomentTooLarge k shown = codes "bayctl: fault 114: the clock is past the last moment\n"
 
 -- all turns were served
 abbrev pub used_up_log : ℕ → List ℕ
-used_up_log now = joined (utc_text now ∷ codes " all turns are served\n" ∷ [])
+used_up_log now = concat (utc_text now ∷ codes " all turns are served\n" ∷ [])
 
 -- ---- the process
 
 -- its connection was closed, by the number of the reason and in words
 abbrev pub parted_line : ℕ → ℕ → List ℕ → List ℕ
 parted_line now code words =
-    joined (utc_text now ∷ codes " process closed " ∷ decimal code ∷ codes ": " ∷ words
+    concat (utc_text now ∷ codes " process closed " ∷ decimal code ∷ codes ": " ∷ words
     ∷ codes "\n" ∷ [])
 
 abbrev pub silent_line : ℕ → ℕ → List ℕ
 silent_line now limit =
-    joined (utc_text now ∷ codes " process closed 134: no line for " ∷ decimal limit
+    concat (utc_text now ∷ codes " process closed 134: no line for " ∷ decimal limit
     ∷ codes " ms\n" ∷ [])
 
 abbrev pub disconnect_line : ℕ → DisconnectReason → List ℕ
@@ -251,5 +251,5 @@ disconnect_line now (parting.Silent limit) = silent_line now limit
 disconnect_line now parting.Jumped = parted_line now 134 (codes "the clock has jumped")
 
 abbrev pub connection_event_log : ℕ → ConnectionEvent → List ℕ
-connection_event_log now Opened = joined (utc_text now ∷ codes " process open\n" ∷ [])
+connection_event_log now Opened = concat (utc_text now ∷ codes " process open\n" ∷ [])
 connection_event_log now (Closed why) = disconnect_line now why

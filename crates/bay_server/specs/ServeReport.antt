@@ -157,9 +157,9 @@ from_trace (Some line) s now jump lines process = record {
   process = behind_loss s now jump process;
 }
 
-abbrev pub chosen : {L : Type 0} → State → ℕ → ℕ → List (ℕ × List ℕ) → Option (PollOutcome L)
+abbrev pub choose_input : {L : Type 0} → State → ℕ → ℕ → List (ℕ × List ℕ) → Option (PollOutcome L)
     → Chosen L
-chosen s now jump lines process = from_trace (slice_get lines 0) s now jump lines process
+choose_input s now jump lines process = from_trace (slice_get lines 0) s now jump lines process
 
 -- ---- a turn
 
@@ -170,7 +170,7 @@ moment_of clocks b = moment_at (moment_read clocks b.clock) b.held
 -- the input of this turn
 abbrev pub choice_of : {L H : Type 0} → Clocks → Serving L H → Chosen L
 choice_of clocks b =
-    chosen b.held.device (moment_of clocks b) (jump_of clocks b.clock) b.lines b.process
+    choose_input b.held.device (moment_of clocks b) (jump_of clocks b.clock) b.lines b.process
 
 -- The host's clocks were read. If the side of the system's time changed, that was logged.
 pub record AsksClocks {L H W : Type 0} (acts : H → HostCall L → H → Type 0)

@@ -2,7 +2,7 @@
 ghost use Rattle.std.specs.Prelude.{◌≡◌};
 ghost use Rattle.bay_server_turn.specs.Served.{reported_in};
 ghost use Rattle.bay_server.specs.Logging.{LogsAll};
-ghost use Rattle.bay_server.specs.ChangeLines.{commanded, end_log, ends_log, lost_log, operates_in, reached_in, seen_at, seen_log, bay_seen, switch_log, switches_log, word_log};
+ghost use Rattle.bay_server.specs.ChangeLines.{commanded_switch, end_log, ends_log, lost_log, operates_in, reached_in, seen_at, seen_log, bay_seen, switch_log, switches_log, word_log};
 ghost use Rattle.bay_server.specs.ChangeLines as spec;
 
 use crate::control_lines::id;
@@ -199,7 +199,7 @@ fn log_end<'a, W: Sink>(
 
 // Returns the switch of the first command.
 fn first_commanded(commands: &[Command]) -> Option<usize>
-    ensures { result ≡ commanded commands.now }
+    ensures { result ≡ commanded_switch commands.now }
 {
     match commands {
         [] => None,
@@ -211,7 +211,7 @@ fn first_commanded(commands: &[Command]) -> Option<usize>
 // none operates after the turn.
 fn reached(before: Option<usize>, after: Option<usize>, turn: &Turn) -> Option<usize>
     ensures { result ≡ reached_in after
-        (operates_in turn.now.over before (commanded turn.now.commands)) }
+        (operates_in turn.now.over before (commanded_switch turn.now.commands)) }
 {
     if after.is_some() {
         return None;

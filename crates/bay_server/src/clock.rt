@@ -1,6 +1,6 @@
 // The clock of a server: the system's time at its start, carried on by a clock that does not jump.
 ghost use Rattle.std.specs.Prelude.{◌≡◌, ◌+◌, ◌-◌, ◌*◌, ◌/◌, ◌^◌, ◌≤◌, ◌<◌, List, min};
-ghost use Rattle.bay_server.specs.Clock.{ClockData, KeepsPace, after_reading, draw, elapsed, jump_of, read_all, shift_of, started};
+ghost use Rattle.bay_server.specs.Clock.{ClockData, KeepsPace, after_reading, draw, elapsed_time, jump_of, read_all, shift_of, initial_clock};
 ghost use Rattle.bay_server.specs.Clock as spec;
 
 use std::marker::Model;
@@ -99,7 +99,7 @@ fn side_of(moment: u64, system: u64) -> ClockSide
 impl ServeClock {
     /// Starts a clock at the system's time.
     pub fn start(clocks: Clocks) -> Self
-        ensures { result ≡ started clocks }
+        ensures { result ≡ initial_clock clocks }
     {
         ServeClock {
             moment: clocks.system,
@@ -120,10 +120,10 @@ impl ServeClock {
         // The moment does not go back.
         ensures forward { self.old.moment ≤ result.moment }
         // It advances as far as the steady clock, give or take a millisecond in each hundred.
-        ensures least { min (self.old.moment + elapsed clocks self.old) (2 ^ 64 - 1)
+        ensures least { min (self.old.moment + elapsed_time clocks self.old) (2 ^ 64 - 1)
             ≤ result.moment + draw clocks self.old }
         ensures most { result.moment
-            ≤ self.old.moment + elapsed clocks self.old + draw clocks self.old }
+            ≤ self.old.moment + elapsed_time clocks self.old + draw clocks self.old }
     {
         let elapsed = clocks.steady.saturating_sub(self.steady);
         let jump = clocks

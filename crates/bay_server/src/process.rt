@@ -1,7 +1,7 @@
 // The process, and the input of a turn.
 ghost use Rattle.std.specs.Prelude.{◌≡◌, []};
 ghost use Rattle.bay_server_turn.specs.Calls.{Called};
-ghost use Rattle.bay_server.specs.ServeReport.{AttendsTo, Hears, behind_loss, chosen, from_port, loss_of, next_by};
+ghost use Rattle.bay_server.specs.ServeReport.{AttendsTo, Hears, behind_loss, choose_input, from_port, loss_of, next_by};
 ghost use Rattle.bay_server.specs.ServeReport as spec;
 
 use crate::trace_lines::TraceLines;
@@ -152,9 +152,10 @@ pub fn next_input<L>(
     moment: u64,
     jump: u64,
 ) -> NextInput
-    ensures next { result ≡ (chosen device.now moment jump lines.old process.old).next }
-    ensures lines { lines.new ≡ (chosen device.now moment jump lines.old process.old).lines }
-    ensures process { process.new ≡ (chosen device.now moment jump lines.old process.old).process }
+    ensures next { result ≡ (choose_input device.now moment jump lines.old process.old).next }
+    ensures lines { lines.new ≡ (choose_input device.now moment jump lines.old process.old).lines }
+    ensures process { process.new
+        ≡ (choose_input device.now moment jump lines.old process.old).process }
 {
     match lines.next_line() {
         Some(line) => read_next(device, take_loss(process, device, moment, jump), line),

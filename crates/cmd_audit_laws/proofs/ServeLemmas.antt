@@ -7,7 +7,7 @@ use Rattle.bay_files.specs.Files.{FileGuards, FileReads, FilesData}
 use Rattle.bay_io.specs.Calls.{WriteCall}
 use Rattle.bay_io.specs.Watched.{Writing}
 use Rattle.bay_io.specs.declared.outbox.WriteFault.{WriteFault}
-use Rattle.bay_process_port.specs.Ports.{begun}
+use Rattle.bay_process_port.specs.Ports.{initial_port}
 use Rattle.bay_process_port.specs.Supervised.{SupervisionSettings}
 use Rattle.bay_report.specs.Load.{LoadsTo}
 use Rattle.bay_report.specs.declared.load.Form.{Form}
@@ -80,12 +80,13 @@ module _ {L H : Type 0} (acts : H → HostCall L → H → Type 0) where
       by-had : (had : Result L BindFault)
           → MatchResult had
           (λ other. IsBound records s link
-          (Some (record { link = other; port = begun tells duties }))
+          (Some (record { link = other; port = initial_port tells duties }))
           (Ok ports)) (λ fault. (let r : Result (Bound L) ServeStartFault = Ok ports in r)
           ≡ Err (unserved.Unbound port fault))
           → ports.server ≡ made_of s
       by-had (Ok other) is =
-          is-made records s link (Some (record { link = other; port = begun tells duties })) ports
+          is-made records s link (Some (record { link = other; port = initial_port tells duties }))
+          ports
           is
       by-had (Err fault) is = absurd cc
 

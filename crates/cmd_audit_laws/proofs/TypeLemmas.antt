@@ -11,7 +11,7 @@ use Rattle.bay_device.specs.Device.{State}
 use Rattle.bay_lines.specs.FirstLines.{LineSearchData, Waiting, Overlong, Whole, first_line_of}
 use Rattle.bay_audit_laws.specs.Laws.{Has32Bits, IsOfType}
 use Rattle.bay_process_port.specs.Ports.{PortData, judged_at, taken_as, taken_by}
-use Rattle.bay_process_port.specs.Supervised.{Watched, event_in, introduction, is_timely, judged, plain, report, timely, word_of}
+use Rattle.bay_process_port.specs.Supervised.{Watched, event_in, judge_introduction, is_timely, judge_line, judge_plain_line, judge_later_line, judge_moment, word_of}
 use Rattle.bay_process_port.specs.Introduction.{introduced_at}
 use Rattle.bay_process_port.specs.declared.connection_event.DisconnectReason.{DisconnectReason}
 use Rattle.bay_process_port.specs.declared.connection_event.DisconnectReason.TheVariants.{OutOfOrder, Untimely}
@@ -260,7 +260,7 @@ timed-fits s line = by-end (text_without_end (codes " alive") line)
     by-end None = by-line (trace_line_of line) (line-fits line)
 
 plain-fits : (now : ℕ) (line : List ℕ) (o : Option ProcessEvent) → IfSome o EventFits
-    → WordFits (plain now line o)
+    → WordFits (judge_plain_line now line o)
 plain-fits now [] o h = tt
 plain-fits now (b ∷ bs) None h = tt
 plain-fits now (b ∷ bs) (Some event) h = h
@@ -271,17 +271,17 @@ if-ok true x y h k = h
 if-ok false x y h k = k
 
 timely-fits : (limit now moment : ℕ) (word : ProcessMessage) → IfSome (event_in word) EventFits
-    → WordFits (timely limit now moment word)
+    → WordFits (judge_moment limit now moment word)
 timely-fits limit now moment word h =
     if-ok (is_timely limit now moment) (Ok (record { moment = moment; word = word }))
     (Err Untimely) h tt
 
 judged-fits : (watch : Option Watched) (s : State) (now : ℕ) (line : List ℕ)
-    → WordFits (judged watch s now line)
+    → WordFits (judge_line watch s now line)
 judged-fits None s now line = plain-fits now line (event_in_line s line) (told-by-fits s line)
 judged-fits (Some w) s now line =
-    if-ok w.introduced (report line w now (timed_line_of s line))
-    (introduction w.duties now (introduced_at w.duties.key s.domain s.revision line))
+    if-ok w.introduced (judge_later_line line w now (timed_line_of s line))
+    (judge_introduction w.duties now (introduced_at w.duties.key s.domain s.revision line))
     (by-timed (timed_line_of s line) (timed-fits s line))
     (by-moment (introduced_at w.duties.key s.domain s.revision line))
   where
@@ -290,15 +290,16 @@ judged-fits (Some w) s now line =
     word-fits None h = tt
     word-fits (Some event) h = h
 
-    by-timed : (o : Option TimedLine) → IfSome o TimedFits → WordFits (report line w now o)
+    by-timed : (o : Option TimedLine) → IfSome o TimedFits
+        → WordFits (judge_later_line line w now o)
     by-timed None h = tt
     by-timed (Some timed) h =
         if-ok (nat_lt timed.moment w.last) (Err OutOfOrder)
-        (timely w.duties.limit now timed.moment (word_of timed.event)) tt
+        (judge_moment w.duties.limit now timed.moment (word_of timed.event)) tt
         (timely-fits w.duties.limit now timed.moment (word_of timed.event)
         (word-fits timed.event h))
 
-    by-moment : (o : Option ℕ) → WordFits (introduction w.duties now o)
+    by-moment : (o : Option ℕ) → WordFits (judge_introduction w.duties now o)
     by-moment None = tt
     by-moment (Some moment) = timely-fits w.duties.limit now moment Introduces tt
 
@@ -325,7 +326,7 @@ taken-fits Here s now jump p =
     by-judged (Ok (Some said)) Waiting is there = tt
     by-judged (Ok (Some said)) Overlong is there = tt
     by-judged (Ok (Some said)) (Whole line rest) is there =
-        by-word line said (judged p.watch s now line) (judged-fits p.watch s now line)
+        by-word line said (judge_line p.watch s now line) (judged-fits p.watch s now line)
         (line-judged s now jump p line rest said there is)
 
 -- what is chosen for a turn

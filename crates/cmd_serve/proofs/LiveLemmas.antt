@@ -24,7 +24,7 @@ use Rattle.bay_server_turn_laws.specs.Flows.{IsTidy}
 use Rattle.bay_server_turn_laws.proofs.PartLemmas.{Part-turn}
 use Rattle.bay_server.specs.Clock.{jump_of}
 use Rattle.bay_server.specs.Host.{HostCall}
-use Rattle.bay_server.specs.ServeReport.{AfterTurn, Chosen, PollOutcome, Hears, MayPause, Serving, ServesTurns, TurnGoes, choice_of, chosen, from_port, moment_of}
+use Rattle.bay_server.specs.ServeReport.{AfterTurn, Chosen, PollOutcome, Hears, MayPause, Serving, ServesTurns, TurnGoes, choice_of, choose_input, from_port, moment_of}
 use Rattle.bay_server.specs.declared.clock.Clocks.{Clocks}
 use Rattle.cmd_serve.specs.Live.{CommandsLive, InLater, IsSupervised, Lived}
 use Rattle.cmd_serve.specs.Orders.{IsOrdered}
@@ -257,8 +257,8 @@ module _ {L H W : Type 0} (step : L → Call → L → Type 0) (acts : H → Hos
       (Some k.process)
   port-chosen b k clocks =
       let jump = jump_of clocks b.clock in
-      ap (λ lines. chosen b.held.device (moment_of clocks b) jump lines b.process) k.alone
-      ∙ ap (λ process. chosen b.held.device (moment_of clocks b) jump [] process) k.is
+      ap (λ lines. choose_input b.held.device (moment_of clocks b) jump lines b.process) k.alone
+      ∙ ap (λ process. choose_input b.held.device (moment_of clocks b) jump [] process) k.is
 
   module _ (before : Serving L H) (old : Writing W) (after : Serving L H) (new : Writing W)
       (answer : Result ℕ WriteFault)

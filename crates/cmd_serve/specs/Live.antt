@@ -4,7 +4,7 @@ use mathlib.Core.Logic.{inl, inr}
 use Rattle.bay_io.specs.Calls.{WriteCall}
 use Rattle.bay_io.specs.Watched.{Writing}
 use Rattle.bay_io.specs.declared.outbox.WriteFault.{WriteFault}
-use Rattle.bay_process_port.specs.Ports.{begun}
+use Rattle.bay_process_port.specs.Ports.{initial_port}
 use Rattle.bay_process_port.specs.Supervision.{IsLive}
 use Rattle.bay_process_port.specs.Supervised.{SupervisionSettings, settings_in}
 use Rattle.bay_server_turn.specs.Calls.{Call}
@@ -18,7 +18,7 @@ pub record IsSupervised {L H : Type 0} (duties : SupervisionSettings) (b : Servi
     : Type 0 where
   pub link : L
   pub tells : Bool
-  pub is : b.process ≡ Some (record { link = link; port = begun tells (Some duties) })
+  pub is : b.process ≡ Some (record { link = link; port = initial_port tells (Some duties) })
   pub alone : b.lines ≡ []
 
 -- The process is connected and supervised by these settings, it has introduced itself as the

@@ -15,7 +15,7 @@ use Rattle.bay_files.specs.declared.key.KeyFault.TheVariants as keyless
 use Rattle.bay_io.specs.Sent.{Logs}
 use Rattle.bay_io.specs.Watched.{Writing}
 use Rattle.bay_io.specs.declared.outbox.WriteFault.{WriteFault}
-use Rattle.bay_process_port.specs.Ports.{begun}
+use Rattle.bay_process_port.specs.Ports.{initial_port}
 use Rattle.bay_process_port.specs.Supervised.{SupervisionSettings}
 use Rattle.bay_report.specs.Load.{LoadsTo, MayLoadTo, file_of, text_of}
 use Rattle.bay_report.specs.LogLines.{IsReported, PrintsLogs, Refuses, UnreadReport, unwritten_line}
@@ -26,7 +26,7 @@ use Rattle.bay_report.specs.declared.load.Form.TheVariants.{Logic, Image}
 use Rattle.bay_server_turn.specs.Calls.{Call}
 use Rattle.bay_server_turn.specs.Served.{text_in}
 use Rattle.bay_server_turn.specs.Turns.{ServerData}
-use Rattle.bay_server.specs.Clock.{started}
+use Rattle.bay_server.specs.Clock.{initial_clock}
 use Rattle.bay_server.specs.ConnectionLines.{no_lines}
 use Rattle.bay_server.specs.Host.{HostCall, Binds, Tells}
 use Rattle.bay_server.specs.LogLines.{ports_log, unbound_log}
@@ -184,7 +184,7 @@ module _ {L H : Type 0} (acts : H → HostCall L → H → Type 0) where
       (had : Result L BindFault) × acts before (Binds port None had) after
       × MatchResult had
       (λ other. IsBound records s link
-      (Some (record { link = other; port = begun tells duties })) bound)
+      (Some (record { link = other; port = initial_port tells duties })) bound)
       (λ fault. bound ≡ Err (unserved.Unbound port fault))
 
   -- the port of the clients is opened, and then that of the process
@@ -233,7 +233,7 @@ module _ {L H W : Type 0} (step : L → Call → L → Type 0) (acts : H → Hos
       (record {
         link = bound.link;
         held = bound.server;
-        clock = started clocks;
+        clock = initial_clock clocks;
         count = no_lines;
         host = began;
         process = bound.process;
