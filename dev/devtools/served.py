@@ -1,5 +1,6 @@
 """A served bay, for tests and examples: bayctl on free ports, and what stands around it."""
 import pathlib
+import random
 import socket
 import subprocess
 import sys
@@ -12,11 +13,25 @@ from baytools.wire.client import Client
 PATIENCE, TURNS = 30, 1_000_000  # seconds until something must have happened; turns of a server
 
 
+# Ports below those that the system gives to connections, so that none of these takes one between
+# the moment at which it is found free and that at which a server opens it.
+PORTS = range(15_000, 32_000)
+taken: set[int] = set()
+
+
 def free_port() -> int:
-    """A port of this machine that nobody has."""
-    with socket.socket() as one:
-        one.bind(('127.0.0.1', 0))
-        return one.getsockname()[1]
+    """A port of this machine that nobody has, another one at each call."""
+    while True:
+        port = random.choice(PORTS)
+        if port in taken:
+            continue
+        taken.add(port)
+        with socket.socket() as one:
+            try:
+                one.bind(('127.0.0.1', port))
+            except OSError:
+                continue
+        return port
 
 
 def until(test, told) -> object:
