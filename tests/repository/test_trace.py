@@ -329,7 +329,11 @@ class Written(Tools):
             self.assertIn(f'<tr><td>{clause}</td>', page)
 
     def test_links_elsewhere(self):
-        self.assertIn('href="https://host/at/README.md#L', Sheet('https://host/at').page())
+        page = Sheet('https://host/at').page()
+        self.assertIn('href="https://host/at/README.md#L', page)
+        for name in ('TRUSTED', 'HAZARDS'):
+            self.assertIn(f'href="https://host/at/docs/{name}.md"', page)
+            self.assertTrue((TOP / 'docs' / f'{name}.md').exists())
 
     def test_a_folder_that_is_not_there(self):
         found = self.call_tool('trace', '--out', self.folder / 'none' / 'page.html')

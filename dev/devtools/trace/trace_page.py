@@ -37,6 +37,9 @@ a:hover { text-decoration: underline } summary { cursor: pointer; color: #555 }
 '''
 HEADINGS = ('Names of values', 'Signs and words', 'Where the words of a clause come from',
             'How a form is read', 'Traits, laws and loans')
+# Pages of docs/ that say what the proofs rest on, and what they leave.
+OTHERS = (('TRUSTED.md', 'What a verdict of the prover rests on'),
+          ('HAZARDS.md', 'The hazards, what bounds each, and what nobody bounds'))
 # What a buyer asks for, and the promise that answers it.
 FIRST = {
     'The headline: never against the interlocking': 'P-001',
@@ -220,6 +223,11 @@ class Sheet:
         told = ''.join(f'<p>{inline(it)}</p>' for it in head.split('\n\n'))
         return f'<h3 id="crate-{name}">{name}</h3>{told}{"".join(found)}'
 
+    def other_pages(self) -> str:
+        """Links to what no clause says: the trusted base, and the hazards with what bounds them."""
+        return ''.join(f'<li><a href="{html.escape(self.sources)}/docs/{name}">{told}</a></li>'
+                       for name, told in OTHERS)
+
     def page(self) -> str:
         """The whole page."""
         contracts = (TOP / 'docs' / 'CONTRACTS.md').read_text(encoding='utf-8')
@@ -242,7 +250,8 @@ class Sheet:
             f'{head(about)}{self.first()}<ul>{"".join(told)}'
             '<li><a href="#inner">Inner clauses</a></li>'
             '<li><a href="#changed">Definitions that were changed</a></li>'
-            '<li><a href="#definitions">Definitions</a></li></ul><details><summary>How to read '
+            '<li><a href="#definitions">Definitions</a></li>'
+            f'{self.other_pages()}</ul><details><summary>How to read '
             f'clauses and definitions</summary>{how}</details>', *body, self.inner(),
             changed.held_by_no_law(),
             f'<h2 id="definitions">Definitions</h2><p>{", ".join(links)}</p>', *parts.values(),
