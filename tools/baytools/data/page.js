@@ -328,6 +328,7 @@ function giveUp(event) {
 }
 
 function openDialog(id) {
+  if (asked) leave(false);
   shown = id;
   offered = '';
   tell('');
@@ -438,7 +439,10 @@ byId('button-close').addEventListener('click', (event) => select('close', event)
 byId('button-confirm').addEventListener('click', confirmIt);
 byId('button-cancel').addEventListener('click', giveUp);
 byId('button-back').addEventListener('click', () => byId('dialog').close());
-byId('dialog').addEventListener('close', () => leave(false));
+// The browser tells of a closed dialog later, when a quick hand may have opened it again.
+byId('dialog').addEventListener('close', () => {
+  if (!byId('dialog').open) leave(false);
+});
 window.addEventListener('pagehide', () => leave(true));
 window.addEventListener('resize', showOwn);
 setInterval(() => {
