@@ -54,7 +54,7 @@ class Stamps(unittest.TestCase):
 
     def test_the_kits(self):
         """README names each kit with which the gate was run, or the program that was measured."""
-        said = (TOP / 'README.md').read_text(encoding='utf-8').partition('Proved with ')[2]
+        said = (TOP / 'README.md').read_text(encoding='utf-8').partition('proved with ')[2]
         said = ' '.join(said.partition('\n- ')[0].split())
         told = ''.join((TOP / 'bench' / f'{name}.md').read_text(encoding='utf-8')
                        for name in ('GATE', 'RESULTS'))
