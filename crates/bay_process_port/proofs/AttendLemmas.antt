@@ -377,13 +377,13 @@ module _ {L : Type 0} (step : L → Call → L → Type 0) where
       }
 
   module _ (t : ReportedTurn) (s : State) (old mid : L) (before after : PortData) where
-    attended-here : (script : Script) → before.standing ≡ Here
+    attended-here : (script : Script) → before.presence ≡ Here
         → attendance t s script before
         ≡ attended_here before (exchange_part t s (script.taken, script.heard) before)
     attended-here script here = rw here refl
 
     -- a process stays
-    pub attends-kept : before.standing ≡ Here
+    pub attends-kept : before.presence ≡ Here
         → Does step (exchange_part t s) old mid before after (Ok tt)
         → Attends step (λ script. attendance t s script before) old mid after None
     attends-kept here does =
@@ -406,7 +406,7 @@ module _ {L : Type 0} (step : L → Call → L → Type 0) where
         })
 
     -- or it is closed
-    pub attends-closed : (new : L) (why : DisconnectReason) → before.standing ≡ Here
+    pub attends-closed : (new : L) (why : DisconnectReason) → before.presence ≡ Here
         → Does step (exchange_part t s) old mid before after (Err why) → step mid (Closes 1) new
         → Attends step (λ script. attendance t s script before) old new
         (with_no_data Leaving before)
@@ -432,7 +432,7 @@ module _ {L : Type 0} (step : L → Call → L → Type 0) where
         })
 
     -- a process that has gone
-    pub attends-leaving : before.standing ≡ Leaving → after ≡ before
+    pub attends-leaving : before.presence ≡ Leaving → after ≡ before
         → Attends step (λ script. attendance t s script before) old old after None
     attends-leaving leaving is =
         attends-as (λ script. attendance t s script before)
@@ -448,12 +448,12 @@ module _ {L : Type 0} (step : L → Call → L → Type 0) where
 
     -- a process that a turn has dismissed
     pub attends-dismissed : (new : L) (why : DisconnectReason) (news : Option ConnectionEvent)
-        → before.standing ≡ Dismissed why
-        → ClosesDismissed step before.standing old new before after news
+        → before.presence ≡ Dismissed why
+        → ClosesDismissed step before.presence old new before after news
         → Attends step (λ script. attendance t s script before) old new after news
     attends-dismissed new why news leaving closes =
         let k : ClosesDismissed step (Dismissed why) old new before after news =
-        subst (λ standing. ClosesDismissed step standing old new before after news) leaving closes
+        subst (λ presence. ClosesDismissed step presence old new before after news) leaving closes
         in
         attends-as (λ script. attendance t s script before)
         (λ script. close_dismissed why before) old new after news

@@ -13,9 +13,9 @@ pub bound-trans : (p q r : PortData) → StaysBound p q → StaysBound q r → S
 bound-trans p q r a b = record { told = b.told ∙ a.told; duties = b.duties ∙ a.duties }
 
 -- the port with nothing in it is the same then
-pub emptied-same : (standing : Presence) (p q : PortData) → StaysBound p q
-    → with_no_data standing q ≡ with_no_data standing p
-emptied-same standing p q b = ap₂ (λ t d. empty_port t d standing) b.told b.duties
+pub emptied-same : (presence : Presence) (p q : PortData) → StaysBound p q
+    → with_no_data presence q ≡ with_no_data presence p
+emptied-same presence p q b = ap₂ (λ t d. empty_port t d presence) b.told b.duties
 
 told-some : (s : State) (told : Option (List (Option Release)))
     → is_some (told_after s told) ≡ is_some told

@@ -36,10 +36,10 @@ by-readable s now jump p line (Ok (Some said)) (Whole text rest) is there e =
     judged-readable p.watch s now text line said
     (line-judged s now jump p text rest said there is) e
 
-taken-readable : (standing : Presence) (s : State) (now jump : ℕ) (p : PortData) (line : List ℕ)
-    → (taken_as standing s now jump p).line ≡ Some line
+taken-readable : (presence : Presence) (s : State) (now jump : ℕ) (p : PortData) (line : List ℕ)
+    → (taken_as presence s now jump p).line ≡ Some line
     → input_of_event (event_in_line s line)
-    ≡ Ok (report_of_event (taken_as standing s now jump p).event)
+    ≡ Ok (report_of_event (taken_as presence s now jump p).event)
 taken-readable Away s now jump p line e = absurd cc
 taken-readable Leaving s now jump p line e = absurd cc
 taken-readable (Dismissed why) s now jump p line e = absurd cc
@@ -47,7 +47,7 @@ taken-readable Here s now jump p line e =
     by-readable s now jump p line (judged_at s now jump p) (first_line_of p.kept) refl refl e
 
 pub is-readable : (s : State) (now jump : ℕ) (p : PortData) → IsReadable s now jump p
-is-readable s now jump p line e = taken-readable p.standing s now jump p line e
+is-readable s now jump p line e = taken-readable p.presence s now jump p line e
 
 -- ---- a process that has gone
 
@@ -163,7 +163,7 @@ accepted-untaken now s (Some (Some from)) heard p ends =
 
 dismissed-is : (s : State) (now jump : ℕ) (p : PortData) (why : DisconnectReason)
     (r : Result (Option TimedMessage) DisconnectReason) (f : LineSearchData)
-    → p.standing ≡ Here → (taken_by now r f p).port.standing ≡ Dismissed why
+    → p.presence ≡ Here → (taken_by now r f p).port.presence ≡ Dismissed why
     → taken_by now r f p ≡ dismissed_of why p
 dismissed-is s now jump p why (Err w) f here e =
     let both : Dismissed w ≡ Dismissed why = e in
@@ -183,18 +183,18 @@ pub is-silent : (t : ReportedTurn) (s : State) (now jump : ℕ) (script : Script
 is-silent t s now jump script p = record {
   closed = λ why here e.
       let part = exchange_part t s (script.taken, script.heard) p in
-      let is = ap (λ standing. attended_as standing t s script p) here in
+      let is = ap (λ presence. attended_as presence t s script p) here in
       ap (λ (a : Attended). a.port) is
       ∙ closed-empty p part.after part.calls why (ap (λ (a : Attended). a.news) (sym is) ∙ e);
-  lost = λ leaving. ap (λ standing. taken_as standing s now jump p) leaving;
+  lost = λ leaving. ap (λ presence. taken_as presence s now jump p) leaving;
   dismisses = λ why here e.
-      let is = ap (λ standing. taken_as standing s now jump p) here in
+      let is = ap (λ presence. taken_as presence s now jump p) here in
       is ∙ dismissed-is s now jump p why (judged_at s now jump p) (first_line_of p.kept) here
-      (ap (λ (x : Taken). x.port.standing) (sym is) ∙ e);
-  parts = λ why leaving. ap (λ standing. attended_as standing t s script p) leaving;
-  calls = λ leaving. ap (λ standing. (attended_as standing t s script p).calls) leaving;
+      (ap (λ (x : Taken). x.port.presence) (sym is) ∙ e);
+  parts = λ why leaving. ap (λ presence. attended_as presence t s script p) leaving;
+  calls = λ leaving. ap (λ presence. (attended_as presence t s script p).calls) leaving;
   untaken = λ away ends.
-      let is = ap (λ standing. attended_as standing t s script p) away in
+      let is = ap (λ presence. attended_as presence t s script p) away in
       let u = accepted-untaken t.now s script.accepted (script.heard, script.again) p
       (ap (λ (a : Attended). hears_end a.calls) (sym is) ∙ ends) in
       (ap (λ (a : Attended). a.news) is ∙ u.news, ap (λ (a : Attended). a.port) is ∙ u.port);
@@ -337,12 +337,12 @@ kept-waits before (Ok p) calls rest waits e = waits p refl
 kept-waits before (Err why) calls rest waits e = absurd cc
 
 pub tells-in-order : (t : ReportedTurn) (s : State) (script : Script) (p : PortData)
-    → p.standing ≡ Here → TellsInOrder t s script p
+    → p.presence ≡ Here → TellsInOrder t s script p
 tells-in-order t s script p here =
     let part = exchange_part t s (script.taken, script.heard) p in
     let told = tells-talked t s (script.taken, script.heard) p in
     let is : attendance t s script p ≡ attended_here p part =
-    ap (λ standing. attended_as standing t s script p) here in
+    ap (λ presence. attended_as presence t s script p) here in
     record {
       rest = told.rest;
       whole = closed-tells (p.queue ++ all_told t s p) p part.after part.calls told.rest told.whole

@@ -298,9 +298,9 @@ away-known said now s (Some (Some from)) heard p h =
     (has-behind q.told g.after g.calls (read_by heard.0) (has-greeted now s q) (has-read heard.0))
     (has-read heard.1))
 
-attended-known : (standing : Presence) (said : List (ℕ × Release)) (t : ReportedTurn) (s : State)
+attended-known : (presence : Presence) (said : List (ℕ × Release)) (t : ReportedTurn) (s : State)
     (script : Script) (p : PortData) → KnowsIn said p.told
-    → KnowsIn (said ++ said_as standing s p) (attended_as standing t s script p).port.told
+    → KnowsIn (said ++ said_as presence s p) (attended_as presence t s script p).port.told
 attended-known Away said t s script p h =
     away-known said t.now s script.accepted (script.heard, script.again) p h
 attended-known Leaving said t s script p h = knows-same said p.told p.told h refl
@@ -318,9 +318,9 @@ by-known said now (Ok (Some timed)) Waiting p h = knows-same said p.told p.told 
 by-known said now (Ok (Some timed)) Overlong p h = knows-same said p.told p.told h refl
 by-known said now (Ok (Some timed)) (Whole line rest) p h = knows-same said p.told p.told h refl
 
-taken-known : (standing : Presence) (said : List (ℕ × Release)) (s : State) (now jump : ℕ)
+taken-known : (presence : Presence) (said : List (ℕ × Release)) (s : State) (now jump : ℕ)
     (p : PortData) → KnowsIn said p.told
-    → KnowsIn (said ++ []) (taken_as standing s now jump p).port.told
+    → KnowsIn (said ++ []) (taken_as presence s now jump p).port.told
 taken-known Away said s now jump p h = knows-same said p.told p.told h refl
 taken-known Leaving said s now jump p h = knows-emptied said (said ++ []) p.told h
 taken-known (Dismissed why) said s now jump p h = knows-same said p.told p.told h refl
@@ -329,9 +329,9 @@ taken-known Here said s now jump p h =
 
 use-known : (u : Use) (said : List (ℕ × Release)) (p : PortData) → KnowsIn said p.told
     → KnowsIn (said ++ said_of u p) (port_after u p).told
-use-known (Takes s now jump) said p h = taken-known p.standing said s now jump p h
+use-known (Takes s now jump) said p h = taken-known p.presence said s now jump p h
 use-known (Attends t s script) said p h =
-    attended-known p.standing said t s script p h
+    attended-known p.presence said t s script p h
 
 uses-known : (us : List Use) (said : List (ℕ × Release)) (p : PortData) → KnowsIn said p.told
     → KnowsIn (said ++ all_said us p) (after_uses us p).told
@@ -371,5 +371,5 @@ is-up-to-date duties uses t s script stays here none k lt within =
     ap (λ v. if v then Some release else None) there in
     ap (last_said k None)
     (one-more uses (Attends t s script) p0
-    ∙ ap (λ standing. all_said uses p0 ++ said_as standing s p) here)
+    ∙ ap (λ presence. all_said uses p0 ++ said_as presence s p) here)
     ∙ known-here s (all_said uses p0) p.told known k release lt is

@@ -112,9 +112,9 @@ by-on-time s now jump p w event (Ok (Some said)) (Whole line rest) is there watc
       in_order = grind (arith, nat_tests);
     }
 
-as-on-time : (standing : Presence) (s : State) (now jump : ℕ) (p : PortData) (w : Watched)
+as-on-time : (presence : Presence) (s : State) (now jump : ℕ) (p : PortData) (w : Watched)
     (event : ProcessEvent) → p.watch ≡ Some w
-    → (taken_as standing s now jump p).event ≡ Some event → IsOnTime s now p w event
+    → (taken_as presence s now jump p).event ≡ Some event → IsOnTime s now p w event
 as-on-time Away s now jump p w event watched e = absurd cc
 as-on-time Leaving s now jump p w event watched e = absurd cc
 as-on-time (Dismissed why) s now jump p w event watched e = absurd cc
@@ -125,7 +125,7 @@ as-on-time Here s now jump p w event watched e =
 pub is-on-time : (s : State) (now jump : ℕ) (p : PortData) (w : Watched) (event : ProcessEvent)
     → p.watch ≡ Some w → (taken_line s now jump p).event ≡ Some event → IsOnTime s now p w event
 is-on-time s now jump p w event watched e =
-    as-on-time p.standing s now jump p w event watched e
+    as-on-time p.presence s now jump p w event watched e
 
 -- ---- whose process it is
 
@@ -153,7 +153,7 @@ record StaysWatched (duties : SupervisionSettings) (watch : Option Watched) : Ty
 
 by-watched : (w : Watched) (now : ℕ) (r : Result (Option TimedMessage) DisconnectReason)
     (f : LineSearchData) (p : PortData) → p.watch ≡ Some w
-    → (taken_by now r f p).port.standing ≡ Here
+    → (taken_by now r f p).port.presence ≡ Here
     → StaysWatched w.duties (taken_by now r f p).port.watch
 by-watched w now (Err why) f p is still = absurd cc
 by-watched w now (Ok None) f p is still = record { later = w; is = is; owes = refl }
@@ -165,18 +165,18 @@ by-watched w now (Ok (Some said)) (Whole line rest) p is still = record {
   owes = known-duties said.word (record w { heard = min now said.moment; last = said.moment });
 }
 
-use-watched : (w : Watched) (u : Use) (p : PortData) → p.standing ≡ Here → p.watch ≡ Some w
-    → (port_after u p).standing ≡ Here → StaysWatched w.duties (port_after u p).watch
+use-watched : (w : Watched) (u : Use) (p : PortData) → p.presence ≡ Here → p.watch ≡ Some w
+    → (port_after u p).presence ≡ Here → StaysWatched w.duties (port_after u p).watch
 use-watched w (Takes s now jump) p here is still =
-    let whole = ap (λ standing. taken_as standing s now jump p) here in
+    let whole = ap (λ presence. taken_as presence s now jump p) here in
     subst (λ (t : Taken). StaysWatched w.duties t.port.watch) (sym whole)
     (by-watched w now (judged_at s now jump p) (first_line_of p.kept) p is
-    (ap (λ (t : Taken). t.port.standing) (sym whole) ∙ still))
+    (ap (λ (t : Taken). t.port.presence) (sym whole) ∙ still))
 use-watched w (Attends t s script) p here is still =
     let h = attended-same w t s script p here is still in
     record { later = h.later; is = h.is; owes = h.duties }
 
-uses-watched : (w : Watched) (us : List Use) (p : PortData) → p.standing ≡ Here
+uses-watched : (w : Watched) (us : List Use) (p : PortData) → p.presence ≡ Here
     → p.watch ≡ Some w → StaysHere us p → StaysWatched w.duties (after_uses us p).watch
 uses-watched w [] p here is stays = record { later = w; is = is; owes = refl }
 uses-watched w (u ∷ us) p here is stays =
@@ -211,9 +211,9 @@ module _ (w : Watched) (domain revision : List ℕ) (new : w.introduced ≡ fals
   -- a turn took what the port had, and then came the other uses
   taken-begin : (s : State) (now jump : ℕ) (us : List Use) (p : PortData)
       (r : Result (Option TimedMessage) DisconnectReason) (f : LineSearchData)
-      → judged_at s now jump p ≡ r → first_line_of p.kept ≡ f → p.standing ≡ Here
+      → judged_at s now jump p ≡ r → first_line_of p.kept ≡ f → p.presence ≡ Here
       → p.watch ≡ Some w → s.domain ≡ domain → s.revision ≡ revision
-      → (taken_by now r f p).port.standing ≡ Here → StaysHere us (taken_by now r f p).port
+      → (taken_by now r f p).port.presence ≡ Here → StaysHere us (taken_by now r f p).port
       → (StaysHere us p → UsesBegin us p (cutting_of (moves_of us p) p.kept).lines)
       → (let q = (taken_by now r f p).port in
       UsesBegin us q (cut_by r f p.kept (moves_of us q)).lines)
@@ -243,7 +243,7 @@ module _ (w : Watched) (domain revision : List ℕ) (new : w.introduced ≡ fals
 
 -- turns and what is done behind them lead on from a process that has not said whose it is
 begins-uses : (w : Watched) (domain revision : List ℕ) (us : List Use) (p : PortData)
-    → w.introduced ≡ false → p.standing ≡ Here → p.watch ≡ Some w → StaysHere us p
+    → w.introduced ≡ false → p.presence ≡ Here → p.watch ≡ Some w → StaysHere us p
     → AreOf domain revision us
     → Begins w.duties domain revision (cutting_of (moves_of us p) p.kept).lines
     (after_uses us p).watch
@@ -258,9 +258,9 @@ begins-uses w domain revision (Takes s now jump ∷ us) p new here is stays of =
     let r = judged_at s now jump p in
     let f = first_line_of p.kept in
     let whole : taken_line s now jump p ≡ taken_by now r f p =
-    ap (λ standing. taken_as standing s now jump p) here in
+    ap (λ presence. taken_as presence s now jump p) here in
     let begun = taken-begin w domain revision new s now jump us p r f refl refl here is of.0 of.1
-    (ap (λ (t : Taken). t.port.standing) (sym whole) ∙ stays.0)
+    (ap (λ (t : Taken). t.port.presence) (sym whole) ∙ stays.0)
     (subst (λ (t : Taken). StaysHere us t.port) whole stays.1)
     (λ again. begins-uses w domain revision us p new here is again of.2) in
     subst (λ (c : Cutting). Begins w.duties domain revision c.lines

@@ -131,22 +131,22 @@ keeps-talked t s answers p =
 -- where the process is still there, it was read into what is kept
 kept-here : (before : PortData) (r : Result PortData DisconnectReason) (calls : List Call)
     (kept : List ℕ) → Keeps kept r calls
-    → (closed_or_kept before r calls).port.standing ≡ Here
+    → (closed_or_kept before r calls).port.presence ≡ Here
     → (closed_or_kept before r calls).port.kept
     ≡ kept ++ given_of (closed_or_kept before r calls).calls
 kept-here before (Ok q) calls kept k here = k q refl
 kept-here before (Err why) calls kept k here = absurd cc
 
 pub attends-keep : (t : ReportedTurn) (s : State) (script : Script) (p : PortData)
-    → p.standing ≡ Here
-    → (attendance t s script p).port.standing ≡ Here
+    → p.presence ≡ Here
+    → (attendance t s script p).port.presence ≡ Here
     → (attendance t s script p).port.kept
     ≡ p.kept ++ given_of (attendance t s script p).calls
 attends-keep t s script p here still =
     let part = exchange_part t s (script.taken, script.heard) p in
     let is : attendance t s script p ≡ attended_here p part =
-    ap (λ standing. attended_as standing t s script p) here in
-    subst (λ (a : Attended). a.port.standing ≡ Here → a.port.kept ≡ p.kept ++ given_of a.calls)
+    ap (λ presence. attended_as presence t s script p) here in
+    subst (λ (a : Attended). a.port.presence ≡ Here → a.port.kept ≡ p.kept ++ given_of a.calls)
     (sym is)
     (kept-here p part.after part.calls p.kept (keeps-talked t s (script.taken, script.heard) p))
     still
@@ -154,7 +154,7 @@ attends-keep t s script p here still =
 -- what a process that is taken has sent meanwhile is kept
 taken-keep : (before : PortData) (r : Result PortData DisconnectReason) (calls : List Call)
     (kept : List ℕ) → Keeps kept r calls
-    → (taken_or_closed before r calls).port.standing ≡ Here
+    → (taken_or_closed before r calls).port.presence ≡ Here
     → (taken_or_closed before r calls).port.kept
     ≡ kept ++ given_of (taken_or_closed before r calls).calls
 taken-keep before (Ok q) calls kept k here = k q refl
@@ -162,7 +162,7 @@ taken-keep before (Err why) calls kept k here = absurd cc
 
 pub comes-keep : (tells : Bool) (duties : Option SupervisionSettings) (now : ℕ) (s : State)
     (accepted : Option (Option SocketAddrV4)) (heard : ReadOutcome × ReadOutcome)
-    → (accepted_in now s accepted heard (empty_port tells duties Away)).port.standing ≡ Here
+    → (accepted_in now s accepted heard (empty_port tells duties Away)).port.presence ≡ Here
     → (accepted_in now s accepted heard (empty_port tells duties Away)).port.kept
     ≡ given_of (accepted_in now s accepted heard (empty_port tells duties Away)).calls
 comes-keep tells duties now s None heard here = absurd cc
@@ -253,7 +253,7 @@ record TakeFollows (c : Cutting) (moves : List Move) (us : List Use) (t : Taken)
 takes-follow : (s : State) (now jump : ℕ) (us : List Use) (p : PortData)
     (r : Result (Option TimedMessage) DisconnectReason) (f : LineSearchData)
     → judged_at s now jump p ≡ r → first_line_of p.kept ≡ f
-    → (taken_by now r f p).port.standing ≡ Here → UseFollows us (taken_by now r f p).port
+    → (taken_by now r f p).port.presence ≡ Here → UseFollows us (taken_by now r f p).port
     → (let moves = moves_of us (taken_by now r f p).port in
     TakeFollows (cut_by r f p.kept moves) (moves_by r f moves) us (taken_by now r f p))
 takes-follow s now jump us p (Err why) f is there here h = absurd cc
@@ -274,14 +274,14 @@ takes-follow s now jump us p (Ok (Some said)) (Whole line rest) is there here h 
       all_is = h.all_is;
     }
 
-uses-follow : (us : List Use) (p : PortData) → p.standing ≡ Here → StaysHere us p → UseFollows us p
+uses-follow : (us : List Use) (p : PortData) → p.presence ≡ Here → StaysHere us p → UseFollows us p
 unfolding moves_of
 uses-follow [] p here stays = record { keeps = refl; had_is = refl; all_is = refl }
 uses-follow (Takes s now jump ∷ us) p here stays =
     let r = judged_at s now jump p in
     let f = first_line_of p.kept in
     let is : taken_line s now jump p ≡ taken_by now r f p =
-    ap (λ standing. taken_as standing s now jump p) here in
+    ap (λ presence. taken_as presence s now jump p) here in
     let later : UseFollows us (taken_line s now jump p).port =
     uses-follow us (taken_line s now jump p).port stays.0 stays.1 in
     let moves = moves_of us (taken_line s now jump p).port in
@@ -291,7 +291,7 @@ uses-follow (Takes s now jump ∷ us) p here stays =
     TakeFollows (cut_by r f p.kept moves) (moves_by r f moves) us t))
     (sym is)
     (takes-follow s now jump us p r f refl refl
-    (ap (λ (t : Taken). t.port.standing) (sym is) ∙ stays.0)
+    (ap (λ (t : Taken). t.port.presence) (sym is) ∙ stays.0)
     (subst (λ (t : Taken). UseFollows us t.port) is later)) in
     let cut = cut-is r f p.kept moves refl in
     record {

@@ -48,7 +48,7 @@ heard-watch moment w watch h = record {
 
 -- it is there, and what is known stays
 record SamePort (w : Watched) (p : PortData) : Type 0 where
-  here : p.standing ≡ Here
+  here : p.presence ≡ Here
   watch : SameWatch w p.watch
 
 -- unless a part led to a closing
@@ -151,34 +151,34 @@ steady-begun w now s answers p h =
 
 here-same : (w : Watched) (before : PortData) (r : Result PortData DisconnectReason)
     (calls : List Call)
-    → Steady w r → (closed_or_kept before r calls).port.standing ≡ Here
+    → Steady w r → (closed_or_kept before r calls).port.presence ≡ Here
     → SameWatch w (closed_or_kept before r calls).port.watch
 here-same w before (Ok q) calls h here = (h q refl).watch
 here-same w before (Err why) calls h here = absurd cc
 
 come-same : (w : Watched) (before : PortData) (r : Result PortData DisconnectReason)
     (calls : List Call)
-    → Steady w r → (taken_or_closed before r calls).port.standing ≡ Here
+    → Steady w r → (taken_or_closed before r calls).port.presence ≡ Here
     → SameWatch w (taken_or_closed before r calls).port.watch
 come-same w before (Ok q) calls h here = (h q refl).watch
 come-same w before (Err why) calls h here = absurd cc
 
 -- behind a turn, while it is there
 pub attended-same : (w : Watched) (t : ReportedTurn) (s : State) (script : Script) (p : PortData)
-    → p.standing ≡ Here → p.watch ≡ Some w → (attendance t s script p).port.standing ≡ Here
+    → p.presence ≡ Here → p.watch ≡ Some w → (attendance t s script p).port.presence ≡ Here
     → SameWatch w (attendance t s script p).port.watch
 attended-same w t s script p here is still =
     let part = exchange_part t s (script.taken, script.heard) p in
     let whole : attendance t s script p ≡ attended_here p part =
-    ap (λ standing. attended_as standing t s script p) here in
-    subst (λ (a : Attended). a.port.standing ≡ Here → SameWatch w a.port.watch) (sym whole)
+    ap (λ presence. attended_as presence t s script p) here in
+    subst (λ (a : Attended). a.port.presence ≡ Here → SameWatch w a.port.watch) (sym whole)
     (here-same w p part.after part.calls
     (steady-talked w t s (script.taken, script.heard) p
     (record { here = here; watch = same-watch w p.watch is }))) still
 
 pub accepted-same : (w : Watched) (now : ℕ) (s : State) (taken : Option (Option SocketAddrV4))
-    (heard : ReadOutcome × ReadOutcome) (p : PortData) → p.standing ≡ Away
-    → (with_no_data Here p).watch ≡ Some w → (accepted_in now s taken heard p).port.standing ≡ Here
+    (heard : ReadOutcome × ReadOutcome) (p : PortData) → p.presence ≡ Away
+    → (with_no_data Here p).watch ≡ Some w → (accepted_in now s taken heard p).port.presence ≡ Here
     → SameWatch w (accepted_in now s taken heard p).port.watch
 accepted-same w now s None heard p away is here =
     let no : Away ≡ Here = sym away ∙ here in absurd cc
@@ -340,7 +340,7 @@ pub record TookLoss (taken : Taken) : Type 0 where
 -- line is not too old, and the clock has not jumped.
 pub record Took (now jump : ℕ) (w : Watched) (taken : Taken) : Type 0 where
   pub not_lost : taken.is_lost ≡ false
-  pub here : taken.port.standing ≡ Here
+  pub here : taken.port.presence ≡ Here
   pub later : Watched
   pub watched : taken.port.watch ≡ Some later
   pub known : (later.introduced ≡ true) ⊎ ((w.introduced ≡ false) × (taken.event ≡ None))
@@ -348,7 +348,7 @@ pub record Took (now jump : ℕ) (w : Watched) (taken : Taken) : Type 0 where
   pub no_jump : jump ≤ later.duties.limit
 
 took-none : (s : State) (now jump : ℕ) (p : PortData) (w : Watched) (f : LineSearchData)
-    → p.standing ≡ Here → p.watch ≡ Some w → Judged s now jump p f None
+    → p.presence ≡ Here → p.watch ≡ Some w → Judged s now jump p f None
     → Took now jump w (nothing_of p)
 took-none s now jump p w f here watched j = record {
   not_lost = refl;
@@ -376,7 +376,7 @@ not-silent now (Some v) said e = by-span (nat_le (now - v.heard) v.duties.limit)
         let none : Err (Silent v.duties.limit) ≡ Ok (Some said) = rw few at e in cc
 
 took-some : (s : State) (now jump : ℕ) (p : PortData) (w : Watched) (f : LineSearchData)
-    (said : TimedMessage) → p.standing ≡ Here → p.watch ≡ Some w
+    (said : TimedMessage) → p.presence ≡ Here → p.watch ≡ Some w
     → Judged s now jump p f (Some said) → Took now jump w (line_taken now said f p)
 took-some s now jump p w Waiting said here watched j =
     absurd (not-silent now p.watch said j.front)
@@ -405,7 +405,7 @@ took-some s now jump p w (Whole line rest) said here watched j =
     }
 
 took-by : (s : State) (now jump : ℕ) (p : PortData) (w : Watched)
-    (r : Result (Option TimedMessage) DisconnectReason) → p.standing ≡ Here → p.watch ≡ Some w
+    (r : Result (Option TimedMessage) DisconnectReason) → p.presence ≡ Here → p.watch ≡ Some w
     → judged_at s now jump p ≡ r
     → TookLoss (taken_by now r (first_line_of p.kept) p)
     ⊎ Took now jump w (taken_by now r (first_line_of p.kept) p)
@@ -418,12 +418,12 @@ took-by s now jump p w (Ok (Some said)) here watched e =
     (judged-is s now jump p (first_line_of p.kept) (Some said) refl e))
 
 -- what a turn takes of a connected process
-pub took : (s : State) (now jump : ℕ) (p : PortData) (w : Watched) → p.standing ≡ Here
+pub took : (s : State) (now jump : ℕ) (p : PortData) (w : Watched) → p.presence ≡ Here
     → p.watch ≡ Some w
     → TookLoss (taken_line s now jump p) ⊎ Took now jump w (taken_line s now jump p)
 took s now jump p w here watched =
     subst (λ (t : Taken). TookLoss t ⊎ Took now jump w t)
-    (sym (ap (λ standing. taken_as standing s now jump p) here))
+    (sym (ap (λ presence. taken_as presence s now jump p) here))
     (took-by s now jump p w (judged_at s now jump p) here watched refl)
 
 -- one that is not supervised is not watched after it
@@ -441,10 +441,10 @@ is-heard s now jump p w here watched = by-watch p.watch refl
   where
     by-watch : (watch : Option Watched) → p.watch ≡ watch
         → ((taken_line s now jump p).is_lost ≡ true)
-        ⊎ (((taken_line s now jump p).port.standing ≡ Here) × IsBelieved s now jump p w)
+        ⊎ (((taken_line s now jump p).port.presence ≡ Here) × IsBelieved s now jump p w)
     by-watch None none =
         let is : taken_line s now jump p ≡ taken_here s now jump p =
-        ap (λ standing. taken_as standing s now jump p) here in
+        ap (λ presence. taken_as presence s now jump p) here in
         let no : None ≡ Some w =
         sym (ap (λ (t : Taken). t.port.watch) is
         ∙ unwatched now (judged_at s now jump p) (first_line_of p.kept) p none) ∙ watched in
@@ -469,35 +469,35 @@ is-heard s now jump p w here watched = by-watch p.watch refl
 -- behind a turn a process that was there is still there, or is lost in the next
 here-or-lost : (w : Watched) (before : PortData) (r : Result PortData DisconnectReason)
     (calls : List Call)
-    → Steady w r → ((closed_or_kept before r calls).port.standing ≡ Leaving)
-    ⊎ ((closed_or_kept before r calls).port.standing ≡ Here)
+    → Steady w r → ((closed_or_kept before r calls).port.presence ≡ Leaving)
+    ⊎ ((closed_or_kept before r calls).port.presence ≡ Here)
 here-or-lost w before (Ok q) calls h = inr (h q refl).here
 here-or-lost w before (Err why) calls h = inl refl
 
 pub attended-here : (w : Watched) (t : ReportedTurn) (s : State) (script : Script) (p : PortData)
-    → p.standing ≡ Here → p.watch ≡ Some w
-    → ((attendance t s script p).port.standing ≡ Leaving)
-    ⊎ ((attendance t s script p).port.standing ≡ Here)
+    → p.presence ≡ Here → p.watch ≡ Some w
+    → ((attendance t s script p).port.presence ≡ Leaving)
+    ⊎ ((attendance t s script p).port.presence ≡ Here)
 attended-here w t s script p here is =
     let part = exchange_part t s (script.taken, script.heard) p in
     let whole : attendance t s script p ≡ attended_here p part =
-    ap (λ standing. attended_as standing t s script p) here in
-    subst (λ (a : Attended). (a.port.standing ≡ Leaving) ⊎ (a.port.standing ≡ Here)) (sym whole)
+    ap (λ presence. attended_as presence t s script p) here in
+    subst (λ (a : Attended). (a.port.presence ≡ Leaving) ⊎ (a.port.presence ≡ Here)) (sym whole)
     (here-or-lost w p part.after part.calls
     (steady-talked w t s (script.taken, script.heard) p
     (record { here = here; watch = same-watch w p.watch is })))
 
 -- It is connected and has introduced itself.
 pub record IsKnown (p : PortData) : Type 0 where
-  pub here : p.standing ≡ Here
+  pub here : p.presence ≡ Here
   pub watch : Watched
   pub watched : p.watch ≡ Some watch
   pub introduced : watch.introduced ≡ true
 
 -- a process that is so is so after a turn, or lost in the next one
 pub stays-known : (t : ReportedTurn) (s : State) (script : Script) (p : PortData) (w : Watched)
-    → p.standing ≡ Here → p.watch ≡ Some w → w.introduced ≡ true
-    → ((attendance t s script p).port.standing ≡ Leaving)
+    → p.presence ≡ Here → p.watch ≡ Some w → w.introduced ≡ true
+    → ((attendance t s script p).port.presence ≡ Leaving)
     ⊎ IsKnown (attendance t s script p).port
 stays-known t s script p w here watched known = elim (attended-here w t s script p here watched) [
   | inl gone ↦ inl gone
@@ -514,9 +514,9 @@ stays-known t s script p w here watched known = elim (attended-here w t s script
 
 -- ---- what it owes stays
 
-owes-emptied : (standing : Presence) (p : PortData)
-    → settings_in (with_no_data standing p).watch ≡ settings_in p.watch
-owes-emptied standing p = by-watch p.watch
+owes-emptied : (presence : Presence) (p : PortData)
+    → settings_in (with_no_data presence p).watch ≡ settings_in p.watch
+owes-emptied presence p = by-watch p.watch
   where
     by-watch : (watch : Option Watched)
         → settings_in (option_map initial_watch (settings_in watch)) ≡ settings_in watch
@@ -525,7 +525,7 @@ owes-emptied standing p = by-watch p.watch
 
 pub took-owes : (s : State) (now jump : ℕ) (p : PortData)
     → settings_in (taken_line s now jump p).port.watch ≡ settings_in p.watch
-took-owes s now jump p = by-standing p.standing
+took-owes s now jump p = by-standing p.presence
   where
     by-word : (said : TimedMessage) (watch : Option Watched)
         → settings_in (known_behind now said watch) ≡ settings_in watch
@@ -542,8 +542,8 @@ took-owes s now jump p = by-standing p.standing
     by-judged (Ok (Some said)) Overlong = refl
     by-judged (Ok (Some said)) (Whole line rest) = by-word said p.watch
 
-    by-standing : (standing : Presence)
-        → settings_in (taken_as standing s now jump p).port.watch ≡ settings_in p.watch
+    by-standing : (presence : Presence)
+        → settings_in (taken_as presence s now jump p).port.watch ≡ settings_in p.watch
     by-standing Away = refl
     by-standing Leaving = owes-emptied Away p
     by-standing (Dismissed why) = refl
@@ -570,7 +570,7 @@ come-owes w before (Err why) calls is h = owes-emptied Away before ∙ ap settin
 -- behind a turn
 pub attended-owes : (t : ReportedTurn) (s : State) (script : Script) (p : PortData) (w : Watched)
     → p.watch ≡ Some w → settings_in (attendance t s script p).port.watch ≡ Some w.duties
-attended-owes t s script p w is = by-standing p.standing refl
+attended-owes t s script p w is = by-standing p.presence refl
   where
     by-accepted : (taken : Option (Option SocketAddrV4))
         → settings_in (accepted_in t.now s taken (script.heard, script.again) p).port.watch
@@ -588,8 +588,8 @@ attended-owes t s script p w is = by-standing p.standing refl
               (ap (λ watch. option_map initial_watch (settings_in watch)) is);
         }))
 
-    by-standing : (standing : Presence) → p.standing ≡ standing
-        → settings_in (attended_as standing t s script p).port.watch ≡ Some w.duties
+    by-standing : (presence : Presence) → p.presence ≡ presence
+        → settings_in (attended_as presence t s script p).port.watch ≡ Some w.duties
     by-standing Away at = by-accepted script.accepted
     by-standing Leaving at = ap settings_in is
     by-standing (Dismissed why) at = owes-emptied Away p ∙ ap settings_in is

@@ -32,17 +32,17 @@ hears_end (Closes a ∷ calls) = hears_end calls
 -- while it waited nothing is kept or reported.
 pub record IsSilent (t : ReportedTurn) (s : State) (now jump : ℕ) (script : Script) (p : PortData)
     : Type 0 where
-  pub closed : (why : DisconnectReason) → p.standing ≡ Here
+  pub closed : (why : DisconnectReason) → p.presence ≡ Here
       → (attendance t s script p).news ≡ Some (Closed why)
       → (attendance t s script p).port ≡ with_no_data Leaving p
-  pub lost : p.standing ≡ Leaving → taken_line s now jump p ≡ lost_of p
-  pub dismisses : (why : DisconnectReason) → p.standing ≡ Here
-      → (taken_line s now jump p).port.standing ≡ Dismissed why
+  pub lost : p.presence ≡ Leaving → taken_line s now jump p ≡ lost_of p
+  pub dismisses : (why : DisconnectReason) → p.presence ≡ Here
+      → (taken_line s now jump p).port.presence ≡ Dismissed why
       → taken_line s now jump p ≡ dismissed_of why p
-  pub parts : (why : DisconnectReason) → p.standing ≡ Dismissed why
+  pub parts : (why : DisconnectReason) → p.presence ≡ Dismissed why
       → attendance t s script p ≡ close_dismissed why p
-  pub calls : p.standing ≡ Leaving → (attendance t s script p).calls ≡ []
-  pub untaken : p.standing ≡ Away → hears_end (attendance t s script p).calls ≡ true
+  pub calls : p.presence ≡ Leaving → (attendance t s script p).calls ≡ []
+  pub untaken : p.presence ≡ Away → hears_end (attendance t s script p).calls ≡ true
       → ((attendance t s script p).news ≡ None)
       × ((attendance t s script p).port ≡ with_no_data Away p)
 

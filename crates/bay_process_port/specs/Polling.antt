@@ -179,7 +179,7 @@ attended_as Here t s script p = attended_here p (exchange_part t s (script.taken
 
 -- What the port does after a turn with this report, given the device after the turn.
 abbrev pub attendance : ReportedTurn → State → Script → PortData → Attended
-attendance t s script p = attended_as p.standing t s script p
+attendance t s script p = attended_as p.presence t s script p
 
 -- ---- as code does it
 

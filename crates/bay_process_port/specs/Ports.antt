@@ -15,7 +15,7 @@ use Rattle.bay_server_turn.specs.declared.process_input.ProcessEvent.{ProcessEve
 -- the state of the process, the octets that it has sent and no turn has taken, its queue, the
 -- releases that it was sent last, if it receives them, and its supervision, if it is supervised
 pub record PortData : Type 0 where
-  pub standing : Presence
+  pub presence : Presence
   pub kept : List ℕ
   pub queue : List ℕ
   pub told : Option (List (Option Release))
@@ -23,8 +23,8 @@ pub record PortData : Type 0 where
 
 -- an empty port, by whether a process receives releases, and by the supervision settings
 abbrev pub empty_port : Bool → Option SupervisionSettings → Presence → PortData
-empty_port tells duties standing = record {
-  standing = standing;
+empty_port tells duties presence = record {
+  presence = presence;
   kept = [];
   queue = [];
   told = if tells then Some nothing_told else None;
@@ -33,7 +33,7 @@ empty_port tells duties standing = record {
 
 -- the same port, emptied
 abbrev pub with_no_data : Presence → PortData → PortData
-with_no_data standing p = empty_port (is_some p.told) (settings_in p.watch) standing
+with_no_data presence p = empty_port (is_some p.told) (settings_in p.watch) presence
 
 -- whether a process receives releases, and its supervision settings, are unchanged
 pub record StaysBound (old new : PortData) : Type 0 where
@@ -150,7 +150,7 @@ taken_as Here s now jump p = taken_here s now jump p
 -- steady one since the turn before: of a process that is connected and still believed the next line
 -- that it has sent; of one that has gone, or is believed no more, once, that it is lost.
 abbrev pub taken_line : State → ℕ → ℕ → PortData → Taken
-taken_line s now jump p = taken_as p.standing s now jump p
+taken_line s now jump p = taken_as p.presence s now jump p
 
 -- A turn that has a line of a trace takes only that the process is lost.
 abbrev pub loss_in : Taken → PortData → Taken

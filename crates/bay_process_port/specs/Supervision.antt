@@ -58,7 +58,7 @@ pub record IsOfThisBay (tells : Bool) (duties : SupervisionSettings) (domain rev
 -- The process is connected, it has introduced itself, and its last line counts from a moment that
 -- is at most the supervision's milliseconds before this one.
 pub record IsLive (now : ℕ) (p : PortData) : Type 0 where
-  pub here : p.standing ≡ Here
+  pub here : p.presence ≡ Here
   pub watch : Watched
   pub watched : p.watch ≡ Some watch
   pub introduced : watch.introduced ≡ true
@@ -75,7 +75,7 @@ pub record IsBelieved (s : State) (now jump : ℕ) (p : PortData) (w : Watched) 
 
 -- Otherwise the turn begins with the loss, and takes no line.
 abbrev pub IsHeard : State → ℕ → ℕ → PortData → Type 0
-IsHeard s now jump p = (w : Watched) → p.standing ≡ Here
+IsHeard s now jump p = (w : Watched) → p.presence ≡ Here
     → (taken_line s now jump p).port.watch ≡ Some w
     → ((taken_line s now jump p).is_lost ≡ true)
-    ⊎ (((taken_line s now jump p).port.standing ≡ Here) × IsBelieved s now jump p w)
+    ⊎ (((taken_line s now jump p).port.presence ≡ Here) × IsBelieved s now jump p w)

@@ -67,7 +67,7 @@ all_given (u ∷ us) p = octets_given u p ++ all_given us (port_after u p)
 -- the process is connected after each of them
 abbrev pub StaysHere : List Use → PortData → Type 0
 StaysHere [] p = Unit {0}
-StaysHere (u ∷ us) p = ((port_after u p).standing ≡ Here) × StaysHere us (port_after u p)
+StaysHere (u ∷ us) p = ((port_after u p).presence ≡ Here) × StaysHere us (port_after u p)
 
 -- The octets read since the process was accepted are complete lines followed by the buffered rest.
 -- The turns got these lines in order, except those without an event, such as an empty line.
@@ -91,7 +91,7 @@ said_as Here s p = said_in s p.told
 
 abbrev pub said_of : Use → PortData → List (ℕ × Release)
 said_of (Takes s now jump) p = []
-said_of (Attends t s script) p = said_as p.standing s p
+said_of (Attends t s script) p = said_as p.presence s p
 
 abbrev pub all_said : List Use → PortData → List (ℕ × Release)
 all_said [] p = []
@@ -101,7 +101,7 @@ all_said (u ∷ us) p = said_of u p ++ all_said us (port_after u p)
 -- last for each switch is its release.
 abbrev pub IsUpToDate : Option SupervisionSettings → List Use → ReportedTurn → State → Script
     → Type 0
-IsUpToDate duties uses t s script = (after_uses uses (empty_port true duties Away)).standing ≡ Here
+IsUpToDate duties uses t s script = (after_uses uses (empty_port true duties Away)).presence ≡ Here
     → (attendance t s script (after_uses uses (empty_port true duties Away))).news ≡ None
     → (k : ℕ) → k < 32 → k < length s.switches
     → last_said k None (all_said (uses ++ Attends t s script ∷ []) (empty_port true duties Away))

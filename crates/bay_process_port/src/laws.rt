@@ -33,7 +33,7 @@ pub fn a_process_ends_no_server()
 /// connection is closed.
 pub fn a_process_gets_reports_in_order()
     ensures { (t : ReportedTurn) (s : State) (script : Script) (p : PortData)
-        → p.standing ≡ Here → TellsInOrder t s script p }
+        → p.presence ≡ Here → TellsInOrder t s script p }
 {}
 
 /// No line of a process is lost, repeated or joined with another. While the process is connected,

@@ -74,7 +74,7 @@ fn accept<L: Link>(
 
 // Closes the connection of a process that a turn has dismissed, and returns why.
 fn close_dismissed<L: Link>(port: &mut Port, link: &mut L) -> Option<ConnectionEvent>
-    ensures { ClosesDismissed (Called L.does L.failures) port.old.standing link.old link.new
+    ensures { ClosesDismissed (Called L.does L.failures) port.old.presence link.old link.new
         port.old
         port.new result }
 {

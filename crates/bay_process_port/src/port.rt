@@ -112,7 +112,7 @@ impl Model for Port {
     ghost Value = { PortData };
 
     ghost view = { λ p. record
-        { standing = p.presence; kept = p.kept; queue = p.queue; told = p.told; watch = p.watch } };
+        { presence = p.presence; kept = p.kept; queue = p.queue; told = p.told; watch = p.watch } };
 
     ghost use Rattle.bay_process_port.specs.Fit.{IsInFront};
 
@@ -165,7 +165,7 @@ impl Port {
 
     /// Returns the state of the process.
     pub fn presence(&self) -> &Presence
-        ensures { result.now ≡ self.now.standing }
+        ensures { result.now ≡ self.now.presence }
     {
         &self.presence
     }
@@ -302,10 +302,11 @@ impl Port {
         }
     }
 
-    /// Returns why a turn has dismissed the process, if one has, and forgets that.
+    /// If a turn has dismissed the process and its connection is still to be closed, returns why, and
+    /// sets the presence to `Away`.
     pub(crate) fn take_dismissal(&mut self) -> Option<DisconnectReason>
-        ensures reason { result ≡ reason_in self.old.standing }
-        ensures port { self.new ≡ after_dismissal self.old.standing self.old }
+        ensures reason { result ≡ reason_in self.old.presence }
+        ensures port { self.new ≡ after_dismissal self.old.presence self.old }
     {
         if !matches!(self.presence, Presence::Dismissed(_)) {
             return None;

@@ -3,7 +3,7 @@ use Rattle.std.proofs.Common.{◌≡◌, ℕ, ◌+◌, ◌<◌, List, ◌∷◌,
 use Rattle.std.proofs.Math.Seq.{drop-cons}
 use Rattle.bay_device.specs.declared.event.Why.TheVariants.{Fault, Memory}
 use Rattle.bay_report.specs.Lines.{closing_text}
-use Rattle.bay_server.specs.TurnLines.{closings_text, memories_text}
+use Rattle.bay_server.specs.TurnLines.{closings_text, memory_closings_text}
 use Rattle.bay_server_turn.specs.Code.{code_of}
 use Rattle.bay_server_turn.specs.declared.turn_report.CloseReason.{CloseReason}
 
@@ -18,9 +18,9 @@ closings-turn now closed k d lt =
     ap (closings_text now) next
 
 pub memories-turn : (now : ℕ) (memory : List ℕ) (k d : ℕ) → k < length memory
-    → memories_text now (drop k memory)
-    ≡ closing_text now (get_or memory k d) Memory ++ memories_text now (drop (k + 1) memory)
+    → memory_closings_text now (drop k memory)
+    ≡ closing_text now (get_or memory k d) Memory ++ memory_closings_text now (drop (k + 1) memory)
 memories-turn now memory k d lt =
     let next : drop k memory ≡ get_or memory k d ∷ drop (k + 1) memory =
     rw (add-one, drop-cons memory k d) refl in
-    ap (memories_text now) next
+    ap (memory_closings_text now) next

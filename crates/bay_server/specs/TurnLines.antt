@@ -21,15 +21,16 @@ closings_text now (closed ∷ more) =
     closing_text now closed.0 (Fault (code_of closed.1)) ++ closings_text now more
 
 -- the lines of the associations that were closed because memory ran out
-abbrev pub memories_text : ℕ → List ℕ → List ℕ
-memories_text now [] = []
-memories_text now (a ∷ more) = closing_text now a Memory ++ memories_text now more
+abbrev pub memory_closings_text : ℕ → List ℕ → List ℕ
+memory_closings_text now [] = []
+memory_closings_text now (a ∷ more) = closing_text now a Memory ++ memory_closings_text now more
 
--- what is printed for a turn at this moment, by the device after it: a refusal, the commands, and
--- the closings
+-- the lines that are printed for a turn at `now`, if `s` is the state of the device after it: a
+-- refusal, the commands, the closings, and the closings because memory ran out
 abbrev pub turn_text : ℕ → Turn → State → List ℕ
 turn_text now turn s =
-    process_turn_text now turn s ++ closings_text now turn.closed ++ memories_text now turn.memory
+    process_turn_text now turn s ++ closings_text now turn.closed
+    ++ memory_closings_text now turn.memory
 
 -- the line of an event of the process's connection
 abbrev pub connection_event_text : ℕ → ConnectionEvent → List ℕ

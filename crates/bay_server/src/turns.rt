@@ -8,7 +8,7 @@ ghost use Rattle.bay_server_turn.specs.Code.{code_of};
 ghost use Rattle.bay_server.specs.ServeReport.{PrintsTurn, ReportsConnectionEvent, ReportsTurn, ReportsUnserved};
 ghost use Rattle.bay_process_port.specs.ProcessOutput.{refusal_text};
 ghost use Rattle.bay_process_port.specs.declared.connection_event.ConnectionEvent.TheVariants.{Closed, Opened};
-ghost use Rattle.bay_server.specs.TurnLines.{closings_text, memories_text, connection_event_text, turn_text, unserved_text};
+ghost use Rattle.bay_server.specs.TurnLines.{closings_text, memory_closings_text, connection_event_text, turn_text, unserved_text};
 ghost use Rattle.bay_server.specs.TurnLines as spec;
 
 use crate::change_lines::BayView;
@@ -58,7 +58,7 @@ fn put_closings<W: Sink>(writer: &mut WatchedWriter<W>, moment: u64, closed: &[(
 
 // Writes the lines of the associations that were closed because the device was out of memory.
 fn put_memories<W: Sink>(writer: &mut WatchedWriter<W>, moment: u64, memory: &[u16])
-    ensures { Puts W.contents W.does writer.old (memories_text moment memory.now) writer.new }
+    ensures { Puts W.contents W.does writer.old (memory_closings_text moment memory.now) writer.new }
 {
     for association in memory {
         put_closing_line(writer, moment, *association, Why::Memory);

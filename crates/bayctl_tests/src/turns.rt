@@ -44,10 +44,19 @@ struct Asking {
     closed: &'static [(u16, CloseReason)],
 }
 
-// With one octet at a write the result is the same; nine clients are served one after the other,
-// each of which ends in the turn in which the next one connects; a client that never reads is
-// closed.
-const ASKING: [Asking; 3] = [
+// A connection request and a request for an association that arrive together are answered in the
+// same turn. With one octet at a write the result is the same; nine clients are served one after
+// the other, each of which ends in the turn in which the next one connects; a client that never
+// reads is closed.
+const ASKING: [Asking; 4] = [
+    Asking {
+        clients: 1,
+        asked: 0,
+        per_write: 200,
+        turns: 1,
+        taken: 22 + 139,
+        closed: &[],
+    },
     Asking {
         clients: 1,
         asked: 1,
@@ -103,9 +112,14 @@ fn clients_are_answered_and_closed(rt: HostRuntime) -> Result<(), Fail> {
     Ok(())
 }
 
-// If this call of a session fails, the client received everything, or a prefix of it and the turn
-// reports that its connection failed. Returns the number of calls.
-fn failed_call(rt: &impl Abort, alloc: Global, fails_at: u64) -> Result<u64, Fail> {
+// Runs a session in which call number `fails_at` of the link fails, or none if it is 0. Asserts that
+// the client received everything, or a prefix and the turn reports that its connection failed.
+// Returns the number of calls.
+fn check_session_with_failing_call(
+    rt: &impl Abort,
+    alloc: Global,
+    fails_at: u64,
+) -> Result<u64, Fail> {
     let asked = session(alloc, 1)?;
     let whole = octets_of(alloc, &[CONFIRM, CONNECTED, IDENTITY])?;
     let taken = RefCell::new(Vec::new(alloc));
@@ -131,8 +145,8 @@ fn failed_call(rt: &impl Abort, alloc: Global, fails_at: u64) -> Result<u64, Fai
 // Shows P-127, P-129.
 #[test]
 fn each_call_may_fail(rt: HostRuntime) -> Result<(), Fail> {
-    for fails_at in 1..=failed_call(&rt, rt.alloc(), 0)? {
-        failed_call(&rt, rt.alloc(), fails_at)?;
+    for fails_at in 1..=check_session_with_failing_call(&rt, rt.alloc(), 0)? {
+        check_session_with_failing_call(&rt, rt.alloc(), fails_at)?;
     }
     Ok(())
 }

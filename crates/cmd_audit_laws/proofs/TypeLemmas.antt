@@ -303,8 +303,8 @@ judged-fits (Some w) s now line =
     by-moment None = tt
     by-moment (Some moment) = timely-fits w.duties.limit now moment Introduces tt
 
-taken-fits : (standing : Presence) (s : State) (now jump : ℕ) (p : PortData)
-    → IfSome (taken_as standing s now jump p).event EventFits
+taken-fits : (presence : Presence) (s : State) (now jump : ℕ) (p : PortData)
+    → IfSome (taken_as presence s now jump p).event EventFits
 taken-fits Away s now jump p = tt
 taken-fits Leaving s now jump p = tt
 taken-fits (Dismissed why) s now jump p = tt
@@ -334,6 +334,6 @@ pub choice-fits : {L : Type 0} (s : State) (now jump : ℕ) (lines : List (ℕ �
     (line : Option (ℕ × List ℕ)) (process : Option (PollOutcome L))
     → IfSome (reported_in (from_trace line s now jump lines process).next.given).event EventFits
 choice-fits s now jump lines None None = tt
-choice-fits s now jump lines None (Some p) = taken-fits p.port.standing s now jump p.port
+choice-fits s now jump lines None (Some p) = taken-fits p.port.presence s now jump p.port
 choice-fits s now jump lines (Some line) process =
     loss-fits _ (turn_input_of_line s line.1) (given-fits s line.1)

@@ -64,7 +64,7 @@ some-command (command ∷ more) some = (command, (0, omega arith, refl))
 -- connected and has introduced itself.
 record Stands-by (duties : SupervisionSettings) (d : State) (p : PortData) : Type 0 where
   owes : settings_in p.watch ≡ Some duties
-  state : (p.standing ≡ Leaving) ⊎ ((d.is_lost ≡ true) ⊎ IsKnown p)
+  state : (p.presence ≡ Leaving) ⊎ ((d.is_lost ≡ true) ⊎ IsKnown p)
 
 record Keeps {L H : Type 0} (duties : SupervisionSettings) (b : Serving L H) : Type 0 where
   process : PollOutcome L
@@ -128,7 +128,7 @@ module _ (duties : SupervisionSettings) (h : ServerData) (t : DoneTurn) (is : Is
     by-lost lost = record { owes = owes-after; state = inr (inl lost) }
 
     -- a connected process that is still believed
-    by-took : (w : Watched) → p.standing ≡ Here → p.watch ≡ Some w
+    by-took : (w : Watched) → p.presence ≡ Here → p.watch ≡ Some w
         → Took t.now jump w (taken_line h.device t.now jump p) → Stands-by duties last behind
     by-took w here watched k = by-known k.known
       where
@@ -157,28 +157,28 @@ module _ (duties : SupervisionSettings) (h : ServerData) (t : DoneTurn) (is : Is
         by-known (inr new) = unknown new.0 (gives.event ∙ new.1)
 
     -- a turn that took no event, of a process that was lost or is not connected
-    by-nothing : (standing : Presence) → p.standing ≡ standing
+    by-nothing : (presence : Presence) → p.presence ≡ presence
         → taken_line h.device t.now jump p ≡ nothing_of p
-        → (Leaving ≡ standing → ⊥) → (Here ≡ standing → ⊥) → Stands-by duties last behind
-    by-nothing standing at taken no-leaving no-here = elim before.state [
+        → (Leaving ≡ presence → ⊥) → (Here ≡ presence → ⊥) → Stands-by duties last behind
+    by-nothing presence at taken no-leaving no-here = elim before.state [
       | inl gone ↦ absurd (no-leaving (sym gone ∙ at))
       | inr (inl lost) ↦
           by-lost (ends-lost (gives.event ∙ ap (λ (x : Taken). x.event) taken) (inl lost))
       | inr (inr alive) ↦ absurd (no-here (sym alive.here ∙ at))
     ]
 
-    by-standing : (standing : Presence) → p.standing ≡ standing → Stands-by duties last behind
+    by-standing : (presence : Presence) → p.presence ≡ presence → Stands-by duties last behind
     by-standing Away at =
-        by-nothing Away at (ap (λ standing. taken_as standing h.device t.now jump p) at)
+        by-nothing Away at (ap (λ presence. taken_as presence h.device t.now jump p) at)
         (λ no. let e : Leaving ≡ Away = no in cc) (λ no. let e : Here ≡ Away = no in cc)
     by-standing Leaving at =
         let taken : taken_line h.device t.now jump p ≡ lost_of p =
-        ap (λ standing. taken_as standing h.device t.now jump p) at in
+        ap (λ presence. taken_as presence h.device t.now jump p) at in
         by-lost (ends-lost (gives.event ∙ ap (λ (x : Taken). x.event) taken)
         (inr (gives.lost ∙ ap (λ (x : Taken). x.is_lost) taken)))
     by-standing (Dismissed why) at =
         by-nothing (Dismissed why) at
-        (ap (λ standing. taken_as standing h.device t.now jump p) at)
+        (ap (λ presence. taken_as presence h.device t.now jump p) at)
         (λ no. let e : Leaving ≡ Dismissed why = no in cc)
         (λ no. let e : Here ≡ Dismissed why = no in cc)
     by-standing Here at =
@@ -190,7 +190,7 @@ module _ (duties : SupervisionSettings) (h : ServerData) (t : DoneTurn) (is : Is
         ]
 
     stands-after : Stands-by duties last behind
-    stands-after = by-standing p.standing refl
+    stands-after = by-standing p.presence refl
 
   -- the process is live in a turn that reports a command, and the clock has not jumped
   record LivesNow : Type 0 where
@@ -201,7 +201,7 @@ module _ (duties : SupervisionSettings) (h : ServerData) (t : DoneTurn) (is : Is
   lives-now k = elim before.state [
     | inl gone ↦
         absurd (let taken : taken_line h.device t.now jump p ≡ lost_of p =
-        ap (λ standing. taken_as standing h.device t.now jump p) gone in
+        ap (λ presence. taken_as presence h.device t.now jump p) gone in
         let no : true ≡ false =
         sym (ap (λ (x : Taken). x.is_lost) taken) ∙ sym gives.lost ∙ k.not_told in cc)
     | inr (inl lost) ↦ absurd (let no : true ≡ false = sym lost ∙ k.heard in cc)

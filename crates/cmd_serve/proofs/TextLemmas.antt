@@ -38,7 +38,7 @@ use Rattle.bay_server_turn.specs.declared.turn_report.CloseReason.{CloseReason}
 use Rattle.bay_server_turn.specs.declared.turn_report.Turn.{Turn}
 use Rattle.bay_server_turn_laws.specs.Events.{ChosenEvent, turn_events}
 use Rattle.bay_server_turn_laws.proofs.PartLemmas.{Part-turn}
-use Rattle.bay_server.specs.TurnLines.{closings_text, memories_text, turn_text}
+use Rattle.bay_server.specs.TurnLines.{closings_text, memory_closings_text, turn_text}
 use Rattle.cmd_serve.specs.Orders.{AreOrdered, IsOrdered}
 use Rattle.cmd_serve.specs.Texts.{ArePrinted, IsPrintedFor, IsTurnLine}
 use Rattle.cmd_serve.specs.Service.{AreTurns, DoneTurn, IsBegun, held_behind, past_behind}
@@ -100,7 +100,7 @@ module _ (now : ℕ) (commands : List Command) (s : State) (ids : HaveIds s.swit
       (map-lines other-only (closed-lines now none s ids (Some (c.0, Fault (code_of c.1)))))
       (closings-lines more)
 
-  memories-lines : (memory : List ℕ) → AreLines Is (memories_text now memory)
+  memories-lines : (memory : List ℕ) → AreLines Is (memory_closings_text now memory)
   memories-lines [] = no-lines
   memories-lines (a ∷ more) =
       more-lines (map-lines other-only (closed-lines now none s ids (Some (a, Memory))))

@@ -2,7 +2,7 @@
 // runs the last one.
 ghost use Rattle.std.specs.Prelude.{◌<◌, length};
 
-use crate::texts::text_of;
+use crate::texts::expand_text;
 use anyhow::{Context, Result, bail};
 use bay_base::listing::Listing;
 use bay_config::bay::Point;
@@ -149,7 +149,7 @@ impl<'a> Programs<'a> {
     fn program(&mut self, kind: &str, lines: &str) -> Result<String> {
         let (alloc, declared) = (self.alloc, self.declared);
         let spelled = format!(in alloc; "PROGRAM P\\n{declared}\\n{lines}\\nEND_PROGRAM\\n")?;
-        let text = text_of(alloc, spelled.as_str())?;
+        let text = expand_text(alloc, spelled.as_str())?;
         let program = read_program(alloc, text.as_str())?;
         let typed = match check(alloc, &program, self.points.as_slice()) {
             Ok(typed) => typed,

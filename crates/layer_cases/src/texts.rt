@@ -1,12 +1,13 @@
-// Texts, and the programs that they spell. In a case `\n` and ` / ` end a line, `\r` and `\t`
-// denote the characters, and between two `\n` `N * LINE` is a line N times.
+// Texts of cases, and the programs that they have. In the short form of a text `\n` separates
+// parts, a part `N * LINE` denotes N times this line, ` / ` ends a line, and `\r` and `\t` denote
+// the characters.
 use anyhow::Result;
 use il_text::program::{Item, Program};
 use il_text::read::read_program;
 use std::alloc::{AllocError, Global};
 
-/// Returns the text that a case spells.
-pub fn text_of(alloc: Global, spelled: &str) -> Result<String> {
+/// Returns the text of which a case has the short form.
+pub fn expand_text(alloc: Global, spelled: &str) -> Result<String> {
     let mut text = String::new(alloc);
     for part in spelled.split("\\n") {
         let (times, line) = part.split_once(" * ").unwrap_or(("1", part));
@@ -48,7 +49,7 @@ fn program_text(alloc: Global, program: &Program<'_>) -> Result<String, AllocErr
 pub fn reading(alloc: Global, kind: &str, spelled: &str) -> Result<String> {
     let (before, after) = around(kind);
     let spelled = format!(in alloc; "{before}{spelled}{after}")?;
-    let text = text_of(alloc, spelled.as_str())?;
+    let text = expand_text(alloc, spelled.as_str())?;
     let program = match read_program(alloc, text.as_str()) {
         Ok(program) => program,
         Err(fault) => {
