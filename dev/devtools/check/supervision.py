@@ -327,13 +327,24 @@ def stalled(checks, limit: int, age: int, stall: float) -> tuple[bool, list[int]
         return bool(answers) and answers[0].is_good, commands, server.printed()
 
 
+def stalled_between_turns(checks, limit: int, age: int, stall: float) -> tuple:
+    """The same, tried again if the server was stopped within a turn: then its command has the time
+    of that turn, from before the stop, and a process drops it by its age."""
+    for _ in range(5):
+        found = stalled(checks, limit, age, stall)
+        commands = found[1]
+        if not commands or stall * 1000 <= limit or any(it > limit for it in commands):
+            break
+    return found
+
+
 # Shows P-117, P-133.
 def stalls(checks) -> None:
     """Servers that are held up, each for another time."""
     cases = [(limit, age, stall) for limit in (100, 500) for age in (1_000, 600_000)
              for stall in STALLS]
     with concurrent.futures.ThreadPoolExecutor(len(cases)) as pool:
-        found = list(pool.map(lambda case: stalled(checks, *case), cases))
+        found = list(pool.map(lambda case: stalled_between_turns(checks, *case), cases))
     for case, (is_given, commands, printed) in zip(cases, found):
         limit, _, stall = case
         checks.holds('a command on a word that is too old', all(age <= limit for age in commands),
