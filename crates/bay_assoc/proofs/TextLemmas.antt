@@ -10,7 +10,7 @@ use Rattle.bay_ber.proofs.SheetLemmas.{put_nil, put-put, fits}
 use Rattle.bay_ber.proofs.SizeLemmas.{length-element, length-integer}
 use Rattle.bay_ber.specs.Tags.{context, constructed, sequence, int_tag}
 use Rattle.bay_assoc.specs.Tags.{oid_tag, set_tag, external_tag, application, mms_application}
-use Rattle.bay_assoc.specs.Texts.{carried_text, user_text, result_text, results_text, selector_text, connected_text, associated_text, release_text}
+use Rattle.bay_assoc.specs.Texts.{context_value_text, user_text, result_text, results_text, selector_text, connected_text, associated_text, release_text}
 use Rattle.bay_assoc.specs.declared.presentation.Context.{Context}
 use Rattle.bay_assoc.specs.declared.receive.Accepted.{Accepted}
 
@@ -38,7 +38,7 @@ each-end writer whole a cs i past all =
 -- ---- lengths
 
 carried-short : (tag : Tag) (id : ℕ) (value : List ℕ)
-    → length (carried_text tag id value) ≤ length value + 26
+    → length (context_value_text tag id value) ≤ length value + 26
 carried-short tag id value =
     let number = element int_tag (integer_octets (pos id)) in
     let held = element (constructed 0) value in
@@ -54,7 +54,7 @@ pub user-short : (id : ℕ) (value : List ℕ) → length (user_text id value) �
 user-short id value =
     omega (
       arith,
-      length-element (application 1) (carried_text sequence id value),
+      length-element (application 1) (context_value_text sequence id value),
       carried-short sequence id value,
     )
 
@@ -125,7 +125,7 @@ associated_short mms pdu short =
     let name = element (constructed 1) (element oid_tag mms_application) in
     let done = element (constructed 2) (0x02 ∷ 0x01 ∷ 0x00 ∷ []) in
     let source = element (constructed 3) (0xA1 ∷ 0x03 ∷ 0x02 ∷ 0x01 ∷ 0x00 ∷ []) in
-    let information = element (constructed 30) (carried_text external_tag mms pdu) in
+    let information = element (constructed 30) (context_value_text external_tag mms pdu) in
     omega (
       arith,
       length-element (application 1) (name ++ (done ++ (source ++ information))),
@@ -136,7 +136,7 @@ associated_short mms pdu short =
       oid-seven,
       length-element (constructed 2) (0x02 ∷ 0x01 ∷ 0x00 ∷ []),
       length-element (constructed 3) (0xA1 ∷ 0x03 ∷ 0x02 ∷ 0x01 ∷ 0x00 ∷ []),
-      length-element (constructed 30) (carried_text external_tag mms pdu),
+      length-element (constructed 30) (context_value_text external_tag mms pdu),
       carried-short external_tag mms pdu,
     )
 

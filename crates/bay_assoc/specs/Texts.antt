@@ -37,13 +37,13 @@ transfer_text user = 1 ∷ 0 ∷ 1 ∷ 0 ∷ user
 -- ---- ISO 8823-1 User-data: presentation
 
 -- a value in a context
-abbrev pub carried_text : Tag → ℕ → List ℕ → List ℕ
-carried_text tag id value =
+abbrev pub context_value_text : Tag → ℕ → List ℕ → List ℕ
+context_value_text tag id value =
     element tag (element int_tag (integer_octets (pos id)) ++ element (constructed 0) value)
 
 -- fully encoded user data
 abbrev pub user_text : ℕ → List ℕ → List ℕ
-user_text id value = element (application 1) (carried_text sequence id value)
+user_text id value = element (application 1) (context_value_text sequence id value)
 
 -- ---- ISO 8823-1 Result-list: the results for contexts
 
@@ -84,7 +84,7 @@ associated_text mms pdu =
     element (application 1) (element (constructed 1) (element oid_tag mms_application)
     ++ (element (constructed 2) (0x02 ∷ 0x01 ∷ 0x00 ∷ [])
     ++ (element (constructed 3) (0xA1 ∷ 0x03 ∷ 0x02 ∷ 0x01 ∷ 0x00 ∷ [])
-    ++ element (constructed 30) (carried_text external_tag mms pdu))))
+    ++ element (constructed 30) (context_value_text external_tag mms pdu))))
 
 -- ---- ISO 8650-1 RLRE-apdu: the answer to a request for a release
 

@@ -5,7 +5,7 @@ ghost use Rattle.bay_ber.specs.EncoderBuffers.{sheet_with};
 ghost use Rattle.bay_ber.specs.Writing.{element};
 ghost use Rattle.bay_ber.specs.Tags.{constructed};
 ghost use Rattle.bay_assoc.specs.Tags.{oid_tag, external_tag, mms_application};
-ghost use Rattle.bay_assoc.specs.Texts.{size_text, unit_text, accept_text, disconnect_text, transfer_text, carried_text, user_text, result_text, results_text, selector_text, connected_text, associated_text, release_text};
+ghost use Rattle.bay_assoc.specs.Texts.{size_text, unit_text, accept_text, disconnect_text, transfer_text, context_value_text, user_text, result_text, results_text, selector_text, connected_text, associated_text, release_text};
 
 use crate::presentation::Context;
 use crate::receive::Accepted;
@@ -76,9 +76,9 @@ fn disconnect(alloc: Global, user: &[u8]) -> Result<Vec<u8>, AllocError>
 
 // Appends a value in a context.
 #[tactic(auto, using(bay_ber::proofs::SheetLemmas::sheet_rules))]
-fn put_carried(writer: &mut Writer, tag: Tag, id: u16, value: &[u8])
+fn put_context_value(writer: &mut Writer, tag: Tag, id: u16, value: &[u8])
     requires { tag.number < 31 }
-    ensures { writer.new ≡ sheet_with writer.old (carried_text tag id value.now) }
+    ensures { writer.new ≡ sheet_with writer.old (context_value_text tag id value.now) }
 {
     let start = writer.open(tag);
     writer.int(Tag::universal(2), i64::from(id));
@@ -92,7 +92,7 @@ fn put_user(writer: &mut Writer, id: u16, value: &[u8])
     ensures { writer.new ≡ sheet_with writer.old (user_text id value.now) }
 {
     let start = writer.open(Tag::application_constructed(1));
-    put_carried(writer, Tag::sequence(), id, value);
+    put_context_value(writer, Tag::sequence(), id, value);
     writer.close(start);
 }
 
@@ -211,12 +211,12 @@ fn application_context() -> &'static [u8]
 
 // Appends the user information, which is one EXTERNAL.
 #[tactic(auto, using(bay_ber::proofs::SheetLemmas::sheet_rules))]
-fn put_information(writer: &mut Writer, mms: u16, pdu: &[u8])
+fn put_user_information(writer: &mut Writer, mms: u16, pdu: &[u8])
     ensures { writer.new ≡ sheet_with writer.old
-        (element (constructed 30) (carried_text external_tag mms pdu.now)) }
+        (element (constructed 30) (context_value_text external_tag mms pdu.now)) }
 {
     let start = writer.open(Tag::context_constructed(30));
-    put_carried(writer, Tag::universal_constructed(8), mms, pdu);
+    put_context_value(writer, Tag::universal_constructed(8), mms, pdu);
     writer.close(start);
 }
 
@@ -229,7 +229,7 @@ fn put_associated(writer: &mut Writer, mms: u16, pdu: &[u8])
     writer.octets(Tag::context_constructed(1), application_context());
     writer.octets(Tag::context_constructed(2), &[0x02, 0x01, 0x00]);
     writer.octets(Tag::context_constructed(3), &[0xA1, 0x03, 0x02, 0x01, 0x00]);
-    put_information(writer, mms, pdu);
+    put_user_information(writer, mms, pdu);
     writer.close(start);
 }
 

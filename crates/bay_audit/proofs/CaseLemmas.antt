@@ -21,7 +21,7 @@ use Rattle.bay_tree.specs.declared.leaf.Dbpos.TheVariants.{Intermediate, Off, On
 use Rattle.bay_tree.specs.declared.leaf.Leaf.TheVariants as leaf
 use Rattle.il_image.specs.declared.value.Value.TheVariants.{Truth}
 use Rattle.il_range.specs.Ranges.{AreIn, IsIn}
-use Rattle.bay_audit.specs.Cases.{allows, answer_of, bad_positions, example_of, false_inputs, grants, high_after, high_by, high_of, input_may, is_in, is_of_field, lost_case, low_after, low_by, low_of, lesser_int, may_be, meets, position_range, greater_int, range_of, same_field, test_allows, test_grants, truth_range}
+use Rattle.bay_audit.specs.Cases.{allows_position, answer_of, bad_positions, example_of, false_inputs, allows_input, high_after, high_by, high_of, input_may, is_in, is_of_field, lost_case, low_after, low_by, low_of, lesser_int, may_be, meets, position_range, greater_int, range_of, same_field, test_allows_position, test_allows_input, truth_range}
 use Rattle.bay_audit.specs.Process.{IsLost, IsProcess, process_value}
 use Rattle.bay_audit.specs.declared.case.TestAnswer.{TestAnswer}
 use Rattle.bay_audit.specs.declared.case.Test.{Test}
@@ -88,7 +88,7 @@ module _ (p : Process) where
       ap (λ n. beq (same_position which (p.position n)) value) (sym (same-place j k e)) ∙ h
 
   position-allowed : (k : ℕ) (t : Test) (value : Bool) → beq (answer_of p t) value ≡ true
-      → test_allows k (p.position k) value t ≡ true
+      → test_allows_position k (p.position k) value t ≡ true
   position-allowed k (test.Position j which) value h =
       position-if (nat_eq j k) j k which value refl h
   position-allowed k (test.Input j) value h = refl
@@ -97,7 +97,7 @@ module _ (p : Process) where
   pub position-may : (case : List TestAnswer) → is_in case p ≡ true → (k : ℕ)
       → may_be case k (p.position k) ≡ true
   position-may case h k =
-      all-pass (allows k (p.position k)) (λ l. position-allowed k l.test l.value) case h
+      all-pass (allows_position k (p.position k)) (λ l. position-allowed k l.test l.value) case h
 
   input-if : (b : Bool) (j k : ℕ) (value : Bool) → nat_eq j k ≡ b → beq (p.input j) value ≡ true
       → (not b || beq (p.input k) value) ≡ true
@@ -105,7 +105,7 @@ module _ (p : Process) where
   input-if true j k value e h = ap (λ n. beq (p.input n) value) (sym (same-place j k e)) ∙ h
 
   input-granted : (k : ℕ) (t : Test) (value : Bool) → beq (answer_of p t) value ≡ true
-      → test_grants k (p.input k) value t ≡ true
+      → test_allows_input k (p.input k) value t ≡ true
   input-granted k (test.Position j which) value h = refl
   input-granted k (test.Input j) value h = input-if (nat_eq j k) j k value refl h
   input-granted k (test.AtMost j field most) value h = refl
@@ -113,7 +113,7 @@ module _ (p : Process) where
   pub input-may : (case : List TestAnswer) → is_in case p ≡ true → (k : ℕ)
       → input_may case k (p.input k) ≡ true
   input-may case h k =
-      all-pass (grants k (p.input k)) (λ l. input-granted k l.test l.value) case h
+      all-pass (allows_input k (p.input k)) (λ l. input-granted k l.test l.value) case h
 
   -- ---- measured values
 

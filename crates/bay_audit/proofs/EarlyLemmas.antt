@@ -3,7 +3,7 @@ use Rattle.std.proofs.Common.{◌≡◌, Bool, true, false, List, refl, sym, ap,
 use Rattle.bay_audit_rules.specs.Process.{Process, holds}
 use Rattle.bay_audit_rules.specs.declared.rule.ConditionItem.{ConditionItem}
 use Rattle.bay_audit.specs.Cases.{is_in}
-use Rattle.bay_audit.specs.Conditions.{includes, outlook_of}
+use Rattle.bay_audit.specs.Conditions.{includes, condition_truths}
 use Rattle.bay_audit.specs.Process.{IsProcess}
 use Rattle.bay_audit.specs.declared.case.TestAnswer.{TestAnswer}
 use Rattle.bay_audit.specs.declared.truth_set.TruthSet.{TruthSet}
@@ -14,7 +14,7 @@ sure o true never one = refl
 sure o false never one = absurd (let f : true ≡ false = sym one ∙ never in cc)
 
 pub asked-so : (p : Process) → IsProcess p → (case : List TestAnswer) → is_in case p ≡ true
-    → (when : List ConditionItem) (o : TruthSet) → o ≡ outlook_of case when → o.no ≡ false
+    → (when : List ConditionItem) (o : TruthSet) → o ≡ condition_truths case when → o.no ≡ false
     → holds when p ≡ true
 asked-so p is case inside when o same never =
     sure o (holds when p) never

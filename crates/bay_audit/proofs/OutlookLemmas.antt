@@ -13,7 +13,7 @@ use Rattle.bay_audit_rules.specs.declared.rule.ConditionItem.TheVariants as item
 use Rattle.bay_audit_rules.specs.declared.rule.Relation.{Relation}
 use Rattle.bay_audit_rules.specs.declared.rule.Relation.TheVariants.{Less, AtMost, Equal, Unequal, AtLeast, Greater}
 use Rattle.bay_audit.specs.Cases.{high_of, input_may, is_in, low_of, may_be}
-use Rattle.bay_audit.specs.Conditions.{both, either, includes, negate_top_truths, opposite, truth_set, truths_after_item, outlook_of, truths_after_items, join_top_truths, position_truths, relation_truths, top_outlook}
+use Rattle.bay_audit.specs.Conditions.{and_truths, or_truths, includes, negate_top_truths, negate_truths, truth_set, truths_after_item, condition_truths, truths_after_items, join_top_truths, position_truths, relation_truths, top_truths}
 use Rattle.bay_audit.specs.Process.{IsProcess}
 use Rattle.bay_audit.specs.declared.case.TestAnswer.{TestAnswer}
 use Rattle.bay_audit.specs.declared.truth_set.TruthSet.{TruthSet}
@@ -29,19 +29,19 @@ Include [] (b ∷ bs) = ⊥
 Include (o ∷ os) [] = ⊥
 
 pub of-opposite : (o : TruthSet) (b : Bool) → includes o b ≡ true
-    → includes (opposite o) (not b) ≡ true
+    → includes (negate_truths o) (not b) ≡ true
 of-opposite o true h = h
 of-opposite o false h = h
 
 pub of-both : (o q : TruthSet) (a b : Bool) → includes o a ≡ true → includes q b ≡ true
-    → includes (both o q) (a && b) ≡ true
+    → includes (and_truths o q) (a && b) ≡ true
 of-both o q true true h k = and_from o.yes q.yes h k
 of-both o q true false h k = or_right o.no q.no k
 of-both o q false true h k = or_left o.no q.no h
 of-both o q false false h k = or_left o.no q.no h
 
 of-either : (o q : TruthSet) (a b : Bool) → includes o a ≡ true → includes q b ≡ true
-    → includes (either o q) (a || b) ≡ true
+    → includes (or_truths o q) (a || b) ≡ true
 of-either o q true true h k = or_left o.yes q.yes h
 of-either o q true false h k = or_left o.yes q.yes h
 of-either o q false true h k = or_right o.yes q.yes k
@@ -135,8 +135,8 @@ module _ (p : Process) (is : IsProcess p) (case : List TestAnswer) (h : is_in ca
     all,
   )
   item-included items.Not os bs all = include-opposed os bs all
-  item-included items.And os bs all = include-joined both (λ a b. a && b) of-both os bs all
-  item-included items.Or os bs all = include-joined either (λ a b. a || b) of-either os bs all
+  item-included items.And os bs all = include-joined and_truths (λ a b. a && b) of-both os bs all
+  item-included items.Or os bs all = include-joined or_truths (λ a b. a || b) of-either os bs all
 
   items-included : (is : List ConditionItem) (os : List TruthSet) (bs : List Bool) → Include os bs
       → Include (truths_after_items case is os) (after_items p is bs)
@@ -146,7 +146,7 @@ module _ (p : Process) (is : IsProcess p) (case : List TestAnswer) (h : is_in ca
       (item-included i os bs all)
 
   top-included : (os : List TruthSet) (bs : List Bool) → Include os bs
-      → includes (top_outlook os) (top bs) ≡ true
+      → includes (top_truths os) (top bs) ≡ true
   top-included [] [] all = refl
   top-included (o ∷ os) (b ∷ bs) all = all.0
   top-included [] (b ∷ bs) all = absurd all
@@ -154,7 +154,7 @@ module _ (p : Process) (is : IsProcess p) (case : List TestAnswer) (h : is_in ca
 
   -- the condition is one of what it may come to
   pub condition-included : (is : List ConditionItem)
-      → includes (outlook_of case is) (holds is p) ≡ true
+      → includes (condition_truths case is) (holds is p) ≡ true
   condition-included is =
       top-included (truths_after_items case is []) (after_items p is [])
       (items-included is [] [] tt)

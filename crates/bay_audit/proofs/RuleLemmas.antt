@@ -19,7 +19,7 @@ use Rattle.il_scan.specs.Places.{is_true}
 use Rattle.il_scan.specs.Scans.{outputs_of}
 use Rattle.il_scan.specs.Scans as scans
 use Rattle.bay_audit.specs.Cases.{is_in, range_of}
-use Rattle.bay_audit.specs.Conditions.{base_truths_of, includes, opposite, outlook_of}
+use Rattle.bay_audit.specs.Conditions.{rule_truths, includes, negate_truths, condition_truths}
 use Rattle.bay_audit.specs.Process.{IsProcess, process_value}
 use Rattle.bay_audit.specs.Rules.{Comes, Foresees, IsMissed, IsDecision, BoundProgram, decide, goal_range, idle_range, is_covered, is_surely_obeyed, is_surely_missed, is_obeyed, range_at, range_there, reaches, releasing_point}
 use Rattle.bay_audit.specs.declared.demand.Demand.{Demand}
@@ -194,11 +194,12 @@ goal-told g (goals.Idle n) now slots timers ranges limits h y = idle-told now ti
 -- ---- what is asked
 
 pub asked-included : (d : Demand) (p : Process) → IsProcess p → (case : List TestAnswer)
-    → is_in case p ≡ true → includes (base_truths_of case d.when d.unless) (is_covered d p) ≡ true
+    → is_in case p ≡ true → includes (rule_truths case d.when d.unless) (is_covered d p) ≡ true
 asked-included d p is case inside =
-    of-both (outlook_of case d.when) (opposite (outlook_of case d.unless)) (holds d.when p)
+    of-both (condition_truths case d.when) (negate_truths (condition_truths case d.unless))
+    (holds d.when p)
     (not (holds d.unless p)) (condition-included p is case inside d.when)
-    (of-opposite (outlook_of case d.unless) (holds d.unless p)
+    (of-opposite (condition_truths case d.unless) (holds d.unless p)
     (condition-included p is case inside d.unless))
 
 -- ---- a pass
@@ -215,7 +216,7 @@ foresees-by g memory limits given last result is foretells machine inputs now sl
 module _ (g : BoundProgram) (d : Demand) (case : List TestAnswer) (ranges : List Range)
     (limits : List (Option ℕ))
     (foresees : Foresees g d.limits (map (range_of case) g.reads) limits ranges)
-    (asked : TruthSet) (r : Range) (is-asked : asked ≡ base_truths_of case d.when d.unless)
+    (asked : TruthSet) (r : Range) (is-asked : asked ≡ rule_truths case d.when d.unless)
     (is-range : r ≡ goal_range g.image.points g.writes ranges limits d.goal) where
   module _ (p : Process) (is : IsProcess p) (inside : is_in case p ≡ true) (machine : scans.Held)
       (now : ℕ) (slots : List Value) (timers : List TimerState) (image : machine.image ≡ g.image)
@@ -259,9 +260,9 @@ idle-so kind o false b never one = refl
 idle-so kind o true b never one = absurd (let f : true ≡ false = sym one ∙ never in cc)
 
 pub idle-in : (g : BoundProgram) (d : Demand) (case : List TestAnswer)
-    → (base_truths_of case d.when d.unless).yes ≡ false → (p : Process) → IsProcess p
+    → (rule_truths case d.when d.unless).yes ≡ false → (p : Process) → IsProcess p
     → is_in case p ≡ true → Comes true g d p
 idle-in g d case never p is inside machine now slots timers image kept young leaves =
-    idle-so d.kind (base_truths_of case d.when d.unless) (is_covered d p)
+    idle-so d.kind (rule_truths case d.when d.unless) (is_covered d p)
     (reaches g d.goal slots timers)
     never (asked-included d p is case inside)

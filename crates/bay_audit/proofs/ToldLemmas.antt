@@ -11,7 +11,7 @@ use Rattle.bay_base.specs.declared.point.MeterField.TheVariants.{TotW, TotVAr, H
 use Rattle.bay_audit_rules.specs.Process.{Process, same_position}
 use Rattle.bay_tree.specs.declared.leaf.Dbpos.{Dbpos}
 use Rattle.bay_tree.specs.declared.leaf.Dbpos.TheVariants.{Intermediate, Off, On, Bad}
-use Rattle.bay_audit.specs.Cases.{IsWithin, allows, answer_of, example_of, first_position, grants, high_after, high_by, high_of, input_may, is_in, is_of_field, low_after, low_by, low_of, lesser_int, may_be, meets, greater_int, same_field, test_allows, test_grants}
+use Rattle.bay_audit.specs.Cases.{IsWithin, allows_position, answer_of, example_of, first_position, allows_input, high_after, high_by, high_of, input_may, is_in, is_of_field, low_after, low_by, low_of, lesser_int, may_be, meets, greater_int, same_field, test_allows_position, test_allows_input}
 use Rattle.bay_audit.specs.Laws.{CasesAreReported, CasesHaveExamples}
 use Rattle.bay_audit.specs.Process.{IsProcess}
 use Rattle.bay_audit.specs.declared.case.TestAnswer.{TestAnswer}
@@ -49,8 +49,8 @@ at-most z low high most false value e least greatest = absurd cc
 module _ (p : Process) where
   -- a literal is met by what it alone leaves
   meets-one : (t : Test) (value : Bool) (low high : ℕ → MeterField → ℤ)
-      → ((k : ℕ) → test_allows k (p.position k) value t ≡ true)
-      → ((k : ℕ) → test_grants k (p.input k) value t ≡ true)
+      → ((k : ℕ) → test_allows_position k (p.position k) value t ≡ true)
+      → ((k : ℕ) → test_allows_input k (p.input k) value t ≡ true)
       → ((k : ℕ) (field : MeterField)
       → low_by k field (low k field) value t ≤ℤ p.measure k field)
       → ((k : ℕ) (field : MeterField)
@@ -66,8 +66,8 @@ module _ (p : Process) where
       value (here j field) (least j field) (greatest j field)
 
   in-by : (case : List TestAnswer) (low high : ℕ → MeterField → ℤ)
-      → ((k : ℕ) → list_all (allows k (p.position k)) case ≡ true)
-      → ((k : ℕ) → list_all (grants k (p.input k)) case ≡ true)
+      → ((k : ℕ) → list_all (allows_position k (p.position k)) case ≡ true)
+      → ((k : ℕ) → list_all (allows_input k (p.input k)) case ≡ true)
       → ((k : ℕ) (field : MeterField)
       → fold (low_after k field) (low k field) case ≤ℤ p.measure k field)
       → ((k : ℕ) (field : MeterField)
@@ -77,18 +77,22 @@ module _ (p : Process) where
   in-by (l ∷ case) low high a g least greatest =
       and_from (meets p l) (is_in case p)
       (meets-one l.test l.value low high
-      (λ k. (and_parts (allows k (p.position k) l) (list_all (allows k (p.position k)) case)
+      (λ k. (and_parts (allows_position k (p.position k) l)
+      (list_all (allows_position k (p.position k)) case)
       (a k)).0)
-      (λ k. (and_parts (grants k (p.input k) l) (list_all (grants k (p.input k)) case) (g k)).0)
+      (λ k. (and_parts (allows_input k (p.input k) l) (list_all (allows_input k (p.input k)) case)
+      (g k)).0)
       (λ k field. low-least k field case (low_after k field (low k field) l) (p.measure k field)
       (least k field))
       (λ k field. high-most k field case (high_after k field (high k field) l) (p.measure k field)
       (greatest k field)))
       (in-by case (λ k field. low_after k field (low k field) l)
       (λ k field. high_after k field (high k field) l)
-      (λ k. (and_parts (allows k (p.position k) l) (list_all (allows k (p.position k)) case)
+      (λ k. (and_parts (allows_position k (p.position k) l)
+      (list_all (allows_position k (p.position k)) case)
       (a k)).1)
-      (λ k. (and_parts (grants k (p.input k) l) (list_all (grants k (p.input k)) case) (g k)).1)
+      (λ k. (and_parts (allows_input k (p.input k) l) (list_all (allows_input k (p.input k)) case)
+      (g k)).1)
       least greatest)
 
   in-within : (case : List TestAnswer) → IsWithin case p → is_in case p ≡ true

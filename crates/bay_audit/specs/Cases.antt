@@ -62,29 +62,29 @@ same_field PhaseC PhaseC = true
 same_field a b = false
 
 -- a switch may have the position, by one test and by all
-abbrev pub test_allows : ℕ → Dbpos → Bool → Test → Bool
-test_allows k position value (test.Position j which) =
+abbrev pub test_allows_position : ℕ → Dbpos → Bool → Test → Bool
+test_allows_position k position value (test.Position j which) =
     not (j == k) || beq (same_position which position) value
-test_allows k position value (test.Input j) = true
-test_allows k position value (test.AtMost j field most) = true
+test_allows_position k position value (test.Input j) = true
+test_allows_position k position value (test.AtMost j field most) = true
 
-abbrev pub allows : ℕ → Dbpos → TestAnswer → Bool
-allows k position l = test_allows k position l.value l.test
+abbrev pub allows_position : ℕ → Dbpos → TestAnswer → Bool
+allows_position k position l = test_allows_position k position l.value l.test
 
 abbrev pub may_be : List TestAnswer → ℕ → Dbpos → Bool
-may_be case k position = list_all (allows k position) case
+may_be case k position = list_all (allows_position k position) case
 
 -- an input may have the value, by one test and by all
-abbrev pub test_grants : ℕ → Bool → Bool → Test → Bool
-test_grants k wanted value (test.Position j which) = true
-test_grants k wanted value (test.Input j) = not (j == k) || beq wanted value
-test_grants k wanted value (test.AtMost j field most) = true
+abbrev pub test_allows_input : ℕ → Bool → Bool → Test → Bool
+test_allows_input k wanted value (test.Position j which) = true
+test_allows_input k wanted value (test.Input j) = not (j == k) || beq wanted value
+test_allows_input k wanted value (test.AtMost j field most) = true
 
-abbrev pub grants : ℕ → Bool → TestAnswer → Bool
-grants k wanted l = test_grants k wanted l.value l.test
+abbrev pub allows_input : ℕ → Bool → TestAnswer → Bool
+allows_input k wanted l = test_allows_input k wanted l.value l.test
 
 abbrev pub input_may : List TestAnswer → ℕ → Bool → Bool
-input_may case k wanted = list_all (grants k wanted) case
+input_may case k wanted = list_all (allows_input k wanted) case
 
 -- the least and the greatest number that a measured value may have
 abbrev pub is_of_field : ℕ → MeterField → ℕ → MeterField → Bool

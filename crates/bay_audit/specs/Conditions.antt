@@ -42,19 +42,19 @@ relation_truths Greater low high n = truth_set (int_lt n high) (int_le low n)
 -- ---- conditions
 
 -- the truth sets of a negation, a conjunction and a disjunction
-abbrev pub opposite : TruthSet → TruthSet
-opposite a = truth_set a.no a.yes
+abbrev pub negate_truths : TruthSet → TruthSet
+negate_truths a = truth_set a.no a.yes
 
-abbrev pub both : TruthSet → TruthSet → TruthSet
-both a b = truth_set (a.yes && b.yes) (a.no || b.no)
+abbrev pub and_truths : TruthSet → TruthSet → TruthSet
+and_truths a b = truth_set (a.yes && b.yes) (a.no || b.no)
 
-abbrev pub either : TruthSet → TruthSet → TruthSet
-either a b = truth_set (a.yes || b.yes) (a.no && b.no)
+abbrev pub or_truths : TruthSet → TruthSet → TruthSet
+or_truths a b = truth_set (a.yes || b.yes) (a.no && b.no)
 
 -- the stack, top first, with its top negated, and with its two top sets joined
 abbrev pub negate_top_truths : List TruthSet → List TruthSet
 negate_top_truths [] = []
-negate_top_truths (a ∷ stack) = opposite a ∷ stack
+negate_top_truths (a ∷ stack) = negate_truths a ∷ stack
 
 abbrev pub join_top_truths : (TruthSet → TruthSet → TruthSet) → List TruthSet → List TruthSet
 join_top_truths f [] = []
@@ -72,22 +72,23 @@ truths_after_item case (items.Input k) stack =
 truths_after_item case (items.Measure k field relation value) stack =
     relation_truths relation (low_of case k field) (high_of case k field) value ∷ stack
 truths_after_item case items.Not stack = negate_top_truths stack
-truths_after_item case items.And stack = join_top_truths both stack
-truths_after_item case items.Or stack = join_top_truths either stack
+truths_after_item case items.And stack = join_top_truths and_truths stack
+truths_after_item case items.Or stack = join_top_truths or_truths stack
 
 -- the stack after a list of items
 abbrev pub truths_after_items : List TestAnswer → List ConditionItem → List TruthSet → List TruthSet
 truths_after_items case [] stack = stack
 truths_after_items case (i ∷ is) stack = truths_after_items case is (truths_after_item case i stack)
 
-abbrev pub top_outlook : List TruthSet → TruthSet
-top_outlook [] = truth_set false true
-top_outlook (a ∷ stack) = a
+abbrev pub top_truths : List TruthSet → TruthSet
+top_truths [] = truth_set false true
+top_truths (a ∷ stack) = a
 
 -- the truth set of the condition of these items
-abbrev pub outlook_of : List TestAnswer → List ConditionItem → TruthSet
-outlook_of case is = top_outlook (truths_after_items case is [])
+abbrev pub condition_truths : List TestAnswer → List ConditionItem → TruthSet
+condition_truths case is = top_truths (truths_after_items case is [])
 
 -- the truth set of a condition with its exception: the condition and the negation of the exception
-abbrev pub base_truths_of : List TestAnswer → List ConditionItem → List ConditionItem → TruthSet
-base_truths_of case when unless = both (outlook_of case when) (opposite (outlook_of case unless))
+abbrev pub rule_truths : List TestAnswer → List ConditionItem → List ConditionItem → TruthSet
+rule_truths case when unless =
+    and_truths (condition_truths case when) (negate_truths (condition_truths case unless))

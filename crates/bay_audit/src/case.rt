@@ -41,8 +41,8 @@ pub struct TestAnswer {
 
 impl TestAnswer {
     // Returns whether the switch may have the position.
-    fn allows(self, switch: usize, position: Dbpos) -> bool
-        ensures { result ≡ spec.allows switch position self }
+    fn allows_position(self, switch: usize, position: Dbpos) -> bool
+        ensures { result ≡ spec.allows_position switch position self }
     {
         match self.test {
             Test::Position {
@@ -54,8 +54,8 @@ impl TestAnswer {
     }
 
     // Returns whether the input may have the value.
-    fn grants(self, input: usize, wanted: bool) -> bool
-        ensures { result ≡ spec.grants input wanted self }
+    fn allows_input(self, input: usize, wanted: bool) -> bool
+        ensures { result ≡ spec.allows_input input wanted self }
     {
         match self.test {
             Test::Input { input: at } => at != input || wanted == self.value,
@@ -285,7 +285,7 @@ impl Case {
     {
         self.literals
             .iter()
-            .all(|literal| literal.allows(switch, position))
+            .all(|literal| literal.allows_position(switch, position))
     }
 
     /// Returns whether the input at an index may have a value.
@@ -294,7 +294,7 @@ impl Case {
     {
         self.literals
             .iter()
-            .all(|literal| literal.grants(input, wanted))
+            .all(|literal| literal.allows_input(input, wanted))
     }
 
     /// Returns the least number that a field of a meter may have.

@@ -12,7 +12,7 @@ use crate::answer::Verdict;
 use crate::audit::{plain_demand, split};
 use crate::case::Case;
 use crate::program::AuditedProgram;
-use crate::truth_set::truths_of;
+use crate::truth_set::condition_truths_of;
 use crate::verdict::{release_place, verdict};
 use bay_audit_rules::rule::Rule;
 use il_image::value::Value;
@@ -111,7 +111,7 @@ fn is_early(
 ) -> Result<bool, AllocError>
     ensures { IfOk result (λ shown. shown ≡ true → IsEarlyIn program.now rule.now time case.now) }
 {
-    let asked = truths_of(alloc, case, rule.when.as_slice())?;
+    let asked = condition_truths_of(alloc, case, rule.when.as_slice())?;
     if asked.no || !case.has_example() {
         return Ok(false);
     }

@@ -17,8 +17,8 @@ pub struct TruthSet {
 
 impl TruthSet {
     // The truth set of the negation.
-    fn opposite(self) -> Self
-        ensures { result ≡ spec.opposite self }
+    fn negate_truths(self) -> Self
+        ensures { result ≡ spec.negate_truths self }
     {
         TruthSet {
             yes: self.no,
@@ -27,8 +27,8 @@ impl TruthSet {
     }
 
     // The truth set of the conjunction.
-    fn both(self, other: Self) -> Self
-        ensures { result ≡ spec.both self other }
+    fn and_truths(self, other: Self) -> Self
+        ensures { result ≡ spec.and_truths self other }
     {
         TruthSet {
             yes: self.yes && other.yes,
@@ -37,8 +37,8 @@ impl TruthSet {
     }
 
     // The truth set of the disjunction.
-    fn either(self, other: Self) -> Self
-        ensures { result ≡ spec.either self other }
+    fn or_truths(self, other: Self) -> Self
+        ensures { result ≡ spec.or_truths self other }
     {
         TruthSet {
             yes: self.yes || other.yes,
@@ -127,16 +127,16 @@ impl TruthSetStack {
         }
     }
 
-    fn push(&mut self, outlook: TruthSet) -> Result<(), AllocError>
-        ensures { OnOk result (self.new ≡ outlook ∷ self.old) }
+    fn push(&mut self, truths: TruthSet) -> Result<(), AllocError>
+        ensures { OnOk result (self.new ≡ truths ∷ self.old) }
     {
-        self.items.push(outlook)?;
+        self.items.push(truths)?;
         Ok(())
     }
 
     fn pop(&mut self) -> Option<TruthSet>
         ensures { MatchOption result ((self.old ≡ []) × (self.new ≡ []))
-            (λ outlook. self.old ≡ outlook ∷ self.new) }
+            (λ truths. self.old ≡ truths ∷ self.new) }
     {
         self.items.pop()
     }
@@ -146,7 +146,7 @@ impl TruthSetStack {
         ensures { OnOk result (self.new ≡ spec.negate_top_truths self.old) }
     {
         match self.pop() {
-            Some(a) => self.push(a.opposite()),
+            Some(a) => self.push(a.negate_truths()),
             None => Ok(()),
         }
     }
@@ -154,9 +154,9 @@ impl TruthSetStack {
     // Replaces the two on top by their conjunction, or by their disjunction.
     fn pair(&mut self, is_both: bool) -> Result<(), AllocError>
         ensures both { is_both ≡ true
-            → OnOk result (self.new ≡ spec.join_top_truths spec.both self.old) }
+            → OnOk result (self.new ≡ spec.join_top_truths spec.and_truths self.old) }
         ensures either { is_both ≡ false
-            → OnOk result (self.new ≡ spec.join_top_truths spec.either self.old) }
+            → OnOk result (self.new ≡ spec.join_top_truths spec.or_truths self.old) }
     {
         let Some(b) = self.pop() else {
             return Ok(());
@@ -164,7 +164,11 @@ impl TruthSetStack {
         let Some(a) = self.pop() else {
             return Ok(());
         };
-        self.push(if is_both { a.both(b) } else { a.either(b) })
+        self.push(if is_both {
+            a.and_truths(b)
+        } else {
+            a.or_truths(b)
+        })
     }
 
     // Applies one item of a condition.
@@ -207,33 +211,33 @@ impl TruthSetStack {
 
 /// Returns which truth values a condition, with its exception, can have in a case: both the
 /// condition and the negation of the exception must be TRUE. Fails only if an allocation fails.
-pub fn base_truths_of(
+pub fn rule_truths(
     alloc: Global,
     case: &Case,
     when: &[ConditionItem],
     unless: &[ConditionItem],
 ) -> Result<TruthSet, AllocError>
-    ensures { IfOk result (λ outlook. outlook ≡ spec.base_truths_of case.now when.now unless.now) }
+    ensures { IfOk result (λ truths. truths ≡ spec.rule_truths case.now when.now unless.now) }
 {
-    let when = truths_of(alloc, case, when)?;
-    let unless = truths_of(alloc, case, unless)?;
-    Ok(when.both(unless.opposite()))
+    let when = condition_truths_of(alloc, case, when)?;
+    let unless = condition_truths_of(alloc, case, unless)?;
+    Ok(when.and_truths(unless.negate_truths()))
 }
 
 /// Returns which truth values a condition can have in a case. Fails only if an allocation fails.
-pub fn truths_of(
+pub fn condition_truths_of(
     alloc: Global,
     case: &Case,
     items: &[ConditionItem],
 ) -> Result<TruthSet, AllocError>
-    ensures { IfOk result (λ outlook. outlook ≡ spec.outlook_of case.now items.now) }
+    ensures { IfOk result (λ truths. truths ≡ spec.condition_truths case.now items.now) }
 {
     let mut stack = TruthSetStack::new(alloc);
     for item in items {
         stack.take(case, *item)?;
     }
     match stack.pop() {
-        Some(outlook) => Ok(outlook),
+        Some(truths) => Ok(truths),
         None => Ok(TruthSet {
             yes: false,
             no: true,

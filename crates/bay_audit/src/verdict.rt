@@ -13,7 +13,7 @@ use crate::case::Case;
 use crate::demand::{Demand, Goal};
 use crate::program::AuditedProgram;
 use crate::split::undecided;
-use crate::truth_set::{TruthSet, base_truths_of};
+use crate::truth_set::{TruthSet, rule_truths};
 use bay_audit_rules::rule::RuleKind;
 use bay_config::bay::{Source, SwitchPoint};
 use bay_nodes::switch::Operation;
@@ -177,7 +177,7 @@ pub(crate) fn pass(
     case: &Case,
     asked: TruthSet,
 ) -> Result<(RuleVerdict, ScanPrediction), AllocError>
-    requires { asked ≡ spec_outlook.base_truths_of case.now demand.now.when demand.now.unless }
+    requires { asked ≡ spec_outlook.rule_truths case.now demand.now.when demand.now.unless }
     ensures { IfOk result
         (λ found. IsDecision program.now demand.now case.now found.0) }
 {
@@ -196,7 +196,7 @@ pub fn verdict(
 ) -> Result<Verdict, AllocError>
     ensures { IfOk result (IsVerdict program.now demand.now case.now) }
 {
-    let asked = base_truths_of(
+    let asked = rule_truths(
         alloc,
         case,
         demand.when.as_slice(),

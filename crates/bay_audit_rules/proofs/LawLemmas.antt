@@ -24,7 +24,7 @@ use Rattle.bay_audit_rules.specs.Meaning.{TokensRead, LineRead, LinesRead, prepe
 use Rattle.bay_audit_rules.specs.Laws.{OneReading, IsCondition, AreConditions, AreTruths}
 use Rattle.bay_audit_rules.specs.Process.{Process, after_item, after_items, top, holds}
 use Rattle.bay_audit_rules.proofs.ConditionLemmas.{plus-four}
-use Rattle.bay_audit_rules.proofs.SayingLemmas.{says-found}
+use Rattle.bay_audit_rules.proofs.TokenParsingLemmas.{says-found}
 
 -- ---- truths
 

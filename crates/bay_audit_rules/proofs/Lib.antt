@@ -4,6 +4,6 @@ pub mod LawLemmas
 pub mod NumberLemmas
 pub mod PieceLemmas
 pub mod ReadLemmas
-pub mod SayingLemmas
+pub mod TokenParsingLemmas
 pub mod TextLemmas
 pub mod WordLemmas

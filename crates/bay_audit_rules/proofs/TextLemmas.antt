@@ -17,10 +17,10 @@ use Rattle.bay_audit_rules.specs.Grammar.{Spells}
 use Rattle.bay_audit_rules.specs.Meaning.{AllRead, TextRead, prepend_rules, line_tokens, TokensRead, LinesRead, LineRead}
 use Rattle.bay_audit_rules.specs.Reading.{Pushes, Tells}
 use Rattle.bay_audit_rules.specs.Running.{Taken, fact_at}
-use Rattle.bay_audit_rules.specs.Sayings.{only_items, looks_at, statement_at}
+use Rattle.bay_audit_rules.specs.TokenParsing.{only_items, looks_at, statement_at}
 use Rattle.bay_audit_rules.specs.Turns.{TookIf}
 use Rattle.bay_audit_rules.proofs.ConditionLemmas.{none-plus}
-use Rattle.bay_audit_rules.proofs.SayingLemmas.{says-found}
+use Rattle.bay_audit_rules.proofs.TokenParsingLemmas.{says-found}
 
 -- values that are to be looked at, in an empty draft
 looks-took : (named : NamedObject) (ts : List RuleToken) (old new : Items)

@@ -8,8 +8,8 @@
 -- of a condition is that of its parts.
 --
 -- `Words`, `Numbers` and `Pieces`: the words and signs, the numbers and times, and how a line is
--- split. `Running`, `Sayings`, `Turns` and `Reading` describe how the code reads the tokens; no
--- public clause cites them. `Code` numbers the faults.
+-- split. `Running`, `TokenParsing`, `Turns` and `Reading` describe how the code reads the tokens;
+-- no public clause cites them. `Code` numbers the faults.
 
 pub mod Code
 pub mod Facts
@@ -21,6 +21,6 @@ pub mod Pieces
 pub mod Process
 pub mod Reading
 pub mod Running
-pub mod Sayings
+pub mod TokenParsing
 pub mod Turns
 pub mod Words

@@ -1,7 +1,7 @@
 // Reads the statement of a line.
 ghost use Rattle.std.specs.Prelude.{◌≡◌, ◌<◌, length, Some, None, option_map, IfOk, IfSome};
-ghost use Rattle.bay_audit_rules.specs.Sayings.{directions_at, timed_at, when_at, looks_at, rule_at, statement_at};
-ghost use Rattle.bay_audit_rules.specs.Sayings as spec;
+ghost use Rattle.bay_audit_rules.specs.TokenParsing.{directions_at, timed_at, when_at, looks_at, rule_at, statement_at};
+ghost use Rattle.bay_audit_rules.specs.TokenParsing as spec;
 
 use crate::condition::{condition, fact};
 use crate::draft::ConditionDraft;

@@ -12,7 +12,7 @@ use Rattle.clap.specs.declared.parser.matches.ArgMatches.{ArgMatches}
 use Rattle.clap.specs.declared.error.Error.{Error}
 use Rattle.clap.specs.declared.error.kind.ErrorKind.TheVariants.{OutOfMemory}
 use Rattle.clap.specs.declared.error.kind.ErrorKind.{ErrorKind}
-use Rattle.bay_cli.specs.Jobs.{asked_in, faultless, job_app, number_of}
+use Rattle.bay_cli.specs.Jobs.{parsed_words, faultless, job_app, number_of}
 use Rattle.bay_cli.specs.declared.parse.WordsFault.{WordsFault}
 use Rattle.bay_cli.specs.declared.parse.WordsFault.TheVariants.{OutOfMemory as ran_out}
 
@@ -24,7 +24,7 @@ faultless-refused (first ∷ others) kind read h = refl
 
 refused-by-kind : (words : List Text) (error : Error) (fault : WordsFault)
     → (kind_of error ≡ OutOfMemory → fault ≡ ran_out)
-    → HasKind (fault_of job_app words) error → (fault ≡ ran_out) ⊎ (asked_in words ≡ None)
+    → HasKind (fault_of job_app words) error → (fault ≡ ran_out) ⊎ (parsed_words words ≡ None)
 refused-by-kind words error fault told (inl memory) = inl (told memory)
 refused-by-kind words error fault told (inr among) =
     inr (faultless-refused (fault_of job_app words) (kind_of error) (subcommand_of job_app words)
@@ -40,7 +40,7 @@ is-job-app-simple = refl
 pub refused-words : (app : App) (words : List Text) (error : Error) (fault : WordsFault)
     → (kind_of error ≡ OutOfMemory → fault ≡ ran_out)
     → app ≡ job_app → (is_simple_and_free app ≡ true → HasKind (fault_of app words) error)
-    → (fault ≡ ran_out) ⊎ (asked_in words ≡ None)
+    → (fault ≡ ran_out) ⊎ (parsed_words words ≡ None)
 refused-words app words error fault told is kinds =
     let known =
     subst (λ (a : App). is_simple_and_free a ≡ true → HasKind (fault_of a words) error) is kinds
@@ -51,7 +51,7 @@ refused-words app words error fault told is kinds =
 pub taken-words : (app : App) (words : List Text) (matches : ArgMatches)
     → app ≡ job_app → HasMatchesOf app words matches
     → (is_simple_and_free app ≡ true → fault_of app words ≡ [])
-    → asked_in words ≡ subcommand_rows_of matches
+    → parsed_words words ≡ subcommand_rows_of matches
 taken-words app words matches is found faultless_words =
     let known = subst (λ (a : App). HasMatchesOf a words matches) is found in
     let none =

@@ -229,12 +229,12 @@ faultless [] read = read
 faultless (kind ∷ kinds) read = None
 
 -- the subcommand and its values, as `clap` parses the words; None if `clap` refuses them
-abbrev pub asked_in : List Text → Option (Text × List Row)
-asked_in words = faultless (fault_of job_app words) (subcommand_of job_app words)
+abbrev pub parsed_words : List Text → Option (Text × List Row)
+parsed_words words = faultless (fault_of job_app words) (subcommand_of job_app words)
 
 -- the task that the words spell, and whether the log is written
 abbrev pub task_in : List Text → Option (Invoked Text)
-task_in words = entered_task (asked_in words)
+task_in words = entered_task (parsed_words words)
 
 -- ---- jobs: records of all options
 
@@ -296,4 +296,4 @@ entered_job = option_and_then (λ p. named_job p.0 p.1)
 
 -- the job that the words spell
 abbrev pub job_in : List Text → Option JobData
-job_in words = entered_job (asked_in words)
+job_in words = entered_job (parsed_words words)

@@ -9,15 +9,15 @@ use Rattle.bay_cli.specs.declared.command.OptionValue.{OptionValue}
 use Rattle.bay_cli.specs.declared.command.OptionValue.TheVariants.{Nothing, Text, Number}
 
 -- a rule of `clap` with the value that an option takes
-abbrev pub taking : OptionValue → Rule → Rule
-taking Nothing rule = record rule { action = Some SetTrue }
-taking (Text name) rule = record rule { value_names = 1; action = Some Set }
-taking (Number name least greatest) rule =
+abbrev pub rule_with_value : OptionValue → Rule → Rule
+rule_with_value Nothing rule = record rule { action = Some SetTrue }
+rule_with_value (Text name) rule = record rule { value_names = 1; action = Some Set }
+rule_with_value (Number name least greatest) rule =
     record rule { value_names = 1; parser = Some (vp.Unsigned least greatest); action = Some Set }
 
 abbrev pub rule_in : OptionSpec → Rule
 rule_in choice =
-    taking choice.value
+    rule_with_value choice.value
     (record (new_rule choice.id.now) { long = Some choice.id.now; required = choice.required })
 
 -- a command with further options

@@ -2,7 +2,7 @@
 ghost use Rattle.std.specs.Prelude.{◌≡◌, ◌⊎◌, codes, map, Some, None, IfOk, IfErr, option_and_then, option_map};
 ghost use Rattle.std.specs.Str.{bytes_eq};
 ghost use Rattle.clap.specs.Words.{first_of, rows_of, found_of, kind_of, subcommand_rows_of};
-ghost use Rattle.bay_cli.specs.Jobs.{asked_in, audit_in, compile_in, check_in, job_in, number_of, program_in, serve_in, task_in};
+ghost use Rattle.bay_cli.specs.Jobs.{parsed_words, audit_in, compile_in, check_in, job_in, number_of, program_in, serve_in, task_in};
 ghost use Rattle.bay_cli.specs.Jobs as spec;
 ghost use Rattle.bay_cli.specs.JobView.{asked_view, job_view, program_view, task_view};
 
@@ -422,10 +422,10 @@ fn refused_by(alloc: Global, error: &Error) -> WordsFault
 // Parses words with `clap`.
 fn matches_of<'a>(alloc: Global, words: &'a [&'a str]) -> Result<ArgMatches<'a>, WordsFault>
     ensures ok { IfOk result
-        (λ m. asked_in (map (λ w. w.now) words.entry.now) ≡ subcommand_rows_of m) }
+        (λ m. parsed_words (map (λ w. w.now) words.entry.now) ≡ subcommand_rows_of m) }
     ensures refused { IfErr result
         (λ e. (e ≡ WordsFault.OutOfMemory)
-        ⊎ (asked_in (map (λ w. w.now) words.entry.now) ≡ None)) }
+        ⊎ (parsed_words (map (λ w. w.now) words.entry.now) ≡ None)) }
 {
     let command = match clap_command(alloc) {
         Ok(command) => command,

@@ -14,7 +14,7 @@ use Rattle.bay_config.specs.declared.fault.BayFault.{BayFault}
 use Rattle.bay_config.specs.declared.fault.BayFault.TheVariants.{MissingKey, BadValue, DuplicateName, TooMany}
 use Rattle.bay_config.specs.declared.names.NameSection.{NameSection}
 use Rattle.bay_config.specs.declared.names.NameSection.TheVariants.{Input, Meter}
-use Rattle.bay_config.specs.Bay.{bay_section, switch_section, name_section, most_names, name_in, name_keys, sections, switches_in, names_in, bay_table, nameplate_in, bay_in, bay_of_table, file_refusal}
+use Rattle.bay_config.specs.Bay.{bay_section, switch_section, name_section, max_names, name_in, name_keys, sections, switches_in, names_in, bay_table, nameplate_in, bay_in, bay_of_table, file_refusal}
 use Rattle.bay_config.specs.Key.{Key, is_among, unknown_refusal, refused_if}
 use Rattle.bay_config.specs.Laws.{IsOwned, IsBay}
 use Rattle.bay_config.specs.Point.{points_of, points_from, inputs_from, meter_points, meters_from, points_of_all, has_twin, names_refusal}
@@ -196,7 +196,7 @@ list-counts least most keys None h = cc
 list-counts least most keys (Some items) h = items-counts least most keys items h
 
 names-counts : (f : Members) (which : NameSection) → section_refusal f (name_section which) ≡ None
-    → length (names_in f which) ≤ most_names which
+    → length (names_in f which) ≤ max_names which
 names-counts f Input h =
     let counts =
     list-counts 0 64 (λ _. name_keys Input) (items_at (get_member (codes "input") f)) h in

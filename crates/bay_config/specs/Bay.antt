@@ -48,15 +48,15 @@ section_name Input = codes "input"
 section_name Meter = codes "meter"
 
 -- at most 64 inputs, and at most 8 meters
-abbrev pub most_names : NameSection → ℕ
-most_names Input = 64
-most_names Meter = 8
+abbrev pub max_names : NameSection → ℕ
+max_names Input = 64
+max_names Meter = 8
 
 abbrev pub name_section : NameSection → Section
 name_section which =
     record {
       name = section_name which;
-      shape = many 0 (most_names which);
+      shape = many 0 (max_names which);
       keys = λ _. name_keys which;
     }
 

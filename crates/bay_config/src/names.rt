@@ -3,7 +3,7 @@ ghost use Rattle.std.specs.Prelude.{◌≡◌, ◌∷◌, [], map, IsErrOf, IsSo
 ghost use Rattle.toml.specs.Data.{get_member};
 ghost use Rattle.toml.specs.View.{table_view, items_view};
 ghost use Rattle.bay_config.specs.declared.fault.BayFault.TheVariants.{OutOfMemory};
-ghost use Rattle.bay_config.specs.Bay.{name_key, name_keys, name_in, section_name, most_names, name_section, names_in};
+ghost use Rattle.bay_config.specs.Bay.{name_key, name_keys, name_in, section_name, max_names, name_section, names_in};
 ghost use Rattle.bay_base.specs.Exact.{Gives, unless_refused};
 ghost use Rattle.bay_config.specs.Key.{first_of, entry_refusal};
 ghost use Rattle.bay_config.specs.Section.{tables_of, items_at, items_refusal, section_refusal};
@@ -58,7 +58,7 @@ impl NameSection {
 
     // Returns the maximum number of tables in the section.
     fn most(self) -> usize
-        ensures { result ≡ most_names self }
+        ensures { result ≡ max_names self }
     {
         match self {
             NameSection::Input => 64,
@@ -103,7 +103,7 @@ fn names_from(
 fn names_of(alloc: Global, values: &[Value], which: NameSection) -> Result<Listing<Text>, BayFault>
     ensures { let items = items_view values.now in
         Gives OutOfMemory (λ x. x) result
-        (unless_refused (items_refusal 0 (most_names which) (λ _. name_keys which) items)
+        (unless_refused (items_refusal 0 (max_names which) (λ _. name_keys which) items)
         (map (name_in which) (tables_of items))) }
 {
     check_list(values, 0, which.most())?;

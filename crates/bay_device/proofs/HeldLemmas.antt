@@ -14,7 +14,7 @@ use Rattle.bay_nodes.specs.declared.switch.Switch.{Switch}
 use Rattle.bay_tree.specs.declared.leaf.Dbpos.{Dbpos}
 use Rattle.bay_tree.specs.declared.row.Row.{Row}
 use Rattle.bay_process.specs.Layout.{layout_of, switches_of}
-use Rattle.bay_process.specs.Scans.{HasPoints, bound_value, outputs_put}
+use Rattle.bay_process.specs.Scans.{HasPoints, source_value, outputs_put}
 use Rattle.bay_process.specs.ReportedRows.{AreInterlocked}
 use Rattle.bay_process.specs.Values.{rows_after_contact}
 use Rattle.bay_process.specs.declared.switch.BoundSwitch.{BoundSwitch}
@@ -75,7 +75,7 @@ pub contact-held : (d : DeviceState) (tree : List Row) (switches : List BoundSwi
     → layout_of tree ≡ layout_of d.bay.tree → switches ≡ d.bay.switches
     → with_own.from ≡ min d.unread.from (get_or spans k (record { from = 0; to = 0 })).from
     → with_own.to ≡ max d.unread.to (get_or spans k (record { from = 0; to = 0 })).to
-    → AreHeld with_own (map (bound_value tree switches d.input_values d.meters) d.reads)
+    → AreHeld with_own (map (source_value tree switches d.input_values d.meters) d.reads)
     (inputs_in d.machine.image.points d.machine.slots)
 contact-held d tree switches k s position now spans with_own lt all is written layout same from to =
     let own : Span = get_or spans k (record { from = 0; to = 0 }) in
@@ -88,11 +88,11 @@ contact-held d tree switches k s position now spans with_own lt all is written l
     (omega (arith, lt, d.spans_sized))
     ∙ ap (λ (ss : List Span). Some (get_or ss k (record { from = 0; to = 0 }))) (sym all) in
     subst (λ (bs : List BoundSwitch). AreHeld with_own
-    (map (bound_value tree bs d.input_values d.meters) d.reads)
+    (map (source_value tree bs d.input_values d.meters) d.reads)
     (inputs_in d.machine.image.points d.machine.slots)) (sym same)
     (switch-noted d.unread own with_own d.reads k
-    (bound_value d.bay.tree d.bay.switches d.input_values d.meters)
-    (bound_value tree d.bay.switches d.input_values d.meters)
+    (source_value d.bay.tree d.bay.switches d.input_values d.meters)
+    (source_value tree d.bay.switches d.input_values d.meters)
     (inputs_in d.machine.image.points d.machine.slots) from to (d.spanned k own here) d.held
     (contact-same d.bay.tree tree layout d.bay.switches d.input_values d.meters d.writes d.bound
     d.metered k s position now few is written))
@@ -103,12 +103,12 @@ pub scan-held : (d : DeviceState) (tree : List Row) (switches : List BoundSwitch
     → AreInterlocked (layout_of d.bay.tree) d.bay.switches
     → tree ≡ outputs_put (layout_of d.bay.tree) d.bay.switches outputs now d.bay.tree
     → layout_of tree ≡ layout_of d.bay.tree → switches ≡ d.bay.switches
-    → held ≡ map (bound_value d.bay.tree d.bay.switches d.input_values d.meters) d.reads
-    → AreHeld span (map (bound_value tree switches d.input_values d.meters) d.reads) held
+    → held ≡ map (source_value d.bay.tree d.bay.switches d.input_values d.meters) d.reads
+    → AreHeld span (map (source_value tree switches d.input_values d.meters) d.reads) held
 scan-held d tree switches outputs now span held named written layout same is =
     subst (λ (bs : List BoundSwitch). AreHeld span
-    (map (bound_value tree bs d.input_values d.meters) d.reads) held) (sym same)
-    (nothing-noted span (bound_value d.bay.tree d.bay.switches d.input_values d.meters)
-    (bound_value tree d.bay.switches d.input_values d.meters) d.reads held is
+    (map (source_value tree bs d.input_values d.meters) d.reads) held) (sym same)
+    (nothing-noted span (source_value d.bay.tree d.bay.switches d.input_values d.meters)
+    (source_value tree d.bay.switches d.input_values d.meters) d.reads held is
     (scan-same d.bay.tree tree layout d.bay.switches d.input_values d.meters d.writes d.bound
     d.metered outputs now named written))

@@ -17,7 +17,7 @@ use Rattle.bay_tree.specs.declared.leaf.Dbpos.{Dbpos}
 use Rattle.bay_device.specs.Device.{State, device_at, bay_of}
 use Rattle.bay_device.specs.Entries.{entries_at, entries_close, entries_closed, entries_heard, entries_octets, entries_of_event, entries_on, entries_open, entries_recv}
 use Rattle.bay_device.specs.Receiving.{Done, ReceiveResult, client_at, after_indications, on_indication, after_pdu, with_sent}
-use Rattle.bay_device.specs.Operates.{AreOperates, AreReplied, AreRepliedAt, IsReplied}
+use Rattle.bay_device.specs.Operates.{AreOperates, AreReplied, AreRepliedForEvent, IsReplied}
 use Rattle.bay_device.specs.Outcomes.{Outcome, close_outcome, connection_at, contact_outcome, doubt_outcome, event_outcome, input_outcome, last_moment, measure_outcome, nothing_done, octets_outcome, open_outcome, outcome, place_of, recv_outcome, refusal_of}
 use Rattle.bay_device.specs.Steps.{Steps}
 use Rattle.bay_device.specs.EntriesTold.{AreAgreed, pdus_after_first, of_answer, pdus_in, connection_state_at, entries_of_close, entries_of_pdus, entries_of_recv, entries_of_step}
@@ -275,7 +275,7 @@ replied-recv now a n octets (Some talk) step is = λ x found.
 replied-step : (now : ℕ) (event : Event) (n : Bay) (talks : List (Option ConnectionState))
     (step : Step)
     → step.commands ≡ operates_in (entries_of_step now event n talks step)
-    → AreRepliedAt now event n talks step
+    → AreRepliedForEvent now event n talks step
 replied-step now (Open a) n talks step is = is
 replied-step now (Recv a octets) n talks step is =
     replied-recv now a n octets.now (connection_state_at (place_of a) talks) step is

@@ -20,7 +20,7 @@ use Rattle.bay_process.specs.Layout.{Layout, layout_of, switches_of, IsBound, Ar
 use Rattle.bay_device.specs.Meaning.{Halts}
 use Rattle.bay_nodes.specs.Names.{StatusNames, SwitchNames, switch_names}
 use Rattle.bay_process.specs.Names.{field_names}
-use Rattle.bay_process.specs.Scans.{bound_value, meter_value, outputs_put, switch_value}
+use Rattle.bay_process.specs.Scans.{source_value, meter_value, outputs_put, switch_value}
 use Rattle.bay_device.specs.StateView.{state_view}
 use Rattle.bay_process.specs.ReportedRows.{AreInterlocked}
 use Rattle.bay_process.specs.declared.meter.BoundMeter.{BoundMeter}
@@ -76,7 +76,7 @@ module _ (connections : List (Option ConnectionState)) (d : DeviceState) where
       ∙ ap (field_names field) (d.metered k m here).named)
 
   pub point-named : (o : Source)
-      → bound_value d.bay.tree d.bay.switches d.input_values d.meters o
+      → source_value d.bay.tree d.bay.switches d.input_values d.meters o
       ≡ point_value (state_view connections d) o
   point-named (source.Switch k point) =
       switch-named k point (slice_get d.bay.switches k) refl
@@ -89,17 +89,17 @@ module _ (connections : List (Option ConnectionState)) (d : DeviceState) where
       (sym (slice_get-map (λ (m : BoundMeter). m.id) d.meters k))
 
   points-named : (os : List Source)
-      → map (bound_value d.bay.tree d.bay.switches d.input_values d.meters) os
+      → map (source_value d.bay.tree d.bay.switches d.input_values d.meters) os
       ≡ map (point_value (state_view connections d)) os
   points-named [] = refl
   points-named (o ∷ os) =
-      ap (λ v. v ∷ map (bound_value d.bay.tree d.bay.switches d.input_values d.meters) os)
+      ap (λ v. v ∷ map (source_value d.bay.tree d.bay.switches d.input_values d.meters) os)
       (point-named o)
       ∙ ap (λ (vs : List Value). point_value (state_view connections d) o ∷ vs) (points-named os)
 
   pub inputs-named : (switches : List BoundSwitch) (meters : List BoundMeter) (reads : List Source)
       → switches ≡ d.bay.switches → meters ≡ d.meters → reads ≡ d.reads
-      → map (bound_value d.bay.tree switches d.input_values meters) reads
+      → map (source_value d.bay.tree switches d.input_values meters) reads
       ≡ inputs_of (state_view connections d)
   inputs-named switches meters reads a b c = rw (a, b, c) (points-named d.reads)
 

@@ -34,17 +34,17 @@ AreReplied now a names octets (Some talk) step = (command : Command)
     → IsReplied now a names (indications talk octets) (pdus_in step.sent) command
 
 -- No other event issues a command.
-abbrev pub AreRepliedAt : ℕ → Event → Bay → List (Option ConnectionState) → Step → Type 0
-AreRepliedAt now (Open a) names talks step = step.commands ≡ []
-AreRepliedAt now (Recv a octets) names talks step =
+abbrev pub AreRepliedForEvent : ℕ → Event → Bay → List (Option ConnectionState) → Step → Type 0
+AreRepliedForEvent now (Open a) names talks step = step.commands ≡ []
+AreRepliedForEvent now (Recv a octets) names talks step =
     AreReplied now a names octets.now (connection_state_at (place_of a) talks) step
-AreRepliedAt now (Close a) names talks step = step.commands ≡ []
-AreRepliedAt now (Contact k position) names talks step = step.commands ≡ []
-AreRepliedAt now (Input k value) names talks step = step.commands ≡ []
-AreRepliedAt now (Measure k field value) names talks step = step.commands ≡ []
-AreRepliedAt now (BadMeasure k field) names talks step = step.commands ≡ []
-AreRepliedAt now Lost names talks step = step.commands ≡ []
-AreRepliedAt now Scan names talks step = step.commands ≡ []
+AreRepliedForEvent now (Close a) names talks step = step.commands ≡ []
+AreRepliedForEvent now (Contact k position) names talks step = step.commands ≡ []
+AreRepliedForEvent now (Input k value) names talks step = step.commands ≡ []
+AreRepliedForEvent now (Measure k field value) names talks step = step.commands ≡ []
+AreRepliedForEvent now (BadMeasure k field) names talks step = step.commands ≡ []
+AreRepliedForEvent now Lost names talks step = step.commands ≡ []
+AreRepliedForEvent now Scan names talks step = step.commands ≡ []
 
 -- The commands of a step are the accepted operates among the entries of the event and its answer,
 -- in their order, one for each and no other; and each has a response that accepts it.
@@ -52,7 +52,7 @@ pub record AreOperates (now : ℕ) (event : Event) (names : Bay)
     (talks : List (Option ConnectionState))
     (step : Step) : Type 0 where
   pub operated : step.commands ≡ operates_in (entries_of_step now event names talks step)
-  pub replied : AreRepliedAt now event names talks step
+  pub replied : AreRepliedForEvent now event names talks step
 
 -- The same of each step of a list of events, for a bay whose variables have these names, and with
 -- these states of the connections before the events.

@@ -134,7 +134,7 @@ fn send_all(
 // Adds the PDUs of an answer to what is sent, and its commands and its decisions to the others.
 // Returns the pending reports for the end of its operate. If an allocation fails, more may have
 // been added.
-fn reply(
+fn record_answer(
     connection: &Connection,
     association: u16,
     answer: PduAnswer,
@@ -189,7 +189,7 @@ fn answer(
         ≡ made.old.decisions.items }
 {
     let answer = state.bay.answer(alloc, client, connection.pdu(), controls)?;
-    reply(connection, client.association, answer, made)
+    record_answer(connection, client.association, answer, made)
 }
 
 // Stores the effects of an answered PDU: the controls after it, and the pending reports of a new

@@ -2,7 +2,7 @@
 ghost use Rattle.std.specs.Prelude.{◌≡◌, ◌<◌, ◌^◌, length, map};
 ghost use Rattle.il_scan.specs.Scans.{AreHeld, inputs_in, read_only, type_of_point};
 ghost use Rattle.bay_process.specs.Layout.{layout_of, switches_of, AreBound, AreMetersBound};
-ghost use Rattle.bay_process.specs.Scans.{AreSpanned, bound_value};
+ghost use Rattle.bay_process.specs.Scans.{AreSpanned, source_value};
 ghost use Rattle.bay_process.specs.Sources.{type_of_source};
 ghost use Rattle.bay_device.specs.Table.{AreTables};
 ghost use Rattle.bay_process.specs.ReportedRows.{AreKept};
@@ -69,7 +69,7 @@ pub struct DeviceState {
     ghost few: { length spans < 2 ^ 64 },
     ghost spanned: { AreSpanned reads spans },
     ghost held: { AreHeld unread
-        (map (bound_value bay.tree bay.switches input_values meters) reads)
+        (map (source_value bay.tree bay.switches input_values meters) reads)
         (inputs_in machine.image.points machine.slots) },
 }
 

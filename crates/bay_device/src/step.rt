@@ -5,7 +5,7 @@ ghost use Rattle.il_scan.specs.Scans.{AreHeld, Scans, inputs_in, outputs_of, rea
 ghost use Rattle.bay_connection.specs.ConnectionStates.{ConnectionState};
 ghost use Rattle.bay_nodes.specs.declared.switch.Switch.{Switch};
 ghost use Rattle.bay_process.specs.Layout.{AreLeafTyped, AreMetersLeafTyped, layout_of, switches_of};
-ghost use Rattle.bay_process.specs.Scans.{bound_value};
+ghost use Rattle.bay_process.specs.Scans.{source_value};
 ghost use Rattle.bay_process.specs.Sources.{type_of_source};
 ghost use Rattle.bay_device.specs.Device.{device_at, device_after_contact, ended_at, ran_at, reached_at, after_scan};
 ghost use Rattle.bay_device.specs.Device as spec;
@@ -56,13 +56,13 @@ fn run_program(
     requires typed { map type_of_source reads.now
         ≡ map type_of_point (read_only machine.old.image.points) }
     requires held { AreHeld unread
-        (map (bound_value bay.now.tree bay.now.switches inputs.now meters.now) reads.now)
+        (map (source_value bay.now.tree bay.now.switches inputs.now meters.now) reads.now)
         (inputs_in machine.old.image.points machine.old.slots) }
     ensures scans { Scans machine.old
-        (map (bound_value bay.now.tree bay.now.switches inputs.now meters.now) reads.now) now
+        (map (source_value bay.now.tree bay.now.switches inputs.now meters.now) reads.now) now
         machine.new result (outputs_of machine.new.image.points machine.new.slots) }
     ensures kept { inputs_in machine.new.image.points machine.new.slots
-        ≡ map (bound_value bay.now.tree bay.now.switches inputs.now meters.now) reads.now }
+        ≡ map (source_value bay.now.tree bay.now.switches inputs.now meters.now) reads.now }
 {
     let points = ReadPoints {
         tree: &bay.tree,

@@ -6,7 +6,7 @@ use Rattle.bay_nodes.specs.declared.switch.Operation.TheVariants as told
 use Rattle.bay_mms_services.specs.Bay.{Bay}
 use Rattle.bay_mms_services.specs.declared.answer.Command.{Command}
 use Rattle.bay_device.specs.Device.{State}
-use Rattle.bay_device.specs.Operates.{AllOperate, AreOperates, AreReplied, AreRepliedAt}
+use Rattle.bay_device.specs.Operates.{AllOperate, AreOperates, AreReplied, AreRepliedForEvent}
 use Rattle.bay_device.specs.Outcomes.{initial_connection}
 use Rattle.bay_device.specs.declared.event.Event.{Event}
 use Rattle.bay_device.specs.declared.event.Event.TheVariants.{Open, Recv, Close, Contact, Input, Measure, BadMeasure, Lost, Scan}
@@ -62,7 +62,7 @@ not-exchanged now names octets step is h =
     apart (differs (close_command ∷ []) now names octets step is h)
 
 pub not-silent : (now : ℕ) (names : Bay) (octets : Bor (List ℕ)) (step : Step)
-    → AreRepliedAt now (Recv 1 octets) names (Some (initial_connection 1) ∷ [])
+    → AreRepliedForEvent now (Recv 1 octets) names (Some (initial_connection 1) ∷ [])
     (record (step_with_commands (open_command ∷ []) step) { sent = [] }) → ⊥
 not-silent now names octets step h =
     let (k, lt, _) = (h open_command told-there).replied in omega (arith, lt)
@@ -75,7 +75,7 @@ unheard now names step h = let (k, lt, _) = (h open_command told-there).asked in
 
 pub not-unasked : (now : ℕ) (names : Bay) (octets : Bor (List ℕ)) (step : Step)
     → octets.now ≡ []
-    → AreRepliedAt now (Recv 1 octets) names (Some (initial_connection 1) ∷ [])
+    → AreRepliedForEvent now (Recv 1 octets) names (Some (initial_connection 1) ∷ [])
     (step_with_commands (open_command ∷ []) step) → ⊥
 not-unasked now names octets step none h =
     unheard now names step (subst (λ (os : List ℕ).
@@ -84,7 +84,7 @@ not-unasked now names octets step none h =
 
 pub not-accepted : (now : ℕ) (names : Bay) (octets : Bor (List ℕ)) (step : Step)
     → IsRefused now names step
-    → AreRepliedAt now (Recv 1 octets) names (Some (initial_connection 1) ∷ [])
+    → AreRepliedForEvent now (Recv 1 octets) names (Some (initial_connection 1) ∷ [])
     (step_with_commands (open_command ∷ []) step) → ⊥
 not-accepted now names octets step refuses h =
     let (k, lt, _) = subst (λ (cs : List Command). Contains cs open_command)
@@ -93,13 +93,14 @@ not-accepted now names octets step refuses h =
     (h open_command told-there).accepts in omega (arith, lt)
 
 pub not-on-closed : (now : ℕ) (names : Bay) (octets : Bor (List ℕ)) (step : Step)
-    → AreRepliedAt now (Recv 1 octets) names (None ∷ [])
+    → AreRepliedForEvent now (Recv 1 octets) names (None ∷ [])
     (step_with_commands (open_command ∷ []) step) → ⊥
 not-on-closed now names octets step h = let no : open_command ∷ [] ≡ [] = h in absurd cc
 
 pub not-elsewhere : (now : ℕ) (event : Event) (names : Bay) (s : State) (step : Step)
     → IsOther event
-    → AreRepliedAt now event names s.connections (step_with_commands (open_command ∷ []) step) → ⊥
+    → AreRepliedForEvent now event names s.connections (step_with_commands (open_command ∷ []) step)
+    → ⊥
 not-elsewhere now (Open a) names s step other h = let no : open_command ∷ [] ≡ [] = h in absurd cc
 not-elsewhere now (Recv a octets) names s step other h = other a octets refl
 not-elsewhere now (Close a) names s step other h = let no : open_command ∷ [] ≡ [] = h in absurd cc

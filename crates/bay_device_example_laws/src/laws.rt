@@ -12,7 +12,7 @@ ghost use Rattle.bay_device.specs.Commands.{CommandedAt};
 ghost use Rattle.bay_device.specs.Device.{State};
 ghost use Rattle.bay_device.specs.Fresh.{Came, FreshAt, HasScan, IsSameProcess, Past};
 ghost use Rattle.bay_device.specs.Meaning.{HaltsAt, MeansAt};
-ghost use Rattle.bay_device.specs.Operates.{AllOperate, AreOperates, AreRepliedAt};
+ghost use Rattle.bay_device.specs.Operates.{AllOperate, AreOperates, AreRepliedForEvent};
 ghost use Rattle.bay_device.specs.Outcomes.{initial_connection};
 ghost use Rattle.bay_device.specs.declared.event.Event.{Event};
 ghost use Rattle.bay_device.specs.declared.event.Event.TheVariants.{BadMeasure, Close, Contact, Input, Lost, Measure, Open, Recv, Scan};
@@ -139,20 +139,21 @@ pub fn a_command_is_of_octets_that_asked_for_it()
         → IsAccepted now names octets step → AreOperates now (Recv 1 octets) names
         (Some (initial_connection 1) ∷ []) (step_with_commands (close_command ∷ []) step) → ⊥ }
     ensures silent { (now : ℕ) (names : Bay) (octets : Bor (List ℕ)) (step : Step)
-        → AreRepliedAt now (Recv 1 octets) names (Some (initial_connection 1) ∷ [])
+        → AreRepliedForEvent now (Recv 1 octets) names (Some (initial_connection 1) ∷ [])
         (record (step_with_commands (open_command ∷ []) step) { sent = [] }) → ⊥ }
     ensures unasked { (now : ℕ) (names : Bay) (octets : Bor (List ℕ)) (step : Step)
-        → octets.now ≡ [] → AreRepliedAt now (Recv 1 octets) names
+        → octets.now ≡ [] → AreRepliedForEvent now (Recv 1 octets) names
         (Some (initial_connection 1) ∷ []) (step_with_commands (open_command ∷ []) step) → ⊥ }
     ensures refused { (now : ℕ) (names : Bay) (octets : Bor (List ℕ)) (step : Step)
-        → IsRefused now names step → AreRepliedAt now (Recv 1 octets) names
+        → IsRefused now names step → AreRepliedForEvent now (Recv 1 octets) names
         (Some (initial_connection 1) ∷ []) (step_with_commands (open_command ∷ []) step) → ⊥ }
     ensures closed { (now : ℕ) (names : Bay) (octets : Bor (List ℕ)) (step : Step)
-        → AreRepliedAt now (Recv 1 octets) names (None ∷ [])
+        → AreRepliedForEvent now (Recv 1 octets) names (None ∷ [])
         (step_with_commands (open_command ∷ []) step) → ⊥ }
     ensures elsewhere { (now : ℕ) (event : Event) (names : Bay) (s : State) (step : Step)
         → IsOther event
-        → AreRepliedAt now event names s.connections (step_with_commands (open_command ∷ []) step)
+        → AreRepliedForEvent now event names s.connections
+        (step_with_commands (open_command ∷ []) step)
         → ⊥ }
     ensures nothing { (now : ℕ) (event : Event) (names : Bay) (s : State) (step : Step)
         → IsOther event → AreOperates now event names s.connections (step_with_commands [] step) }

@@ -23,7 +23,7 @@ use Rattle.il_image.specs.declared.value.Value.{Value}
 use Rattle.il_image.specs.declared.value.Value.TheVariants.{Long}
 use Rattle.bay_process.specs.Layout.{AreBound, AreMetersBound, Layout, field_rows, layout_of, name_in, status_in, switch_in, switches_of}
 use Rattle.bay_process.specs.Names.{field_names}
-use Rattle.bay_process.specs.Scans.{bound_value, outputs_put, switch_value, meter_value}
+use Rattle.bay_process.specs.Scans.{source_value, outputs_put, switch_value, meter_value}
 use Rattle.bay_process.specs.ReportedRows.{AreEnabling, AreInterlocked}
 use Rattle.bay_process.specs.Values.{is_operation, number_of_leaf, operation_counted, position_quality, position_value, rows_after_change, rows_after_contact, has_position, with_count, with_enabled, with_output, with_status}
 use Rattle.bay_process.specs.declared.meter.BoundMeter.{BoundMeter}
@@ -322,8 +322,8 @@ module _ (rows new : List Row) (layout : layout_of new ≡ layout_of rows)
       → ((b : BoundSwitch) → slice_get switches k ≡ Some b
       → leaf_of (node_of ss k b.switch ++ codes "$ST$Pos$stVal") new
       ≡ leaf_of (node_of ss k b.switch ++ codes "$ST$Pos$stVal") rows)
-      → bound_value new switches inputs meters (source.Switch k point)
-      ≡ bound_value rows switches inputs meters (source.Switch k point)
+      → source_value new switches inputs meters (source.Switch k point)
+      ≡ source_value rows switches inputs meters (source.Switch k point)
   switch-same k point stays = of-switch (slice_get switches k) refl
     where
       of-switch : (o : Option BoundSwitch) → slice_get switches k ≡ o
@@ -340,8 +340,8 @@ module _ (rows new : List Row) (layout : layout_of new ≡ layout_of rows)
   pub meter-same : (k : ℕ) (field : MeterField)
       → leaf_of (field_names field (meter_names k)).value new
       ≡ leaf_of (field_names field (meter_names k)).value rows
-      → bound_value new switches inputs meters (source.Meter k field)
-      ≡ bound_value rows switches inputs meters (source.Meter k field)
+      → source_value new switches inputs meters (source.Meter k field)
+      ≡ source_value rows switches inputs meters (source.Meter k field)
   meter-same k field stays = of-meter (slice_get meters k) refl
     where
       of-meter : (o : Option BoundMeter) → slice_get meters k ≡ o
@@ -360,7 +360,7 @@ module _ (rows new : List Row) (layout : layout_of new ≡ layout_of rows)
   -- a scan leaves all that is read
   pub scan-same : (outputs : List Value) (now : ℕ) → AreInterlocked (layout_of rows) switches
       → new ≡ outputs_put (layout_of rows) switches outputs now rows → (o : Source)
-      → bound_value new switches inputs meters o ≡ bound_value rows switches inputs meters o
+      → source_value new switches inputs meters o ≡ source_value rows switches inputs meters o
   scan-same outputs now named done o = of-source o
     where
       away-stays : (name : List ℕ) → IsAway name → leaf_of name new ≡ leaf_of name rows
@@ -371,7 +371,7 @@ module _ (rows new : List Row) (layout : layout_of new ≡ layout_of rows)
           subst (λ m. AreEnabling (layout_of rows) m b.rows) none (named j b h).named) refl
 
       of-source : (o : Source)
-          → bound_value new switches inputs meters o ≡ bound_value rows switches inputs meters o
+          → source_value new switches inputs meters o ≡ source_value rows switches inputs meters o
       of-source (source.Switch k point) =
           switch-same k point
           (λ b here. away-stays _ (away-position b.switch.kind (node_number ss b.switch k) _))
@@ -384,11 +384,11 @@ module _ (rows new : List Row) (layout : layout_of new ≡ layout_of rows)
       → slice_get ss k ≡ Some s
       → new ≡ rows_after_contact (switch_names ss k s) position now rows → (o : Source)
       → ((point : SwitchPoint) → o ≢ source.Switch k point)
-      → bound_value new switches inputs meters o ≡ bound_value rows switches inputs meters o
+      → source_value new switches inputs meters o ≡ source_value rows switches inputs meters o
   contact-same k s position now few is done o other = of-source o other
     where
       of-source : (o : Source) → ((point : SwitchPoint) → o ≢ source.Switch k point)
-          → bound_value new switches inputs meters o ≡ bound_value rows switches inputs meters o
+          → source_value new switches inputs meters o ≡ source_value rows switches inputs meters o
       of-source (source.Switch j point) other =
           switch-same j point (λ b here.
           let apart : (j < k) ⊎ (k < j) =

@@ -32,12 +32,12 @@ meter_value rows field (Some m) =
     Long (number_of_leaf (leaf_at rows (field_rows m.rows field).value))
 
 -- the value of a point, from the positions, the inputs or the measured values
-abbrev pub bound_value : List Row → List BoundSwitch → List Bool → List BoundMeter → Source → Value
-bound_value rows switches inputs meters (source.Switch k point) =
+abbrev pub source_value : List Row → List BoundSwitch → List Bool → List BoundMeter → Source → Value
+source_value rows switches inputs meters (source.Switch k point) =
     switch_value rows point (slice_get switches k)
-bound_value rows switches inputs meters (source.Input k) =
+source_value rows switches inputs meters (source.Input k) =
     Truth (unwrap_or (slice_get inputs k) false)
-bound_value rows switches inputs meters (source.Meter k field) =
+source_value rows switches inputs meters (source.Meter k field) =
     meter_value rows field (slice_get meters k)
 
 -- The span has each read-only point of the switch at index k.

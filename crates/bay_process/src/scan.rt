@@ -13,7 +13,7 @@ ghost use Rattle.bay_process.specs.Values as spec_values;
 ghost use Rattle.bay_process.specs.Layout.{layout_of, status_in, switch_in, switches_of, AreStatusRows, AreSwitchRows, AreLeafTyped, AreMetersLeafTyped};
 ghost use Rattle.bay_process.specs.Sources.{type_of_source, type_of_switch_point};
 ghost use Rattle.bay_process.specs.ReportedRows.{AreEnabling, AreInterlocked, AreKept, AreValued, IsInterlocked, HoldsRelease};
-ghost use Rattle.bay_process.specs.Scans.{bound_value, leaf_at, outputs_put};
+ghost use Rattle.bay_process.specs.Scans.{source_value, leaf_at, outputs_put};
 ghost use Rattle.bay_process.specs.Scans as spec;
 
 use crate::meter::BoundMeter;
@@ -105,7 +105,7 @@ fn point_value(
 ) -> Value
     requires switches { AreLeafTyped (layout_of tree.now) switches.now }
     requires meters { AreMetersLeafTyped (layout_of tree.now) meters.now }
-    ensures value { result ≡ bound_value tree.now switches.now inputs.now meters.now source }
+    ensures value { result ≡ source_value tree.now switches.now inputs.now meters.now source }
     ensures typed { type_of result ≡ type_of_source source }
     ensures is_value { IsValue result }
 {
@@ -133,11 +133,11 @@ impl<'a> Inputs for ReadPoints<'a> {
     ghost use Rattle.std.proofs.Common.{sym, ◌∙◌};
     ghost use Rattle.std.proofs.lemmas.List.{length-map};
     ghost use Rattle.bay_process.specs.Sources.{type_of_source};
-    ghost use Rattle.bay_process.specs.Scans.{bound_value};
+    ghost use Rattle.bay_process.specs.Scans.{source_value};
 
     ghost types = { λ points. map type_of_source points.reads.now };
 
-    ghost values = { λ points. map (bound_value points.tree.now points.switches.now points.inputs.now
+    ghost values = { λ points. map (source_value points.tree.now points.switches.now points.inputs.now
         points.meters.now) points.reads.now };
 
     #[inline(always)]
@@ -152,7 +152,7 @@ impl<'a> Inputs for ReadPoints<'a> {
     }
 
     ghost sized = { λ points. length-map points.reads.now
-        (bound_value points.tree.now points.switches.now points.inputs.now points.meters.now)
+        (source_value points.tree.now points.switches.now points.inputs.now points.meters.now)
         ∙ sym (length-map points.reads.now type_of_source) };
 }
 

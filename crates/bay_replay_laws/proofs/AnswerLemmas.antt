@@ -14,7 +14,7 @@ use Rattle.bay_device.specs.Device.{State, bay_of, device_at}
 use Rattle.bay_device.specs.Entries.{IsIdle}
 use Rattle.bay_device.specs.Fresh.{Past}
 use Rattle.bay_device.specs.Receiving.{ReceiveResult, Done, after_indications, after_pdu, on_indication, sent_on, with_sent}
-use Rattle.bay_device.specs.Operates.{AreOperates, AreReplied, AreRepliedAt, IsReplied}
+use Rattle.bay_device.specs.Operates.{AreOperates, AreReplied, AreRepliedForEvent, IsReplied}
 use Rattle.bay_device.specs.Outcomes.{Outcome, connection_at, last_moment, nothing_done, outcome, place_of, recv_outcome, refusal_of}
 use Rattle.bay_device.specs.Steps.{Steps}
 use Rattle.bay_device.specs.EntriesTold.{AreAgreed, pdu_in, pdus_in, connection_state_at}
@@ -34,7 +34,7 @@ use Rattle.bay_replay_laws.specs.Answered.{AreAnswered, CommandsAreAnswered, IsA
 use Rattle.cmd_replay.specs.History.{EachPast, device_after}
 use Rattle.bay_replay_laws.specs.Printed.{PrintedCommand, PrintedSend, ended, lines_in, printed_command}
 use Rattle.bay_replay_laws.specs.ReadBack.{HaveIds}
-use Rattle.bay_replay_laws.specs.Released.{IsPrintedFor}
+use Rattle.bay_replay_laws.specs.Released.{IsCommandLineFor}
 use Rattle.cmd_replay.specs.Runs.{IsRun}
 use Rattle.cmd_replay.proofs.HistoryLemmas.{past-does}
 use Rattle.cmd_replay.proofs.RunLemmas.{idle}
@@ -110,7 +110,7 @@ module _ (now : ℕ) (names : Bay) (s : State) (step : Step) (command : Command)
     replied = replied command has;
   }
 
-  of-event : (event : Event) → AreRepliedAt now event names s.connections step
+  of-event : (event : Event) → AreRepliedForEvent now event names s.connections step
       → FromOctets now event names s step command
   of-event (Recv a octets) replied =
       of-talk a octets (connection_at (place_of a) s) refl
@@ -307,7 +307,7 @@ module _ (first : State) (past : List Past) (steps : EachPast Steps first past)
         order = order;
         earlier = at.earlier;
         split = at.split;
-        ordered = subst (λ ls. IsPrintedFor begin order at.earlier (load_text ∷ ls) line)
+        ordered = subst (λ ls. IsCommandLineFor begin order at.earlier (load_text ∷ ls) line)
             (sym at.behind)
             (printed-for begin load_text load_is order at.earlier at.groups at.part at.rest line
             at.are at.own);

@@ -33,7 +33,7 @@ use Rattle.cmd_replay.proofs.LoadedLemmas.{file-sound}
 use Rattle.bay_replay_laws.specs.Meant.{AreMeant, AreValues, IsMeant, ScansAreMeant}
 use Rattle.bay_replay_laws.specs.Printed.{PrintedScan, PrintedSwitch, printed_scan, lines_in, printed_budget}
 use Rattle.bay_replay_laws.specs.ReadBack.{HaveIds, switches_told}
-use Rattle.bay_replay_laws.specs.Released.{IsPrintedFor}
+use Rattle.bay_replay_laws.specs.Released.{IsCommandLineFor}
 use Rattle.bay_replay_laws.proofs.LineLemmas.{decimal-free}
 use Rattle.bay_replay_laws.proofs.OrderLemmas.{load, no-read, of-each, printed-for, stands}
 use Rattle.bay_replay_laws.proofs.PlaceLemmas.{Placed}
@@ -201,7 +201,7 @@ module _ (c : Checked) (first : State) (past : List Past) (steps : EachPast Step
         scan = p;
         earlier = at.earlier;
         split = at.split;
-        printed = subst (λ ls. IsPrintedFor begin p at.earlier (load_text ∷ ls) line)
+        printed = subst (λ ls. IsCommandLineFor begin p at.earlier (load_text ∷ ls) line)
             (sym at.behind)
             (printed-for begin load_text load_is p at.earlier at.groups at.part at.rest line at.are
             at.own);

@@ -18,7 +18,7 @@ use Rattle.cmd_replay.specs.Scenario.{ScenarioParts, scenario_of}
 use Rattle.cmd_replay.specs.History.{EachPast, device_after}
 use Rattle.bay_replay_laws.specs.Printed.{PrintedCommand, ended, lines_in, printed_command}
 use Rattle.bay_replay_laws.specs.ReadBack.{HaveIds, switches_told}
-use Rattle.bay_replay_laws.specs.Released.{IsPrintedFor}
+use Rattle.bay_replay_laws.specs.Released.{IsCommandLineFor}
 use Rattle.bay_replay_laws.specs.Reports.{HasNone, IsOf, OfEach}
 use Rattle.cmd_replay.specs.Runs.{IsRun, printed_of}
 use Rattle.cmd_replay.proofs.HistoryLemmas.{past-fixed}
@@ -58,7 +58,7 @@ module _ (begin load : List ℕ) (load_is : begin ≡ load ++ 10 ∷ []) where
   pub printed-for : (p : Past) (earlier : List Past) (gs : Groups) (part rest : List (List ℕ))
       (line : List ℕ) → AreGroups earlier gs
       → step_text p.now p.answer p.after ≡ ended (part ++ line ∷ rest)
-      → IsPrintedFor begin p earlier (load ∷ (flat gs ++ part)) line
+      → IsCommandLineFor begin p earlier (load ∷ (flat gs ++ part)) line
   printed-for p earlier gs part rest line are own = record {
     part = ended part;
     rest = ended rest;

@@ -26,7 +26,7 @@ use Rattle.cmd_replay.specs.Scenario.{ScenarioParts}
 use Rattle.cmd_replay.specs.History.{AllFresh, EachPast, device_after}
 use Rattle.bay_replay_laws.specs.Printed.{PrintedCommand, PrintedSwitch, ended, printed_command, printed_scan}
 use Rattle.bay_replay_laws.specs.ReadBack.{HaveIds, switches_told}
-use Rattle.bay_replay_laws.specs.Released.{AreReleased, CommandsAreReleased, IsPrintedFor, IsReleasedBy, lets}
+use Rattle.bay_replay_laws.specs.Released.{AreReleased, CommandsAreReleased, IsCommandLineFor, IsReleasedBy, lets}
 use Rattle.cmd_replay.specs.Runs.{IsRun}
 use Rattle.cmd_replay.proofs.HistoryLemmas.{past-fixed}
 use Rattle.cmd_replay.proofs.KeptLemmas.{scan_told, step-on-time, turned}
@@ -282,8 +282,8 @@ module _ (age : ℕ) (first : State) (past : List Past) (known : Known age first
         scan = q;
         earlier = s.earlier;
         split = at.split ∙ ap (λ ps. at.later ++ order ∷ ps) s.split;
-        ordered = subst (λ ps. IsPrintedFor begin order ps (load ∷ before) line) s.split
-            (subst (λ ls. IsPrintedFor begin order earlier (load ∷ ls) line) (sym at.behind)
+        ordered = subst (λ ps. IsCommandLineFor begin order ps (load ∷ before) line) s.split
+            (subst (λ ls. IsCommandLineFor begin order earlier (load ∷ ls) line) (sym at.behind)
             (printed-for begin load load_is order earlier at.groups at.part at.rest line at.are
             at.own));
         scanned = s.done.event_is;

@@ -19,7 +19,7 @@ use Rattle.bay_report.specs.Report.{report_text}
 use Rattle.cmd_replay.specs.Scenario.{ScenarioParts}
 use Rattle.cmd_replay.specs.History.{device_after}
 use Rattle.bay_replay_laws.specs.Printed.{PrintedCommand, lines_in, printed_command, printed_send}
-use Rattle.bay_replay_laws.specs.Released.{IsPrintedFor}
+use Rattle.bay_replay_laws.specs.Released.{IsCommandLineFor}
 use Rattle.bay_replay_laws.specs.Reports.{OfEach}
 use Rattle.cmd_replay.specs.Runs.{IsRun}
 
@@ -33,7 +33,7 @@ pub record IsAnswered (begin : List ℕ) (first : State) (past : List Past)
   pub order : Past
   pub earlier : List Past
   pub split : past ≡ later ++ order ∷ earlier
-  pub ordered : IsPrintedFor begin order earlier before line
+  pub ordered : IsCommandLineFor begin order earlier before line
   pub moment : command.moment ≡ order.now
   pub association : ℕ
   pub octets : Bor (List ℕ)

@@ -18,7 +18,7 @@ use Rattle.cmd_replay.specs.History.{device_after}
 use Rattle.cmd_replay.specs.Runs.{IsRun}
 use Rattle.cmd_replay.specs.Scenario.{ScenarioParts}
 use Rattle.bay_replay_laws.specs.Printed.{PrintedScan, PrintedSwitch, lines_in, printed_scan}
-use Rattle.bay_replay_laws.specs.Released.{IsPrintedFor}
+use Rattle.bay_replay_laws.specs.Released.{IsCommandLineFor}
 use Rattle.bay_replay_laws.specs.Reports.{OfEach}
 
 -- The entries of a line are, switch by switch and in their order, its id and the values of its
@@ -43,7 +43,7 @@ pub record IsMeant (c : Checked) (begin : List ℕ) (first : State) (past : List
   pub scan : Past
   pub earlier : List Past
   pub split : past ≡ later ++ scan ∷ earlier
-  pub printed : IsPrintedFor begin scan earlier before line
+  pub printed : IsCommandLineFor begin scan earlier before line
   pub scanned : scan.event ≡ Scan
   pub moment : read.moment ≡ scan.now
   pub after : Memory

@@ -15,7 +15,7 @@ use Rattle.cmd_replay.specs.Runs.{IsRun, printed_of}
 
 -- A line that follows these lines of a text, which begins with `begin`, is one of the lines for an
 -- event, which follows these events.
-pub record IsPrintedFor (begin : List ℕ) (p : Past) (earlier : List Past)
+pub record IsCommandLineFor (begin : List ℕ) (p : Past) (earlier : List Past)
     (before : List (List ℕ)) (line : List ℕ) : Type 0 where
   pub part : List ℕ
   pub rest : List ℕ
@@ -46,13 +46,13 @@ pub record IsReleasedBy (age : ℕ) (begin : List ℕ) (past : List Past) (befor
   pub scan : Past
   pub earlier : List Past
   pub split : past ≡ later ++ order ∷ (since ++ scan ∷ earlier)
-  pub ordered : IsPrintedFor begin order (since ++ scan ∷ earlier) before line
+  pub ordered : IsCommandLineFor begin order (since ++ scan ∷ earlier) before line
   pub scanned : scan.event ≡ Scan
   pub front : List (List ℕ)
   pub told : List ℕ
   pub back : List (List ℕ)
   pub lines : before ≡ front ++ told ∷ back
-  pub printed : IsPrintedFor begin scan earlier front told
+  pub printed : IsCommandLineFor begin scan earlier front told
   pub read : PrintedScan
   pub is : printed_scan told ≡ Some read
   pub releases : Releases read command

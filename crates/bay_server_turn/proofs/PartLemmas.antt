@@ -5,7 +5,7 @@ use Rattle.bay_server_turn.specs.Calls.{Call, Accepts, Reads, Closes, MakesCalls
 use Rattle.bay_server_turn.specs.Offers.{Offer}
 use Rattle.bay_server_turn.specs.Served.{Performs, PerformsEach, Offers, Opens, Serves, TakesIn}
 use Rattle.bay_server_turn.specs.AssociationStates.{is_draining}
-use Rattle.bay_server_turn.specs.Turns.{ServerData, TurnData, Script, TurnState, accept_calls_at, after_accept, after_each, after_first, after_line, first_of, after_reads, after_scan, turn_begin, calls_of_each, close_at_once, free_place, calls_on_read, after_end, is_up, line_calls, with_line, offer_calls, offer_end, offer_of, offer_one, on_accept, on_read, opening_at, after_opening, after_closing, queue_of, read_calls, read_one, scan_calls, after_turn_scan, after_settling, settling, state_at, after_turn, turn_state, with_queue}
+use Rattle.bay_server_turn.specs.Turns.{ServerData, TurnData, Script, TurnState, accept_calls_at, after_accept, after_each, after_first, after_line, first_of, after_reads, after_scan, turn_begin, calls_of_each, close_at_once, free_place, calls_on_read, after_end, is_up, line_calls, with_line, offer_calls, offer_end, offer_of, offer_one, on_accept, on_read, opening_at, after_opening, after_closing, queue_of, read_calls, read_one, scan_calls, after_turn_scan, after_closing_full, calls_closing_full, state_at, after_turn, turn_state, with_queue}
 use Rattle.bay_server_turn.specs.declared.link.ReadResult.{ReadResult}
 use Rattle.bay_device.specs.Device.{over_at}
 use Rattle.bay_server_turn.specs.declared.process_input.ProcessEvent.{ProcessEvent}
@@ -52,12 +52,13 @@ module _ {L : Type 0} (step : L → Call → L → Type 0) where
       (before between after : TurnState) → free_place before.server ≡ Some place
       → step old (Accepts (place + 1) (Some (Some from))) mid
       → between ≡ after_opening now place before
-      → MakesCalls step mid (settling now between) new → after ≡ after_settling now between
+      → MakesCalls step mid (calls_closing_full now between) new
+      → after ≡ after_closing_full now between
       → Opens step now old new before after (Some (place + 1, from))
   accepts-some old mid new now place from before between after e s is talks settles =
       accepts old new now place (Some (Some from)) before after e
-      (mid, s, subst (λ x. MakesCalls step mid (settling now x) new) is talks)
-      (settles ∙ ap (after_settling now) is)
+      (mid, s, subst (λ x. MakesCalls step mid (calls_closing_full now x) new) is talks)
+      (settles ∙ ap (after_closing_full now) is)
 
   -- no connection was taken
   pub accepts-none : (old new : L) (now place : ℕ) (before : TurnState)
@@ -102,12 +103,13 @@ module _ {L : Type 0} (step : L → Call → L → Type 0) where
       (before between after : TurnState) → is_up place before ≡ true
       → what ≡ Octets octets → step old (Reads (place + 1) 4096 what) mid
       → TakesIn now place octets before between
-      → MakesCalls step mid (settling now between) new → after ≡ after_settling now between
+      → MakesCalls step mid (calls_closing_full now between) new
+      → after ≡ after_closing_full now between
       → Performs step (read_one now place) (read_calls now place) old new before after
   reads-octets old mid new now place octets what before between after e h s taken talks is =
       reads old mid new now place taken.choice what (Octets octets) before after e h s
-      (subst (λ x. MakesCalls step mid (settling now x) new) taken.is talks)
-      (is ∙ ap (after_settling now) taken.is)
+      (subst (λ x. MakesCalls step mid (calls_closing_full now x) new) taken.is talks)
+      (is ∙ ap (after_closing_full now) taken.is)
 
   pub reads-silence : (old new : L) (now place : ℕ) (what : ReadOutcome) (before : TurnState)
       → is_up place before ≡ true → what ≡ Silence
@@ -120,24 +122,25 @@ module _ {L : Type 0} (step : L → Call → L → Type 0) where
       (before between after : TurnState)
       → is_up place before ≡ true → what ≡ Over
       → step old (Reads (place + 1) 4096 what) mid → between ≡ after_end now place before
-      → MakesCalls step mid (settling now between) new
-      → after ≡ after_settling now between
+      → MakesCalls step mid (calls_closing_full now between) new
+      → after ≡ after_closing_full now between
       → Performs step (read_one now place) (read_calls now place) old new before after
   reads-over old mid new now place what before between after e h s hung talks is =
       reads old mid new now place None what Over before after e h s
-      (subst (λ x. MakesCalls step mid (settling now x) new) hung talks)
-      (is ∙ ap (after_settling now) hung)
+      (subst (λ x. MakesCalls step mid (calls_closing_full now x) new) hung talks)
+      (is ∙ ap (after_closing_full now) hung)
 
   pub reads-broken : (old mid cut new : L) (now place : ℕ) (what : ReadOutcome)
       (before between after : TurnState) → is_up place before ≡ true → what ≡ Broken
       → step old (Reads (place + 1) 4096 what) mid → step mid (Closes (place + 1)) cut
       → between ≡ close_at_once now LinkFailed place before
-      → MakesCalls step cut (settling now between) new → after ≡ after_settling now between
+      → MakesCalls step cut (calls_closing_full now between) new
+      → after ≡ after_closing_full now between
       → Performs step (read_one now place) (read_calls now place) old new before after
   reads-broken old mid cut new now place what before between after e h s close off talks is =
       reads old mid new now place None what Broken before after e h s
-      (cut, close, subst (λ x. MakesCalls step cut (settling now x) new) off talks)
-      (is ∙ ap (after_settling now) off)
+      (cut, close, subst (λ x. MakesCalls step cut (calls_closing_full now x) new) off talks)
+      (is ∙ ap (after_closing_full now) off)
 
   -- ---- what is offered
 
@@ -176,22 +179,24 @@ module _ {L : Type 0} (step : L → Call → L → Type 0) where
       → is_draining (state_at place before) ≡ false → is_up place before ≡ true
       → Offers step old mid (place + 1) (queue_of place before) done true
       → step mid (Closes (place + 1)) cut → between ≡ close_at_once now LinkFailed place before
-      → MakesCalls step cut (settling now between) new → after ≡ after_settling now between
+      → MakesCalls step cut (calls_closing_full now between) new
+      → after ≡ after_closing_full now between
       → Performs step (offer_one now place) (offer_calls now place) old new before after
   offers-cut old mid cut new now place done before between after e f o s off talks is =
       let offer : Offer = record { takes = o.takes; fails = o.fails } in
       let ends : offer_end now place (offer_of place offer before).failed before
-      ≡ Closes (place + 1) ∷ settling now (close_at_once now LinkFailed place before) =
+      ≡ Closes (place + 1) ∷ calls_closing_full now (close_at_once now LinkFailed place before) =
       ap (λ b. offer_end now place b before) o.failed_is in
       let behind : MakesCalls step mid
-      (Closes (place + 1) ∷ settling now (close_at_once now LinkFailed place before)) new =
-      (cut, s, subst (λ x. MakesCalls step cut (settling now x) new) off talks) in
+      (Closes (place + 1) ∷ calls_closing_full now (close_at_once now LinkFailed place before))
+      new =
+      (cut, s, subst (λ x. MakesCalls step cut (calls_closing_full now x) new) off talks) in
       record {
         choice = offer;
         talks = rw (e, f) (subst
             (λ l. MakesCalls step old ((offer_of place offer before).calls ++ l) new) (sym ends)
             (Talks-append step old mid new (offer_of place offer before).calls _ o.talks behind));
-        is = rw (e, f, o.failed_is) (is ∙ ap (after_settling now) off);
+        is = rw (e, f, o.failed_is) (is ∙ ap (after_closing_full now) off);
       }
 
   pub offers-kept : (old new : L) (now place done : ℕ) (before after : TurnState)

@@ -177,32 +177,35 @@ first_full n = position is_full n.standings
 
 -- Each association to which a reply did not fit is closed. A closing can fill the queue of another,
 -- so the search is repeated, at most n times.
-abbrev pub settled_next : ℕ → Option ℕ → TurnState → (TurnState → TurnState) → TurnState
-settled_next now None s later = s
-settled_next now (Some place) s later = later (close_at_once now closing.QueueFull place s)
+abbrev pub after_closing_next_full : ℕ → Option ℕ → TurnState → (TurnState → TurnState) → TurnState
+after_closing_next_full now None s later = s
+after_closing_next_full now (Some place) s later =
+    later (close_at_once now closing.QueueFull place s)
 
 -- at most n of them, the lowest first
-abbrev pub settled_in : ℕ → ℕ → TurnState → TurnState
-settled_in now zero s = s
-settled_in now (suc count) s = settled_next now (first_full s.noted) s (settled_in now count)
+abbrev pub after_closing_some_full : ℕ → ℕ → TurnState → TurnState
+after_closing_some_full now zero s = s
+after_closing_some_full now (suc count) s =
+    after_closing_next_full now (first_full s.noted) s (after_closing_some_full now count)
 
 -- the calls that close them
-abbrev pub settling_next : ℕ → Option ℕ → TurnState → (TurnState → List Call) → List Call
-settling_next now None s later = []
-settling_next now (Some place) s later =
+abbrev pub calls_closing_next_full : ℕ → Option ℕ → TurnState → (TurnState → List Call) → List Call
+calls_closing_next_full now None s later = []
+calls_closing_next_full now (Some place) s later =
     Closes (place + 1) ∷ later (close_at_once now closing.QueueFull place s)
 
-abbrev pub settling_in : ℕ → ℕ → TurnState → List Call
-settling_in now zero s = []
-settling_in now (suc count) s = settling_next now (first_full s.noted) s (settling_in now count)
+abbrev pub calls_closing_some_full : ℕ → ℕ → TurnState → List Call
+calls_closing_some_full now zero s = []
+calls_closing_some_full now (suc count) s =
+    calls_closing_next_full now (first_full s.noted) s (calls_closing_some_full now count)
 
 -- all of them: after eight none is left
-unfoldable pub after_settling : ℕ → TurnState → TurnState
-after_settling now s = settled_in now associations s
+unfoldable pub after_closing_full : ℕ → TurnState → TurnState
+after_closing_full now s = after_closing_some_full now associations s
 
 -- the calls of all eight
-unfoldable pub settling : ℕ → TurnState → List Call
-settling now s = settling_in now associations s
+unfoldable pub calls_closing_full : ℕ → TurnState → List Call
+calls_closing_full now s = calls_closing_some_full now associations s
 
 -- ---- a connection that waits
 
@@ -218,7 +221,7 @@ abbrev pub on_accept : ℕ → Option ℕ → Option (Option SocketAddrV4) → T
 on_accept now None taken s = s
 on_accept now (Some place) None s = s
 on_accept now (Some place) (Some None) s = s
-on_accept now (Some place) (Some (Some from)) s = after_settling now (after_opening now place s)
+on_accept now (Some place) (Some (Some from)) s = after_closing_full now (after_opening now place s)
 
 -- the calls on the link for it; if no association is free, none is made
 abbrev pub accept_calls_at : ℕ → Option ℕ → Option (Option SocketAddrV4) → TurnState → List Call
@@ -226,7 +229,7 @@ accept_calls_at now None taken s = []
 accept_calls_at now (Some place) None s = Accepts (place + 1) None ∷ []
 accept_calls_at now (Some place) (Some None) s = Accepts (place + 1) (Some None) ∷ []
 accept_calls_at now (Some place) (Some (Some from)) s =
-    Accepts (place + 1) (Some (Some from)) ∷ settling now (after_opening now place s)
+    Accepts (place + 1) (Some (Some from)) ∷ calls_closing_full now (after_opening now place s)
 
 -- the association that is opened, and the address of its client
 abbrev pub opening_at : Option ℕ → Option (Option SocketAddrV4) → Option (ℕ × SocketAddrV4)
@@ -296,20 +299,20 @@ after_end now place s =
 -- after a read with this result
 abbrev pub on_read : ℕ → ℕ → Option ℕ → ReadOutcome → TurnState → TurnState
 on_read now place choice (Octets octets) s =
-    after_settling now (after_octets now place choice octets s)
+    after_closing_full now (after_octets now place choice octets s)
 on_read now place choice Silence s = s
-on_read now place choice Over s = after_settling now (after_end now place s)
+on_read now place choice Over s = after_closing_full now (after_end now place s)
 on_read now place choice Broken s =
-    after_settling now (close_at_once now closing.LinkFailed place s)
+    after_closing_full now (close_at_once now closing.LinkFailed place s)
 
 -- the calls on the link after the read
 abbrev pub calls_on_read : ℕ → ℕ → Option ℕ → ReadOutcome → TurnState → List Call
 calls_on_read now place choice (Octets octets) s =
-    settling now (after_octets now place choice octets s)
+    calls_closing_full now (after_octets now place choice octets s)
 calls_on_read now place choice Silence s = []
-calls_on_read now place choice Over s = settling now (after_end now place s)
+calls_on_read now place choice Over s = calls_closing_full now (after_end now place s)
 calls_on_read now place choice Broken s =
-    Closes (place + 1) ∷ settling now (close_at_once now closing.LinkFailed place s)
+    Closes (place + 1) ∷ calls_closing_full now (close_at_once now closing.LinkFailed place s)
 
 -- An open association is read once, up to 4,096 octets.
 abbrev pub read_one : ℕ → ℕ → Reading → TurnState → TurnState
@@ -351,18 +354,18 @@ first_of given = if given.is_lost then Some process.Lost else None
 -- the event of the process is applied, if there is one
 abbrev pub with_line : ℕ → Option ProcessEvent → TurnState → TurnState
 with_line now None s = s
-with_line now (Some event) s = after_settling now (after_process_event now event s)
+with_line now (Some event) s = after_closing_full now (after_process_event now event s)
 
 abbrev pub line_calls : ℕ → Option ProcessEvent → TurnState → List Call
 line_calls now None s = []
-line_calls now (Some event) s = settling now (after_process_event now event s)
+line_calls now (Some event) s = calls_closing_full now (after_process_event now event s)
 
 -- the program runs once
 abbrev pub after_turn_scan : ℕ → TurnState → TurnState
-after_turn_scan now s = after_settling now (after_event now Scan s)
+after_turn_scan now s = after_closing_full now (after_event now Scan s)
 
 abbrev pub scan_calls : ℕ → TurnState → List Call
-scan_calls now s = settling now (after_event now Scan s)
+scan_calls now s = calls_closing_full now (after_event now Scan s)
 
 -- ---- offering
 
@@ -374,7 +377,7 @@ offer_of place o s = offering_of (place + 1) (queue_of place s) o.takes o.fails
 -- link did not take
 abbrev pub after_offer : ℕ → ℕ → Offered → TurnState → TurnState
 after_offer now place o s =
-    if o.failed then after_settling now (close_at_once now closing.LinkFailed place s)
+    if o.failed then after_closing_full now (close_at_once now closing.LinkFailed place s)
     else with_queue place o.left s
 
 -- it is closed, and its queue empty
@@ -391,7 +394,9 @@ offer_one now place o s =
 
 abbrev pub offer_end : ℕ → ℕ → Bool → TurnState → List Call
 offer_end now place failed s =
-    if failed then Closes (place + 1) ∷ settling now (close_at_once now closing.LinkFailed place s)
+    if failed
+    then Closes (place + 1)
+    ∷ calls_closing_full now (close_at_once now closing.LinkFailed place s)
     else []
 
 -- the calls on the link for an offer

@@ -1,7 +1,7 @@
 // Closes associations at once.
 ghost use Rattle.std.specs.Prelude.{◌≡◌, ◌+◌, ◌<◌};
 ghost use Rattle.bay_server_turn.specs.Calls.{Called, Closes, MakesCalls};
-ghost use Rattle.bay_server_turn.specs.Turns.{after_settling, settled_in, settling, settling_in, turn_state};
+ghost use Rattle.bay_server_turn.specs.Turns.{after_closing_full, after_closing_some_full, calls_closing_full, calls_closing_some_full, turn_state};
 ghost use Rattle.bay_server_turn.specs.Turns as spec;
 ghost use Rattle.bay_device.specs.Outcomes.{associations};
 
@@ -45,9 +45,9 @@ fn settle_some<L: Link>(
     count: usize,
 )
     ensures talks { MakesCalls (Called L.does L.failures) link.old
-        (settling_in now count (turn_state server.old notes.old)) link.new }
+        (calls_closing_some_full now count (turn_state server.old notes.old)) link.new }
     ensures after { turn_state server.new notes.new
-        ≡ settled_in now count (turn_state server.old notes.old) }
+        ≡ after_closing_some_full now count (turn_state server.old notes.old) }
     ensures commands { notes.new.commands ≡ notes.old.commands }
 {
     if count == 0 {
@@ -67,9 +67,9 @@ pub fn close_overflowed<L: Link>(
     now: u64,
 )
     ensures talks { MakesCalls (Called L.does L.failures) link.old
-        (settling now (turn_state server.old notes.old)) link.new }
+        (calls_closing_full now (turn_state server.old notes.old)) link.new }
     ensures after { turn_state server.new notes.new
-        ≡ after_settling now (turn_state server.old notes.old) }
+        ≡ after_closing_full now (turn_state server.old notes.old) }
     ensures commands { notes.new.commands ≡ notes.old.commands }
 {
     settle_some(server, notes, link, now, ASSOCIATIONS);

@@ -4,7 +4,7 @@ use Rattle.std.proofs.lemmas.List.Quantifiers.{position-Some}
 use Rattle.bay_device.specs.Outcomes.{outcome}
 use Rattle.bay_device.specs.declared.event.Event.TheVariants.{Close}
 use Rattle.bay_server_turn.specs.AssociationStates.{is_full, is_draining}
-use Rattle.bay_server_turn.specs.Turns.{TurnState, after_event, after_settling, close_at_once, first_full, put_quiet, settled_in, settled_next, state_at, with_device}
+use Rattle.bay_server_turn.specs.Turns.{TurnState, after_event, after_closing_full, close_at_once, first_full, put_quiet, after_closing_some_full, after_closing_next_full, state_at, with_device}
 use Rattle.bay_server_turn.specs.declared.association_state.AssociationState.TheVariants.{Full, Gone, Steady}
 use Rattle.bay_server_turn.specs.declared.turn_report.CloseReason.{CloseReason}
 use Rattle.bay_server_turn.specs.declared.turn_report.CloseReason.TheVariants as closing
@@ -49,8 +49,8 @@ cut-kept now place i why s e =
 calm-next : (now count : ℕ) (o : Option ℕ) (s : TurnState) → first_full s.noted ≡ o
     → remaining s.noted.standings ≤ suc count
     → ((t : TurnState) → remaining t.noted.standings ≤ count
-    → AreCalm (settled_in now count t).noted.standings)
-    → AreCalm (settled_next now o s (settled_in now count)).noted.standings
+    → AreCalm (after_closing_some_full now count t).noted.standings)
+    → AreCalm (after_closing_next_full now o s (after_closing_some_full now count)).noted.standings
 calm-next now count None s e h later = none-full s.noted.standings e
 calm-next now count (Some place) s e h later =
     let found = position-Some is_full s.noted.standings place Steady e in
@@ -59,35 +59,36 @@ calm-next now count (Some place) s e h later =
     later (close_at_once now closing.QueueFull place s) (omega (arith, fewer))
 
 calm-in : (now count : ℕ) (s : TurnState) → remaining s.noted.standings ≤ count
-    → AreCalm (settled_in now count s).noted.standings
+    → AreCalm (after_closing_some_full now count s).noted.standings
 calm-in now zero s h = none-remains s.noted.standings h
 calm-in now (suc count) s h =
     calm-next now count (first_full s.noted) s refl h (λ t g. calm-in now count t g)
 
 -- no association is left to which a reply did not fit
 pub settled-calm : (now : ℕ) (s : TurnState) → length s.noted.standings ≡ 8
-    → AreCalm (after_settling now s).noted.standings
-unfolding after_settling
+    → AreCalm (after_closing_full now s).noted.standings
+unfolding after_closing_full
 settled-calm now s e = let most =
     remaining-le s.noted.standings in calm-in now 8 s (omega (arith, most, e))
 
 kept-next : (now count i : ℕ) (o : Option ℕ) (s : TurnState) → is_draining (state_at i s) ≡ false
     → ((t : TurnState) → is_draining (state_at i t) ≡ false
-    → is_draining (state_at i (settled_in now count t)) ≡ false)
-    → is_draining (state_at i (settled_next now o s (settled_in now count))) ≡ false
+    → is_draining (state_at i (after_closing_some_full now count t)) ≡ false)
+    → is_draining (state_at i (after_closing_next_full now o s (after_closing_some_full now count)))
+    ≡ false
 kept-next now count i None s e later = e
 kept-next now count i (Some place) s e later =
     later (close_at_once now closing.QueueFull place s) (cut-kept now place i closing.QueueFull s e)
 
 kept-in : (now count i : ℕ) (s : TurnState) → is_draining (state_at i s) ≡ false
-    → is_draining (state_at i (settled_in now count s)) ≡ false
+    → is_draining (state_at i (after_closing_some_full now count s)) ≡ false
 kept-in now zero i s e = e
 kept-in now (suc count) i s e =
     kept-next now count i (first_full s.noted) s e (λ t g. kept-in now count i t g)
 
 pub settled-kept : (now i : ℕ) (s : TurnState) → is_draining (state_at i s) ≡ false
-    → is_draining (state_at i (after_settling now s)) ≡ false
-unfolding after_settling
+    → is_draining (state_at i (after_closing_full now s)) ≡ false
+unfolding after_closing_full
 settled-kept now i s e = kept-in now 8 i s e
 
 pub cut-device : (now i : ℕ) (why : CloseReason) (s : TurnState)

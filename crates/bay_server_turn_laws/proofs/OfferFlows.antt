@@ -6,7 +6,7 @@ use Rattle.bay_device.specs.declared.event.Event.TheVariants.{Close}
 use Rattle.bay_server_turn.specs.Calls.{Call}
 use Rattle.bay_server_turn.specs.Offers.{Offer, Offered}
 use Rattle.bay_server_turn.specs.AssociationStates.{is_draining}
-use Rattle.bay_server_turn.specs.Turns.{TurnState, after_each, after_offer, after_closing, after_settling, close_at_once, is_up, offer_of, offer_one, queue_of, state_at, with_queue}
+use Rattle.bay_server_turn.specs.Turns.{TurnState, after_each, after_offer, after_closing, after_closing_full, close_at_once, is_up, offer_of, offer_one, queue_of, state_at, with_queue}
 use Rattle.bay_server_turn.specs.declared.association_state.AssociationState.{AssociationState}
 use Rattle.bay_server_turn.specs.declared.association_state.AssociationState.TheVariants.{Full, Gone, Leaving, LeavingFull, Steady}
 use Rattle.bay_server_turn.specs.declared.turn_report.CloseReason.TheVariants as closing
@@ -111,7 +111,7 @@ module _ (now p : ℕ) (held taken sent : List ℕ) (s : TurnState) (left : List
 failed-kept : (failed : Bool) (now i p : ℕ) (o : Offered) (s : TurnState)
     → is_draining (state_at p s) ≡ false
     → is_draining (state_at p
-    (if failed then after_settling now (close_at_once now closing.LinkFailed i s)
+    (if failed then after_closing_full now (close_at_once now closing.LinkFailed i s)
     else with_queue i o.left s)) ≡ false
 failed-kept true now i p o s e =
     settled-kept now p (close_at_once now closing.LinkFailed i s)

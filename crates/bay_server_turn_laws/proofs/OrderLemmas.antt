@@ -9,10 +9,10 @@ use Rattle.bay_device.specs.declared.event.Event.TheVariants.{Open}
 use Rattle.bay_server_turn.specs.Calls.{Call, Closes}
 use Rattle.bay_server_turn.specs.Offers.{Offer, Offered}
 use Rattle.bay_server_turn.specs.AssociationStates.{is_draining}
-use Rattle.bay_server_turn.specs.Turns.{ServerData, TurnData, Reading, Script, TurnState, after_accept, after_each, after_first, after_line, after_opening, after_reads, after_scan, after_settling, after_turn, calls_of_each, first_of, free_place, is_up, offer_calls, offer_end, offer_of, offer_one, on_accept, queue_of, read_one, state_at, turn_begin, turn_calls, with_device}
+use Rattle.bay_server_turn.specs.Turns.{ServerData, TurnData, Reading, Script, TurnState, after_accept, after_each, after_first, after_line, after_opening, after_reads, after_scan, after_closing_full, after_turn, calls_of_each, first_of, free_place, is_up, offer_calls, offer_end, offer_of, offer_one, on_accept, queue_of, read_one, state_at, turn_begin, turn_calls, with_device}
 use Rattle.bay_server_turn.specs.declared.process_input.ProcessReport.{ProcessReport}
 use Rattle.bay_server_turn_laws.specs.Causes.{fails_for, has_some, is_queue_full, tells}
-use Rattle.bay_server_turn_laws.specs.Events.{ChosenEvent, accept_events, accept_events_at, closing_of, done_at, events_of_each, line_events, offer_events, read_events, scan_events, settled_events, surely}
+use Rattle.bay_server_turn_laws.specs.Events.{ChosenEvent, accept_events, accept_events_at, closing_of, done_at, events_of_each, line_events, offer_events, read_events, scan_events, events_closing_full, surely}
 use Rattle.bay_server_turn_laws.specs.Order.{AreClosings, AreInOrder, IsClosing, IsInOrder, Then, ThenReads, open_events_at}
 use Rattle.bay_server_turn_laws.proofs.Acts.{Scans}
 use Rattle.bay_server_turn_laws.proofs.CallLemmas.{Offering, offering, some-append}
@@ -74,8 +74,8 @@ module _ (now : ℕ) (final : TurnData) where
         is = ap (λ l. (surely (Open (place + 1)) ∷ l) ++ rest) m.is;
         closings = m.closes final whole;
         goes_on = subst (λ d. Rest d rest)
-            (leads-device now 8 t (after_settling now t) _ _ m.passes.leads
-            ∙ ap (λ d. (done_at now (settled_events now t) d).after)
+            (leads-device now 8 t (after_closing_full now t) _ _ m.passes.leads
+            ∙ ap (λ d. (done_at now (events_closing_full now t) d).after)
             (put_quiet-same o.answer (with_device o.after (turn_begin h))).device
             ∙ ap (λ l. (done_at now l o.after).after) m.is) r;
       }

@@ -12,14 +12,14 @@ use Rattle.bay_trace.specs.Resolving.{borrowed}
 use Rattle.bay_server_turn.specs.Calls.{Accepts, Broken, Call, Closes, Octets, Over, ReadOutcome, Reads, Silence}
 use Rattle.bay_server_turn.specs.Offers.{Offer, Offered}
 use Rattle.bay_server_turn.specs.AssociationStates.{after_full, is_full, is_draining, is_close_reported}
-use Rattle.bay_server_turn.specs.Turns.{ServerData, TurnData, Reading, Script, TurnState, accept_calls_at, after_accept, after_each, after_event, after_first, after_line, after_opening, after_closing, after_reads, after_scan, after_settling, after_turn, calls_of_each, close_at_once, event_of, first_full, first_of, free_place, calls_on_read, is_up, start_closing, line_calls, offer_calls, offer_end, offer_of, offer_one, on_accept, on_read, queue_of, read_calls, read_one, settled_in, settled_next, settling, settling_in, settling_next, state_in, state_at, turn_begin, turn_calls, with_device, with_line, with_noted, with_queue}
+use Rattle.bay_server_turn.specs.Turns.{ServerData, TurnData, Reading, Script, TurnState, accept_calls_at, after_accept, after_each, after_event, after_first, after_line, after_opening, after_closing, after_reads, after_scan, after_closing_full, after_turn, calls_of_each, close_at_once, event_of, first_full, first_of, free_place, calls_on_read, is_up, start_closing, line_calls, offer_calls, offer_end, offer_of, offer_one, on_accept, on_read, queue_of, read_calls, read_one, after_closing_some_full, after_closing_next_full, calls_closing_full, calls_closing_some_full, calls_closing_next_full, state_in, state_at, turn_begin, turn_calls, with_device, with_line, with_noted, with_queue}
 use Rattle.bay_server_turn.specs.declared.process_input.ProcessEvent.{ProcessEvent}
 use Rattle.bay_server_turn.specs.declared.process_input.ProcessReport.{ProcessReport}
 use Rattle.bay_server_turn.specs.declared.association_state.AssociationState.TheVariants.{Full, Gone, Steady}
 use Rattle.bay_server_turn.specs.declared.turn_report.CloseReason.{CloseReason}
 use Rattle.bay_server_turn.specs.declared.turn_report.CloseReason.TheVariants as closing
 use Rattle.bay_server_turn_laws.specs.Causes.{is_queue_full, tells}
-use Rattle.bay_server_turn_laws.specs.Events.{ChosenEvent, accept_events_at, closing_of, done_at, events_of_each, failed_events, heard_events, line_events, offer_events, read_events, settled_events, settled_in_events, settled_next_events, surely, turn_events}
+use Rattle.bay_server_turn_laws.specs.Events.{ChosenEvent, accept_events_at, closing_of, done_at, events_of_each, failed_events, heard_events, line_events, offer_events, read_events, events_closing_full, events_closing_some_full, events_closing_next_full, surely, turn_events}
 use Rattle.bay_server_turn_laws.specs.Order.{AreClosings, IsClosing, received_events, read_at, process_events}
 use Rattle.bay_server_turn_laws.proofs.Acts.{Act, Asks, Breaks, Can, Fills, HangsUp, Hears, IsIdle, IsOpenAt, Offers, Parts, Scans, Tells, accepts, after, broken, calls_by, events_by, silent}
 use Rattle.bay_server_turn_laws.proofs.CallLemmas.{Offering, offering, some-append}
@@ -148,8 +148,8 @@ module _ (now most : ℕ) where
       → first_full s.noted ≡ o
       → length s.noted.standings ≡ 8
       → ((t : TurnState) → length t.noted.standings ≡ 8 → Settles t (calls t) (events t) (f t))
-      → Settles s (settling_next now o s calls) (settled_next_events now o s events)
-      (settled_next now o s f)
+      → Settles s (calls_closing_next_full now o s calls) (events_closing_next_full now o s events)
+      (after_closing_next_full now o s f)
   next-settles None s f calls events is sized more =
       record { leads = Stays s; closes = λ final whole. All-nil (IsClosing _) }
   next-settles (Some place) s f calls events is sized more =
@@ -174,16 +174,18 @@ module _ (now most : ℕ) where
       }
 
   settles-in : (count : ℕ) (s : TurnState) → length s.noted.standings ≡ 8
-      → Settles s (settling_in now count s) (settled_in_events now count s) (settled_in now count s)
+      → Settles s (calls_closing_some_full now count s) (events_closing_some_full now count s)
+      (after_closing_some_full now count s)
   settles-in zero s sized =
       record { leads = Stays s; closes = λ final whole. All-nil (IsClosing _) }
   settles-in (suc count) s sized =
-      next-settles (first_full s.noted) s (settled_in now count) (settling_in now count)
-      (settled_in_events now count) refl sized (settles-in count)
+      next-settles (first_full s.noted) s (after_closing_some_full now count)
+      (calls_closing_some_full now count)
+      (events_closing_some_full now count) refl sized (settles-in count)
 
   settles : (s : TurnState) → length s.noted.standings ≡ 8
-      → Settles s (settling now s) (settled_events now s) (after_settling now s)
-  unfolding after_settling settling settled_events
+      → Settles s (calls_closing_full now s) (events_closing_full now s) (after_closing_full now s)
+  unfolding after_closing_full calls_closing_full events_closing_full
   settles s sized = settles-in 8 s sized
 
   leads-sized : (s t : TurnState) (c : List Call) (e : List ChosenEvent) → Leads s c e t
@@ -216,31 +218,35 @@ module _ (now most : ℕ) where
     pub closes : (final : TurnData) → Grown t.noted final → Cut final cut
 
   pub settled-through : (s : TurnState) → length s.noted.standings ≡ 8
-      → Through s [] (settling now s) (settled_events now s) (after_settling now s)
+      → Through s [] (calls_closing_full now s) (events_closing_full now s)
+      (after_closing_full now s)
   settled-through s sized =
       let m = settles s sized in
       record {
         passes = record {
           leads = m.leads;
-          sized = leads-sized s (after_settling now s) (settling now s) (settled_events now s)
+          sized = leads-sized s (after_closing_full now s) (calls_closing_full now s)
+              (events_closing_full now s)
               m.leads sized;
           calm = settled-calm now s sized;
         };
-        cut = settled_events now s;
+        cut = events_closing_full now s;
         is = refl;
         closes = m.closes;
       }
 
   -- an act, and what did not fit then
   pub then-through : (a : Act) (s : TurnState) → length s.noted.standings ≡ 8 → Can most a s
-      → (let t : TurnState = after now a s in Through s (events_by a) (calls_by a ++ settling now t)
-      (events_by a ++ settled_events now t) (after_settling now t))
+      → (let t : TurnState = after now a s in
+      Through s (events_by a) (calls_by a ++ calls_closing_full now t)
+      (events_by a ++ events_closing_full now t) (after_closing_full now t))
   then-through a s sized can =
       let t : TurnState = after now a s in
       let m = settled-through t (sized-act a s can sized) in
       record {
         passes = record {
-          leads = Goes a s (settling now t) (settled_events now t) (after_settling now t) sized can
+          leads = Goes a s (calls_closing_full now t) (events_closing_full now t)
+              (after_closing_full now t) sized can
               m.passes.leads;
           sized = m.passes.sized;
           calm = m.passes.calm;
@@ -333,7 +339,7 @@ module _ (now most : ℕ) where
           (cond up (made.calls ++ offer_end now place failed s) []))
           (cond leaving [] (cond up (failed_events now place failed s) []))
           (cond leaving (after_closing place s) (cond up (cond failed
-          (after_settling now (close_at_once now closing.LinkFailed place s))
+          (after_closing_full now (close_at_once now closing.LinkFailed place s))
           (with_queue place made.left s)) s))
       by-standing true up failed is open_is m =
           quietly s (after_closing place s) (made.calls ++ Closes (place + 1) ∷ [])
@@ -345,9 +351,10 @@ module _ (now most : ℕ) where
           (goes-calm s.noted.standings place calm)
       by-standing false true true is open_is m =
           let t : TurnState = close_at_once now closing.LinkFailed place s in
-          subst (λ l. Through s (closing_of place ∷ []) l (closing_of place ∷ settled_events now t)
-          (after_settling now t))
-          (append_assoc made.calls (Closes (place + 1) ∷ []) (settling now t))
+          subst (λ l. Through s (closing_of place ∷ []) l
+          (closing_of place ∷ events_closing_full now t)
+          (after_closing_full now t))
+          (append_assoc made.calls (Closes (place + 1) ∷ []) (calls_closing_full now t))
           (then-through (Breaks place made.calls) s sized (
             made.left,
             record {
@@ -475,8 +482,8 @@ module _ (now most : ℕ) where
         calls = Accepts (place + 1) (Some (Some from)) ∷ [];
         events = surely (Open (place + 1)) ∷ [];
         begins = Opening place from is;
-        more = settling now t;
-        further = settled_events now t;
+        more = calls_closing_full now t;
+        further = events_closing_full now t;
         passes = (settled-through t (opening-sized place h)).passes;
         opens = λ q from free took.
             let same : place ≡ q = let f : Some place ≡ Some q = sym is ∙ free in cc in

@@ -32,19 +32,19 @@ closing_of place = surely (Close (place + 1))
 -- ---- the events of the parts of a turn
 
 -- the closing of each association to which a reply did not fit
-abbrev pub settled_next_events : ℕ → Option ℕ → TurnState → (TurnState → List ChosenEvent)
+abbrev pub events_closing_next_full : ℕ → Option ℕ → TurnState → (TurnState → List ChosenEvent)
     → List ChosenEvent
-settled_next_events now None s later = []
-settled_next_events now (Some place) s later =
+events_closing_next_full now None s later = []
+events_closing_next_full now (Some place) s later =
     closing_of place ∷ later (close_at_once now closing.QueueFull place s)
 
-abbrev pub settled_in_events : ℕ → ℕ → TurnState → List ChosenEvent
-settled_in_events now zero s = []
-settled_in_events now (suc count) s =
-    settled_next_events now (first_full s.noted) s (settled_in_events now count)
+abbrev pub events_closing_some_full : ℕ → ℕ → TurnState → List ChosenEvent
+events_closing_some_full now zero s = []
+events_closing_some_full now (suc count) s =
+    events_closing_next_full now (first_full s.noted) s (events_closing_some_full now count)
 
-unfoldable pub settled_events : ℕ → TurnState → List ChosenEvent
-settled_events now s = settled_in_events now 8 s
+unfoldable pub events_closing_full : ℕ → TurnState → List ChosenEvent
+events_closing_full now s = events_closing_some_full now 8 s
 
 -- a connection that was accepted opens an association
 abbrev pub accept_events_at : ℕ → Option ℕ → Option (Option SocketAddrV4) → TurnState
@@ -53,7 +53,7 @@ accept_events_at now None taken s = []
 accept_events_at now (Some place) None s = []
 accept_events_at now (Some place) (Some None) s = []
 accept_events_at now (Some place) (Some (Some from)) s =
-    surely (Open (place + 1)) ∷ settled_events now (after_opening now place s)
+    surely (Open (place + 1)) ∷ events_closing_full now (after_opening now place s)
 
 abbrev pub accept_events : ℕ → Option (Option SocketAddrV4) → TurnState → List ChosenEvent
 accept_events now taken s = accept_events_at now (free_place s.server) taken s
@@ -62,11 +62,12 @@ accept_events now taken s = accept_events_at now (free_place s.server) taken s
 abbrev pub heard_events : ℕ → ℕ → Option ℕ → ReadOutcome → TurnState → List ChosenEvent
 heard_events now place choice (Octets octets) s =
     (choice, Recv (place + 1) (borrowed octets))
-    ∷ settled_events now (after_octets now place choice octets s)
+    ∷ events_closing_full now (after_octets now place choice octets s)
 heard_events now place choice Silence s = []
-heard_events now place choice Over s = closing_of place ∷ settled_events now (after_end now place s)
+heard_events now place choice Over s =
+    closing_of place ∷ events_closing_full now (after_end now place s)
 heard_events now place choice Broken s =
-    closing_of place ∷ settled_events now (close_at_once now closing.LinkFailed place s)
+    closing_of place ∷ events_closing_full now (close_at_once now closing.LinkFailed place s)
 
 abbrev pub read_events : ℕ → ℕ → Reading → TurnState → List ChosenEvent
 read_events now place r s = if is_up place s then heard_events now place r.choice r.heard s else []
@@ -75,17 +76,17 @@ read_events now place r s = if is_up place s then heard_events now place r.choic
 abbrev pub line_events : ℕ → Option ProcessEvent → TurnState → List ChosenEvent
 line_events now None s = []
 line_events now (Some event) s =
-    surely (event_of event) ∷ settled_events now (after_process_event now event s)
+    surely (event_of event) ∷ events_closing_full now (after_process_event now event s)
 
 -- the program runs once
 abbrev pub scan_events : ℕ → TurnState → List ChosenEvent
-scan_events now s = surely Scan ∷ settled_events now (after_event now Scan s)
+scan_events now s = surely Scan ∷ events_closing_full now (after_event now Scan s)
 
 -- an association is closed if a write fails
 abbrev pub failed_events : ℕ → ℕ → Bool → TurnState → List ChosenEvent
 failed_events now place failed s =
     if failed
-    then closing_of place ∷ settled_events now (close_at_once now closing.LinkFailed place s)
+    then closing_of place ∷ events_closing_full now (close_at_once now closing.LinkFailed place s)
     else []
 
 abbrev pub offer_events : ℕ → ℕ → Offer → TurnState → List ChosenEvent

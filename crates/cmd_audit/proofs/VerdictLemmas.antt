@@ -180,7 +180,7 @@ cond-free false rest free = free
 
 kept-free : (word : List ℕ) (names : Known) (kept : StateDependencies) → IsFree word
     → AreWords names
-    → IsFree (spec.kept_text word names kept)
+    → IsFree (spec.dependencies_text word names kept)
 kept-free word names kept plain words =
     let slots : List ℕ = flat_map (spec.slot_text names) kept.slots.items in
     let timers : List ℕ = flat_map (spec.timer_text names) kept.timers.items in
@@ -263,16 +263,16 @@ rule_line line id o rest =
     codes "rule" ++ 32 ∷ (decimal line ++ 32 ∷ (id ++ 32 ∷ (operation_word o ++ 32 ∷ rest)))
 
 rule-line-is : (line : ℕ) (id : List ℕ) (o : Operation) (rest : List ℕ)
-    → (codes "rule " ++ (decimal line ++ spec.way_text (codes " ") id o)) ++ 32 ∷ rest
+    → (codes "rule " ++ (decimal line ++ spec.switch_operation_text (codes " ") id o)) ++ 32 ∷ rest
     ≡ rule_line line id o rest
 rule-line-is line id o rest =
     let behind : (id ++ spec.operation_text o) ++ 32 ∷ rest
     ≡ id ++ 32 ∷ (operation_word o ++ 32 ∷ rest) =
     append_assoc id (spec.operation_text o) (32 ∷ rest)
     ∙ ap (λ t. id ++ (t ++ 32 ∷ rest)) (operation-is o) in
-    let inner : (decimal line ++ spec.way_text (codes " ") id o) ++ 32 ∷ rest
+    let inner : (decimal line ++ spec.switch_operation_text (codes " ") id o) ++ 32 ∷ rest
     ≡ decimal line ++ 32 ∷ (id ++ 32 ∷ (operation_word o ++ 32 ∷ rest)) =
-    append_assoc (decimal line) (spec.way_text (codes " ") id o) (32 ∷ rest)
+    append_assoc (decimal line) (spec.switch_operation_text (codes " ") id o) (32 ∷ rest)
     ∙ ap (λ t. decimal line ++ 32 ∷ t) behind in
     ap (λ t. codes "rule" ++ 32 ∷ t) inner
 
@@ -311,7 +311,7 @@ module _ (bay : Bay) (names : Known) (g : BoundProgram) (words : HasWords bay)
       (each-get (λ s. IsWord s.id) bay.switches rule.switch words.switches)
 
   printed-is : (rule : Rule) (rest : List ℕ)
-      → printed_hold (spec.front_text bay rule ++ 32 ∷ rest)
+      → printed_hold (spec.rule_start_text bay rule ++ 32 ∷ rest)
       ≡ hold_in (codes "rule" ∷ decimal rule.line ∷ rule_id rule ∷ operation_word rule.operation
       ∷ words_in rest)
   printed-is rule rest =
@@ -321,7 +321,7 @@ module _ (bay : Bay) (names : Known) (g : BoundProgram) (words : HasWords bay)
 
   says-holds : (rule : Rule) (a : RuleAnswer) (rest : List ℕ) (pairs : List (Rule × RuleAnswer))
       → Contains pairs (rule, a) → IsRight g rule a → spec.is_passed a ≡ true
-      → Says pairs (spec.front_text bay rule ++ 32 ∷ rest)
+      → Says pairs (spec.rule_start_text bay rule ++ 32 ∷ rest)
   says-holds rule a rest pairs among right holds hold e =
       let read =
       hold-read (decimal rule.line) (rule_id rule) rule.operation (words_in rest) hold
@@ -338,16 +338,16 @@ module _ (bay : Bay) (names : Known) (g : BoundProgram) (words : HasWords bay)
 
   says-other : (rule : Rule) (rest : List ℕ) (pairs : List (Rule × RuleAnswer))
       → bytes_eq (first (words_in rest)) (codes "holds") ≡ false
-      → Says pairs (spec.front_text bay rule ++ 32 ∷ rest)
+      → Says pairs (spec.rule_start_text bay rule ++ 32 ∷ rest)
   says-other rule rest pairs other =
-      says-none pairs (spec.front_text bay rule ++ 32 ∷ rest)
+      says-none pairs (spec.rule_start_text bay rule ++ 32 ∷ rest)
       (printed-is rule rest
       ∙ other-verdict (decimal rule.line) (rule_id rule) (operation_word rule.operation)
       (words_in rest) other)
 
   says-answer : (rule : Rule) (a : RuleAnswer) (pairs : List (Rule × RuleAnswer))
       → Contains pairs (rule, a) → IsRight g rule a
-      → Says pairs (spec.front_text bay rule ++ spec.said_text bay names a)
+      → Says pairs (spec.rule_start_text bay rule ++ spec.verdict_text bay names a)
   says-answer rule (answer.Holds cases) pairs among right =
       says-holds rule (answer.Holds cases) (codes "holds cases=" ++ decimal cases) pairs among right
       refl
@@ -362,42 +362,46 @@ module _ (bay : Bay) (names : Known) (g : BoundProgram) (words : HasWords bay)
       (first-onto 98 (words_in (codes "roken" ++ spec.case_text bay case))))
   says-answer rule (answer.Open case kept) pairs among right =
       says-other rule
-      (codes "open" ++ (spec.case_text bay case ++ spec.kept_text (codes " by") names kept)) pairs
+      (codes "open" ++ (spec.case_text bay case ++ spec.dependencies_text (codes " by") names kept))
+      pairs
       (ap (λ w. bytes_eq w (codes "holds"))
       (first-onto 111
       (words_in
-      (codes "pen" ++ (spec.case_text bay case ++ spec.kept_text (codes " by") names kept)))))
+      (codes "pen" ++ (spec.case_text bay case
+      ++ spec.dependencies_text (codes " by") names kept)))))
   says-answer rule answer.TooMany pairs among right = says-other rule (codes "many") pairs refl
 
-  held-free : (cases : ℕ) → IsFree (spec.held_text cases)
+  held-free : (cases : ℕ) → IsFree (spec.holds_text cases)
   held-free cases = free-append 10 (codes " holds cases=") (decimal cases) refl (number-free cases)
 
-  said-free : (a : RuleAnswer) → IsFree (spec.said_text bay names a)
+  said-free : (a : RuleAnswer) → IsFree (spec.verdict_text bay names a)
   said-free (answer.Holds cases) = held-free cases
   said-free (answer.Since n cases) =
-      free-append 10 (spec.held_text cases) (codes " by" ++ spec.timer_text names n)
+      free-append 10 (spec.holds_text cases) (codes " by" ++ spec.timer_text names n)
       (held-free cases)
       (free-append 10 (codes " by") (spec.timer_text names n) refl (timer-free names n known))
   said-free (answer.Broken case) =
       free-append 10 (codes " broken") (spec.case_text bay case) refl (case-free bay case words)
   said-free (answer.Open case kept) =
-      let rest : List ℕ = spec.kept_text (codes " by") names kept in
+      let rest : List ℕ = spec.dependencies_text (codes " by") names kept in
       free-append 10 (codes " open") (spec.case_text bay case ++ rest) refl
       (free-append 10 (spec.case_text bay case) rest (case-free bay case words)
       (kept-free (codes " by") names kept refl known))
   said-free answer.TooMany = refl
 
   way-free : (word id : List ℕ) (o : Operation) → IsFree word → IsWord id
-      → IsFree (spec.way_text word id o)
+      → IsFree (spec.switch_operation_text word id o)
   way-free word id o plain is =
       free-append 10 word (id ++ spec.operation_text o) plain
       (free-append 10 id (spec.operation_text o) (name-free id is) (operation-free o))
 
-  front-free : (rule : Rule) → IsFree (spec.front_text bay rule)
+  front-free : (rule : Rule) → IsFree (spec.rule_start_text bay rule)
   front-free rule =
       free-append 10 (codes "rule ")
-      (decimal rule.line ++ spec.way_text (codes " ") (rule_id rule) rule.operation) refl
-      (free-append 10 (decimal rule.line) (spec.way_text (codes " ") (rule_id rule) rule.operation)
+      (decimal rule.line ++ spec.switch_operation_text (codes " ") (rule_id rule) rule.operation)
+      refl
+      (free-append 10 (decimal rule.line)
+      (spec.switch_operation_text (codes " ") (rule_id rule) rule.operation)
       (number-free rule.line)
       (way-free (codes " ") (rule_id rule) rule.operation refl (rule-id-word rule)))
 
@@ -427,8 +431,8 @@ module _ (bay : Bay) (names : Known) (g : BoundProgram) (words : HasWords bay)
       → Contains pairs (rule, a)
       → IsRight g rule a → AreLines (Says pairs) (spec.answer_text bay names (rule, a))
   answer-lines rule a pairs among right =
-      let front : List ℕ = spec.front_text bay rule in
-      let said : List ℕ = spec.said_text bay names a in
+      let front : List ℕ = spec.rule_start_text bay rule in
+      let said : List ℕ = spec.verdict_text bay names a in
       subst (AreLines (Says pairs)) (append_assoc front said (codes "\n"))
       (one-line (front ++ said) (free-append 10 front said (front-free rule) (said-free a))
       (says-answer rule a pairs among right))
@@ -459,7 +463,7 @@ module _ (bay : Bay) (names : Known) (g : BoundProgram) (words : HasWords bay)
   two-other x y ws other = rw (first-onto x (onto_first y ws), first-onto y ws) other
 
   told-lines : (pairs : List (Rule × RuleAnswer)) (case : List TestAnswer) (t : CaseRelease)
-      → AreLines (Says pairs) (spec.told_of bay names case t ++ codes "\n")
+      → AreLines (Says pairs) (spec.case_release_text bay names case t ++ codes "\n")
   told-lines pairs case told.Released =
       one-line (codes "released" ++ spec.case_text bay case)
       (free-append 10 (codes "released") (spec.case_text bay case) refl (case-free bay case words))
@@ -471,10 +475,11 @@ module _ (bay : Bay) (names : Known) (g : BoundProgram) (words : HasWords bay)
       (says-word pairs (codes "blocked" ++ spec.case_text bay case)
       (one-other 98 (words_in (codes "locked" ++ spec.case_text bay case)) refl))
   told-lines pairs case (told.Hangs kept) =
-      let rest : List ℕ = spec.case_text bay case ++ spec.kept_text (codes " on") names kept in
+      let rest : List ℕ =
+      spec.case_text bay case ++ spec.dependencies_text (codes " on") names kept in
       one-line (codes "depends" ++ rest)
       (free-append 10 (codes "depends") rest refl
-      (free-append 10 (spec.case_text bay case) (spec.kept_text (codes " on") names kept)
+      (free-append 10 (spec.case_text bay case) (spec.dependencies_text (codes " on") names kept)
       (case-free bay case words) (kept-free (codes " on") names kept refl known)))
       (says-word pairs (codes "depends" ++ rest)
       (one-other 100 (words_in (codes "epends" ++ rest)) refl))
@@ -485,15 +490,16 @@ module _ (bay : Bay) (names : Known) (g : BoundProgram) (words : HasWords bay)
   flat-lines f pairs (x ∷ xs) are = more-lines (are x) (flat-lines f pairs xs are)
 
   head-says : (pairs : List (Rule × RuleAnswer)) (id : List ℕ) (o : Operation) (rest : List ℕ)
-      → Says pairs (spec.way_text (codes "release ") id o ++ rest)
+      → Says pairs (spec.switch_operation_text (codes "release ") id o ++ rest)
   head-says pairs id o rest =
-      says-word pairs (spec.way_text (codes "release ") id o ++ rest)
+      says-word pairs (spec.switch_operation_text (codes "release ") id o ++ rest)
       (two-other 114 101 (words_in (codes "lease " ++ (id ++ spec.operation_text o) ++ rest)) refl)
 
   many-lines : (pairs : List (Rule × RuleAnswer)) (id : List ℕ) (o : Operation) → IsWord id
-      → AreLines (Says pairs) (spec.way_text (codes "release ") id o ++ codes " many\n")
+      → AreLines (Says pairs)
+      (spec.switch_operation_text (codes "release ") id o ++ codes " many\n")
   many-lines pairs id o is =
-      let way : List ℕ = spec.way_text (codes "release ") id o in
+      let way : List ℕ = spec.switch_operation_text (codes "release ") id o in
       subst (AreLines (Says pairs)) (append_assoc way (codes " many") (codes "\n"))
       (one-line (way ++ codes " many")
       (free-append 10 way (codes " many") (way-free (codes "release ") id o refl is) refl)
@@ -503,11 +509,11 @@ module _ (bay : Bay) (names : Known) (g : BoundProgram) (words : HasWords bay)
       (cases : List ReportedCase)
       → IsWord id
       → AreLines (Says pairs)
-      (spec.way_text (codes "release ") id o ++ spec.cases_text bay names cases)
+      (spec.switch_operation_text (codes "release ") id o ++ spec.cases_text bay names cases)
   cases-lines pairs id o cases is =
-      let way : List ℕ = spec.way_text (codes "release ") id o in
+      let way : List ℕ = spec.switch_operation_text (codes "release ") id o in
       let count : List ℕ = codes " cases=" ++ decimal (length cases) in
-      let told : List ℕ = flat_map (spec.told_text bay names) cases in
+      let told : List ℕ = flat_map (spec.reported_case_text bay names) cases in
       let whole : ((way ++ count) ++ codes "\n") ++ told
       ≡ way ++ spec.cases_text bay names cases =
       append_assoc (way ++ count) (codes "\n") told
@@ -519,7 +525,8 @@ module _ (bay : Bay) (names : Known) (g : BoundProgram) (words : HasWords bay)
       (free-append 10 way count (way-free (codes "release ") id o refl is)
       (free-append 10 (codes " cases=") (decimal (length cases)) refl (number-free (length cases))))
       (head-says pairs id o count))
-      (flat-lines (spec.told_text bay names) pairs cases (λ c. told-lines pairs c.case c.told)))
+      (flat-lines (spec.reported_case_text bay names) pairs cases
+      (λ c. told-lines pairs c.case c.told)))
 
   release-lines : (pairs : List (Rule × RuleAnswer)) (r : Release) (s : Option Switch)
       → Maybe (λ s. IsWord s.id) s → AreLines (Says pairs) (spec.switch_release bay names r s)
@@ -527,24 +534,25 @@ module _ (bay : Bay) (names : Known) (g : BoundProgram) (words : HasWords bay)
   release-lines pairs r (Some switch) is = by-test (length r.left.items == 0)
     where
       by-test : (b : Bool)
-          → AreLines (Says pairs) (spec.way_text (codes "release ") switch.id r.operation
+          → AreLines (Says pairs)
+          (spec.switch_operation_text (codes "release ") switch.id r.operation
           ++ cond b (spec.cases_text bay names r.cases.items) (codes " many\n"))
       by-test true = cases-lines pairs switch.id r.operation r.cases.items is
       by-test false = many-lines pairs switch.id r.operation is
 
-  lost-free : (t : CaseRelease) → IsFree (spec.lost_of names t)
+  lost-free : (t : CaseRelease) → IsFree (spec.lost_release_text names t)
   lost-free told.Released = refl
   lost-free told.Refused = refl
   lost-free (told.Hangs kept) =
-      free-append 10 (codes " depends") (spec.kept_text (codes " on") names kept) refl
+      free-append 10 (codes " depends") (spec.dependencies_text (codes " on") names kept) refl
       (kept-free (codes " on") names kept refl known)
 
   lost-lines : (pairs : List (Rule × RuleAnswer)) (r : Release) (s : Option Switch)
       → Maybe (λ s. IsWord s.id) s → AreLines (Says pairs) (spec.switch_lost names r s)
   lost-lines pairs r None is = no-lines
   lost-lines pairs r (Some switch) is =
-      let way : List ℕ = spec.way_text (codes "lost ") switch.id r.operation in
-      let lost : List ℕ = spec.lost_of names r.lost in
+      let way : List ℕ = spec.switch_operation_text (codes "lost ") switch.id r.operation in
+      let lost : List ℕ = spec.lost_release_text names r.lost in
       subst (AreLines (Says pairs)) (append_assoc way lost (codes "\n"))
       (one-line (way ++ lost)
       (free-append 10 way lost (way-free (codes "lost ") switch.id r.operation refl is)

@@ -122,8 +122,8 @@ abbrev pub timer_text : Known → ℕ → List ℕ
 timer_text names k = named_text (codes "timer") k (slice_get names.timers k)
 
 -- what an answer depends on, after a word, if anything is known
-abbrev pub kept_text : List ℕ → Known → StateDependencies → List ℕ
-kept_text word names kept =
+abbrev pub dependencies_text : List ℕ → Known → StateDependencies → List ℕ
+dependencies_text word names kept =
     if length kept.slots.items == 0 && length kept.timers.items == 0 then []
     else word ++ (flat_map (slot_text names) kept.slots.items
     ++ flat_map (timer_text names) kept.timers.items)
@@ -135,36 +135,36 @@ operation_text operations.Open = codes " open"
 operation_text operations.Close = codes " close"
 
 -- a word, the id of a switch and an operation
-abbrev pub way_text : List ℕ → List ℕ → Operation → List ℕ
-way_text word id operation = word ++ (id ++ operation_text operation)
+abbrev pub switch_operation_text : List ℕ → List ℕ → Operation → List ℕ
+switch_operation_text word id operation = word ++ (id ++ operation_text operation)
 
 abbrev pub id_of : Option Switch → List ℕ
 id_of None = []
 id_of (Some switch) = switch.id
 
-abbrev pub rule_way : Bay → Rule → List ℕ
-rule_way bay rule =
-    way_text (codes " ") (id_of (slice_get bay.switches rule.switch)) rule.operation
+abbrev pub rule_operation_text : Bay → Rule → List ℕ
+rule_operation_text bay rule =
+    switch_operation_text (codes " ") (id_of (slice_get bay.switches rule.switch)) rule.operation
 
 -- the beginning of a line: the line of a rule, its switch and its operation
-abbrev pub front_text : Bay → Rule → List ℕ
-front_text bay rule = codes "rule " ++ (decimal rule.line ++ rule_way bay rule)
+abbrev pub rule_start_text : Bay → Rule → List ℕ
+rule_start_text bay rule = codes "rule " ++ (decimal rule.line ++ rule_operation_text bay rule)
 
-abbrev pub held_text : ℕ → List ℕ
-held_text cases = codes " holds cases=" ++ decimal cases
+abbrev pub holds_text : ℕ → List ℕ
+holds_text cases = codes " holds cases=" ++ decimal cases
 
-abbrev pub said_text : Bay → Known → RuleAnswer → List ℕ
-said_text bay names (answer.Holds cases) = held_text cases
-said_text bay names (answer.Broken case) = codes " broken" ++ case_text bay case
-said_text bay names (answer.Open case kept) =
-    codes " open" ++ (case_text bay case ++ kept_text (codes " by") names kept)
-said_text bay names (answer.Since n cases) =
-    held_text cases ++ (codes " by" ++ timer_text names n)
-said_text bay names answer.TooMany = codes " many"
+abbrev pub verdict_text : Bay → Known → RuleAnswer → List ℕ
+verdict_text bay names (answer.Holds cases) = holds_text cases
+verdict_text bay names (answer.Broken case) = codes " broken" ++ case_text bay case
+verdict_text bay names (answer.Open case kept) =
+    codes " open" ++ (case_text bay case ++ dependencies_text (codes " by") names kept)
+verdict_text bay names (answer.Since n cases) =
+    holds_text cases ++ (codes " by" ++ timer_text names n)
+verdict_text bay names answer.TooMany = codes " many"
 
 abbrev pub answer_text : Bay → Known → Rule × RuleAnswer → List ℕ
 answer_text bay names pair =
-    front_text bay pair.0 ++ (said_text bay names pair.1 ++ codes "\n")
+    rule_start_text bay pair.0 ++ (verdict_text bay names pair.1 ++ codes "\n")
 
 abbrev pub answers_text : Bay → Known → List (Rule × RuleAnswer) → List ℕ
 answers_text bay names pairs = flat_map (answer_text bay names) pairs
@@ -181,31 +181,32 @@ is_passed (answer.Since n cases) = true
 
 -- a case in which a switch is released, in which it is not, or in which that depends on what the
 -- program retains
-abbrev pub told_of : Bay → Known → List TestAnswer → CaseRelease → List ℕ
-told_of bay names case told.Released = codes "released" ++ case_text bay case
-told_of bay names case told.Refused = codes "blocked" ++ case_text bay case
-told_of bay names case (told.Hangs kept) =
-    codes "depends" ++ case_text bay case ++ kept_text (codes " on") names kept
+abbrev pub case_release_text : Bay → Known → List TestAnswer → CaseRelease → List ℕ
+case_release_text bay names case told.Released = codes "released" ++ case_text bay case
+case_release_text bay names case told.Refused = codes "blocked" ++ case_text bay case
+case_release_text bay names case (told.Hangs kept) =
+    codes "depends" ++ case_text bay case ++ dependencies_text (codes " on") names kept
 
-abbrev pub told_text : Bay → Known → ReportedCase → List ℕ
-told_text bay names c = told_of bay names c.case c.told ++ codes "\n"
+abbrev pub reported_case_text : Bay → Known → ReportedCase → List ℕ
+reported_case_text bay names c = case_release_text bay names c.case c.told ++ codes "\n"
 
 abbrev pub cases_text : Bay → Known → List ReportedCase → List ℕ
 cases_text bay names cases =
-    codes " cases=" ++ decimal (length cases) ++ codes "\n" ++ flat_map (told_text bay names) cases
+    codes " cases=" ++ decimal (length cases) ++ codes "\n"
+    ++ flat_map (reported_case_text bay names) cases
 
-abbrev pub found_text : Bay → Known → Release → List ℕ
-found_text bay names r =
+abbrev pub release_cases_text : Bay → Known → Release → List ℕ
+release_cases_text bay names r =
     if length r.left.items == 0 then cases_text bay names r.cases.items else codes " many\n"
 
-abbrev pub release_of : Bay → Known → List ℕ → Release → List ℕ
-release_of bay names id r =
-    way_text (codes "release ") id r.operation ++ found_text bay names r
+abbrev pub release_lines : Bay → Known → List ℕ → Release → List ℕ
+release_lines bay names id r =
+    switch_operation_text (codes "release ") id r.operation ++ release_cases_text bay names r
 
 -- the lines of a release of a switch that the bay has
 abbrev pub switch_release : Bay → Known → Release → Option Switch → List ℕ
 switch_release bay names r None = []
-switch_release bay names r (Some switch) = release_of bay names switch.id r
+switch_release bay names r (Some switch) = release_lines bay names switch.id r
 
 abbrev pub release_text : Bay → Known → Release → List ℕ
 release_text bay names r = switch_release bay names r (slice_get bay.switches r.switch)
@@ -213,14 +214,16 @@ release_text bay names r = switch_release bay names r (slice_get bay.switches r.
 -- ---- the process is lost
 
 -- a release while the process is lost, followed by what it depends on
-abbrev pub lost_of : Known → CaseRelease → List ℕ
-lost_of names told.Released = codes " released"
-lost_of names told.Refused = codes " blocked"
-lost_of names (told.Hangs kept) = codes " depends" ++ kept_text (codes " on") names kept
+abbrev pub lost_release_text : Known → CaseRelease → List ℕ
+lost_release_text names told.Released = codes " released"
+lost_release_text names told.Refused = codes " blocked"
+lost_release_text names (told.Hangs kept) =
+    codes " depends" ++ dependencies_text (codes " on") names kept
 
 abbrev pub lost_line : Known → List ℕ → Release → List ℕ
 lost_line names id r =
-    way_text (codes "lost ") id r.operation ++ (lost_of names r.lost ++ codes "\n")
+    switch_operation_text (codes "lost ") id r.operation
+    ++ (lost_release_text names r.lost ++ codes "\n")
 
 -- the line of a release of a switch that the bay has
 abbrev pub switch_lost : Known → Release → Option Switch → List ℕ

@@ -236,7 +236,7 @@ fn put_kept(
     kept: &StateDependencies,
 ) -> Result<(), AllocError>
     ensures { OnOk result
-        (text.new.items ≡ text.old.items ++ spec.kept_text word.now names.now kept.now) }
+        (text.new.items ≡ text.old.items ++ spec.dependencies_text word.now names.now kept.now) }
 {
     if kept.slots.as_slice().is_empty() && kept.timers.as_slice().is_empty() {
         return Ok(());
@@ -259,7 +259,7 @@ fn put_way(
     operation: Operation,
 ) -> Result<(), AllocError>
     ensures { OnOk result
-        (text.new.items ≡ text.old.items ++ spec.way_text word.now id.now operation) }
+        (text.new.items ≡ text.old.items ++ spec.switch_operation_text word.now id.now operation) }
 {
     text.extend_from_slice(word)?;
     text.extend_from_slice(id.as_bytes())?;
@@ -272,7 +272,8 @@ fn put_way(
 
 // Adds the switch and the operation of a rule.
 fn put_rule_way(text: &mut Vec<u8>, bay: &Bay, rule: &Rule) -> Result<(), AllocError>
-    ensures { OnOk result (text.new.items ≡ text.old.items ++ spec.rule_way bay.now rule.now) }
+    ensures { OnOk result (text.new.items
+        ≡ text.old.items ++ spec.rule_operation_text bay.now rule.now) }
 {
     match bay.switches.as_slice().get(rule.switch) {
         Some(found) => put_way(text, b" ", found.id.as_str(), rule.operation),
@@ -283,7 +284,7 @@ fn put_rule_way(text: &mut Vec<u8>, bay: &Bay, rule: &Rule) -> Result<(), AllocE
 // Adds the beginning of the line of a rule's answer: the rule's line, its switch and its operation.
 fn put_front(text: &mut Vec<u8>, bay: &Bay, rule: &Rule) -> Result<(), AllocError>
     ensures { OnOk result
-        (text.new.items ≡ text.old.items ++ spec.front_text bay.now rule.now) }
+        (text.new.items ≡ text.old.items ++ spec.rule_start_text bay.now rule.now) }
 {
     text.extend_from_slice(b"rule ")?;
     put_number(text, rule.line as u64)?;
@@ -292,7 +293,7 @@ fn put_front(text: &mut Vec<u8>, bay: &Bay, rule: &Rule) -> Result<(), AllocErro
 
 // Adds that a rule holds, and by how many cases.
 fn put_held(text: &mut Vec<u8>, cases: u32) -> Result<(), AllocError>
-    ensures { OnOk result (text.new.items ≡ text.old.items ++ spec.held_text cases) }
+    ensures { OnOk result (text.new.items ≡ text.old.items ++ spec.holds_text cases) }
 {
     text.extend_from_slice(b" holds cases=")?;
     put_number(text, u64::from(cases))
@@ -306,7 +307,7 @@ fn put_said(
     answer: &RuleAnswer,
 ) -> Result<(), AllocError>
     ensures { OnOk result
-        (text.new.items ≡ text.old.items ++ spec.said_text bay.now names.now answer.now) }
+        (text.new.items ≡ text.old.items ++ spec.verdict_text bay.now names.now answer.now) }
 {
     match answer {
         RuleAnswer::Holds { cases } => put_held(text, *cases),
@@ -381,7 +382,7 @@ fn put_told(
     told: &ReportedCase,
 ) -> Result<(), AllocError>
     ensures { OnOk result (text.new.items ≡ text.old.items
-        ++ spec.told_of bay.now names.now told.now.case told.now.told) }
+        ++ spec.case_release_text bay.now names.now told.now.case told.now.told) }
 {
     match &told.told {
         CaseRelease::Released => put_word(text, bay, b"released", &told.case),
@@ -401,7 +402,7 @@ fn put_told_line(
     told: &ReportedCase,
 ) -> Result<(), AllocError>
     ensures { OnOk result
-        (text.new.items ≡ text.old.items ++ spec.told_text bay.now names.now told.now) }
+        (text.new.items ≡ text.old.items ++ spec.reported_case_text bay.now names.now told.now) }
 {
     put_told(text, bay, names, told)?;
     text.extend_from_slice(b"\n")
@@ -435,7 +436,7 @@ fn put_release(
     release: &Release,
 ) -> Result<(), AllocError>
     ensures { OnOk result (text.new.items ≡ text.old.items
-        ++ spec.release_of bay.now names.now id.now release.now) }
+        ++ spec.release_lines bay.now names.now id.now release.now) }
 {
     put_way(text, b"release ", id, release.operation)?;
     if release.left.as_slice().is_empty() {

@@ -17,10 +17,10 @@ use Rattle.bay_trace.specs.Resolving.{borrowed}
 use Rattle.bay_server_turn.specs.Calls.{Octets, Silence}
 use Rattle.bay_server_turn.specs.Offers.{Offer}
 use Rattle.bay_server_turn.specs.AssociationStates.{is_draining}
-use Rattle.bay_server_turn.specs.Turns.{ServerData, TurnState, after_event, after_first, after_line, after_scan, after_settling, close_at_once, first_full, free_place, is_up, offer_of, offer_one, read_one, state_at, after_octets, turn_begin}
+use Rattle.bay_server_turn.specs.Turns.{ServerData, TurnState, after_event, after_first, after_line, after_scan, after_closing_full, close_at_once, first_full, free_place, is_up, offer_of, offer_one, read_one, state_at, after_octets, turn_begin}
 use Rattle.bay_server_turn.specs.declared.turn_report.CloseReason.TheVariants as closing
 use Rattle.bay_server_turn.specs.declared.turn_report.Turn.{Turn}
-use Rattle.bay_server_turn_laws.specs.Events.{ChosenEvent, accept_events_at, done_at, events_of_each, failed_events, heard_events, offer_events, read_events, scan_events, settled_events, settled_in_events, settled_next_events, surely, turn_events}
+use Rattle.bay_server_turn_laws.specs.Events.{ChosenEvent, accept_events_at, done_at, events_of_each, failed_events, heard_events, offer_events, read_events, scan_events, events_closing_full, events_closing_some_full, events_closing_next_full, surely, turn_events}
 use Rattle.bay_server_turn_laws.specs.Flows.{brought_by, received_of}
 use Rattle.bay_server_turn_laws.proofs.GivenLemmas.{turn-brings}
 use Rattle.cmd_serve.specs.Orders.{AreOrdered, IsHeard, IsOrdered}
@@ -31,19 +31,20 @@ use Rattle.cmd_audit_laws.proofs.ReleaseLemmas.{none-releases, old-releases-none
 
 -- ---- turns in which no octets come
 
-settled-free : (now count : ℕ) (s : TurnState) → AreWithout (settled_in_events now count s)
+settled-free : (now count : ℕ) (s : TurnState) → AreWithout (events_closing_some_full now count s)
 settled-free now zero s = All-nil IsFree
 settled-free now (suc count) s = by-first (first_full s.noted) (settled-free now count)
   where
-    by-first : (o : Option ℕ) → ((t : TurnState) → AreWithout (settled_in_events now count t))
-        → AreWithout (settled_next_events now o s (settled_in_events now count))
+    by-first : (o : Option ℕ)
+        → ((t : TurnState) → AreWithout (events_closing_some_full now count t))
+        → AreWithout (events_closing_next_full now o s (events_closing_some_full now count))
     by-first None more = All-nil IsFree
     by-first (Some place) more =
         All-cons IsFree (surely (Close (place + 1))) _ tt
         (more (close_at_once now closing.QueueFull place s))
 
-all-settled-free : (now : ℕ) (s : TurnState) → AreWithout (settled_events now s)
-unfolding settled_events
+all-settled-free : (now : ℕ) (s : TurnState) → AreWithout (events_closing_full now s)
+unfolding events_closing_full
 all-settled-free now s = settled-free now 8 s
 
 -- where nothing came of the associations from a place on
@@ -186,11 +187,12 @@ module _ (s : State) (choice : Option ℕ) (octets : List ℕ) (told : Turn) whe
       let t : TurnState =
       after_octets 0 0 choice octets
       (after_first turn.now turn.given turn.script (server_with_client s)) in
-      let u : TurnState = after_settling 0 t in
+      let u : TurnState = after_closing_full 0 t in
       let later : List ChosenEvent =
       events_of_each (read_one 0) (read_events 0) 1 (replicate 7 no_octets) u in
-      parts-free (server_with_client s) turn (settled_events 0 t ++ later)
-      (All-append IsFree (settled_events 0 t) later (all-settled-free 0 t) (silent-free 0 1 7 u))
+      parts-free (server_with_client s) turn (events_closing_full 0 t ++ later)
+      (All-append IsFree (events_closing_full 0 t) later (all-settled-free 0 t)
+      (silent-free 0 1 7 u))
 
   abbrev came : ChosenEvent
   came = (choice, Recv 1 (borrowed octets))

@@ -19,7 +19,7 @@ use Rattle.cmd_replay.proofs.LoadedLemmas.{file-sound}
 use Rattle.bay_report.specs.Report.{report_text}
 use Rattle.bay_report.specs.declared.load.Form.TheVariants.{Logic}
 use Rattle.bay_replay_laws.specs.Printed.{PrintedCommand, lines_in, printed_command}
-use Rattle.bay_replay_laws.specs.Released.{IsPrintedFor}
+use Rattle.bay_replay_laws.specs.Released.{IsCommandLineFor}
 use Rattle.bay_replay_laws.proofs.OrderLemmas.{load, load-no-command, of-command, order-read, order-switches, other-no-command, printed-for, stands}
 use Rattle.bay_replay_laws.proofs.PrintLemmas.{load-is}
 use Rattle.bay_replay_laws.proofs.ScanLemmas.{past-in}
@@ -85,7 +85,7 @@ module _ (parts : ScenarioParts) (first : State) (text : List ℕ) (status : ℕ
         order = at.order;
         earlier = at.earlier;
         split = at.split;
-        ordered = subst (λ ls. IsPrintedFor begin at.order at.earlier (line_of_load ∷ ls) line)
+        ordered = subst (λ ls. IsCommandLineFor begin at.order at.earlier (line_of_load ∷ ls) line)
             (sym at.behind)
             (printed-for begin line_of_load (load-is run.printed.report) at.order at.earlier
             at.groups at.part at.rest line at.are at.own);

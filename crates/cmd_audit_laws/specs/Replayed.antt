@@ -12,7 +12,7 @@ use Rattle.cmd_replay.specs.Scenario.{ScenarioParts}
 use Rattle.bay_report.specs.Report.{report_text}
 use Rattle.bay_report.specs.declared.load.Form.TheVariants.{Logic}
 use Rattle.bay_replay_laws.specs.Printed.{PrintedCommand, lines_in, printed_command}
-use Rattle.bay_replay_laws.specs.Released.{IsPrintedFor}
+use Rattle.bay_replay_laws.specs.Released.{IsCommandLineFor}
 use Rattle.bay_audit_rules.specs.Process.{holds}
 use Rattle.bay_audit_rules.specs.declared.rule.Rule.{Rule}
 use Rattle.bay_audit_rules.specs.declared.rule.RuleKind.TheVariants.{Never}
@@ -31,7 +31,7 @@ pub record IsIssued (begin : List ℕ) (first : State) (past : List Past)
   pub order : Past
   pub earlier : List Past
   pub split : past ≡ later ++ order ∷ earlier
-  pub ordered : IsPrintedFor begin order earlier before line
+  pub ordered : IsCommandLineFor begin order earlier before line
   pub moment : printed.moment ≡ order.now
   pub step : Step
   pub answered : order.answer ≡ Ok step

@@ -9,7 +9,7 @@ use Rattle.bay_mms_services.specs.declared.answer.Command.{Command}
 use Rattle.bay_device.specs.Commands.{AreCommanded, IsReleasedAt}
 use Rattle.bay_device.specs.Device.{State, bay_of}
 use Rattle.bay_device.specs.Fresh.{Past}
-use Rattle.bay_device.specs.Operates.{AreOperates, AreReplied, AreRepliedAt, IsReplied}
+use Rattle.bay_device.specs.Operates.{AreOperates, AreReplied, AreRepliedForEvent, IsReplied}
 use Rattle.bay_device.specs.Outcomes.{Outcome, last_moment, outcome, place_of, refusal_of}
 use Rattle.bay_device.specs.Steps.{Steps}
 use Rattle.bay_device.specs.EntriesTold.{pdu_in, pdus_in, connection_state_at}
@@ -199,7 +199,7 @@ module _ (first : State) (h : ServerData) (t : DoneTurn) (past : List Past) (com
   asked : (event : Event)
       → turn_events t.now t.given t.script h ≡ front ++ (choice, event) ∷ back
       → (outcome choice t.now event mid).answer ≡ Ok step
-      → AreRepliedAt t.now event (bay_of first) mid.connections step
+      → AreRepliedForEvent t.now event (bay_of first) mid.connections step
       → IsReleasedAt t.now mid command
       → IsOrdered first h t past command
   asked (Open a) split answered replied allowed = absurd (none-among _ command replied has)

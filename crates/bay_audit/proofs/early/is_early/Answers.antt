@@ -4,7 +4,7 @@ use Rattle.bay_process.specs.Values.{is_point}
 use Rattle.il_image.specs.declared.value.Value.{Value}
 use Rattle.il_scan.specs.Scans.{Held, held_first}
 use Rattle.bay_audit.specs.Cases.{example_of}
-use Rattle.bay_audit.specs.Conditions.{outlook_of}
+use Rattle.bay_audit.specs.Conditions.{condition_truths}
 use Rattle.bay_audit.specs.Process.{process_value}
 use Rattle.bay_audit.specs.Rules.{IsEarlyBy, place_of, releasing_point}
 use Rattle.bay_audit.proofs.CaseLemmas.{example-is}
@@ -32,7 +32,7 @@ returns c shown =
       is = example-is case;
       inside = inside;
       asked = asked-so p (example-is case) case inside rule.when c.in_ok-asked.asked
-          (c.in_ok-asked.ensures ∙ ap (outlook_of case) c.as_slice.ensures) c.if-asked.false;
+          (c.in_ok-asked.ensures ∙ ap (condition_truths case) c.as_slice.ensures) c.if-asked.false;
       early = subst
           (λ (xs : List Value). IsEarlyBy xs (held_first g.image) (place_of g rule) c.args.time)
           (c.as_slice-2.ensures.value ∙ inputs)

@@ -1,6 +1,6 @@
 use Rattle.std.proofs.Common.{sym, ◌∙◌, ap, ap₂}
 use Rattle.std.proofs.lemmas.Bool.{not-true}
-use Rattle.bay_audit.specs.Conditions.{base_truths_of}
+use Rattle.bay_audit.specs.Conditions.{rule_truths}
 use Rattle.bay_audit.specs.declared.truth_set.TruthSet.{TruthSet}
 use Rattle.bay_audit.proofs.verdict.verdict.Goals as goal
 use Rattle.bay_audit.proofs.RuleLemmas.{idle-in}
@@ -12,5 +12,5 @@ returns-then-not-asked c =
     c.args.demand.now c.args.case.now
     (ap (λ (o : TruthSet). o.yes)
     (sym (c.in_ok-asked.ensures
-    ∙ ap₂ (base_truths_of c.args.case.now) c.as_slice.ensures c.as_slice-2.ensures))
+    ∙ ap₂ (rule_truths c.args.case.now) c.as_slice.ensures c.as_slice-2.ensures))
     ∙ not-true c.in_ok-asked.asked.yes c.if-not-asked.true)

@@ -1,6 +1,6 @@
 use Rattle.std.proofs.Common.{inr, sym, ◌∙◌}
 use Rattle.bay_audit_rules.specs.Meaning.{TokensRead, rules_of}
-use Rattle.bay_audit_rules.proofs.SayingLemmas.{says-read}
+use Rattle.bay_audit_rules.proofs.TokenParsingLemmas.{says-read}
 use Rattle.bay_audit_rules.proofs.TextLemmas.{says-none, pushes-none, pushes-some}
 use Rattle.bay_audit_rules.proofs.read.read_tokens.Goals as goal
 

@@ -15,14 +15,14 @@ returns-clause-ok c =
     let a = c.args.client.association in
     let terms : Terms = terms_of c.args.connection.now.talk in
     let answered-as = rw c.pdu.ensures at c.in_ok-answer.ensures.ok in
-    let did = c.reply.ensures in
-    all-ok c.reply.result _ _ _ _ _ did.due did.sent did.commands did.decisions
+    let did = c.record_answer.ensures in
+    all-ok c.record_answer.result _ _ _ _ _ did.due did.sent did.commands did.decisions
     (λ due is sends does decides connections.
     let s : State = state_view connections d in
     let x : Answered = pdu_answer c.args.client c.args.connection.now.pdu (bay_of s) in
-    answered-done a terms x s c.args.made.now.sent.items c.reply.new.made.sent.items
-    c.args.made.now.commands.items c.reply.new.made.commands.items
-    c.args.made.now.decisions.items c.reply.new.made.decisions.items
+    answered-done a terms x s c.args.made.now.sent.items c.record_answer.new.made.sent.items
+    c.args.made.now.commands.items c.record_answer.new.made.commands.items
+    c.args.made.now.decisions.items c.record_answer.new.made.decisions.items
     (with_controls (state_of s.controls.controls c.answer.new.controls) (bay_of s))
     (later_due s.due due)
     answered-as.left (ap (later_due d.due) (is ∙ ap (due_if a terms) answered-as.ending))

@@ -17,7 +17,7 @@ use Rattle.bay_audit_rules.specs.declared.token.RuleToken.TheVariants as token
 use Rattle.bay_audit_rules.specs.Facts.{Items}
 use Rattle.bay_audit_rules.specs.Grammar.{IsFact, condition, Reads, direction_tokens, IsTimed, IsWhen, Spells}
 use Rattle.bay_audit_rules.specs.Running.{Taken, fact_at, condition_at}
-use Rattle.bay_audit_rules.specs.Sayings.{directions_at, open_ways, close_ways, time_after_condition, since_at, same_kind, timed_at, only_items, when_at, looks_at, rule_at, statement_at}
+use Rattle.bay_audit_rules.specs.TokenParsing.{directions_at, directions_after_open, directions_after_close, time_after_condition, since_at, same_kind, timed_at, only_items, when_at, looks_at, rule_at, statement_at}
 use Rattle.bay_audit_rules.proofs.GrammarLemmas.{Ends, Stops, fact-found, condition-found}
 use Rattle.bay_audit_rules.proofs.ReadLemmas.{fact-read, condition-read}
 
@@ -112,7 +112,8 @@ mapped-some None f y e = absurd cc
 mapped-some (Some a) f y e = record { found = a; was = refl; is = same_Some (f a) y e }
 
 open-read : (ts : List RuleToken)
-    → token.Open ∷ ts ≡ direction_tokens (open_ways ts).0 ++ (open_ways ts).1
+    → token.Open ∷ ts ≡ direction_tokens (directions_after_open ts).0
+    ++ (directions_after_open ts).1
 open-read [] = refl
 open-read (token.Bar ∷ []) = refl
 open-read (token.Bar ∷ (token.Close ∷ ts)) = refl
@@ -120,7 +121,8 @@ open-read (token.Bar ∷ (other ∷ ts)) = refl
 open-read (other ∷ ts) = refl
 
 close-read : (ts : List RuleToken)
-    → token.Close ∷ ts ≡ direction_tokens (close_ways ts).0 ++ (close_ways ts).1
+    → token.Close ∷ ts ≡ direction_tokens (directions_after_close ts).0
+    ++ (directions_after_close ts).1
 close-read [] = refl
 close-read (token.Bar ∷ []) = refl
 close-read (token.Bar ∷ (token.Open ∷ ts)) = refl
@@ -131,11 +133,11 @@ ways-read : (ts : List RuleToken) (x : Directions × List RuleToken) → directi
     → ts ≡ direction_tokens x.0 ++ x.1
 ways-read (token.Open ∷ ts) x e =
     open-read ts ∙ ap (λ (y : Directions × List RuleToken). direction_tokens y.0 ++ y.1)
-    (same_Some (open_ways ts)
+    (same_Some (directions_after_open ts)
     x e)
 ways-read (token.Close ∷ ts) x e =
     close-read ts ∙ ap (λ (y : Directions × List RuleToken). direction_tokens y.0 ++ y.1)
-    (same_Some (close_ways
+    (same_Some (directions_after_close
     ts) x e)
 ways-read [] x e = absurd cc
 ways-read (other ∷ ts) x e = absurd cc

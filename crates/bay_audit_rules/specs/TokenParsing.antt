@@ -17,17 +17,17 @@ use Rattle.bay_audit_rules.specs.Facts.{Items, item}
 use Rattle.bay_audit_rules.specs.Running.{fact_at, condition_at}
 
 -- the directions at the start of the tokens, and the rest
-abbrev pub open_ways : List RuleToken → Directions × List RuleToken
-open_ways (token.Bar ∷ (token.Close ∷ ts)) = (OpeningAndClosing, ts)
-open_ways ts = (Opening, ts)
+abbrev pub directions_after_open : List RuleToken → Directions × List RuleToken
+directions_after_open (token.Bar ∷ (token.Close ∷ ts)) = (OpeningAndClosing, ts)
+directions_after_open ts = (Opening, ts)
 
-abbrev pub close_ways : List RuleToken → Directions × List RuleToken
-close_ways (token.Bar ∷ (token.Open ∷ ts)) = (ClosingAndOpening, ts)
-close_ways ts = (Closing, ts)
+abbrev pub directions_after_close : List RuleToken → Directions × List RuleToken
+directions_after_close (token.Bar ∷ (token.Open ∷ ts)) = (ClosingAndOpening, ts)
+directions_after_close ts = (Closing, ts)
 
 abbrev pub directions_at : List RuleToken → Option (Directions × List RuleToken)
-directions_at (token.Open ∷ ts) = Some (open_ways ts)
-directions_at (token.Close ∷ ts) = Some (close_ways ts)
+directions_at (token.Open ∷ ts) = Some (directions_after_open ts)
+directions_at (token.Close ∷ ts) = Some (directions_after_close ts)
 directions_at ts = None
 
 -- `for` and a time after a condition, and the rest
