@@ -22,8 +22,8 @@ use Rattle.bay_audit.specs.declared.case.Test.{Test}
 use Rattle.bay_audit.specs.declared.demand.Demand.{Demand}
 use Rattle.bay_audit.proofs.CaseLemmas.{lost-in}
 use Rattle.bay_audit.proofs.SearchLemmas.{count-last, one_if, parts-more}
-use Rattle.bay_nodes.specs.declared.switch.Operation.{Operation}
-use Rattle.bay_nodes.specs.declared.switch.Operation.TheVariants as operations
+use Rattle.bay_base.specs.declared.switch.Operation.{Operation}
+use Rattle.bay_base.specs.declared.switch.Operation.TheVariants as operations
 
 -- ---- what is told
 

@@ -8,9 +8,10 @@ use Rattle.std.proofs.lemmas.Bool.Decides.{nat_tests}
 use Rattle.std.proofs.lemmas.Int.{ints}
 use Rattle.bay_base.specs.declared.point.MeterField.{MeterField}
 use Rattle.bay_base.specs.declared.point.MeterField.TheVariants.{TotW, TotVAr, Hz, PhaseA, PhaseB, PhaseC}
-use Rattle.bay_audit_rules.specs.Process.{Process, same_position}
-use Rattle.bay_tree.specs.declared.leaf.Dbpos.{Dbpos}
-use Rattle.bay_tree.specs.declared.leaf.Dbpos.TheVariants.{Intermediate, Off, On, Bad}
+use Rattle.bay_base.specs.Positions.{same_position}
+use Rattle.bay_audit_rules.specs.Process.{Process}
+use Rattle.bay_base.specs.declared.position.Dbpos.{Dbpos}
+use Rattle.bay_base.specs.declared.position.Dbpos.TheVariants.{Intermediate, Off, On, Bad}
 use Rattle.bay_audit.specs.Cases.{IsWithin, allows_position, answer_of, example_of, first_position, allows_input, high_after, high_by, high_of, input_may, is_in, is_of_field, low_after, low_by, low_of, lesser_int, may_be, meets, greater_int, same_field, test_allows_position, test_allows_input}
 use Rattle.bay_audit.specs.Laws.{CasesAreReported, CasesHaveExamples}
 use Rattle.bay_audit.specs.Process.{IsProcess}

@@ -14,8 +14,8 @@ use Rattle.bay_audit_rules.specs.declared.rule.Rule.{Rule}
 use Rattle.bay_audit_rules.specs.declared.rule.RuleKind.{RuleKind}
 use Rattle.bay_audit_rules.specs.declared.rule.RuleKind.TheVariants.{Never, Always}
 use Rattle.bay_audit_rules.specs.declared.rule.Timing.{Timing}
-use Rattle.bay_nodes.specs.declared.switch.Operation.{Operation}
-use Rattle.bay_nodes.specs.declared.switch.Operation.TheVariants as operations
+use Rattle.bay_base.specs.declared.switch.Operation.{Operation}
+use Rattle.bay_base.specs.declared.switch.Operation.TheVariants as operations
 use Rattle.il_image.specs.declared.image.ImagePoint.{ImagePoint}
 use Rattle.il_image.specs.declared.timer.TimerState.{TimerState}
 use Rattle.il_image.specs.declared.value.Value.{Value}

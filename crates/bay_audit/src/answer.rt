@@ -1,6 +1,6 @@
 // The answers to rules, and the verdict of one pass on a rule.
 use crate::case::{Case, Test};
-use bay_nodes::switch::Operation;
+use bay_base::switch::Operation;
 
 /// The answer to a rule.
 #[derive(Drop)]

@@ -2,11 +2,10 @@
 ghost use Rattle.std.specs.Prelude.{◌≡◌, IfOk, IfSome, ◌++◌, ◌∷◌, [], Some};
 ghost use Rattle.bay_audit.specs.Cases as spec;
 ghost use Rattle.bay_audit.specs.Process.{process_value};
-ghost use Rattle.bay_process.specs.Values as spec_values;
-ghost use Rattle.bay_tree.specs.declared.leaf.Leaf.TheVariants as leaves;
 
+use bay_base::position::Dbpos;
 use bay_config::bay::{MeterField, Source, SwitchPoint};
-use bay_tree::leaf::Dbpos;
+use bay_process::scan::value_at_position;
 use il_image::value::Value;
 use il_range::range::Range;
 use std::alloc::{AllocError, Global};
@@ -189,30 +188,6 @@ fn position_range(point: SwitchPoint, intermediate: bool, off: bool, on: bool, b
     }
 }
 
-// Returns the number of a position (IEC 61850-8-1, Dbpos): 0 intermediate, 1 off, 2 on, 3 bad.
-fn number_of_position(position: Dbpos) -> i16
-    ensures { result ≡ spec_values.number_of_position (Some (leaves.Dbpos position)) }
-{
-    match position {
-        Dbpos::Intermediate => 0,
-        Dbpos::Off => 1,
-        Dbpos::On => 2,
-        Dbpos::Bad => 3,
-    }
-}
-
-// Returns the value of a point of a switch with this position.
-fn position_value(point: SwitchPoint, position: Dbpos) -> Value
-    ensures { result ≡ spec_values.position_value point (Some (leaves.Dbpos position)) }
-{
-    match point {
-        SwitchPoint::Position => Value::Short(number_of_position(position)),
-        SwitchPoint::Open => Value::Truth(position == Dbpos::Off),
-        SwitchPoint::Closed => Value::Truth(position == Dbpos::On),
-        SwitchPoint::EnableOpen | SwitchPoint::EnableClose => Value::Truth(false),
-    }
-}
-
 /// A case: tests of the process, each with its answer. A process is in the case if it gives these
 /// answers.
 #[derive(Drop)]
@@ -344,7 +319,7 @@ impl Case {
     {
         match source {
             Source::Switch { switch, point } => {
-                Some(position_value(point, self.example_position(switch)))
+                Some(value_at_position(point, self.example_position(switch)))
             }
             Source::Input { input } => Some(Value::Truth(self.input_may(input, true))),
             Source::Meter { meter, field } => {

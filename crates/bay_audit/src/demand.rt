@@ -1,7 +1,7 @@
 // A demand on each scan of a program.
 use bay_audit_rules::rule::{ConditionItem, RuleKind};
 use bay_base::listing::Listing;
-use bay_nodes::switch::Operation;
+use bay_base::switch::Operation;
 
 /// A result of a scan.
 #[derive(Clone, Copy)]

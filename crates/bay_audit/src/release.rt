@@ -14,8 +14,8 @@ use crate::truth_set::TruthSet;
 use crate::verdict::{pass, verdict};
 use bay_audit_rules::rule::{ConditionItem, RuleKind};
 use bay_base::listing::Listing;
+use bay_base::switch::Operation;
 use bay_config::bay::Bay;
-use bay_nodes::switch::Operation;
 use std::alloc::{AllocError, Global};
 
 // Returns the demand that a switch is always released in a direction.

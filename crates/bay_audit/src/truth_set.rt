@@ -4,7 +4,7 @@ ghost use Rattle.bay_audit.specs.Conditions as spec;
 
 use crate::case::Case;
 use bay_audit_rules::rule::{ConditionItem, Relation};
-use bay_tree::leaf::Dbpos;
+use bay_base::position::Dbpos;
 use std::alloc::{AllocError, Global};
 use std::marker::Model;
 

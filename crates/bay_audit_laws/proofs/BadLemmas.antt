@@ -12,7 +12,7 @@ use Rattle.bay_process.specs.Names.{field_names}
 use Rattle.bay_process.specs.Values.{is_position, is_quality, rows_after_change, rows_after_contact, rows_after_doubt, has_position, tells_doubt, with_status}
 use Rattle.bay_process.proofs.ToldLemmas.{leaf-other, leaf-own}
 use Rattle.bay_tree.specs.Rows.{leaf_of, with_leaf_of}
-use Rattle.bay_tree.specs.declared.leaf.Dbpos.TheVariants.{Intermediate, Off, On, Bad}
+use Rattle.bay_base.specs.declared.position.Dbpos.TheVariants.{Intermediate, Off, On, Bad}
 use Rattle.bay_tree.specs.declared.leaf.Leaf.{Leaf}
 use Rattle.bay_tree.specs.declared.leaf.Leaf.TheVariants as leaf
 use Rattle.bay_tree.specs.declared.leaf.Quality.TheVariants.{Good, Invalid}

@@ -9,15 +9,15 @@ use Rattle.bay_config.proofs.NamedLemmas.{names-position}
 use Rattle.bay_nodes.specs.Names.{StatusNames, control_of, interlocking_of, meter_names, node_of, position_names, switch_names}
 use Rattle.bay_nodes.specs.Node.{class_of, node_name, node_number}
 use Rattle.bay_nodes.specs.declared.switch.Switch.{Switch}
-use Rattle.bay_nodes.specs.declared.switch.SwitchKind.{SwitchKind}
-use Rattle.bay_nodes.specs.declared.switch.SwitchKind.TheVariants.{Breaker, Disconnector, Earthing}
+use Rattle.bay_base.specs.declared.switch.SwitchKind.{SwitchKind}
+use Rattle.bay_base.specs.declared.switch.SwitchKind.TheVariants.{Breaker, Disconnector, Earthing}
 use Rattle.bay_process.specs.Names.{field_names}
 use Rattle.bay_process.specs.Values.{position_leaf, position_value, has_position, with_enabled, with_outputs, with_status}
 use Rattle.bay_process.proofs.ToldLemmas.{IsAway, away-position, leaf-other}
 use Rattle.bay_mms_services.specs.Bay.{rows_with_selection}
 use Rattle.bay_tree.specs.Rows.{leaf_of, with_leaf_of}
-use Rattle.bay_tree.specs.declared.leaf.Dbpos.{Dbpos}
-use Rattle.bay_tree.specs.declared.leaf.Dbpos.TheVariants.{Bad}
+use Rattle.bay_base.specs.declared.position.Dbpos.{Dbpos}
+use Rattle.bay_base.specs.declared.position.Dbpos.TheVariants.{Bad}
 use Rattle.bay_tree.specs.declared.leaf.Leaf.{Leaf}
 use Rattle.bay_tree.specs.declared.leaf.Leaf.TheVariants as leaf
 use Rattle.bay_tree.specs.declared.leaf.Quality.TheVariants.{Good}

@@ -6,7 +6,7 @@ use Rattle.bay_audit.specs.Rules.{IsRule}
 use Rattle.bay_audit_laws.specs.Examples.{at_all_times, halting_program}
 use Rattle.bay_audit_rules.specs.Process.{Process}
 use Rattle.bay_audit_rules.specs.declared.rule.RuleKind.TheVariants.{Always, Never}
-use Rattle.bay_tree.specs.declared.leaf.Dbpos.TheVariants.{Bad}
+use Rattle.bay_base.specs.declared.position.Dbpos.TheVariants.{Bad}
 use Rattle.il_image.specs.Machine.{act, run_from}
 use Rattle.il_image.specs.Opcodes.{opcode_of}
 use Rattle.il_image.specs.Places.{is_place}

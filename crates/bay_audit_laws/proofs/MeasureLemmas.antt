@@ -10,14 +10,14 @@ use Rattle.bay_base.specs.declared.point.MeterField.TheVariants.{TotW, TotVAr, H
 use Rattle.bay_nodes.specs.Names.{StatusNames, meter_names, switch_names}
 use Rattle.bay_nodes.specs.Node.{class_of, node_name, node_number}
 use Rattle.bay_nodes.specs.declared.switch.Switch.{Switch}
-use Rattle.bay_nodes.specs.declared.switch.SwitchKind.{SwitchKind}
-use Rattle.bay_nodes.specs.declared.switch.SwitchKind.TheVariants.{Breaker, Disconnector, Earthing}
+use Rattle.bay_base.specs.declared.switch.SwitchKind.{SwitchKind}
+use Rattle.bay_base.specs.declared.switch.SwitchKind.TheVariants.{Breaker, Disconnector, Earthing}
 use Rattle.bay_process.specs.Names.{field_names}
 use Rattle.bay_process.specs.Values.{is_operation, measure_leaf, number_of_leaf, operation_counted, position_quality, rows_after_change, rows_after_contact, rows_after_doubt, rows_after_measure, has_position, tells_doubt, tells_measure, with_count, with_status}
 use Rattle.bay_process.proofs.ToldLemmas.{leaf-other}
 use Rattle.bay_tree.specs.Rows.{leaf_of, with_leaf_of}
-use Rattle.bay_tree.specs.declared.leaf.Dbpos.{Dbpos}
-use Rattle.bay_tree.specs.declared.leaf.Dbpos.TheVariants.{Bad}
+use Rattle.bay_base.specs.declared.position.Dbpos.{Dbpos}
+use Rattle.bay_base.specs.declared.position.Dbpos.TheVariants.{Bad}
 use Rattle.bay_tree.specs.declared.leaf.Leaf.{Leaf}
 use Rattle.bay_tree.specs.declared.leaf.Leaf.TheVariants as leaf
 use Rattle.bay_tree.specs.declared.leaf.Quality.{Quality}

@@ -11,7 +11,8 @@ use Rattle.bay_nodes.specs.declared.switch.Switch.{Switch}
 use Rattle.bay_process.specs.Names.{field_names}
 use Rattle.bay_process.specs.Values.{measure_leaf, number_of_leaf, position_leaf, position_value, with_outputs}
 use Rattle.bay_process.proofs.ToldLemmas.{IsAway, away-position, field-away}
-use Rattle.bay_audit_rules.specs.Process.{Process, after_item, after_items, holds, same_position, has_relation, top}
+use Rattle.bay_base.specs.Positions.{same_position}
+use Rattle.bay_audit_rules.specs.Process.{Process, after_item, after_items, holds, has_relation, top}
 use Rattle.bay_audit_rules.specs.declared.rule.ConditionItem.{ConditionItem}
 use Rattle.bay_audit_rules.specs.declared.rule.ConditionItem.TheVariants as items
 use Rattle.bay_mms_services.specs.Controls.{dbpos_of}

@@ -8,7 +8,7 @@ use Rattle.bay_nodes.specs.Names.{switch_names}
 use Rattle.bay_nodes.specs.declared.switch.Switch.{Switch}
 use Rattle.bay_process.specs.Values.{position_value}
 use Rattle.bay_tree.specs.Rows.{leaf_of}
-use Rattle.bay_tree.specs.declared.leaf.Dbpos.TheVariants.{Bad}
+use Rattle.bay_base.specs.declared.position.Dbpos.TheVariants.{Bad}
 use Rattle.bay_tree.specs.declared.leaf.Leaf.TheVariants as leaf
 use Rattle.bay_tree.specs.declared.leaf.Quality.TheVariants.{Invalid}
 use Rattle.il_image.specs.Images.{Image}

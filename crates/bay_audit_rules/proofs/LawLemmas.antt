@@ -3,7 +3,7 @@ use Rattle.std.proofs.Common.{◌≡◌, ℕ, ℤ, ◌+◌, ◌≤◌, Bool, tru
 use Rattle.std.proofs.lemmas.List.{append-nil}
 use Rattle.std.specs.List.{list_any, slice_split}
 use Rattle.bay_config.specs.declared.bay.Bay.{Bay}
-use Rattle.bay_tree.specs.declared.leaf.Dbpos.{Dbpos}
+use Rattle.bay_base.specs.declared.position.Dbpos.{Dbpos}
 use Rattle.bay_audit_rules.specs.declared.fault.RuleFault.{RuleFault}
 use Rattle.bay_audit_rules.specs.declared.fault.RuleFault.TheVariants.{BadLine, UnknownName, BadValue, TooMany}
 use Rattle.bay_audit_rules.specs.declared.rule.ConditionItem.{ConditionItem}

@@ -1,7 +1,7 @@
 -- The grammar of a rule, over the tokens of its line. Parts of a condition have their items in
 -- postfix order.
 use Rattle.std.specs.Prelude.{◌≡◌, ℕ, ℤ, Bool, true, false, List, [], ◌∷◌, ◌++◌, Option, None, Some}
-use Rattle.bay_tree.specs.declared.leaf.Dbpos.TheVariants.{Off}
+use Rattle.bay_base.specs.declared.position.Dbpos.TheVariants.{Off}
 use Rattle.bay_audit_rules.specs.declared.rule.ConditionItem.TheVariants as items
 use Rattle.bay_audit_rules.specs.declared.rule.Relation.{Relation}
 use Rattle.bay_audit_rules.specs.declared.rule.RuleKind.{RuleKind}

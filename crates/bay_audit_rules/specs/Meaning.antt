@@ -22,8 +22,8 @@ use Rattle.bay_audit_rules.specs.declared.token.RuleToken.TheVariants as token
 use Rattle.bay_audit_rules.specs.Grammar.{Spells}
 use Rattle.bay_audit_rules.specs.Pieces.{pieces}
 use Rattle.bay_audit_rules.specs.Words.{token_of}
-use Rattle.bay_nodes.specs.declared.switch.Operation.{Operation}
-use Rattle.bay_nodes.specs.declared.switch.Operation.TheVariants as operations
+use Rattle.bay_base.specs.declared.switch.Operation.{Operation}
+use Rattle.bay_base.specs.declared.switch.Operation.TheVariants as operations
 
 -- a space, a tab or a carriage return
 abbrev pub is_blank : ℕ → Bool

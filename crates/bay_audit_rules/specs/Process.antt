@@ -1,8 +1,8 @@
 -- The values that the process last reported, and whether a condition is TRUE for them.
 use Rattle.std.specs.Prelude.{ℕ, ℤ, int_lt, int_le, Bool, true, false, not, ◌&&◌, ◌||◌, List, [], ◌∷◌}
 use Rattle.std.specs.Ordering.{int_eq}
-use Rattle.bay_tree.specs.declared.leaf.Dbpos.{Dbpos}
-use Rattle.bay_tree.specs.declared.leaf.Dbpos.TheVariants.{Intermediate, Off, On, Bad}
+use Rattle.bay_base.specs.declared.position.Dbpos.{Dbpos}
+use Rattle.bay_base.specs.Positions.{same_position}
 use Rattle.bay_base.specs.declared.point.MeterField.{MeterField}
 use Rattle.bay_audit_rules.specs.declared.rule.ConditionItem.{ConditionItem}
 use Rattle.bay_audit_rules.specs.declared.rule.ConditionItem.TheVariants as items
@@ -15,14 +15,6 @@ pub record Process : Type 0 where
   pub position : ℕ → Dbpos
   pub input : ℕ → Bool
   pub measure : ℕ → MeterField → ℤ
-
--- two positions are equal
-abbrev pub same_position : Dbpos → Dbpos → Bool
-same_position Intermediate Intermediate = true
-same_position Off Off = true
-same_position On On = true
-same_position Bad Bad = true
-same_position p q = false
 
 -- a measured value has this relation to a number
 abbrev pub has_relation : Relation → ℤ → ℤ → Bool

@@ -2,7 +2,7 @@
 use Rattle.std.specs.Prelude.{ℕ, ℤ, Bool, true, false, ◌&&◌, List, [], ◌∷◌, codes, find, position, Option, None, Some, option_map, option_and_then, if◌then◌else◌}
 use Rattle.std.specs.List.{list_all}
 use Rattle.bay_base.specs.Names.{same_name}
-use Rattle.bay_tree.specs.declared.leaf.Dbpos.TheVariants as at
+use Rattle.bay_base.specs.declared.position.Dbpos.TheVariants as at
 use Rattle.bay_nodes.specs.declared.switch.Switch.{Switch}
 use Rattle.bay_config.specs.declared.bay.Bay.{Bay}
 use Rattle.bay_base.specs.declared.point.Source.{Source}

@@ -9,7 +9,7 @@ ghost use Rattle.bay_audit_rules.specs.Turns.{Took, TookIf, phase_of, Goes, Foun
 use crate::draft::{ConditionDraft, Pending, PendingStack};
 use crate::rule::{ConditionItem, Relation};
 use crate::token::{Connector, NamedObject, RuleToken, TestValue};
-use bay_tree::leaf::Dbpos;
+use bay_base::position::Dbpos;
 use std::alloc::{AllocError, Global};
 
 /// The result of one token of a condition.

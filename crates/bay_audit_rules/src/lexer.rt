@@ -13,8 +13,8 @@ use crate::pieces::{Cut, split_piece};
 use crate::rule::{Relation, RuleKind};
 use crate::token::{Connector, Measurand, NamedObject, RuleToken, TestValue};
 use bay_base::names::same_letters;
+use bay_base::position::Dbpos;
 use bay_config::bay::{Bay, Point, Source, Switch};
-use bay_tree::leaf::Dbpos;
 use std::alloc::{AllocError, Global};
 
 // All words and signs, in upper case, each once.

@@ -13,8 +13,8 @@ use crate::rule::{ConditionItem, Rule, Timing};
 use crate::statement::{Directions, RuleLine, RuleStatement, Since, statement_of};
 use crate::token::{Connector, RuleToken};
 use bay_base::listing::Listing;
+use bay_base::switch::Operation;
 use bay_config::bay::Bay;
-use bay_nodes::switch::Operation;
 use std::alloc::{AllocError, Global};
 
 // The maximum number of rules in a text.

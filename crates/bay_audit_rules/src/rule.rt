@@ -1,8 +1,8 @@
 // The type of a rule.
 use bay_base::listing::Listing;
+use bay_base::position::Dbpos;
+use bay_base::switch::Operation;
 use bay_config::bay::MeterField;
-use bay_nodes::switch::Operation;
-use bay_tree::leaf::Dbpos;
 
 /// Whether a rule forbids a release or requires it.
 #[derive(Clone, Copy, PartialEq, Eq)]

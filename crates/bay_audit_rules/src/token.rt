@@ -1,7 +1,7 @@
 // The tokens of a line.
 use crate::rule::{Relation, RuleKind};
+use bay_base::position::Dbpos;
 use bay_config::bay::MeterField;
-use bay_tree::leaf::Dbpos;
 
 /// A token that comes after an operand of a condition.
 #[derive(Clone, Copy)]

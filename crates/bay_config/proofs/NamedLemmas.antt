@@ -9,12 +9,12 @@ use Rattle.bay_tree.specs.declared.leaf.Leaf.{Leaf}
 use Rattle.bay_tree.specs.declared.leaf.Leaf.TheVariants.{Truth, Quality, Int8, Unsigned8, Octets, Utc}
 use Rattle.bay_tree.specs.declared.leaf.Quality.{Quality as Validity}
 use Rattle.bay_config.specs.declared.bay.Bay.{Bay}
-use Rattle.bay_nodes.specs.declared.switch.Control.{Control}
-use Rattle.bay_nodes.specs.declared.switch.Control.TheVariants.{Status, Direct, Sbo, SboEnhanced}
+use Rattle.bay_base.specs.declared.switch.Control.{Control}
+use Rattle.bay_base.specs.declared.switch.Control.TheVariants.{Status, Direct, Sbo, SboEnhanced}
 use Rattle.bay_nodes.specs.declared.switch.Switch.{Switch}
 use Rattle.bay_nodes.specs.declared.nameplate.Nameplate.{Nameplate}
-use Rattle.bay_nodes.specs.declared.switch.SwitchKind.{SwitchKind}
-use Rattle.bay_nodes.specs.declared.switch.SwitchKind.TheVariants.{Breaker, Disconnector, Earthing}
+use Rattle.bay_base.specs.declared.switch.SwitchKind.{SwitchKind}
+use Rattle.bay_base.specs.declared.switch.SwitchKind.TheVariants.{Breaker, Disconnector, Earthing}
 use Rattle.bay_config.specs.Laws.{nameplate_of, IsBay, HasNode, HasPosition, HasCancel, HasControl, HasCommands, HasEnable, HasMeter, HasValue, NamesPosition, NamesControl, NamesInterlocking, NamesMeter}
 use Rattle.bay_nodes.specs.Names.{StatusNames, opening_names, closing_names, control_names_of, meter_names_of}
 use Rattle.bay_nodes.specs.Node.{Parts, Node, row, node_rows, node_name, class_of, is_breaker, is_of, node_number, device_node, physical_node, position_node, position_nodes, position_parts, control_node, control_nodes, control_parts, interlocking_node, interlocking_nodes, interlocking_parts, meter_node, meter_nodes, meter_parts, nodes_of}

@@ -2,9 +2,9 @@
 use Rattle.std.proofs.Common.{◌≡◌, ℕ, List, [], ◌∷◌, map, codes, ◌++◌, false, Option, None, Some, option_map, option_and_then, Result, Ok, unwrap_or, refl, ap, sym, ◌∙◌}
 use Rattle.toml.specs.Data.{Members, get_member, as_integer}
 use Rattle.bay_nodes.specs.declared.switch.Switch.{Switch}
-use Rattle.bay_nodes.specs.declared.switch.SwitchKind.TheVariants.{Breaker}
-use Rattle.bay_nodes.specs.declared.switch.Control.{Control}
-use Rattle.bay_nodes.specs.declared.switch.Control.TheVariants.{Status, Direct}
+use Rattle.bay_base.specs.declared.switch.SwitchKind.TheVariants.{Breaker}
+use Rattle.bay_base.specs.declared.switch.Control.{Control}
+use Rattle.bay_base.specs.declared.switch.Control.TheVariants.{Status, Direct}
 use Rattle.bay_config.specs.declared.fault.BayFault.{BayFault}
 use Rattle.bay_base.specs.Exact.{unless_refused}
 use Rattle.bay_config.specs.Key.{first_of, unknown_refusal, key_refusal, entry_refusal, text_in, number_in, natural, has_unknown, is_among}

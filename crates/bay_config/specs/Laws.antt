@@ -3,7 +3,7 @@ use Rattle.std.specs.Prelude.{◌≡◌, ◌≢◌, ℕ, ◌+◌, ◌≤◌, ◌
 use Rattle.bay_tree.specs.declared.row.Row.{Row}
 use Rattle.bay_tree.specs.declared.leaf.Leaf.{Leaf}
 use Rattle.bay_tree.specs.declared.leaf.Leaf.TheVariants.{Truth, Dbpos, Quality, Int8, Int32, Unsigned8, Octets, Reference, Utc}
-use Rattle.bay_tree.specs.declared.leaf.Dbpos.TheVariants.{Intermediate}
+use Rattle.bay_base.specs.declared.position.Dbpos.TheVariants.{Intermediate}
 use Rattle.bay_tree.specs.declared.leaf.Quality.{Quality as Validity}
 use Rattle.bay_tree.specs.declared.leaf.Quality.TheVariants.{Good, Invalid}
 use Rattle.bay_tree.specs.Rows.{IsTree}
@@ -11,8 +11,8 @@ use Rattle.bay_config.specs.declared.bay.Bay.{Bay}
 use Rattle.bay_base.specs.declared.point.Source.{Source}
 use Rattle.bay_base.specs.declared.point.Source.TheVariants as sources
 use Rattle.bay_base.specs.declared.point.Point.{Point}
-use Rattle.bay_nodes.specs.declared.switch.Control.{Control}
-use Rattle.bay_nodes.specs.declared.switch.Control.TheVariants.{Status, Direct, Sbo, SboEnhanced}
+use Rattle.bay_base.specs.declared.switch.Control.{Control}
+use Rattle.bay_base.specs.declared.switch.Control.TheVariants.{Status, Direct, Sbo, SboEnhanced}
 use Rattle.bay_nodes.specs.declared.switch.Switch.{Switch}
 use Rattle.bay_nodes.specs.declared.nameplate.Nameplate.{Nameplate}
 use Rattle.bay_nodes.specs.Node.{Node, row, node_rows, node_name, class_of, node_number, position_parts, control_parts, interlocking_parts, meter_parts, rows_of_all}

@@ -2,10 +2,10 @@
 use Rattle.std.specs.Prelude.{ℕ, List, [], ◌∷◌, ◌++◌, map, codes, Option, None, Some, option_and_then, unwrap_or}
 use Rattle.toml.specs.Data.{Members, get_member, as_str}
 use Rattle.bay_nodes.specs.declared.switch.Switch.{Switch}
-use Rattle.bay_nodes.specs.declared.switch.SwitchKind.{SwitchKind}
-use Rattle.bay_nodes.specs.declared.switch.SwitchKind.TheVariants.{Breaker, Disconnector, Earthing}
-use Rattle.bay_nodes.specs.declared.switch.Control.{Control}
-use Rattle.bay_nodes.specs.declared.switch.Control.TheVariants.{Status, Direct, Sbo, SboEnhanced}
+use Rattle.bay_base.specs.declared.switch.SwitchKind.{SwitchKind}
+use Rattle.bay_base.specs.declared.switch.SwitchKind.TheVariants.{Breaker, Disconnector, Earthing}
+use Rattle.bay_base.specs.declared.switch.Control.{Control}
+use Rattle.bay_base.specs.declared.switch.Control.TheVariants.{Status, Direct, Sbo, SboEnhanced}
 use Rattle.bay_config.specs.Key.{Key, identifier, number, word, value_named, text_in, number_in}
 
 -- the words for the kinds of switch

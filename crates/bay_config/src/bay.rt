@@ -1,8 +1,9 @@
 // The bay that a bay file describes.
 use bay_base::listing::Listing;
 pub use bay_base::point::{MeterField, Point, Source, SwitchPoint};
+pub use bay_base::switch::{Control, SwitchKind};
 use bay_base::text::Text;
-pub use bay_nodes::switch::{Control, Switch, SwitchKind};
+pub use bay_nodes::switch::Switch;
 use bay_tree::row::Row;
 
 /// A bay: one logical device with its switches, inputs and meters.

@@ -1,9 +1,9 @@
 // The section `switch` of a file.
 ghost use Rattle.std.specs.Prelude.{◌≡◌, ◌∷◌, [], false, map, codes, IfOk, unwrap_or};
 ghost use Rattle.toml.specs.View.{table_view, items_view};
-ghost use Rattle.bay_nodes.specs.declared.switch.SwitchKind.TheVariants.{Breaker};
+ghost use Rattle.bay_base.specs.declared.switch.SwitchKind.TheVariants.{Breaker};
 ghost use Rattle.bay_config.specs.declared.fault.BayFault.TheVariants.{OutOfMemory};
-ghost use Rattle.bay_nodes.specs.declared.switch.Control.TheVariants.{Status};
+ghost use Rattle.bay_base.specs.declared.switch.Control.TheVariants.{Status};
 ghost use Rattle.bay_config.specs.Bay.{switch_section, switches_in};
 ghost use Rattle.bay_base.specs.Exact.{Gives, unless_refused};
 ghost use Rattle.bay_config.specs.Key.{first_of, has_unknown, key_refusal, entry_refusal, value_named, number_in};

@@ -1,6 +1,6 @@
 -- Calls of the controls of a bay, their decisions, and the entries that an outside observer sees.
 use Rattle.std.specs.Prelude.{ℕ, ◌≡◌, Bool, true, not, ◌&&◌, ◌||◌, ◌==◌, List, [], ◌∷◌, ◌++◌, Option, None, Some, Ok, is_ok}
-use Rattle.bay_tree.specs.declared.leaf.Dbpos.{Dbpos}
+use Rattle.bay_base.specs.declared.position.Dbpos.{Dbpos}
 use Rattle.bay_control.specs.Acts.{Act, Entry}
 use Rattle.bay_control.specs.Acts as act
 use Rattle.bay_control.specs.Decisions.{Outcome, State, controls_at, cancel_outcome, after_contact, without_association, operate_outcome, select_outcome, select_with_outcome}

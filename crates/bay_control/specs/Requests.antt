@@ -3,12 +3,12 @@
 use Rattle.std.specs.Prelude.{ℕ, Bool, true, false, ◌&&◌, List, nat_eq, slice_get, Option, None, Some}
 use Rattle.std.specs.Cmp.Lexicographic.{pointwise}
 use Rattle.std.specs.Ordering.{int_eq}
-use Rattle.bay_nodes.specs.declared.switch.Control.{Control}
-use Rattle.bay_nodes.specs.declared.switch.Control.TheVariants.{Status, Direct, Sbo, SboEnhanced}
-use Rattle.bay_nodes.specs.declared.switch.Operation.{Operation}
-use Rattle.bay_nodes.specs.declared.switch.Operation.TheVariants.{Open, Close}
-use Rattle.bay_tree.specs.declared.leaf.Dbpos.{Dbpos}
-use Rattle.bay_tree.specs.declared.leaf.Dbpos.TheVariants.{Off, On}
+use Rattle.bay_base.specs.declared.switch.Control.{Control}
+use Rattle.bay_base.specs.declared.switch.Control.TheVariants.{Status, Direct, Sbo, SboEnhanced}
+use Rattle.bay_base.specs.declared.switch.Operation.{Operation}
+use Rattle.bay_base.specs.declared.switch.Operation.TheVariants.{Open, Close}
+use Rattle.bay_base.specs.declared.position.Dbpos.{Dbpos}
+use Rattle.bay_base.specs.declared.position.Dbpos.TheVariants.{Off, On}
 use Rattle.bay_control.specs.declared.control.SwitchControl.{SwitchControl}
 use Rattle.bay_control.specs.declared.request.Ask.{Ask}
 use Rattle.bay_control.specs.declared.request.Choice.{Choice}

@@ -5,7 +5,8 @@ ghost use Rattle.bay_control.specs.Requests.{control_of, no_control};
 ghost use Rattle.bay_control.specs.Requests as spec;
 
 use arrayvec::ArrayVec;
-use bay_config::bay::{Bay, Control};
+use bay_base::switch::Control;
+use bay_config::bay::Bay;
 use std::marker::Model;
 
 /// The control of a switch, as the bay file defines it.

@@ -8,8 +8,8 @@ use crate::cause::AddCause;
 use crate::control::{ControlTable, is_over};
 use crate::request::{Ask, Choice, View, is_reached};
 use crate::selection::{Execution, Selection};
-use bay_config::bay::Control;
-use bay_tree::leaf::Dbpos;
+use bay_base::position::Dbpos;
+use bay_base::switch::Control;
 
 /// The selected and the operating switch of a bay, at most one each. Contracts join it with the
 /// table of the switches' controls to the state of the bay's controls.

@@ -4,8 +4,8 @@ ghost use Rattle.bay_control.specs.Requests.{asked_choice, same_choice, same_ori
 ghost use Rattle.bay_control.specs.Requests as spec;
 
 use arrayvec::ArrayVec;
-use bay_nodes::switch::Operation;
-use bay_tree::leaf::Dbpos;
+use bay_base::position::Dbpos;
+use bay_base::switch::Operation;
 use std::marker::Model;
 
 /// The identity of an originator, at most 64 octets (IEC 61850-7-3, orIdent). Contracts see it as

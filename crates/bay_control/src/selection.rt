@@ -2,7 +2,7 @@
 ghost use Rattle.std.specs.Prelude.{◌≡◌};
 
 use crate::request::Choice;
-use bay_nodes::switch::Operation;
+use bay_base::switch::Operation;
 
 /// A switch that an association has selected.
 #[derive(Debug, Drop)]

@@ -18,8 +18,8 @@ use Rattle.bay_process.specs.Values.{measure_leaf, number_of_leaf, position_leaf
 use Rattle.bay_mms_services.specs.declared.answer.Command.{Command}
 use Rattle.bay_mms_services.proofs.ReleaseLemmas.{all-of}
 use Rattle.bay_tree.specs.Rows.{leaf_of, with_leaf_of}
-use Rattle.bay_tree.specs.declared.leaf.Dbpos.{Dbpos}
-use Rattle.bay_tree.specs.declared.leaf.Dbpos.TheVariants.{Bad}
+use Rattle.bay_base.specs.declared.position.Dbpos.{Dbpos}
+use Rattle.bay_base.specs.declared.position.Dbpos.TheVariants.{Bad}
 use Rattle.bay_tree.specs.declared.leaf.Leaf.TheVariants as leaf
 use Rattle.bay_tree.specs.declared.leaf.Quality.TheVariants.{Good, Invalid}
 use Rattle.bay_device.specs.Commands.{AreCommanded, IsReleasedAt}

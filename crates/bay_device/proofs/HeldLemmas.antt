@@ -11,7 +11,7 @@ use Rattle.il_scan.specs.declared.span.Span.{Span}
 use Rattle.il_scan.proofs.HoldLemmas.{all-held}
 use Rattle.bay_nodes.specs.Names.{switch_names}
 use Rattle.bay_nodes.specs.declared.switch.Switch.{Switch}
-use Rattle.bay_tree.specs.declared.leaf.Dbpos.{Dbpos}
+use Rattle.bay_base.specs.declared.position.Dbpos.{Dbpos}
 use Rattle.bay_tree.specs.declared.row.Row.{Row}
 use Rattle.bay_process.specs.Layout.{layout_of, switches_of}
 use Rattle.bay_process.specs.Scans.{HasPoints, source_value, outputs_put}

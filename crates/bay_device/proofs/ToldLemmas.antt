@@ -7,7 +7,7 @@ use Rattle.bay_ber.proofs.ListingLemmas.{no-values}
 use Rattle.bay_nodes.specs.declared.switch.Switch.{Switch}
 use Rattle.bay_nodes.specs.Names.{switch_names, meter_names}
 use Rattle.bay_base.specs.declared.point.MeterField.{MeterField}
-use Rattle.bay_tree.specs.declared.leaf.Dbpos.{Dbpos}
+use Rattle.bay_base.specs.declared.position.Dbpos.{Dbpos}
 use Rattle.bay_process.specs.Names.{field_names}
 use Rattle.il_scan.specs.Scans.{outputs_of}
 use Rattle.bay_mms.specs.Grammar.{answer_to}

@@ -6,7 +6,7 @@ use Rattle.bay_config.specs.declared.bay.Bay.{Bay}
 use Rattle.bay_base.specs.declared.point.MeterField.{MeterField}
 use Rattle.bay_nodes.specs.Names.{StatusNames, meter_names, position_names}
 use Rattle.bay_nodes.specs.Node.{class_of, node_name}
-use Rattle.bay_nodes.specs.declared.switch.SwitchKind.{SwitchKind}
+use Rattle.bay_base.specs.declared.switch.SwitchKind.{SwitchKind}
 use Rattle.bay_process.specs.Names.{field_names}
 use Rattle.bay_tree.specs.Rows.{leaf_of}
 use Rattle.bay_tree.specs.declared.row.Row.{Row}

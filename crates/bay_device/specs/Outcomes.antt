@@ -1,6 +1,6 @@
 -- The effect of an event on a device, and its answer: the device's step.
 use Rattle.std.specs.Prelude.{◌+◌, ℕ, ℤ, ◌-◌, ◌==◌, ◌&&◌, nat_lt, Bool, List, [], ◌∷◌, drop, get_or, slice_get, slice_set, unwrap_or, Option, None, Some, Result, Ok, Err, if◌then◌else◌}
-use Rattle.bay_tree.specs.declared.leaf.Dbpos.{Dbpos}
+use Rattle.bay_base.specs.declared.position.Dbpos.{Dbpos}
 use Rattle.bay_nodes.specs.declared.switch.Switch.{Switch}
 use Rattle.bay_base.specs.declared.point.MeterField.{MeterField}
 use Rattle.bay_transport.specs.Doings.{start}

@@ -4,10 +4,10 @@ ghost use Rattle.bay_device.specs.Outcomes as spec;
 ghost use Rattle.bay_device.specs.Outcomes.{associations};
 
 use bay_base::listing::Listing;
+use bay_base::position::Dbpos;
 use bay_ber::outgoing::Outgoing;
 use bay_config::bay::MeterField;
 use bay_mms_services::answer::{Command, ControlDecision};
-use bay_tree::leaf::Dbpos;
 
 /// The latest time that an event may have, in milliseconds since 1970: the end of the last second
 /// that a time stamp with 32 bits of seconds can hold (IEC 61850-8-1, UtcTime).

@@ -8,8 +8,8 @@ ghost use Rattle.bay_device.specs.LookUps as spec;
 ghost use Rattle.bay_device.specs.StateView.{state_view};
 
 use crate::state::DeviceState;
+use bay_base::position::Dbpos;
 use bay_process::rows::position_at;
-use bay_tree::leaf::Dbpos;
 
 impl DeviceState {
     /// Returns the index of the input with this name, ignoring the case of its letters; `None` if

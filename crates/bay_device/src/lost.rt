@@ -8,8 +8,8 @@ ghost use Rattle.bay_device.specs.StateView.{state_view};
 use crate::event::Sent;
 use crate::process;
 use crate::state::DeviceState;
+use bay_base::position::Dbpos;
 use bay_config::bay::MeterField;
-use bay_tree::leaf::Dbpos;
 
 impl DeviceState {
     /// Handles the report that a field of the meter at an index is invalid.

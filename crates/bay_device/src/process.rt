@@ -10,13 +10,13 @@ ghost use Rattle.bay_process.specs.ReportedRows.{AreInterlocked, AreKept};
 ghost use Rattle.bay_process.specs.Values.{rows_after_contact, rows_after_doubt, rows_after_measure, has_position, tells_doubt, tells_measure};
 ghost use Rattle.bay_mms_services.specs.Views.{bay_view};
 
+use bay_base::position::Dbpos;
 use bay_config::bay::MeterField;
 use bay_mms_services::bay::ServedBay;
 use bay_process::contact::take_position;
 use bay_process::meter::{MeterRows, take_bad_measure, take_measure};
 use bay_process::releases::Releases;
 use bay_process::scan::write_outputs;
-use bay_tree::leaf::Dbpos;
 use il_scan::points::Outputs;
 
 /// Applies the reported position of the switch at an index. Returns whether its value or its

@@ -21,12 +21,12 @@ use crate::fault::StepFault;
 use crate::process;
 use crate::state::DeviceState;
 use crate::termination::{forget, report_missed, report_reached};
+use bay_base::position::Dbpos;
 use bay_config::bay::{MeterField, Source};
 use bay_mms_services::bay::ServedBay;
 use bay_process::meter::BoundMeter;
 use bay_process::scan::ReadPoints;
 use bay_process::values::InputValues;
-use bay_tree::leaf::Dbpos;
 use il_scan::machine::Machine;
 use il_scan::span::Span;
 

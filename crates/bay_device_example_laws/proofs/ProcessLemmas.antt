@@ -2,7 +2,7 @@
 use Rattle.std.proofs.Common.{◌≡◌, ◌≢◌, Bool, ◌∷◌, [], Some, refl}
 use Rattle.bay_base.specs.declared.point.MeterField.TheVariants.{TotW}
 use Rattle.std.specs.Fmt.{digits}
-use Rattle.bay_nodes.specs.declared.switch.SwitchKind.TheVariants.{Breaker}
+use Rattle.bay_base.specs.declared.switch.SwitchKind.TheVariants.{Breaker}
 use Rattle.bay_tree.specs.declared.leaf.Leaf.{Leaf}
 use Rattle.bay_device.specs.Device.{State}
 use Rattle.bay_device.specs.Fresh.{IsSameProcess}

@@ -14,7 +14,7 @@ use Rattle.bay_device.specs.declared.event.Event.TheVariants.{Contact, Scan}
 use Rattle.bay_device.specs.declared.event.Step.{Step}
 use Rattle.bay_device.specs.declared.fault.StepFault.{StepFault}
 use Rattle.bay_tree.specs.declared.row.Row.{Row}
-use Rattle.bay_tree.specs.declared.leaf.Dbpos.TheVariants.{Off}
+use Rattle.bay_base.specs.declared.position.Dbpos.TheVariants.{Off}
 use Rattle.bay_device_example_laws.specs.Scans.{contact_past, halting_device, lost_past, empty_program, refused_past, scan_past, with_code, with_slot}
 use Rattle.bay_device_example_laws.proofs.SplitLemmas.{all-one, none-there, one-there, two-there}
 

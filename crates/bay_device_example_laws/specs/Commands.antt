@@ -2,8 +2,8 @@
 use Rattle.std.specs.Prelude.{ℕ, ◌≡◌, ◌≢◌, Bool, true, false, List, [], ◌∷◌, ◌++◌, None, Some, codes}
 use Rattle.bay_tree.specs.declared.leaf.Leaf.TheVariants as leaf
 use Rattle.bay_nodes.specs.Names.{opening_of}
-use Rattle.bay_nodes.specs.declared.switch.Control.TheVariants.{Direct}
-use Rattle.bay_nodes.specs.declared.switch.Operation.TheVariants.{Open, Close}
+use Rattle.bay_base.specs.declared.switch.Control.TheVariants.{Direct}
+use Rattle.bay_base.specs.declared.switch.Operation.TheVariants.{Open, Close}
 use Rattle.bay_mms_services.specs.declared.answer.Command.{Command}
 use Rattle.bay_device.specs.Device.{State}
 use Rattle.bay_device.specs.declared.event.Step.{Step}

@@ -1,6 +1,6 @@
 -- Events at time 0, and a device with a program of few octets.
 use Rattle.std.specs.Prelude.{ℕ, Bool, true, List, [], ◌∷◌, Result, Ok, Err, Some, codes}
-use Rattle.bay_tree.specs.declared.leaf.Dbpos.TheVariants.{Off}
+use Rattle.bay_base.specs.declared.position.Dbpos.TheVariants.{Off}
 use Rattle.bay_tree.specs.declared.leaf.Leaf.{Leaf}
 use Rattle.il_image.specs.declared.value.Value.TheVariants.{Truth}
 use Rattle.il_check.specs.Program.{Checked}

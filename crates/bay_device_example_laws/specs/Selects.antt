@@ -1,6 +1,6 @@
 -- Small runs of selects and operates of one switch.
 use Rattle.std.specs.Prelude.{ℕ, false, true, List, [], ◌∷◌}
-use Rattle.bay_nodes.specs.declared.switch.Control.TheVariants.{Sbo, SboEnhanced}
+use Rattle.bay_base.specs.declared.switch.Control.TheVariants.{Sbo, SboEnhanced}
 use Rattle.bay_control.specs.Acts.{Act, Entry, Opened, Closed, Select, SelectWith, Cancel, Operate}
 use Rattle.bay_control.specs.Backing.{IsBacked}
 use Rattle.bay_control.specs.declared.control.SwitchControl.{SwitchControl}

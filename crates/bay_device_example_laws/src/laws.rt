@@ -2,7 +2,7 @@
 ghost use Rattle.std.specs.Prelude.{◌≡◌, ◌≢◌, ◌+◌, ℕ, ℤ, Bool, true, false, List, [], ◌∷◌, Ok, Err, Some, None, codes};
 ghost use Rattle.std.specs.Borrow.{Bor};
 ghost use Rattle.bay_base.specs.declared.point.MeterField.{MeterField};
-ghost use Rattle.bay_tree.specs.declared.leaf.Dbpos.{Dbpos};
+ghost use Rattle.bay_base.specs.declared.position.Dbpos.{Dbpos};
 ghost use Rattle.bay_tree.specs.declared.leaf.Leaf.{Leaf};
 ghost use Rattle.bay_tree.specs.declared.row.Row.{Row};
 ghost use Rattle.bay_control.specs.Acts.{Closed, Opened, Select, SelectWith};

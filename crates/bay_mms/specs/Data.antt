@@ -2,8 +2,8 @@
 use Rattle.std.specs.Prelude.{ℕ, ℤ, pos, Bool, List, [], ◌∷◌, ◌++◌}
 use Rattle.bay_tree.specs.declared.leaf.Leaf.{Leaf}
 use Rattle.bay_tree.specs.declared.leaf.Leaf.TheVariants as leaf
-use Rattle.bay_tree.specs.declared.leaf.Dbpos.{Dbpos}
-use Rattle.bay_tree.specs.declared.leaf.Dbpos.TheVariants as position
+use Rattle.bay_base.specs.declared.position.Dbpos.{Dbpos}
+use Rattle.bay_base.specs.declared.position.Dbpos.TheVariants as position
 use Rattle.bay_tree.specs.declared.leaf.Quality.{Quality}
 use Rattle.bay_tree.specs.declared.leaf.Quality.TheVariants as quality
 use Rattle.bay_ber.specs.declared.tag.Tag.{Tag}

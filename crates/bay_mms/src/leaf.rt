@@ -5,9 +5,10 @@ ghost use Rattle.bay_mms.specs.Utc as spec;
 ghost use Rattle.bay_mms.specs.Data.{bits, utc, position_octet, quality_octet, datum_text, leaf_datum};
 ghost use Rattle.bay_mms.specs.Types.{type_text, leaf_type_spec};
 
+use bay_base::position::Dbpos;
 use bay_ber::tag::Tag;
 use bay_ber::writer::Writer;
-use bay_tree::leaf::{Dbpos, Leaf, Quality};
+use bay_tree::leaf::{Leaf, Quality};
 
 /// Converts a time in milliseconds since 1970 to a utc-time (IEC 61850-8-1, the mapping of
 /// TimeStamp): four octets of seconds, three octets of the fraction of a second rounded down, and

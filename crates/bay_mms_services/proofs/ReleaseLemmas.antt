@@ -4,8 +4,8 @@ use Rattle.std.proofs.lemmas.Bool.{not-false}
 use Rattle.std.specs.List.{AllByRecursion}
 use Rattle.std.proofs.lemmas.Bool.Decides.{nat_tests}
 use Rattle.bay_tree.specs.Rows.{leaf_of}
-use Rattle.bay_nodes.specs.declared.switch.Operation.{Operation}
-use Rattle.bay_nodes.specs.declared.switch.Operation.TheVariants.{Open, Close}
+use Rattle.bay_base.specs.declared.switch.Operation.{Operation}
+use Rattle.bay_base.specs.declared.switch.Operation.TheVariants.{Open, Close}
 use Rattle.bay_process.specs.Values.{is_truth}
 use Rattle.bay_control.specs.Decisions.{Outcome, State, controls_at, answer_of, cancel_outcome, execution_at, is_executing, is_over_at, operate_outcome, other_is_executing, rows_of_operate, select_with_outcome}
 use Rattle.bay_control.specs.Decisions.{Row as DecisionRow}

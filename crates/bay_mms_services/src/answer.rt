@@ -1,9 +1,9 @@
 // The answer to a PDU.
 use crate::target::ControlPart;
+use bay_base::switch::Operation;
 use bay_ber::outgoing::Outgoing;
 use bay_control::cause::AddCause;
 use bay_control::request::Originator;
-use bay_nodes::switch::Operation;
 
 /// A command to operate a switch.
 #[derive(Clone, Copy, Debug, PartialEq, Eq)]

@@ -20,6 +20,7 @@ use crate::client::ClientContext;
 use crate::invocation::Invocation;
 use crate::reply::pdu_if_fits;
 use crate::target::{ControlPart, Target};
+use bay_base::switch::Operation;
 use bay_base::text::Text;
 use bay_ber::outgoing::Outgoing;
 use bay_control::cause::AddCause;
@@ -33,7 +34,6 @@ use bay_mms::report::{
 };
 use bay_mms::request::ObjectName;
 use bay_mms::results::WriteResponse;
-use bay_nodes::switch::Operation;
 use bay_tree::tree::Handle;
 use std::alloc::{AllocError, Global};
 

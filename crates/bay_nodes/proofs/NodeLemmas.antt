@@ -6,9 +6,9 @@ use Rattle.std.specs.List.{flat_map, enumerate_from}
 use Rattle.std.proofs.lemmas.Grind.{flat_map-append}
 use Rattle.bay_tree.specs.declared.row.Row.{Row}
 use Rattle.bay_tree.specs.declared.leaf.Leaf.TheVariants.{Int8, Unsigned32}
-use Rattle.bay_nodes.specs.declared.switch.Control.{Control}
+use Rattle.bay_base.specs.declared.switch.Control.{Control}
 use Rattle.bay_nodes.specs.declared.switch.Switch.{Switch}
-use Rattle.bay_nodes.specs.declared.switch.SwitchKind.{SwitchKind}
+use Rattle.bay_base.specs.declared.switch.SwitchKind.{SwitchKind}
 use Rattle.bay_nodes.specs.declared.nameplate.Nameplate.{Nameplate}
 use Rattle.bay_nodes.specs.declared.tables.InitialValue.{InitialValue}
 use Rattle.bay_nodes.specs.Node.{NodePart, Parts, Node, row, rows_of, rows_of_parts, parts_of, inside, value, commands, model_of, node_name, node_rows, device_node, device_parts, physical_node, physical_parts, position_node, position_parts, position_nodes, control_parts, control_nodes, interlocking_node, interlocking_nodes, meter_node, meter_nodes, rows_of_all, is_of}

@@ -10,11 +10,11 @@ use Rattle.std.specs.Fmt.{decimal}
 use Rattle.std.specs.List.{AllByRecursion, enumerate_from, flat_map, list_all}
 use Rattle.std.specs.Str.Parse.{AllDigits}
 use Rattle.bay_tree.specs.Rows.{IsTree}
-use Rattle.bay_nodes.specs.declared.switch.Control.{Control}
-use Rattle.bay_nodes.specs.declared.switch.Control.TheVariants.{Status, Direct, Sbo, SboEnhanced}
+use Rattle.bay_base.specs.declared.switch.Control.{Control}
+use Rattle.bay_base.specs.declared.switch.Control.TheVariants.{Status, Direct, Sbo, SboEnhanced}
 use Rattle.bay_nodes.specs.declared.switch.Switch.{Switch}
-use Rattle.bay_nodes.specs.declared.switch.SwitchKind.{SwitchKind}
-use Rattle.bay_nodes.specs.declared.switch.SwitchKind.TheVariants.{Breaker, Disconnector, Earthing}
+use Rattle.bay_base.specs.declared.switch.SwitchKind.{SwitchKind}
+use Rattle.bay_base.specs.declared.switch.SwitchKind.TheVariants.{Breaker, Disconnector, Earthing}
 use Rattle.bay_nodes.specs.declared.nameplate.Nameplate.{Nameplate}
 use Rattle.bay_nodes.specs.Node.{Node, node_name, class_of, is_breaker, is_of, device_node, physical_node, position_node, position_nodes, position_parts, control_node, control_nodes, control_parts, interlocking_node, interlocking_nodes, meter_node, meter_nodes, nodes_of, rows_of_all}
 use Rattle.bay_nodes.proofs.PathLemmas.{IsPlain, IsGood, IsApart, AllDiffer, stands, paths, weaker, both, nodes-follow}

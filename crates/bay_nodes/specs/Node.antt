@@ -6,14 +6,14 @@ use Rattle.std.specs.Fmt.{decimal}
 use Rattle.bay_tree.specs.declared.row.Row.{Row}
 use Rattle.bay_tree.specs.declared.leaf.Leaf.{Leaf}
 use Rattle.bay_tree.specs.declared.leaf.Leaf.TheVariants.{Truth, Dbpos, Quality, Int8, Int32, Unsigned8, Unsigned32, Octets, Reference, Text, Utc}
-use Rattle.bay_tree.specs.declared.leaf.Dbpos.TheVariants.{Intermediate}
+use Rattle.bay_base.specs.declared.position.Dbpos.TheVariants.{Intermediate}
 use Rattle.bay_tree.specs.declared.leaf.Quality.{Quality as Validity}
 use Rattle.bay_tree.specs.declared.leaf.Quality.TheVariants.{Good, Invalid}
-use Rattle.bay_nodes.specs.declared.switch.Control.{Control}
-use Rattle.bay_nodes.specs.declared.switch.Control.TheVariants.{Status, Direct, Sbo, SboEnhanced}
+use Rattle.bay_base.specs.declared.switch.Control.{Control}
+use Rattle.bay_base.specs.declared.switch.Control.TheVariants.{Status, Direct, Sbo, SboEnhanced}
 use Rattle.bay_nodes.specs.declared.switch.Switch.{Switch}
-use Rattle.bay_nodes.specs.declared.switch.SwitchKind.{SwitchKind}
-use Rattle.bay_nodes.specs.declared.switch.SwitchKind.TheVariants.{Breaker, Disconnector, Earthing}
+use Rattle.bay_base.specs.declared.switch.SwitchKind.{SwitchKind}
+use Rattle.bay_base.specs.declared.switch.SwitchKind.TheVariants.{Breaker, Disconnector, Earthing}
 use Rattle.bay_nodes.specs.declared.nameplate.Nameplate.{Nameplate}
 
 -- ---- own: parts of nodes, and their rows

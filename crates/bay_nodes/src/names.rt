@@ -2,7 +2,8 @@
 ghost use Rattle.std.specs.Prelude.{◌≡◌, ◌++◌, IfOk};
 ghost use Rattle.bay_nodes.specs.Node as spec;
 
-use crate::switch::{Switch, SwitchKind};
+use crate::switch::Switch;
+use bay_base::switch::SwitchKind;
 use bay_base::text::Text;
 use std::alloc::{AllocError, Global};
 

@@ -9,12 +9,14 @@ ghost use Rattle.bay_nodes.specs.NodeRows as spec_node_rows;
 
 use crate::nameplate::Nameplate;
 use crate::names::{CONTROL, INTERLOCKING, METER, class_of, is_of, node_name, row_name};
-use crate::switch::{Control, Switch, SwitchKind};
+use crate::switch::Switch;
 use crate::tables as tables;
 use crate::tables::InitialValue;
 use bay_base::listing::Listing;
+use bay_base::position::Dbpos;
+use bay_base::switch::{Control, SwitchKind};
 use bay_base::text::Text;
-use bay_tree::leaf::{Dbpos, Leaf, Quality};
+use bay_tree::leaf::{Leaf, Quality};
 use bay_tree::row::Row;
 use std::alloc::{AllocError, Global};
 

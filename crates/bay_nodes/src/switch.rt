@@ -1,4 +1,5 @@
 // The switches of a bay.
+use bay_base::switch::{Control, SwitchKind};
 use bay_base::text::Text;
 
 /// A switching device (IEC 61850-7-4, XCBR and XSWI) and the way it is controlled.
@@ -13,36 +14,4 @@ pub struct Switch {
     pub sbo_timeout_ms: u32,
     /// How long the switch may travel, in milliseconds, 1 to 600,000; 0 if it is not controlled.
     pub travel_ms: u32,
-}
-
-/// The kind of a switch.
-#[derive(Clone, Copy, Debug, PartialEq, Eq)]
-pub enum SwitchKind {
-    /// A circuit breaker.
-    Breaker,
-    /// A disconnector.
-    Disconnector,
-    /// An earthing switch.
-    Earthing,
-}
-
-/// How a switch is controlled (IEC 61850-7-2, control model).
-#[derive(Clone, Copy, Debug, PartialEq, Eq)]
-pub enum Control {
-    /// Status only.
-    Status,
-    /// Direct control with normal security.
-    Direct,
-    /// Select before operate with normal security.
-    Sbo,
-    /// Select before operate with enhanced security: select with value, and a report when the
-    /// control ends.
-    SboEnhanced,
-}
-
-/// The operation that a command requests (IEC 61850-7-3, DPC: ctlVal; FALSE opens, TRUE closes).
-#[derive(Clone, Copy, Debug, PartialEq, Eq)]
-pub enum Operation {
-    Open,
-    Close,
 }

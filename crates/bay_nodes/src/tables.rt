@@ -6,7 +6,7 @@ ghost use Rattle.bay_nodes.specs.NodeRows.{line_row, status_group, type_rows, po
 ghost use Rattle.bay_nodes.specs.declared.nameplate.Nameplate.{Nameplate};
 
 use crate::paths as paths;
-use crate::switch::{Control, SwitchKind};
+use bay_base::switch::{Control, SwitchKind};
 
 /// The initial value of a row.
 #[derive(Clone, Copy)]

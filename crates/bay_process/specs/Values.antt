@@ -7,8 +7,9 @@ use Rattle.bay_tree.specs.Rows.{leaf_of, with_leaf_of}
 use Rattle.bay_tree.specs.declared.row.Row.{Row}
 use Rattle.bay_tree.specs.declared.leaf.Leaf.{Leaf}
 use Rattle.bay_tree.specs.declared.leaf.Leaf.TheVariants as leaf
-use Rattle.bay_tree.specs.declared.leaf.Dbpos.{Dbpos}
-use Rattle.bay_tree.specs.declared.leaf.Dbpos.TheVariants.{Intermediate, Off, On, Bad}
+use Rattle.bay_base.specs.Positions.{position_number, same_position}
+use Rattle.bay_base.specs.declared.position.Dbpos.{Dbpos}
+use Rattle.bay_base.specs.declared.position.Dbpos.TheVariants.{Intermediate, Off, On, Bad}
 use Rattle.bay_tree.specs.declared.leaf.Quality.{Quality}
 use Rattle.bay_tree.specs.declared.leaf.Quality.TheVariants.{Good, Invalid}
 use Rattle.bay_nodes.specs.declared.switch.Switch.{Switch}
@@ -42,14 +43,6 @@ is_end_position Off = true
 is_end_position On = true
 is_end_position Intermediate = false
 is_end_position Bad = false
-
--- two positions are equal
-abbrev pub same_position : Dbpos → Dbpos → Bool
-same_position Intermediate Intermediate = true
-same_position Off Off = true
-same_position On On = true
-same_position Bad Bad = true
-same_position p q = false
 
 -- two qualities are equal
 abbrev pub same_quality : Quality → Quality → Bool
@@ -141,11 +134,9 @@ rows_after_doubt names now rows =
     else with_leaf_of names.time (leaf.Utc now)
     (with_leaf_of names.quality (leaf.Quality Invalid) rows)
 
--- the number of a position: 0 intermediate, 1 off, 2 on, 3 bad
+-- the number of a position; 0 without a position
 abbrev pub number_of_position : Option Leaf → ℤ
-number_of_position (Some (leaf.Dbpos Off)) = pos 1
-number_of_position (Some (leaf.Dbpos On)) = pos 2
-number_of_position (Some (leaf.Dbpos Bad)) = pos 3
+number_of_position (Some (leaf.Dbpos position)) = position_number position
 number_of_position other = pos 0
 
 -- the value of a point of a switch from its position; the points that the program writes are FALSE

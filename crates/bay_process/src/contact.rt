@@ -7,7 +7,8 @@ ghost use Rattle.bay_process.specs.Values as spec;
 ghost use Rattle.bay_process.specs.Layout.{layout_of, status_in, switch_in, AreStatusRows, AreSwitchRows};
 
 use crate::rows::{StatusRows, SwitchRows, count_at, is_position, is_quality, put, put_status};
-use bay_tree::leaf::{Dbpos, Leaf, Quality};
+use bay_base::position::Dbpos;
+use bay_tree::leaf::{Leaf, Quality};
 use bay_tree::tree::Tree;
 
 // Returns the quality of a position (IEC 61850-7-3).

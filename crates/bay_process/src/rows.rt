@@ -8,7 +8,8 @@ ghost use Rattle.bay_process.specs.Values.{with_status};
 ghost use Rattle.bay_process.specs.Values as spec;
 ghost use Rattle.bay_process.specs.Layout.{layout_of, name_in, status_in, HasLeafType, AreStatusRows};
 
-use bay_tree::leaf::{Dbpos, Leaf, Quality};
+use bay_base::position::Dbpos;
+use bay_tree::leaf::{Leaf, Quality};
 use bay_tree::tree::{Handle, Tree};
 
 /// The handles of a value, its quality and its time stamp.

@@ -23,38 +23,34 @@ use crate::rows::{
 };
 use crate::switch::{BoundSwitch, Enabled};
 use crate::values::InputValues;
+use bay_base::position::Dbpos;
 use bay_config::bay::{MeterField, Source, SwitchPoint};
-use bay_tree::leaf::{Dbpos, Leaf, Quality};
+use bay_tree::leaf::{Leaf, Quality};
 use bay_tree::tree::Tree;
 use il_image::value::Value;
 use il_scan::points::{Inputs, Outputs};
 
-// Returns the number of a position (IEC 61850-8-1, Dbpos): 0 intermediate, 1 off, 2 on, 3 bad.
-fn number_of_position(position: Dbpos) -> i16
-    ensures { result ≡ spec_values.number_of_position (Some (leaves.Dbpos position)) }
+/// Returns the value of a point of a switch with this position: the position as a number, or
+/// whether it is open or closed. A point that the program writes reads FALSE.
+pub fn value_at_position(point: SwitchPoint, position: Dbpos) -> Value
+    ensures { result ≡ spec_values.position_value point (Some (leaves.Dbpos position)) }
 {
-    match position {
-        Dbpos::Intermediate => 0,
-        Dbpos::Off => 1,
-        Dbpos::On => 2,
-        Dbpos::Bad => 3,
+    match point {
+        SwitchPoint::Position => Value::Short(position.number()),
+        SwitchPoint::Open => Value::Truth(position == Dbpos::Off),
+        SwitchPoint::Closed => Value::Truth(position == Dbpos::On),
+        SwitchPoint::EnableOpen | SwitchPoint::EnableClose => Value::Truth(false),
     }
 }
 
-// Returns the value of a point of a switch, from the position of the switch.
+// Returns the value of a point of a switch, from the position of the switch in the tree.
 fn position_value(tree: &Tree, rows: StatusRows, point: SwitchPoint) -> Value
     requires { AreStatusRows (layout_of tree.now) leaf_type.Dbpos rows }
     ensures value { result ≡ spec_values.position_value point (leaf_at tree.now rows.value) }
     ensures typed { type_of result ≡ type_of_switch_point point }
     ensures is_value { IsValue result }
 {
-    let position = position_at(tree, rows.value);
-    match point {
-        SwitchPoint::Position => Value::Short(number_of_position(position)),
-        SwitchPoint::Open => Value::Truth(position == Dbpos::Off),
-        SwitchPoint::Closed => Value::Truth(position == Dbpos::On),
-        SwitchPoint::EnableOpen | SwitchPoint::EnableClose => Value::Truth(false),
-    }
+    value_at_position(point, position_at(tree, rows.value))
 }
 
 // Returns the value of a point of a switch that does not exist.

@@ -5,10 +5,10 @@ ghost use Rattle.bay_process_port.specs.ProcessOutput.{PutsWhole, alive_text, gr
 ghost use Rattle.bay_process_port.specs.ProcessOutput as spec;
 
 use crate::supervision::SupervisedProcess;
+use bay_base::switch::Operation;
 use bay_device::device::Device;
 use bay_lines::bounded_buffer::BoundedBuffer;
 use bay_mms_services::answer::Command;
-use bay_nodes::switch::Operation;
 use bay_server_turn::turn_report::Turn;
 use itoa::Buffer;
 

@@ -7,8 +7,8 @@ use Rattle.std.specs.Fmt.{decimal}
 use Rattle.std.specs.Prelude.{option_and_then, option_map}
 use Rattle.std.specs.Str.{all_ascii_digits, bytes_eq}
 use Rattle.std.specs.Str.Parse.{digits_value}
-use Rattle.bay_nodes.specs.declared.switch.Operation.{Operation}
-use Rattle.bay_nodes.specs.declared.switch.Operation.TheVariants as operations
+use Rattle.bay_base.specs.declared.switch.Operation.{Operation}
+use Rattle.bay_base.specs.declared.switch.Operation.TheVariants as operations
 use Rattle.bay_process.specs.Releases.{digit_text}
 use Rattle.bay_replay_laws.specs.Printed.{PrintedSwitch, budget_in, command_in, command_of, number_named, number_of, order_of, parts_in, printed_budget, printed_command, printed_scan, printed_send, scan_in, scan_of, send_in, switch_in, switch_told, switches_in, words_in}
 use Rattle.bay_replay_laws.proofs.LineLemmas.{NoDigit, decimal-free, free, free-append, split-at, split-none}

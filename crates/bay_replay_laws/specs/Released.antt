@@ -1,8 +1,8 @@
 -- The scan before a command's line in the text of a report.
 use Rattle.std.specs.Prelude.{Bool, ℕ, ◌≡◌, ◌+◌, ◌≤◌, true, All, List, ◌∷◌, ◌++◌, None, Some, IfOk}
 use Rattle.std.specs.List.{Contains}
-use Rattle.bay_nodes.specs.declared.switch.Operation.{Operation}
-use Rattle.bay_nodes.specs.declared.switch.Operation.TheVariants as operations
+use Rattle.bay_base.specs.declared.switch.Operation.{Operation}
+use Rattle.bay_base.specs.declared.switch.Operation.TheVariants as operations
 use Rattle.bay_device.specs.Device.{State}
 use Rattle.bay_device.specs.Fresh.{IsSameProcess, Past}
 use Rattle.bay_device.specs.declared.event.Event.TheVariants.{Scan}

@@ -7,13 +7,13 @@ ghost use Rattle.bay_device.specs.Steps.{quiet_answer, scan_answer};
 ghost use Rattle.bay_io.specs.Sent.{Puts};
 ghost use Rattle.bay_report.specs.Lines.{scan_text, ran_text, send_text, sends_text, ended_text, order_text, command_line, command_text, commands_text, why_text, closing_text, closed_text, refusal_line, done_text, step_text, unreadable_text};
 
+use bay_base::switch::Operation;
 use bay_device::device::Device;
 use bay_device::event::{Scanned, Sent, Step, Why};
 use bay_device::fault::StepFault;
 use bay_io::calls::Sink;
 use bay_io::writer::WatchedWriter;
 use bay_mms_services::answer::Command;
-use bay_nodes::switch::Operation;
 
 // The number of octets whose digits are written at a time.
 const CHUNK: usize = 256;

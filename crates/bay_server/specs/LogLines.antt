@@ -10,8 +10,8 @@ use Rattle.bay_control.specs.declared.cause.AddCause.{AddCause}
 use Rattle.bay_control.specs.declared.cause.AddCause.TheVariants.{NotSupported, SelectFailed, PositionReached, BlockedByMode, BlockedByProcess, BlockedByInterlocking, CommandAlreadyInExecution, OneOfNControl, TimeLimitOver, ObjectNotSelected}
 use Rattle.bay_device.specs.Device.{State}
 use Rattle.bay_lines.specs.Escaped.{shown_text}
-use Rattle.bay_nodes.specs.declared.switch.Operation.{Operation}
-use Rattle.bay_nodes.specs.declared.switch.Operation.TheVariants as operations
+use Rattle.bay_base.specs.declared.switch.Operation.{Operation}
+use Rattle.bay_base.specs.declared.switch.Operation.TheVariants as operations
 use Rattle.bay_nodes.specs.declared.switch.Switch.{Switch}
 use Rattle.bay_process_port.specs.declared.connection_event.ConnectionEvent.{ConnectionEvent}
 use Rattle.bay_process_port.specs.declared.connection_event.ConnectionEvent.TheVariants.{Opened, Closed}

@@ -6,13 +6,13 @@ ghost use Rattle.bay_server.specs.ChangeLines.{commanded_switch, end_log, ends_l
 ghost use Rattle.bay_server.specs.ChangeLines as spec;
 
 use crate::control_lines::id;
+use bay_base::position::Dbpos;
 use bay_device::device::Device;
 use bay_io::calls::{LinePart, Sink};
 use bay_io::writer::WatchedWriter;
 use bay_mms_services::answer::Command;
 use bay_server_turn::process_input::TurnInput;
 use bay_server_turn::turn_report::Turn;
-use bay_tree::leaf::Dbpos;
 
 // The maximum number of switches in a bay.
 const SWITCHES: usize = 32;

@@ -7,6 +7,7 @@ ghost use Rattle.bay_server.specs.LogLines.{asked_log, decision_line, id_of, sel
 ghost use Rattle.bay_server.specs.LogLines as spec;
 
 use bay_base::listing::Listing;
+use bay_base::switch::Operation;
 use bay_control::cause::AddCause;
 use bay_device::device::Device;
 use bay_io::calls::{LinePart, Sink};
@@ -14,7 +15,6 @@ use bay_io::writer::WatchedWriter;
 use bay_lines::escaped::EscapedText;
 use bay_mms_services::answer::{ControlDecision, ControlRequest};
 use bay_mms_services::target::ControlPart;
-use bay_nodes::switch::Operation;
 
 // Returns the service that is requested of a control.
 fn service_words(part: ControlPart) -> &'static [u8]

@@ -7,11 +7,11 @@ ghost use Rattle.bay_server_turn.specs.Served as spec;
 ghost use Rattle.bay_trace.specs.TraceView.{named_view};
 
 use crate::fault::ServeFault;
+use bay_base::position::Dbpos;
 use bay_config::bay::MeterField;
 use bay_device::device::Device;
 use bay_device::event::Event;
 use bay_trace::trace::{NamedEvent, TraceLine, read_process_line, read_trace_line};
-use bay_tree::leaf::Dbpos;
 
 /// An event of the process. Switches, inputs and meters have indices from 0.
 #[derive(Clone, Copy)]

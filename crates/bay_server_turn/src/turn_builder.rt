@@ -10,9 +10,9 @@ use crate::association_state::AssociationState;
 use crate::bounded_list::BoundedList;
 use crate::turn_report::{CloseReason, Turn};
 use bay_base::listing::Listing;
+use bay_base::switch::Operation;
 use bay_device::event::{ASSOCIATIONS, Why};
 use bay_mms_services::answer::{Command, ControlDecision};
-use bay_nodes::switch::Operation;
 use std::marker::Model;
 use std::net::SocketAddrV4;
 

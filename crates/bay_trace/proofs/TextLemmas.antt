@@ -15,7 +15,7 @@ use Rattle.bay_trace.specs.Digits.{octets_of}
 use Rattle.bay_trace.proofs.WordLemmas.{chosen, none-chosen}
 use Rattle.bay_trace.specs.declared.trace.TraceLine.{TraceLine}
 use Rattle.bay_trace.specs.TraceView.{line_view}
-use Rattle.bay_tree.specs.declared.leaf.Dbpos.{Dbpos}
+use Rattle.bay_base.specs.declared.position.Dbpos.{Dbpos}
 use Rattle.bay_base.specs.declared.point.MeterField.{MeterField}
 use Rattle.bay_base.specs.Decimals.{negative_of, positive_of, read_number}
 use Rattle.bay_trace.specs.Trace.{association_of, at_moment, disconnects, contact, event_of, input, measure, field_of, is_space, is_association_verb, LineData, measure_of, name_of, named_of, NamedData, only_word, connects, position_of, read_integer, received_of, receives, association_event_of, trace_line_of, truth_of, words_line, measure_event_of}

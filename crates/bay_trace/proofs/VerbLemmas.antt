@@ -7,7 +7,7 @@ use Rattle.std.proofs.lemmas.Slice.Eq.{bytes_eq-Decides}
 use Rattle.std.specs.Char.{is_ascii_digit}
 use Rattle.std.specs.List.{join_with_byte, slice_split, onto_first}
 use Rattle.std.specs.Str.{all_ascii_digits, bytes_eq}
-use Rattle.bay_tree.specs.declared.leaf.Dbpos.{Dbpos}
+use Rattle.bay_base.specs.declared.position.Dbpos.{Dbpos}
 use Rattle.bay_base.specs.declared.point.MeterField.{MeterField}
 use Rattle.bay_base.specs.Decimals.{negative_of, positive_of, read_number}
 use Rattle.bay_trace.specs.Trace.{association_of, connects, disconnects, is_space, is_association_verb, association_event_in, association_event_of, only_word, read_integer, position_of, truth_of, NamedData, measure_event_of, measure, lost, scan, name_of, named_of, event_of}

@@ -10,7 +10,7 @@ ghost use Rattle.bay_trace.specs.TraceView.{named_view, line_view};
 use crate::octets::Digits;
 use bay_base::decimal::{decimal, negative, positive, with_digit};
 use bay_base::point::MeterField;
-use bay_tree::leaf::Dbpos;
+use bay_base::position::Dbpos;
 
 // How many digits after the first are read without a test for overflow: any 19 digits are below
 // 2^64.

@@ -3,20 +3,8 @@ ghost use Rattle.std.specs.Prelude.{◌≡◌};
 ghost use Rattle.bay_tree.specs.LeafTypes.{leaf_type_of};
 
 use bay_base::listing::Listing;
+pub use bay_base::position::Dbpos;
 use bay_base::text::Text;
-
-/// A double-point position (IEC 61850-7-3, DPC: stVal), in the order of its two bits.
-#[derive(Clone, Copy, Debug, PartialEq, Eq)]
-pub enum Dbpos {
-    /// Neither end position is reached.
-    Intermediate,
-    /// Open.
-    Off,
-    /// Closed.
-    On,
-    /// Both end positions are reported at once.
-    Bad,
-}
 
 /// The validity of a value (IEC 61850-7-3, Quality).
 #[derive(Clone, Copy, Debug, PartialEq, Eq)]

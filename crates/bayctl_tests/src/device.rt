@@ -3,6 +3,7 @@
 ghost use Rattle.std.specs.Prelude.{◌<◌, length};
 
 use crate::session::{self, CONFIRM, REQUEST, octets_of};
+use bay_base::position::Dbpos;
 use bay_config::bay::Bay;
 use bay_config::read::read_bay;
 use bay_device::device::Device;
@@ -10,7 +11,6 @@ use bay_device::event::Event;
 use bay_device::fault::{LoadFault, StepFault};
 use bay_device::load::{load, load_image};
 use bay_io::outbox::WriteFault;
-use bay_tree::leaf::Dbpos;
 use il_image::decode::decode;
 use il_verify::verify::verify;
 use std::alloc::Global;

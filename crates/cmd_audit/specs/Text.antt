@@ -18,8 +18,8 @@ use Rattle.bay_base.specs.declared.point.Source.{Source}
 use Rattle.bay_base.specs.declared.point.Source.TheVariants as source
 use Rattle.bay_base.specs.declared.point.SwitchPoint.{SwitchPoint}
 use Rattle.bay_base.specs.declared.point.SwitchPoint.TheVariants.{Position, Open, Closed, EnableOpen, EnableClose}
-use Rattle.bay_nodes.specs.declared.switch.Operation.{Operation}
-use Rattle.bay_nodes.specs.declared.switch.Operation.TheVariants as operations
+use Rattle.bay_base.specs.declared.switch.Operation.{Operation}
+use Rattle.bay_base.specs.declared.switch.Operation.TheVariants as operations
 use Rattle.bay_nodes.specs.declared.switch.Switch.{Switch}
 use Rattle.bay_audit_rules.specs.Code.{code_of, line_of}
 use Rattle.bay_audit_rules.specs.declared.fault.RuleFault.{RuleFault}
@@ -27,7 +27,7 @@ use Rattle.bay_audit_rules.specs.declared.fault.RuleFault.TheVariants.{BadWord, 
 use Rattle.bay_audit_rules.specs.declared.rule.Rule.{Rule}
 use Rattle.il_image.specs.declared.image.ImagePoint.{ImagePoint}
 use Rattle.cmd_audit.specs.Names.{Known}
-use Rattle.bay_tree.specs.declared.leaf.Dbpos.TheVariants.{Intermediate, Off, On, Bad}
+use Rattle.bay_base.specs.declared.position.Dbpos.TheVariants.{Intermediate, Off, On, Bad}
 
 -- ---- a case
 

@@ -3,8 +3,8 @@ use Rattle.std.specs.Prelude.{◌≡◌, ℕ, true, ◌&&◌, List, ◌∷◌, c
 use Rattle.std.specs.Fmt.{decimal}
 use Rattle.std.specs.List.{Contains}
 use Rattle.std.specs.Str.{bytes_eq}
-use Rattle.bay_nodes.specs.declared.switch.Operation.{Operation}
-use Rattle.bay_nodes.specs.declared.switch.Operation.TheVariants as operations
+use Rattle.bay_base.specs.declared.switch.Operation.{Operation}
+use Rattle.bay_base.specs.declared.switch.Operation.TheVariants as operations
 use Rattle.bay_config.specs.declared.bay.Bay.{Bay}
 use Rattle.bay_audit_rules.specs.declared.rule.Rule.{Rule}
 use Rattle.bay_audit.specs.Rules.{BoundProgram, IsRight, program_of}

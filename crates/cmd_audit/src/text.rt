@@ -9,9 +9,9 @@ use bay_audit::answer::{CaseRelease, Release, ReportedCase, RuleAnswer, StateDep
 use bay_audit::case::Case;
 use bay_audit_rules::fault::RuleFault;
 use bay_audit_rules::rule::Rule;
+use bay_base::position::Dbpos;
+use bay_base::switch::Operation;
 use bay_config::bay::{Bay, MeterField, Point, Source, SwitchPoint};
-use bay_nodes::switch::Operation;
-use bay_tree::leaf::Dbpos;
 use itoa::Buffer;
 use std::alloc::AllocError;
 

@@ -6,8 +6,8 @@ use Rattle.std.proofs.lemmas.List.Quantifiers.{position-Some}
 use Rattle.bay_base.specs.Options.{◌>>=◌}
 use Rattle.bay_base.specs.Names.{same_name}
 use Rattle.bay_config.specs.declared.bay.Bay.{Bay}
-use Rattle.bay_nodes.specs.declared.switch.Operation.{Operation}
-use Rattle.bay_nodes.specs.declared.switch.Operation.TheVariants as operations
+use Rattle.bay_base.specs.declared.switch.Operation.{Operation}
+use Rattle.bay_base.specs.declared.switch.Operation.TheVariants as operations
 use Rattle.bay_nodes.specs.declared.switch.Switch.{Switch}
 use Rattle.bay_audit_rules.specs.Grammar.{Spells}
 use Rattle.bay_audit_rules.specs.Meaning.{LineRead, LinesRead, TextRead, TokensRead, is_blank_piece, is_comment, is_line_end, line_tokens, prepend_rules, operations_of, rule_of, rules_of, some_rule, template_of, timing_of, tokens_of}

@@ -29,8 +29,8 @@ use Rattle.bay_process.specs.Sources.{type_of_source}
 use Rattle.bay_process.specs.Values.{is_position, position_value}
 use Rattle.bay_process.proofs.SourceLemmas.{IsTyped, bay-typed, points-fit, reads-typed}
 use Rattle.bay_audit_rules.specs.Process.{Process}
-use Rattle.bay_tree.specs.declared.leaf.Dbpos.{Dbpos}
-use Rattle.bay_tree.specs.declared.leaf.Dbpos.TheVariants.{Intermediate, Off, On, Bad}
+use Rattle.bay_base.specs.declared.position.Dbpos.{Dbpos}
+use Rattle.bay_base.specs.declared.position.Dbpos.TheVariants.{Intermediate, Off, On, Bad}
 use Rattle.bay_tree.specs.declared.leaf.Leaf.TheVariants as leaf
 use Rattle.cmd_replay.proofs.BudgetLemmas.{step-halts}
 use Rattle.il_check.specs.Program.{Checked}

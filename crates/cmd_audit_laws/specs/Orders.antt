@@ -1,7 +1,7 @@
 -- Small runs of scans, and of turns in which octets arrive.
 use Rattle.std.specs.Prelude.{ℕ, Bool, false, List, [], ◌∷◌, replicate, None, Some, Ok}
-use Rattle.bay_nodes.specs.declared.switch.Operation.TheVariants.{Open}
-use Rattle.bay_tree.specs.declared.leaf.Dbpos.TheVariants.{Off}
+use Rattle.bay_base.specs.declared.switch.Operation.TheVariants.{Open}
+use Rattle.bay_base.specs.declared.position.Dbpos.TheVariants.{Off}
 use Rattle.bay_tree.specs.declared.leaf.Leaf.TheVariants as leaf
 use Rattle.bay_mms_services.specs.Released.{enable_name}
 use Rattle.bay_mms_services.specs.declared.answer.Command.{Command}

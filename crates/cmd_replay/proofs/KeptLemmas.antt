@@ -10,7 +10,7 @@ use Rattle.bay_nodes.specs.Names.{meter_names}
 use Rattle.bay_process.specs.Names.{field_names}
 use Rattle.bay_process.proofs.ToldLemmas.{Keeps, field-away, keeps-contact, keeps-doubt, keeps-measure}
 use Rattle.bay_tree.specs.Rows.{leaf_of}
-use Rattle.bay_tree.specs.declared.leaf.Dbpos.{Dbpos}
+use Rattle.bay_base.specs.declared.position.Dbpos.{Dbpos}
 use Rattle.bay_device.specs.Device.{State, device_at}
 use Rattle.bay_device.specs.Outcomes.{Outcome, close_outcome, connection_at, contact_outcome, doubt_outcome, event_outcome, input_outcome, last_moment, lost_outcome, measure_outcome, open_outcome, outcome, place_of, recv_outcome, refusal_of, scan_outcome}
 use Rattle.bay_device.specs.Steps.{Steps}

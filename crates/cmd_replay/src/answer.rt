@@ -7,6 +7,7 @@ ghost use Rattle.bay_trace.specs.Resolving.{placed_event};
 ghost use Rattle.bay_trace.specs.Trace.{at_moment, contact, scan, trace_line_of};
 ghost use Rattle.bay_trace.specs.TraceView.{named_view};
 
+use bay_base::position::Dbpos;
 use bay_device::device::Device;
 use bay_device::event::Event;
 use bay_io::calls::Sink;
@@ -16,7 +17,6 @@ use bay_report::output::NO_MEMORY;
 use bay_trace::octets::LineOctets;
 use bay_trace::resolve::{decode_octets, resolve_event, resolve_switch};
 use bay_trace::trace::{NamedEvent, TraceLine, read_trace_line, scan_digits};
-use bay_tree::leaf::Dbpos;
 use std::alloc::AllocError;
 
 // Applies an event, and writes the lines of its answer.

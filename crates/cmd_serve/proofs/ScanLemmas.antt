@@ -2,8 +2,8 @@
 use Rattle.std.proofs.Common.{◌≡◌, ◌+◌, ◌≤◌, ℕ, true, not, List, [], ◌∷◌, ◌++◌, All, None, Result, Ok, Err, IsOk, IfOk, refl, ap, sym, subst, ◌∙◌, arith}
 use Rattle.std.proofs.lemmas.List.Elements.{All-from_recursion, All-head}
 use Rattle.std.specs.List.{AllByRecursion}
-use Rattle.bay_nodes.specs.declared.switch.Operation.{Operation}
-use Rattle.bay_nodes.specs.declared.switch.Operation.TheVariants as operations
+use Rattle.bay_base.specs.declared.switch.Operation.{Operation}
+use Rattle.bay_base.specs.declared.switch.Operation.TheVariants as operations
 use Rattle.bay_process.specs.Values.{is_truth}
 use Rattle.bay_process.proofs.ToldLemmas.{Keeps}
 use Rattle.bay_mms_services.specs.Released.{enable_name}

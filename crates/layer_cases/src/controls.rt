@@ -10,11 +10,11 @@
 // `lost-stale` if the process is lost), and EnaOpn and EnaCls, as `01`.
 use crate::tree::position_of;
 use anyhow::{Result, bail};
+use bay_base::switch::Operation;
 use bay_config::read::read_bay;
 use bay_control::control::ControlTable;
 use bay_control::controls::Controls;
 use bay_control::request::{Ask, Identity, Originator, View};
-use bay_nodes::switch::Operation;
 use cases::case_report::check_text;
 use cases::octets::octets_of;
 use cases::words::words_of;

@@ -1,6 +1,7 @@
 // Rows of a tree, their data and types, and pages of their names.
 use anyhow::{Context, Result, bail};
 use bay_base::listing::Listing;
+use bay_base::position::Dbpos;
 use bay_base::text::Text;
 use bay_ber::writer::Writer;
 use bay_config::read::read_bay;
@@ -9,7 +10,7 @@ use bay_mms::data::{data_of, type_spec_of};
 use bay_mms::names::NameTexts;
 use bay_mms::page::write_page;
 use bay_mms::value::{write_type, write_value};
-use bay_tree::leaf::{Dbpos, Leaf, Quality};
+use bay_tree::leaf::{Leaf, Quality};
 use bay_tree::row::Row;
 use bay_tree::search::is_tree;
 use bay_tree::tree::Tree;

@@ -1,6 +1,6 @@
 use Rattle.std.proofs.Common.{◌≡◌, Some, ◌∙◌, ap, rules}
 use Rattle.toml.specs.View.{table_view}
-use Rattle.bay_nodes.specs.declared.switch.Control.TheVariants.{Status, Direct}
+use Rattle.bay_base.specs.declared.switch.Control.TheVariants.{Status, Direct}
 use Rattle.bay_config.specs.Switch.{control_of}
 use Rattle.bay_config.proofs.SwitchLemmas.{no-sbo-timeout, no-times}
 use Rattle.bay_config.proofs.switches.times_at.Goals as goal

@@ -1,7 +1,7 @@
 use Rattle.std.proofs.Common.{◌≡◌, ◌<◌, ◌≤◌, ◌+◌, List, [], Option, length, drop, slice_get, Some, ap, sym, ◌∙◌, arith}
 use Rattle.std.proofs.Math.ListN.{drop_of_length-le}
 use Rattle.std.proofs.lemmas.List.{length-map}
-use Rattle.bay_tree.specs.declared.leaf.Dbpos.TheVariants.{Bad}
+use Rattle.bay_base.specs.declared.position.Dbpos.TheVariants.{Bad}
 use Rattle.bay_connection.specs.ConnectionStates.{ConnectionState}
 use Rattle.bay_process.specs.Layout.{switches_of}
 use Rattle.bay_process.specs.declared.switch.BoundSwitch.{BoundSwitch}
