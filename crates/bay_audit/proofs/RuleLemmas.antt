@@ -218,7 +218,8 @@ module _ (g : BoundProgram) (d : Demand) (case : List TestAnswer) (ranges : List
     (foresees : Foresees g d.limits (map (range_of case) g.reads) limits ranges)
     (asked : TruthSet) (r : Range) (is-asked : asked ≡ rule_truths case d.when d.unless)
     (is-range : r ≡ goal_range g.image.points g.writes ranges limits d.goal) where
-  module _ (p : Process) (is : IsProcess p) (inside : is_in case p ≡ true) (machine : scans.Held)
+  module _ (p : Process) (is : IsProcess p) (inside : is_in case p ≡ true)
+      (machine : scans.MachineData)
       (now : ℕ) (slots : List Value) (timers : List TimerState) (image : machine.image ≡ g.image)
       (kept : IsReached machine) (young : AreYoung now machine.timers d.limits)
       (leaves : Leaves machine (map (process_value p) g.reads) now slots timers)

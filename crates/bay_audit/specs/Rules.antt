@@ -24,7 +24,7 @@ use Rattle.il_range.specs.Foretold.{AreYoung, IsReached, Leaves, delay_start_at}
 use Rattle.il_range.specs.Ranges.{AreIn}
 use Rattle.il_range.specs.declared.range.Range.{Range}
 use Rattle.il_range.specs.declared.range.Range.TheVariants as range
-use Rattle.il_scan.specs.Scans.{Held, held_first, outputs_of}
+use Rattle.il_scan.specs.Scans.{MachineData, first_machine, outputs_of}
 use Rattle.il_scan.specs.Places.{is_true}
 use Rattle.bay_audit.specs.Cases.{example_of, is_in}
 use Rattle.bay_audit.specs.Process.{IsLost, IsProcess, process_value}
@@ -98,7 +98,7 @@ obeys g d p slots timers = is_obeyed d.kind (is_covered d p) (reaches g d.goal s
 -- program can reach, meets the demand if b is true, and misses it if b is false.
 abbrev pub Comes : Bool → BoundProgram → Demand → Process → Type 0
 Comes b g d p =
-    (machine : Held) (now : ℕ) (slots : List Value) (timers : List TimerState)
+    (machine : MachineData) (now : ℕ) (slots : List Value) (timers : List TimerState)
     → machine.image ≡ g.image → IsReached machine → AreYoung now machine.timers d.limits
     → Leaves machine (map (process_value p) g.reads) now slots timers
     → obeys g d p slots timers ≡ b
@@ -197,19 +197,20 @@ IsAnswer g d TooMany = Unit {0}
 IsAnswer g d (Since n cases) = ⊥
 
 -- A scan with these inputs takes the machine to its next state.
-abbrev pub Passes : List Value → Held → ℕ → Held → Type 0
+abbrev pub Passes : List Value → MachineData → ℕ → MachineData → Type 0
 Passes inputs machine now next =
     (next.image ≡ machine.image) × Leaves machine inputs now next.slots next.timers
 
 -- A scan with these inputs at a time below `time`, from the first values or after a scan with the
 -- same inputs at time 0, makes TRUE the writable point with this index.
-pub record IsEarlyBy (inputs : List Value) (first : Held) (place : Option ℕ) (time : ℕ) : Type 0
+pub record IsEarlyBy (inputs : List Value) (first : MachineData) (place : Option ℕ) (time : ℕ)
+    : Type 0
   where
-    pub before : Held
+    pub before : MachineData
     pub starts : (before ≡ first) ⊎ Passes inputs first 0 before
     pub now : ℕ
     pub soon : now < time
-    pub after : Held
+    pub after : MachineData
     pub passes : Passes inputs before now after
     pub released : is_true (output_at place
         (outputs_of after.image.points after.slots)) ≡ true
@@ -226,7 +227,7 @@ pub record IsEarlyIn (g : BoundProgram) (rule : Rule) (time : ℕ) (case : List 
     pub is : IsProcess process
     pub inside : is_in case process ≡ true
     pub asked : holds rule.when process ≡ true
-    pub early : IsEarlyBy (map (process_value process) g.reads) (held_first g.image)
+    pub early : IsEarlyBy (map (process_value process) g.reads) (first_machine g.image)
         (place_of g rule) time
 
 -- The answer to a rule that forbids until a condition has held for a time is right. It holds if the
@@ -270,7 +271,7 @@ AreRight g (r ∷ rules) [] = ⊥
 -- this direction if b is true, and does not if b is false.
 abbrev pub Gives : Bool → BoundProgram → ℕ → Operation → Process → Type 0
 Gives b g k operation p =
-    (machine : Held) (now : ℕ) (slots : List Value) (timers : List TimerState)
+    (machine : MachineData) (now : ℕ) (slots : List Value) (timers : List TimerState)
     → machine.image ≡ g.image → IsReached machine
     → Leaves machine (map (process_value p) g.reads) now slots timers
     → releases g k operation slots ≡ b
@@ -339,7 +340,7 @@ release_demand k operation = record {
 abbrev pub Foresees : BoundProgram → List (Option ℕ) → List Range → List (Option ℕ) → List Range
     → Type 0
 Foresees g limits given last result =
-    (machine : Held) (inputs : List Value) (now : ℕ) (slots : List Value)
+    (machine : MachineData) (inputs : List Value) (now : ℕ) (slots : List Value)
     (timers : List TimerState) → machine.image ≡ g.image → IsReached machine
     → AreYoung now machine.timers limits → AreIn inputs given
     → Leaves machine inputs now slots timers → AreIn slots result × AreYoung now timers last

@@ -1,6 +1,6 @@
 // A program on a bay, and the states that its scans can reach.
 ghost use Rattle.std.specs.Prelude.{◌≡◌, ◌+◌, IfOk, IfSome, length};
-ghost use Rattle.il_scan.specs.Scans.{held_first};
+ghost use Rattle.il_scan.specs.Scans.{first_machine};
 ghost use Rattle.bay_audit.specs.Rules.{Foresees, program_of};
 
 use bay_base::listing::Listing;
@@ -129,7 +129,7 @@ impl<'a> AuditedProgram<'a> {
     /// Returns a machine with the program in its state before the first scan; `None` if the
     /// verifier refuses the copy of the image. Fails only if an allocation fails.
     pub fn machine(&self, alloc: Global) -> Result<Option<Machine>, AllocError>
-        ensures { IfOk result (λ made. IfSome made (λ m. m ≡ held_first self.now.image)) }
+        ensures { IfOk result (λ made. IfSome made (λ m. m ≡ first_machine self.now.image)) }
     {
         match verify(alloc, copy_of(alloc, self.image())?, self.points) {
             Ok(verified) => Ok(Some(Machine::new(alloc, verified)?)),

@@ -12,7 +12,7 @@ use Rattle.il_image.specs.Opcodes.{opcode_of}
 use Rattle.il_image.specs.Places.{is_place}
 use Rattle.il_image.specs.Reading.{instr_at, instr_from}
 use Rattle.il_range.specs.Foretold.{First}
-use Rattle.il_scan.specs.Scans.{held_first}
+use Rattle.il_scan.specs.Scans.{first_machine}
 
 pub keeps-never : IsRule halting_program (at_all_times Never)
 keeps-never p is machine now slots timers image reached young leaves = refl
@@ -30,7 +30,8 @@ pub breaks-always : IsRule halting_program (at_all_times Always) → ⊥
 unfolding run_from act is_place instr_at instr_from opcode_of
 breaks-always h =
     let no : false ≡ true =
-    h silent is-silent (held_first halting_program.image) 0 [] [] refl (First halting_program.image)
+    h silent is-silent (first_machine halting_program.image) 0 [] [] refl
+    (First halting_program.image)
     tt
     (record { most = 1; steps = 1; halts = refl }) in
     absurd cc

@@ -28,7 +28,7 @@ use Rattle.bay_tree.specs.declared.row.Row.{Row}
 use Rattle.il_image.specs.Images.{Image}
 use Rattle.il_image.specs.declared.value.Value.{Value}
 use Rattle.il_range.specs.Foretold.{IsReached, First, Next, Leaves}
-use Rattle.il_scan.specs.Scans.{Held, outputs_of}
+use Rattle.il_scan.specs.Scans.{MachineData, outputs_of}
 use Rattle.bay_device.specs.Commands.{AreCommanded, IsReleasedAt}
 use Rattle.bay_device.specs.Device.{State, after_scan, device_at, inputs_of, is_recent}
 use Rattle.bay_device.specs.Load.{initial_device}
@@ -227,7 +227,7 @@ module _ (bay : Bay) (image : Image) (rule : Rule) (is_bay : IsBay bay)
       switches = q.switches ∙ o.switches;
       reads = q.reads ∙ o.reads;
       writes = q.writes ∙ o.writes;
-      image_is = ap (λ (h : Held). h.image) q.machine ∙ o.image_is;
+      image_is = ap (λ (h : MachineData). h.image) q.machine ∙ o.image_is;
       reached = subst IsReached (sym q.machine) o.reached;
       both = both-kept s t (length bay.switches) q.keeps o.both;
       meters = q.meters ∙ o.meters;

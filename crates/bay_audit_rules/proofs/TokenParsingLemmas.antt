@@ -6,7 +6,7 @@ use Rattle.std.proofs.lemmas.List.{append-nil}
 use Rattle.bay_base.specs.Options.{◌>>=◌}
 use Rattle.bay_audit_rules.specs.declared.rule.RuleKind.{RuleKind}
 use Rattle.bay_audit_rules.specs.declared.rule.RuleKind.TheVariants.{Never, Always}
-use Rattle.bay_audit_rules.specs.declared.statement.Since.{Since}
+use Rattle.bay_audit_rules.specs.declared.statement.HeldCondition.{HeldCondition}
 use Rattle.bay_audit_rules.specs.declared.statement.RuleStatement.{RuleStatement}
 use Rattle.bay_audit_rules.specs.declared.statement.RuleStatement.TheVariants.{Looks, Rule}
 use Rattle.bay_audit_rules.specs.declared.statement.Directions.{Directions}
@@ -17,7 +17,7 @@ use Rattle.bay_audit_rules.specs.declared.token.RuleToken.TheVariants as token
 use Rattle.bay_audit_rules.specs.Facts.{Items}
 use Rattle.bay_audit_rules.specs.Grammar.{IsFact, condition, Reads, direction_tokens, IsTimed, IsWhen, Spells}
 use Rattle.bay_audit_rules.specs.Running.{Taken, fact_at, condition_at}
-use Rattle.bay_audit_rules.specs.TokenParsing.{directions_at, directions_after_open, directions_after_close, time_after_condition, since_at, same_kind, timed_at, only_items, when_at, looks_at, rule_at, statement_at}
+use Rattle.bay_audit_rules.specs.TokenParsing.{directions_at, directions_after_open, directions_after_close, time_after_condition, held_condition_at, same_kind, timed_at, only_items, when_at, looks_at, rule_at, statement_at}
 use Rattle.bay_audit_rules.proofs.GrammarLemmas.{Ends, Stops, fact-found, condition-found}
 use Rattle.bay_audit_rules.proofs.ReadLemmas.{fact-read, condition-read}
 
@@ -48,13 +48,13 @@ when-stops : (vs : List RuleToken) (c : Items) → IsWhen vs c → Stops vs
 when-stops vs c IsWhen.always = Stops.at_end
 when-stops vs c (IsWhen.when r) = Stops.at_when
 
-after-ways : (kind : RuleKind) (us vs : List RuleToken) (timed : Option Since) (c : Items)
+after-ways : (kind : RuleKind) (us vs : List RuleToken) (timed : Option HeldCondition) (c : Items)
     → IsTimed kind us timed → IsWhen vs c → AfterWays (us ++ vs)
 after-ways kind us vs timed c IsTimed.untimed IsWhen.always = at_end
 after-ways kind us vs timed c IsTimed.untimed (IsWhen.when r) = at_when
 after-ways kind us vs timed c (IsTimed.timed q) r = at_since
 
-timed-found : (kind : RuleKind) (us vs : List RuleToken) (timed : Option Since) (c : Items)
+timed-found : (kind : RuleKind) (us vs : List RuleToken) (timed : Option HeldCondition) (c : Items)
     → IsTimed kind us timed → IsWhen vs c → timed_at kind (us ++ vs) ≡ Some (timed, vs)
 timed-found kind us vs timed c IsTimed.untimed IsWhen.always = refl
 timed-found kind us vs timed c IsTimed.untimed (IsWhen.when r) = refl
@@ -142,29 +142,29 @@ ways-read (token.Close ∷ ts) x e =
 ways-read [] x e = absurd cc
 ways-read (other ∷ ts) x e = absurd cc
 
-behind-read : (c : Items) (ts : List RuleToken) (x : Since × List RuleToken)
+behind-read : (c : Items) (ts : List RuleToken) (x : HeldCondition × List RuleToken)
     → time_after_condition c ts ≡ Some x
     → (x.0.condition ≡ c) × (ts ≡ token.For ∷ (token.Time x.0.time ∷ x.1))
 behind-read c [] x e = absurd cc
 behind-read c (token.For ∷ []) x e = absurd cc
 behind-read c (token.For ∷ (token.Time t ∷ ts)) x e =
     let same : (record { condition = c; time = t }, ts) ≡ x = same_Some _ x e in (
-      ap (λ (y : Since × List RuleToken). y.0.condition) (sym same),
-      ap (λ (y : Since × List RuleToken). token.For ∷ (token.Time y.0.time ∷ y.1)) same,
+      ap (λ (y : HeldCondition × List RuleToken). y.0.condition) (sym same),
+      ap (λ (y : HeldCondition × List RuleToken). token.For ∷ (token.Time y.0.time ∷ y.1)) same,
     )
 behind-read c (token.For ∷ (other ∷ ts)) x e = absurd cc
 behind-read c (other ∷ ts) x e = absurd cc
 
 -- a time at the front
-pub record IsTimedAt (kind : RuleKind) (ts : List RuleToken) (timed : Option Since)
+pub record IsTimedAt (kind : RuleKind) (ts : List RuleToken) (timed : Option HeldCondition)
     (rest : List RuleToken)
     : Type 0 where
   pub front : List RuleToken
   pub is : IsTimed kind front timed
   pub tokens : ts ≡ front ++ rest
 
-since-read : (kind : RuleKind) (ts : List RuleToken) (x : Since × List RuleToken)
-    → since_at ts ≡ Some x
+since-read : (kind : RuleKind) (ts : List RuleToken) (x : HeldCondition × List RuleToken)
+    → held_condition_at ts ≡ Some x
     → IsTimedAt kind (token.Since kind ∷ ts) (Some x.0) x.1
 since-read kind ts x e =
     let at = then-some (condition_at ts) (λ found. time_after_condition found.0 found.1) x e in
@@ -184,7 +184,8 @@ same-kind-is Always Always e = refl
 same-kind-is Never Always e = absurd cc
 same-kind-is Always Never e = absurd cc
 
-since-timed : (kind which : RuleKind) (ts : List RuleToken) (x : Option Since × List RuleToken)
+since-timed : (kind which : RuleKind) (ts : List RuleToken)
+    (x : Option HeldCondition × List RuleToken)
     → timed_at kind (token.Since which ∷ ts) ≡ Some x
     → IsTimedAt kind (token.Since which ∷ ts) x.0 x.1
 since-timed kind which ts x e = by-kind (same_kind kind which) refl
@@ -192,23 +193,25 @@ since-timed kind which ts x e = by-kind (same_kind kind which) refl
     by-kind : (v : Bool) → same_kind kind which ≡ v
         → IsTimedAt kind (token.Since which ∷ ts) x.0 x.1
     by-kind true f =
-        let found : option_map (λ one. (Some one.0, one.1)) (since_at ts) ≡ Some x = rw f at e in
-        let at = mapped-some (since_at ts) (λ one. (Some one.0, one.1)) x found in
+        let found : option_map (λ one. (Some one.0, one.1)) (held_condition_at ts) ≡ Some x =
+        rw f at e in
+        let at = mapped-some (held_condition_at ts) (λ one. (Some one.0, one.1)) x found in
         subst (λ (k : RuleKind). IsTimedAt kind (token.Since k ∷ ts) x.0 x.1) (same-kind-is kind
         which f)
-        (subst (λ (y : Option Since × List RuleToken). IsTimedAt kind (token.Since kind ∷ ts) y.0
+        (subst (λ (y : Option HeldCondition × List RuleToken). IsTimedAt kind
+        (token.Since kind ∷ ts) y.0
         y.1)
         at.is
         (since-read kind ts at.found at.was))
     by-kind false f = let none : None ≡ Some x = rw f at e in absurd cc
 
-untimed-read : (kind : RuleKind) (ts : List RuleToken) (x : Option Since × List RuleToken)
+untimed-read : (kind : RuleKind) (ts : List RuleToken) (x : Option HeldCondition × List RuleToken)
     → (None, ts) ≡ x → IsTimedAt kind ts x.0 x.1
 untimed-read kind ts x e =
-    subst (λ (y : Option Since × List RuleToken). IsTimedAt kind ts y.0 y.1) e
+    subst (λ (y : Option HeldCondition × List RuleToken). IsTimedAt kind ts y.0 y.1) e
     (record { front = []; is = IsTimed.untimed; tokens = refl })
 
-timed-read : (kind : RuleKind) (ts : List RuleToken) (x : Option Since × List RuleToken)
+timed-read : (kind : RuleKind) (ts : List RuleToken) (x : Option HeldCondition × List RuleToken)
     → timed_at kind ts ≡ Some x → IsTimedAt kind ts x.0 x.1
 timed-read kind (token.Since which ∷ ts) x e = since-timed kind which ts x e
 timed-read kind [] x e = untimed-read kind [] x (same_Some _ x e)
@@ -254,7 +257,7 @@ looks-read named ts s e =
 
 rule-says : (kind : RuleKind) (named : NamedObject) (ts : List RuleToken) (s : RuleStatement)
     (ways : Directions)
-    (timed : Option Since) (when : Items) (us vs : List RuleToken)
+    (timed : Option HeldCondition) (when : Items) (us vs : List RuleToken)
     → ts ≡ direction_tokens ways ++ (us ++ vs)
     → IsTimed kind us timed → IsWhen vs when
     → Rule (record { kind = kind; named = named; ways = ways; timed = timed; when = when }) ≡ s
@@ -268,7 +271,7 @@ rule-read : (kind : RuleKind) (named : NamedObject) (ts : List RuleToken) (s : R
     → rule_at kind named ts ≡ Some s → Spells (token.Kind kind ∷ (token.Name named ∷ ts)) s
 rule-read kind named ts s e =
     let said =
-    λ (ways : Directions × List RuleToken) (timed : Option Since × List RuleToken)
+    λ (ways : Directions × List RuleToken) (timed : Option HeldCondition × List RuleToken)
     (when : Items).
     Rule (record {
       kind = kind;
@@ -279,7 +282,7 @@ rule-read kind named ts s e =
     }) in
     let w = then-some (directions_at ts) (λ (ways : Directions × List RuleToken).
     timed_at kind ways.1 >>= λ timed. option_map (said ways timed) (when_at timed.1)) s e in
-    let t = then-some (timed_at kind w.found.1) (λ (timed : Option Since × List RuleToken).
+    let t = then-some (timed_at kind w.found.1) (λ (timed : Option HeldCondition × List RuleToken).
     option_map (said w.found timed) (when_at timed.1)) s w.is in
     let m = mapped-some (when_at t.found.1) (said w.found t.found) s t.is in
     let timed = timed-read kind w.found.1 t.found t.was in

@@ -11,7 +11,7 @@ use Rattle.bay_config.specs.declared.bay.Bay.{Bay}
 use Rattle.bay_audit_rules.specs.Meaning.{is_blank_piece, is_comment, tokens_of, line_tokens}
 use Rattle.bay_audit_rules.specs.Pieces.{pieces}
 use Rattle.bay_audit_rules.specs.declared.pieces.Cut.TheVariants.{Line}
-use Rattle.bay_audit_rules.specs.Words.{words, word_of, token_of}
+use Rattle.bay_audit_rules.specs.Words.{words, reserved_token, token_of}
 use Rattle.bay_audit_rules.specs.declared.token.RuleToken.{RuleToken}
 
 twice : (o : Option (Bor (List ℕ) × RuleToken))
@@ -24,8 +24,8 @@ twice (Some x) = refl
 -- a word is sought in the table of the code as in that of the definition
 pub word-found : (w : List ℕ) (entries : List (Bor (List ℕ) × RuleToken))
     → map (λ entry. (entry.0.now, entry.1)) entries ≡ words
-    → option_map (λ one. one.1) (find (λ entry. same_name w entry.0.now) entries) ≡ word_of w
-unfolding word_of
+    → option_map (λ one. one.1) (find (λ entry. same_name w entry.0.now) entries) ≡ reserved_token w
+unfolding reserved_token
 word-found w entries e =
     let seen : List ℕ × RuleToken → RuleToken = λ r. r.1 in
     twice (find (λ entry. same_name w entry.0.now) entries)

@@ -5,7 +5,7 @@ use Rattle.bay_base.specs.declared.position.Dbpos.TheVariants.{Off}
 use Rattle.bay_audit_rules.specs.declared.rule.ConditionItem.TheVariants as items
 use Rattle.bay_audit_rules.specs.declared.rule.Relation.{Relation}
 use Rattle.bay_audit_rules.specs.declared.rule.RuleKind.{RuleKind}
-use Rattle.bay_audit_rules.specs.declared.statement.Since.{Since}
+use Rattle.bay_audit_rules.specs.declared.statement.HeldCondition.{HeldCondition}
 use Rattle.bay_audit_rules.specs.declared.statement.RuleStatement.{RuleStatement}
 use Rattle.bay_audit_rules.specs.declared.statement.RuleStatement.TheVariants.{Silence, Looks, Rule}
 use Rattle.bay_audit_rules.specs.declared.statement.Directions.{Directions}
@@ -80,7 +80,7 @@ direction_tokens OpeningAndClosing = token.Open ∷ token.Bar ∷ token.Close �
 direction_tokens ClosingAndOpening = token.Close ∷ token.Bar ∷ token.Open ∷ []
 
 -- `until C for T` if the rule forbids, `after C for T` if it requires
-pub data IsTimed : RuleKind → List RuleToken → Option Since → Type 0 where
+pub data IsTimed : RuleKind → List RuleToken → Option HeldCondition → Type 0 where
   untimed : {kind : RuleKind} → IsTimed kind [] None
   timed : {kind : RuleKind} {ts : List RuleToken} {c : Items} {t : Option ℕ} → Reads condition ts c
       → IsTimed kind (token.Since kind ∷ (ts ++ (token.For ∷ token.Time t ∷ [])))
@@ -97,6 +97,6 @@ pub data Spells : List RuleToken → RuleStatement → Type 0 where
   look : {named : NamedObject} {ts : List RuleToken} {c : Items} → IsFact named ts c
       → Spells (token.Look ∷ token.Name named ∷ ts) (Looks c)
   rule : {kind : RuleKind} {named : NamedObject} (ways : Directions) {us vs : List RuleToken}
-      {timed : Option Since} {c : Items} → IsTimed kind us timed → IsWhen vs c
+      {timed : Option HeldCondition} {c : Items} → IsTimed kind us timed → IsWhen vs c
       → Spells (token.Kind kind ∷ token.Name named ∷ (direction_tokens ways ++ (us ++ vs)))
       (Rule (record { kind = kind; named = named; ways = ways; timed = timed; when = c }))

@@ -10,7 +10,7 @@ use Rattle.bay_audit_rules.specs.declared.pieces.Cut.TheVariants.{Line}
 use Rattle.bay_audit_rules.specs.declared.rule.Rule.{Rule}
 use Rattle.bay_audit_rules.specs.declared.rule.Timing.{Timing}
 use Rattle.bay_audit_rules.specs.declared.statement.RuleLine.{RuleLine}
-use Rattle.bay_audit_rules.specs.declared.statement.Since.{Since}
+use Rattle.bay_audit_rules.specs.declared.statement.HeldCondition.{HeldCondition}
 use Rattle.bay_audit_rules.specs.declared.statement.RuleStatement.{RuleStatement}
 use Rattle.bay_audit_rules.specs.declared.statement.RuleStatement.TheVariants as statement
 use Rattle.bay_audit_rules.specs.declared.statement.Directions.{Directions}
@@ -72,7 +72,7 @@ operations_of ClosingAndOpening = operations.Close ∷ operations.Open ∷ []
 
 -- the time of a rule; none if a name has a value that it can't have, or if no timer can have the
 -- time
-abbrev pub timing_of : Option Since → Option (Option Timing)
+abbrev pub timing_of : Option HeldCondition → Option (Option Timing)
 timing_of None = Some None
 timing_of (Some since) = since.condition >>= λ c. option_map
     (λ t. Some (record { condition = c; time = t })) since.time

@@ -5,7 +5,7 @@ use Rattle.bay_base.specs.Options.{◌>>=◌}
 use Rattle.bay_audit_rules.specs.declared.rule.ConditionItem.TheVariants as items
 use Rattle.bay_audit_rules.specs.declared.rule.RuleKind.{RuleKind}
 use Rattle.bay_audit_rules.specs.declared.rule.RuleKind.TheVariants.{Never, Always}
-use Rattle.bay_audit_rules.specs.declared.statement.Since.{Since}
+use Rattle.bay_audit_rules.specs.declared.statement.HeldCondition.{HeldCondition}
 use Rattle.bay_audit_rules.specs.declared.statement.RuleStatement.{RuleStatement}
 use Rattle.bay_audit_rules.specs.declared.statement.RuleStatement.TheVariants.{Silence, Looks, Rule}
 use Rattle.bay_audit_rules.specs.declared.statement.Directions.{Directions}
@@ -31,13 +31,13 @@ directions_at (token.Close ∷ ts) = Some (directions_after_close ts)
 directions_at ts = None
 
 -- `for` and a time after a condition, and the rest
-abbrev pub time_after_condition : Items → List RuleToken → Option (Since × List RuleToken)
+abbrev pub time_after_condition : Items → List RuleToken → Option (HeldCondition × List RuleToken)
 time_after_condition c (token.For ∷ (token.Time time ∷ ts)) =
     Some (record { condition = c; time = time }, ts)
 time_after_condition c ts = None
 
-abbrev pub since_at : List RuleToken → Option (Since × List RuleToken)
-since_at ts = condition_at ts >>= λ found. time_after_condition found.0 found.1
+abbrev pub held_condition_at : List RuleToken → Option (HeldCondition × List RuleToken)
+held_condition_at ts = condition_at ts >>= λ found. time_after_condition found.0 found.1
 
 -- two kinds are equal
 abbrev pub same_kind : RuleKind → RuleKind → Bool
@@ -46,9 +46,11 @@ same_kind Always Always = true
 same_kind a b = false
 
 -- the time at the start of the tokens, if there is one, and the rest
-abbrev pub timed_at : RuleKind → List RuleToken → Option (Option Since × List RuleToken)
+abbrev pub timed_at : RuleKind → List RuleToken → Option (Option HeldCondition × List RuleToken)
 timed_at kind (token.Since which ∷ ts) =
-    if same_kind kind which then option_map (λ one. (Some one.0, one.1)) (since_at ts) else None
+    if same_kind kind which
+    then option_map (λ one. (Some one.0, one.1)) (held_condition_at ts)
+    else None
 timed_at kind ts = Some (None, ts)
 
 -- the items, if no tokens follow

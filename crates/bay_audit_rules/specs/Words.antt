@@ -52,9 +52,9 @@ words =
     (codes ">=", token.Relation AtLeast) ∷
     (codes ">", token.Relation Greater) ∷ []
 
--- the token of a word or a sign, in letters of either case
-unfoldable pub word_of : List ℕ → Option RuleToken
-word_of piece = option_map (λ entry. entry.1) (find (λ entry. same_name piece entry.0) words)
+-- the token of a reserved word or a sign, in letters of either case
+unfoldable pub reserved_token : List ℕ → Option RuleToken
+reserved_token piece = option_map (λ entry. entry.1) (find (λ entry. same_name piece entry.0) words)
 
 -- the input or the measured value of a source; a name denotes no point of a switch
 abbrev pub thing_of : Source → Option Measurand
@@ -97,4 +97,4 @@ known_of bay piece (Some t) = Some t
 known_of bay piece None = literal_of bay piece (number_in piece)
 
 abbrev pub token_of : Bay → List ℕ → Option RuleToken
-token_of bay piece = known_of bay piece (word_of piece)
+token_of bay piece = known_of bay piece (reserved_token piece)

@@ -3,7 +3,7 @@ ghost use Rattle.std.specs.Prelude.{◌≡◌, ◌&&◌, ◌||◌, map, find, po
 ghost use Rattle.std.specs.List.{list_all, before_first};
 ghost use Rattle.bay_base.specs.Names.{same_name};
 ghost use Rattle.bay_config.specs.Key as key;
-ghost use Rattle.bay_audit_rules.specs.Words.{word_of, thing_of, named_in, token_of};
+ghost use Rattle.bay_audit_rules.specs.Words.{reserved_token, thing_of, named_in, token_of};
 ghost use Rattle.bay_audit_rules.specs.Words as spec;
 ghost use Rattle.bay_audit_rules.specs.Meaning.{is_comment, line_tokens};
 ghost use Rattle.bay_audit_rules.specs.Meaning as meaning;
@@ -91,7 +91,7 @@ fn token_at(entry: Option<&(&'static [u8], RuleToken)>) -> Option<RuleToken>
 
 // Returns the token of a word or a sign, in letters of either case; `None` if there is none.
 fn word(piece: &[u8]) -> Option<RuleToken>
-    ensures { result ≡ word_of piece.now }
+    ensures { result ≡ reserved_token piece.now }
 {
     token_at(entry_of(words(), piece))
 }

@@ -10,7 +10,7 @@ ghost use Rattle.bay_audit_rules.specs.Reading.{Pushes, Tells, rest_lines};
 use crate::fault::RuleFault;
 use crate::lexer::tokens_of;
 use crate::rule::{ConditionItem, Rule, Timing};
-use crate::statement::{Directions, RuleLine, RuleStatement, Since, statement_of};
+use crate::statement::{Directions, HeldCondition, RuleLine, RuleStatement, statement_of};
 use crate::token::{Connector, RuleToken};
 use bay_base::listing::Listing;
 use bay_base::switch::Operation;
@@ -62,7 +62,7 @@ fn is_deep(tokens: &[RuleToken]) -> bool
 
 // Returns the time of a rule; `None` if a name has a value that it can't have, or if no timer can
 // have the time.
-fn timing(timed: Option<Since>) -> Option<Option<Timing>>
+fn timing(timed: Option<HeldCondition>) -> Option<Option<Timing>>
     ensures { result ≡ timing_of timed }
 {
     let Some(since) = timed else {

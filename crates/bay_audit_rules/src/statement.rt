@@ -20,7 +20,7 @@ pub enum Directions {
 
 /// A condition that holds for a time.
 #[derive(Drop)]
-pub struct Since {
+pub struct HeldCondition {
     pub condition: ConditionDraft,
     /// In milliseconds; `None` for a time that no timer can have.
     pub time: Option<u32>,
@@ -32,7 +32,7 @@ pub struct RuleLine {
     pub kind: RuleKind,
     pub named: NamedObject,
     pub ways: Directions,
-    pub timed: Option<Since>,
+    pub timed: Option<HeldCondition>,
     pub when: ConditionDraft,
 }
 
@@ -65,17 +65,17 @@ fn read_ways(tokens: &[RuleToken]) -> Option<(Directions, &[RuleToken])>
 }
 
 // Reads a condition, `for` and a time, and returns the rest.
-fn read_since<'a>(
+fn read_held_condition<'a>(
     alloc: Global,
     tokens: &'a [RuleToken],
-) -> Result<Option<(Since, &'a [RuleToken])>, AllocError>
+) -> Result<Option<(HeldCondition, &'a [RuleToken])>, AllocError>
     ensures { IfOk result (λ r. option_map (λ one. (one.0, one.1.now)) r
-        ≡ spec.since_at tokens.entry.now) }
+        ≡ spec.held_condition_at tokens.entry.now) }
 {
     let mut draft = ConditionDraft::new(alloc);
     match condition(alloc, &mut draft, tokens)? {
         Some([RuleToken::For, RuleToken::Time(time), rest @ ..]) => Ok(Some((
-            Since {
+            HeldCondition {
                 condition: draft,
                 time: *time,
             },
@@ -134,17 +134,17 @@ fn read_timed<'a>(
     alloc: Global,
     kind: RuleKind,
     tokens: &'a [RuleToken],
-) -> Result<Option<(Option<Since>, &'a [RuleToken])>, AllocError>
+) -> Result<Option<(Option<HeldCondition>, &'a [RuleToken])>, AllocError>
     ensures { IfOk result (λ r. option_map (λ one. (one.0, one.1.now)) r
         ≡ timed_at kind tokens.entry.now) }
 {
-    let [RuleToken::Since(which), rest @ ..] = tokens else {
+    let [RuleToken::HeldCondition(which), rest @ ..] = tokens else {
         return Ok(Some((None, tokens)));
     };
     if !same_kind(kind, *which) {
         return Ok(None);
     }
-    match read_since(alloc, rest)? {
+    match read_held_condition(alloc, rest)? {
         Some((since, rest)) => Ok(Some((Some(since), rest))),
         None => Ok(None),
     }

@@ -6,7 +6,7 @@ use Rattle.bay_transport.specs.declared.fault.TransportFault.TheVariants.{Failed
 use Rattle.bay_transport.specs.declared.fed.Got.{Got}
 use Rattle.bay_transport.specs.declared.fed.Got.TheVariants as got
 use Rattle.bay_transport.specs.Code.{code_of}
-use Rattle.bay_transport.specs.Doings.{Doing, Answers, Delivers, Ends, Fails, Left, Going, Over, Broken, Stream, doings, after}
+use Rattle.bay_transport.specs.Doings.{Doing, Answers, Delivers, Ends, Fails, StreamState, Going, Over, Broken, Stream, doings, after}
 use Rattle.bay_transport.specs.Feeding as feeding
 use Rattle.bay_transport.specs.Feeding.{Received, doing_for, size_agreed, agreed_from, size_after, end_of_stream, broken, IsGoing, RefusesPiece}
 use Rattle.bay_transport.proofs.SizeLemmas.{after-size, delivers-size, quiet-going}
@@ -45,7 +45,8 @@ feeding-left old new piece used is =
 
 -- ---- what is ready
 
-agreed-joined : (left : Left) (phase : Phase) → IsSome (agreed_from left) → AreJoined left phase
+agreed-joined : (left : StreamState) (phase : Phase) → IsSome (agreed_from left)
+    → AreJoined left phase
 agreed-joined (Going connection rest) (phases.Open l) some = some
 agreed-joined (Going connection rest) phase some = tt
 agreed-joined left phase some = absurd (cc)
@@ -53,7 +54,8 @@ agreed-joined left phase some = absurd (cc)
 pub sized-joined : (t : ConnectionState) → IsSome (size_agreed t.stream) → IsJoined t
 sized-joined t some = agreed-joined t.stream.left t.phase some
 
-going-joined : (old new : Left) (phase : Phase) → AreJoined old phase → IsGoing old → IsGoing new
+going-joined : (old new : StreamState) (phase : Phase) → AreJoined old phase → IsGoing old
+    → IsGoing new
     → agreed_from new ≡ agreed_from old → AreJoined new phase
 going-joined (Going connection rest) (Going next more) (phases.Open l) joined a b e = rw e joined
 going-joined (Going connection rest) (Going next more) phase joined a b e = tt
@@ -138,7 +140,7 @@ going-done t piece used d i new c e =
       left = sym (ap (λ (r : ConnectionStep). r.left) all);
     }
 
-abbrev talk_with : ℕ → Left → Phase → ConnectionState
+abbrev talk_with : ℕ → StreamState → Phase → ConnectionState
 talk_with number left phase =
     record { stream = record { number = number; left = left }; phase = phase }
 
@@ -157,7 +159,7 @@ over-done number phase piece used Ends i new s over none is same e =
     )
 over-done number phase piece used d i new s over none is same e = absurd (cc)
 
-fed-some : (number : ℕ) (left : Left) (phase : Phase) (piece : List ℕ) (used : ℕ) (d : Doing)
+fed-some : (number : ℕ) (left : StreamState) (phase : Phase) (piece : List ℕ) (used : ℕ) (d : Doing)
     (heard : Option Indication) (new : ConnectionState) (s : Stream) → AreJoined left phase
     → feeding.FeedsFrom left (record { number = number; left = left }) piece used (Some d)
     → s ≡ after (record { number = number; left = left }) (take used piece)
@@ -187,7 +189,7 @@ fed-some number Over phase piece used d (Some i) new s joined fed is e =
     }
 fed-some number Broken phase piece used d (Some i) new s joined fed is e = absurd joined
 
-fed-none : (number : ℕ) (left : Left) (phase : Phase) (piece : List ℕ) (used : ℕ)
+fed-none : (number : ℕ) (left : StreamState) (phase : Phase) (piece : List ℕ) (used : ℕ)
     (heard : Option Indication) (new : ConnectionState) (s : Stream) → AreJoined left phase
     → feeding.FeedsFrom left (record { number = number; left = left }) piece used None
     → s ≡ after (record { number = number; left = left }) (take used piece)
@@ -222,7 +224,7 @@ fed-got t r got piece used heard new joined fed is so =
 
 -- ---- what is ready
 
-more-ready : (number : ℕ) (left : Left) (phase : Phase) (piece : List ℕ) (used : ℕ)
+more-ready : (number : ℕ) (left : StreamState) (phase : Phase) (piece : List ℕ) (used : ℕ)
     → AreJoined left phase → feeding.FeedsFrom left (record { number = number; left = left }) piece
     used None
     → AreJoined (after (record { number = number; left = left }) (take used piece)).left phase
@@ -233,7 +235,7 @@ more-ready number (Going connection rest) phase piece used joined fed =
 more-ready number Over phase piece used joined fed = absurd (let f : None ≡ Some Ends = fed.1 in cc)
 more-ready number Broken phase piece used joined fed = absurd joined
 
-answer-ready : (number : ℕ) (left : Left) (piece : List ℕ) (used n : ℕ) (reply : List ℕ)
+answer-ready : (number : ℕ) (left : StreamState) (piece : List ℕ) (used n : ℕ) (reply : List ℕ)
     → feeding.FeedsFrom left (record { number = number; left = left }) piece used
     (Some (Answers n reply))
     → IsSome (size_agreed (after (record { number = number; left = left }) (take used piece)))
@@ -244,7 +246,7 @@ answer-ready number Over piece used n reply fed =
     absurd (let f : Some (Answers n reply) ≡ Some Ends = fed.1 in cc)
 answer-ready number Broken piece used n reply fed = absurd fed
 
-tsdu-ready : (number : ℕ) (left : Left) (piece : List ℕ) (used : ℕ) (tsdu : List ℕ)
+tsdu-ready : (number : ℕ) (left : StreamState) (piece : List ℕ) (used : ℕ) (tsdu : List ℕ)
     → feeding.FeedsFrom left (record { number = number; left = left }) piece used
     (Some (Delivers tsdu))
     → IsSome (size_agreed (after (record { number = number; left = left }) (take used piece)))
@@ -271,7 +273,8 @@ is-ready t r got.Ended piece used joined fed is = tt
 
 -- ---- a fault of the transport
 
-fault-done : (number : ℕ) (left : Left) (phase : Phase) (piece : List ℕ) (fault : TransportFault)
+fault-done : (number : ℕ) (left : StreamState) (phase : Phase) (piece : List ℕ)
+    (fault : TransportFault)
     (code : ℕ) → AreJoined left phase
     → doings (record { number = number; left = left }) piece ≡ Fails fault ∷ []
     → code_of fault ≡ Some code
@@ -299,7 +302,7 @@ fault-done number (Going connection rest) phase piece fault code joined e k =
 fault-done number Over phase piece fault code joined e k = absurd (cc)
 fault-done number Broken phase piece fault code joined e k = absurd joined
 
-joined-sound : (left : Left) (phase : Phase) → AreJoined left phase → left ≡ Broken → ⊥
+joined-sound : (left : StreamState) (phase : Phase) → AreJoined left phase → left ≡ Broken → ⊥
 joined-sound Broken phase joined e = joined
 joined-sound left phase joined e = cc
 

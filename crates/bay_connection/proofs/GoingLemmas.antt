@@ -1,6 +1,6 @@
 -- Which connections go on.
 use Rattle.std.proofs.Common.{◌≡◌, ℕ, List, [], ◌∷◌, Option, Some, IsSome, Result, Ok, Err, refl, ap, subst, ◌∙◌}
-use Rattle.bay_transport.specs.Doings.{Doing, Answers, Delivers, Ends, Fails, Left, Going, Stream, doings, after}
+use Rattle.bay_transport.specs.Doings.{Doing, Answers, Delivers, Ends, Fails, StreamState, Going, Stream, doings, after}
 use Rattle.bay_transport.specs.Feeding.{size_agreed, agreed_from, size_after, IsGoing}
 use Rattle.bay_transport.proofs.SizeLemmas.{after-size, delivers-size, quiet-going}
 use Rattle.bay_assoc.specs.declared.fault.AssocFault.{AssocFault}
@@ -10,7 +10,7 @@ use Rattle.bay_connection.specs.ConnectionStates.{ConnectionState, Indication, e
 use Rattle.bay_connection.specs.Feeding.{IsContinued}
 
 -- a size is agreed only where octets are still taken
-agreed-going : (left : Left) → IsSome (agreed_from left) → IsGoing left
+agreed-going : (left : StreamState) → IsSome (agreed_from left) → IsGoing left
 agreed-going (Going connection rest) some = tt
 agreed-going left some = absurd (cc)
 

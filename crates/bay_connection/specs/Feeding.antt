@@ -1,6 +1,6 @@
 -- The result of feeding a piece of a client's octets.
 use Rattle.std.specs.Prelude.{ℕ, ◌≡◌, ◌-◌, ◌<◌, ◌≤◌, List, [], ◌∷◌, ◌++◌, length, take, drop, Option, Some, None, IsSome}
-use Rattle.bay_transport.specs.Doings.{Left, Going, Over, Broken}
+use Rattle.bay_transport.specs.Doings.{StreamState, Going, Over, Broken}
 use Rattle.bay_assoc.specs.declared.receive.Phase.{Phase}
 use Rattle.bay_assoc.specs.Receives.{association_terms}
 use Rattle.bay_connection.specs.declared.indication.Indication as code
@@ -28,7 +28,7 @@ Completes t piece used (fails code) =
 -- `used` octets of the piece are consumed, and the result is the first indication of the piece, or
 -- None if there is none yet. If the connection is over, no octet is consumed, and the result is the
 -- end again.
-abbrev pub FeedsFrom : Left → ConnectionState → List ℕ → ℕ → Option Indication → Type 0
+abbrev pub FeedsFrom : StreamState → ConnectionState → List ℕ → ℕ → Option Indication → Type 0
 FeedsFrom (Going connection rest) t piece used None =
     (used ≡ length piece) × (indications t piece ≡ [])
 FeedsFrom (Going connection rest) t piece used (Some indication) = Completes t piece used indication

@@ -2,7 +2,7 @@
 use Rattle.std.specs.Prelude.{ℕ, ◌≡◌, ◌-◌, ◌≤◌, List, [], ◌∷◌, length, drop, Option, Some, None, option_to_list, IfSome, IsSome}
 use Rattle.bay_transport.specs.declared.fed.Got.{Got}
 use Rattle.bay_transport.specs.declared.fed.Got.TheVariants as got
-use Rattle.bay_transport.specs.Doings.{Doing, Left, Going, Over, Broken}
+use Rattle.bay_transport.specs.Doings.{Doing, StreamState, Going, Over, Broken}
 use Rattle.bay_transport.specs.Feeding.{size_agreed}
 use Rattle.bay_assoc.specs.declared.receive.Phase.{Phase}
 use Rattle.bay_assoc.specs.declared.receive.Phase.TheVariants as phases
@@ -13,7 +13,7 @@ use Rattle.bay_connection.specs.Feeding.{Client}
 
 -- If the association is open, a size of TPDUs is agreed; if the stream has ended, the association
 -- is over; and no stream has failed.
-abbrev pub AreJoined : Left → Phase → Type 0
+abbrev pub AreJoined : StreamState → Phase → Type 0
 AreJoined (Going connection rest) phase =
     IfSome (association_terms phase) (λ _. IsSome connection.size)
 AreJoined Over phase = phase ≡ phases.Over

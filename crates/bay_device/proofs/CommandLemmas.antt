@@ -11,7 +11,7 @@ use Rattle.bay_mms_services.specs.Released.{AreTimed, Leaves}
 use Rattle.bay_mms_services.specs.Released as services
 use Rattle.bay_mms_services.specs.declared.answer.Command.{Command}
 use Rattle.bay_mms_services.proofs.ReleaseLemmas.{Sole, all-of, answer-sent, at-most-one, busy-still, commands-each, idle-now, leaves-then, leaves-with, request-leaves, sole-said}
-use Rattle.bay_device.specs.Commands.{AreCommanded, CommandedAt, IsReleasedAt, IsSingle}
+use Rattle.bay_device.specs.Commands.{AreCommanded, CommandsReleased, IsReleasedAt, IsSingle}
 use Rattle.bay_device.specs.Device.{State, device_at, bay_of, ended_at, is_recent}
 use Rattle.bay_device.specs.Receiving.{Done, ReceiveResult, client_at, after_indications, on_indication, after_pdu, sent_on, with_sent}
 use Rattle.bay_device.specs.Outcomes.{Outcome, close_outcome, connection_at, contact_outcome, doubt_outcome, event_outcome, input_outcome, last_moment, measure_outcome, nothing_done, octets_outcome, open_outcome, place_of, quiet_step, recv_outcome}
@@ -233,7 +233,7 @@ commanded-if true now s x y p q = p
 commanded-if false now s x y p q = q
 
 pub step-commanded : (now : ℕ) (event : Event) (old : State) (answer : Result Step StepFault)
-    (new : State) → Steps now event old answer new → CommandedAt now event old answer new
+    (new : State) → Steps now event old answer new → CommandsReleased now event old answer new
 step-commanded now event old answer new steps =
     subst (Commanded now old) (sym steps.answered)
     (commanded-if (nat_lt last_moment now) now old _ _ tt

@@ -16,7 +16,7 @@ use Rattle.il_check.specs.Program.{Checked}
 use Rattle.il_compile.specs.Compiled.{compiled_of, image_of, image_size}
 use Rattle.il_compile.specs.declared.fault.CompileFault.{CompileFault}
 use Rattle.il_compile.specs.declared.fault.CompileFault.TheVariants.{CodeTooLong}
-use Rattle.il_scan.specs.Scans.{Held}
+use Rattle.il_scan.specs.Scans.{MachineData}
 use Rattle.bay_device.specs.Device.{State, bay_of, with_bay}
 use Rattle.bay_device.specs.Load.{initial_device}
 use Rattle.bay_device.specs.declared.fault.LoadFault.{LoadFault}
@@ -25,7 +25,7 @@ use Rattle.bay_device.specs.declared.fault.LoadFault.TheVariants.{Refused, OutOf
 -- a device before its first event, of a bay that is bound
 pub loaded-view : (bay : Bay) (image : Image) (served : services.Bay) (age : ℕ)
     (inputs : List (List ℕ)) (input_values : List Bool) (meters : List (List ℕ))
-    (reads writes : List Source) (machine : Held)
+    (reads writes : List Source) (machine : MachineData)
     → let s : State = initial_device bay image in
     served ≡ bay_of s → age ≡ s.scan_max_age_ms → inputs ≡ s.inputs
     → input_values ≡ s.input_values → meters ≡ s.meters → reads ≡ s.reads → writes ≡ s.writes

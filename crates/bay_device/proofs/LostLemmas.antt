@@ -17,7 +17,7 @@ use Rattle.bay_control.specs.Decisions.{after_contact, is_done}
 use Rattle.bay_control.specs.Requests.{is_reached}
 use Rattle.bay_control.specs.declared.selection.Execution.{Execution}
 use Rattle.bay_connection.specs.ConnectionStates.{ConnectionState}
-use Rattle.il_scan.specs.Scans.{Held}
+use Rattle.il_scan.specs.Scans.{MachineData}
 use Rattle.bay_device.specs.Device.{State, device_after_contact, device_after_bad_measure, inputs_lost, device_after_loss, measures_lost, meter_lost, positions_lost}
 use Rattle.bay_device.specs.declared.termination.PendingTermination.{PendingTermination}
 
@@ -68,7 +68,7 @@ pub record Fixed : Type 0 where
   pub meters : List (List ℕ)
   pub reads : List Source
   pub writes : List Source
-  pub machine : Held
+  pub machine : MachineData
   pub age : ℕ
   pub moment : ℕ
   pub scans : Option ℕ

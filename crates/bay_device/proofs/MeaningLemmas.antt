@@ -30,7 +30,7 @@ use Rattle.il_compile.specs.Correct.{DoesTheText, Follows, HasTypes}
 use Rattle.bay_device.specs.Load.{initial_device}
 use Rattle.bay_process.proofs.SourceLemmas.{IsTyped, bay-typed, points-fit, reads-typed}
 use Rattle.il_compile.specs.Meaning.{Memory}
-use Rattle.il_scan.specs.Scans.{Held, first_input, first_slots, outputs_of, read_only, type_of_point, with_inputs}
+use Rattle.il_scan.specs.Scans.{MachineData, first_input, first_slots, outputs_of, read_only, type_of_point, with_inputs}
 use Rattle.bay_device.specs.Device.{State, Ran, device_at, ending_at, inputs_of, point_value, ran_at, ran_of, after_scan}
 use Rattle.bay_device.specs.Outcomes.{Outcome, contact_outcome, doubt_outcome, event_outcome, input_outcome, last_moment, lost_outcome, measure_outcome, outcome, refusal_of}
 use Rattle.bay_device.specs.Steps.{OfAssociation, Steps}
@@ -236,11 +236,12 @@ module _ (c : Checked) (s : State) (r : Runs c s) (now : ℕ) where
 runs-as : (c : Checked) (s t : State) → Runs c s → t.machine ≡ s.machine → t.reads ≡ s.reads
     → Runs c t
 runs-as c s t r machine reads = record {
-  points = ap (λ (h : Held). h.image.points) machine ∙ r.points;
-  does = subst (λ (h : Held). DoesTheText c h.image.code) (sym machine) r.does;
-  types = subst (λ (h : Held). HasTypes c (memory_of c h.slots h.timers)) (sym machine) r.types;
+  points = ap (λ (h : MachineData). h.image.points) machine ∙ r.points;
+  does = subst (λ (h : MachineData). DoesTheText c h.image.code) (sym machine) r.does;
+  types = subst (λ (h : MachineData). HasTypes c (memory_of c h.slots h.timers)) (sym machine)
+      r.types;
   reads = ap (map type_of_source) reads ∙ r.reads
-      ∙ sym (ap (λ (h : Held). map type_of_point (read_only h.image.points)) machine);
+      ∙ sym (ap (λ (h : MachineData). map type_of_point (read_only h.image.points)) machine);
 }
 
 module _ (c : Checked) (s : State) (r : Runs c s) (now : ℕ) where

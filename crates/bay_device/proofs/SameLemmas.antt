@@ -7,7 +7,7 @@ use Rattle.bay_nodes.specs.declared.switch.Switch.{Switch}
 use Rattle.bay_mms_services.proofs.AcceptedLemmas.{alike-after}
 use Rattle.bay_mms_services.proofs.ReleaseLemmas.{request-leaves}
 use Rattle.bay_tree.specs.declared.row.Row.{Row}
-use Rattle.il_scan.specs.Scans.{Held}
+use Rattle.il_scan.specs.Scans.{MachineData}
 use Rattle.bay_device.specs.Device.{State, bay_of, device_at}
 use Rattle.bay_device.specs.Receiving.{ReceiveResult, Done, after_indications, after_pdu, client_at, on_indication, with_sent}
 use Rattle.bay_device.specs.Outcomes.{Outcome, close_outcome, connection_at, event_outcome, initial_connection, last_moment, nothing_done, octets_outcome, open_outcome, outcome, place_of, recv_after, recv_outcome, refusal_of, with_connection, without_owner}
@@ -18,7 +18,7 @@ use Rattle.bay_device.specs.declared.event.Why.{Why}
 use Rattle.bay_device.specs.declared.fault.StepFault.TheVariants.{MomentTooLarge, TimeWentBack}
 
 pub record Parts : Type 0 where
-  pub machine : Held
+  pub machine : MachineData
   pub switches : List Switch
   pub meters : List (List ℕ)
   pub reads : List Source

@@ -12,7 +12,7 @@ use Rattle.il_image.specs.Machine.{Halted, Ending, run_from}
 use Rattle.il_image.specs.declared.value.Value.{Value}
 use Rattle.il_image.specs.declared.value.Value.TheVariants.{Long}
 use Rattle.il_scan.specs.Places.{is_true}
-use Rattle.il_scan.specs.Scans.{Held, Scans, outputs_of, scan_start}
+use Rattle.il_scan.specs.Scans.{MachineData, Scans, outputs_of, scan_start}
 use Rattle.bay_connection.specs.ConnectionStates.{ConnectionState}
 use Rattle.bay_device.specs.Device.{State, Ran, after_run, ending_at, inputs_of, point_value, ran_at, ran_of, after_scan}
 use Rattle.bay_process.specs.Values.{measure_leaf, number_of_leaf, output_at, position_leaf, position_value, with_output, with_outputs}
@@ -126,15 +126,16 @@ module _ (layout : Layout) (switches : List Switch) (writes : List Source) (outp
       subst (λ m. IsBound layout writes switches m c) more (all (suc j) c h))
 
 -- a machine with another's image
-held-as : (old new : Held) → new.image ≡ old.image
+held-as : (old new : MachineData) → new.image ≡ old.image
     → new ≡ record old { slots = new.slots; timers = new.timers }
 held-as old new e =
-    ap (λ i. let h : Held = record { image = i; slots = new.slots; timers = new.timers } in h) e
+    ap (λ i. let h : MachineData = record { image = i; slots = new.slots; timers = new.timers } in
+    h) e
 
 -- a scan of the machine
 module _ (connections : List (Option ConnectionState)) (d : DeviceState) (now : ℕ)
     (inputs : List Value)
-    (read : inputs ≡ inputs_of (state_view connections d)) (new : Held) (steps : ℕ)
+    (read : inputs ≡ inputs_of (state_view connections d)) (new : MachineData) (steps : ℕ)
     (outputs : List Value) (did : Scans d.machine inputs now new steps outputs) where
   pub ended : ending_at now (state_view connections d) ≡ Halted new.slots new.timers steps
   ended =
@@ -151,7 +152,7 @@ module _ (connections : List (Option ConnectionState)) (d : DeviceState) (now : 
   pub halted : (after : State) → after.machine ≡ new
       → Halts now (state_view connections d) steps after
   halted after left = record {
-    halts = ended ∙ sym (ap (λ (h : Held). Halted h.slots h.timers steps) left);
+    halts = ended ∙ sym (ap (λ (h : MachineData). Halted h.slots h.timers steps) left);
     within = did.within;
   }
 

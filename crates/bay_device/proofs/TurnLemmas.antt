@@ -4,7 +4,7 @@ use Rattle.std.proofs.Math.ListN.{drop_of_length-le}
 use Rattle.std.proofs.lemmas.Grind.{common_steps}
 use Rattle.std.proofs.lemmas.List.{append_cancel_left}
 use Rattle.std.proofs.Math.Seq.{take-length}
-use Rattle.bay_transport.specs.Doings.{Left, Going, Over, Broken}
+use Rattle.bay_transport.specs.Doings.{StreamState, Going, Over, Broken}
 use Rattle.bay_transport.specs.Feeding.{IsGoing}
 use Rattle.bay_connection.specs.ConnectionStates.{ConnectionState, Indication, answers, tells, releases, ends, fails, indications, connection_after}
 use Rattle.bay_connection.specs.Feeding.{Completes, Feeds, FeedsFrom, IsContinued}
@@ -35,14 +35,14 @@ refused-here now a (i ∷ is) d = refl
 
 -- ---- what was fed
 
-fed-some : (left : Left) (t : ConnectionState) (piece : List ℕ) (used : ℕ) (i : Indication)
+fed-some : (left : StreamState) (t : ConnectionState) (piece : List ℕ) (used : ℕ) (i : Indication)
     → IsGoing left
     → FeedsFrom left t piece used (Some i) → Completes t piece used i
 fed-some (Going connection rest) t piece used i going fed = fed
 fed-some Over t piece used i going fed = absurd going
 fed-some Broken t piece used i going fed = absurd going
 
-fed-none : (left : Left) (t : ConnectionState) (piece : List ℕ) (used : ℕ) → IsGoing left
+fed-none : (left : StreamState) (t : ConnectionState) (piece : List ℕ) (used : ℕ) → IsGoing left
     → FeedsFrom left t piece used None → (used ≡ length piece) × (indications t piece ≡ [])
 fed-none (Going connection rest) t piece used going fed = fed
 fed-none Over t piece used going fed = absurd going

@@ -19,14 +19,15 @@ pub record IsReleasedAt (now : ℕ) (s : State) (command : Command) : Type 0 whe
   pub enabled : is_truth true (leaf_of (enable_name command.switch command.operation) s.rows) ≡ true
   pub idle : (control.controls_at now s.controls).execution ≡ None
 
--- The commands of a step are released so, and a step with a command also sends something.
+-- Each command of a step was released before its event, and a step with a command also sends
+-- something.
 pub record AreCommanded (now : ℕ) (s : State) (step : Step) : Type 0 where
   pub released : All (IsReleasedAt now s) step.commands
   pub replied : step.commands ≢ [] → step.sent ≢ []
 
--- The same of the commands of an answer.
-abbrev pub CommandedAt : ℕ → Event → State → Result Step StepFault → State → Type 0
-CommandedAt now event old answer new = IfOk answer (AreCommanded now old)
+-- Each command of an answer was released before its event; a refused event has none.
+abbrev pub CommandsReleased : ℕ → Event → State → Result Step StepFault → State → Type 0
+CommandsReleased now event old answer new = IfOk answer (AreCommanded now old)
 
 -- A step has at most one command.
 abbrev pub IsSingle : Result Step StepFault → Type 0

@@ -16,7 +16,7 @@ use Rattle.il_image.specs.Machine.{Ending, Halted, Trapped, Unfinished, run_from
 use Rattle.il_image.specs.declared.timer.TimerState.{TimerState}
 use Rattle.il_image.specs.declared.value.Value.{Value}
 use Rattle.il_image.specs.declared.value.Value.TheVariants.{Truth, Long}
-use Rattle.il_scan.specs.Scans.{Held, outputs_of, scan_start}
+use Rattle.il_scan.specs.Scans.{MachineData, outputs_of, scan_start}
 use Rattle.bay_process.specs.Names.{field_names}
 use Rattle.bay_process.specs.Values.{measure_leaf, number_of_leaf, position_leaf, position_value, rows_after_contact, rows_after_doubt, rows_after_measure, has_position, tells_doubt, tells_measure, with_outputs}
 use Rattle.bay_control.specs.Decisions as control
@@ -46,7 +46,7 @@ pub record State : Type 0 where
   pub meters : List (List ℕ)
   pub reads : List Source
   pub writes : List Source
-  pub machine : Held
+  pub machine : MachineData
   pub rows : List Row
   pub moment : ℕ
   pub last_scan : Option ℕ

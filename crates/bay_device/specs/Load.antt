@@ -20,7 +20,7 @@ use Rattle.il_verify.specs.Codes as verify_code
 use Rattle.il_verify.specs.Refusals.{IsRefusal}
 use Rattle.il_verify.specs.Verdicts.{IsVerified}
 use Rattle.il_verify.specs.declared.fault.VerifyFault.{VerifyFault}
-use Rattle.il_scan.specs.Scans.{held_first}
+use Rattle.il_scan.specs.Scans.{first_machine}
 use Rattle.bay_device.specs.Device.{State}
 use Rattle.bay_device.specs.Outcomes.{associations}
 use Rattle.bay_device.specs.declared.fault.LoadFault.{LoadFault}
@@ -44,7 +44,7 @@ initial_device bay image = record {
   meters = bay.meters;
   reads = sources_of false bay.points image.points;
   writes = sources_of true bay.points image.points;
-  machine = held_first image;
+  machine = first_machine image;
   rows = rows_with_selection None (length bay.switches) bay.rows;
   moment = 0;
   last_scan = None;

@@ -8,7 +8,7 @@ ghost use Rattle.bay_transport.specs.Feeding.{IsGoing};
 ghost use Rattle.il_check.specs.Program.{Checked};
 ghost use Rattle.il_image.specs.Images.{image_octets};
 ghost use Rattle.il_image.specs.declared.opcode.Version.TheVariants.{Two};
-ghost use Rattle.bay_device.specs.Commands.{CommandedAt, IsSingle};
+ghost use Rattle.bay_device.specs.Commands.{CommandsReleased, IsSingle};
 ghost use Rattle.bay_device.specs.Device as spec_device;
 ghost use Rattle.bay_device.specs.Device.{bay_of};
 ghost use Rattle.bay_device.specs.Entries.{Leading};
@@ -377,7 +377,7 @@ impl Device {
             → IsOutcome (outcome None now event.entry self.old) result self.new }
         // When a command is issued, the interlocking releases it on a fresh scan, the process is
         // not lost and no switch is operating; a step with a command also sends something.
-        ensures commanded { CommandedAt now event.entry self.old result self.new }
+        ensures commanded { CommandsReleased now event.entry self.old result self.new }
         // The commands are the accepted operates among the entries that the octets of the event and
         // of its answer encode, in their order. Responses belong to requests by their order.
         ensures operates { (names : Bay) → AreNamedAlike names (bay_of self.old)
@@ -444,7 +444,7 @@ impl Device {
         // when a command is issued, the interlocking releases it on a fresh scan, the process is
         // not lost and no switch is operating, and the step also sends something;
         ensures commanded { IfOk result
-            (λ answers. EachStep CommandedAt events.now self.old answers.items self.new) }
+            (λ answers. EachStep CommandsReleased events.now self.old answers.items self.new) }
         // the events since load before it include a scan that is not too old, since which the
         // process has not changed, and after all of them the process is not lost;
         ensures fresh { IfOk result

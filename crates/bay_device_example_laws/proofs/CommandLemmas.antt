@@ -3,7 +3,7 @@ use Rattle.std.proofs.Common.{◌≡◌, ℕ, Bool, true, false, List, [], ◌�
 use Rattle.std.specs.Prelude.{All}
 use Rattle.std.specs.Fmt.{digits}
 use Rattle.bay_mms_services.specs.declared.answer.Command.{Command}
-use Rattle.bay_device.specs.Commands.{AreCommanded, CommandedAt, IsReleasedAt}
+use Rattle.bay_device.specs.Commands.{AreCommanded, CommandsReleased, IsReleasedAt}
 use Rattle.bay_device.specs.Device.{State}
 use Rattle.bay_device.specs.declared.event.Event.{Event}
 use Rattle.bay_device.specs.declared.event.Step.{Step}
@@ -16,7 +16,7 @@ is-released s = record { heard = refl; fresh = refl; enabled = refl; idle = refl
 
 -- the command of a step that is released is issued
 issued : (command : Command) (s t : State) (event : Event) (step : Step) → IsReleasedAt 5 s command
-    → Tells command step → CommandedAt 5 event s (Ok step) t
+    → Tells command step → CommandsReleased 5 event s (Ok step) t
 issued command s t event step is told = record {
   released = subst (λ (cs : List Command). All (IsReleasedAt 5 s) cs)
       (sym told.commands) (all-one (IsReleasedAt 5 s) command is);
@@ -24,7 +24,7 @@ issued command s t event step is told = record {
 }
 
 pub is-commanded : (s t : State) (event : Event) (step : Step) → Tells open_command step
-    → CommandedAt 5 event (released_state s) (Ok step) t
+    → CommandsReleased 5 event (released_state s) (Ok step) t
 is-commanded s t event step told =
     issued open_command (released_state s) t event step (is-released s) told
 
@@ -36,46 +36,46 @@ its {command} now s step told are =
     (omega arith)
 
 pub not-unscanned : (s t : State) (event : Event) (step : Step) → Tells open_command step
-    → CommandedAt 5 event (record (released_state s) { last_scan = None }) (Ok step) t → ⊥
+    → CommandsReleased 5 event (record (released_state s) { last_scan = None }) (Ok step) t → ⊥
 not-unscanned s t event step told h =
     let no : false ≡ true =
     (its 5 (record (released_state s) { last_scan = None }) step told h).fresh in
     absurd cc
 
 pub not-old : (s t : State) (event : Event) (step : Step) → Tells open_command step
-    → CommandedAt 1006 event (released_state s) (Ok step) t → ⊥
+    → CommandsReleased 1006 event (released_state s) (Ok step) t → ⊥
 not-old s t event step told h =
     let no : false ≡ true = (its 1006 (released_state s) step told h).fresh in absurd cc
 
 pub not-stale : (s t : State) (event : Event) (step : Step) → Tells open_command step
-    → CommandedAt 5 event (record (released_state s) { is_stale = true }) (Ok step) t → ⊥
+    → CommandsReleased 5 event (record (released_state s) { is_stale = true }) (Ok step) t → ⊥
 not-stale s t event step told h =
     let no : false ≡ true =
     (its 5 (record (released_state s) { is_stale = true }) step told h).fresh in
     absurd cc
 
 pub not-lost : (s t : State) (event : Event) (step : Step) → Tells open_command step
-    → CommandedAt 5 event (record (released_state s) { is_lost = true }) (Ok step) t → ⊥
+    → CommandsReleased 5 event (record (released_state s) { is_lost = true }) (Ok step) t → ⊥
 not-lost s t event step told h =
     let no : true ≡ false =
     (its 5 (record (released_state s) { is_lost = true }) step told h).heard in
     absurd cc
 
 pub not-blocked : (s t : State) (event : Event) (step : Step) → Tells open_command step
-    → CommandedAt 5 event (record (released_state s) { rows = [] }) (Ok step) t → ⊥
+    → CommandsReleased 5 event (record (released_state s) { rows = [] }) (Ok step) t → ⊥
 not-blocked s t event step told h =
     let no : false ≡ true = (its 5 (record (released_state s) { rows = [] }) step told h).enabled in
     absurd cc
 
 pub not-busy : (s t : State) (event : Event) (step : Step) → Tells open_command step
-    → CommandedAt 5 event (operating_state s) (Ok step) t → ⊥
+    → CommandsReleased 5 event (operating_state s) (Ok step) t → ⊥
 not-busy s t event step told h =
     let no : (operating_state s).controls.execution ≡ None =
     (its 5 (operating_state s) step told h).idle in
     absurd cc
 
 pub not-silent : (s t : State) (event : Event) (step : Step) → Tells open_command step
-    → CommandedAt 5 event (released_state s) (Ok (record step { sent = [] })) t → ⊥
+    → CommandsReleased 5 event (released_state s) (Ok (record step { sent = [] })) t → ⊥
 not-silent s t event step told h =
     h.replied (λ (none : step.commands ≡ []).
     let no : open_command ∷ [] ≡ [] = sym told.commands ∙ none in absurd cc) refl
@@ -84,21 +84,21 @@ not-silent s t event step told h =
 
 pub closes-alone : (opn : Bool) (s t : State) (event : Event) (step : Step)
     → Tells close_command step
-    → CommandedAt 5 event (interlocked_state (codes "CILO1") opn true s) (Ok step) t
+    → CommandsReleased 5 event (interlocked_state (codes "CILO1") opn true s) (Ok step) t
 unfolding digits
 closes-alone opn s t event step told =
     issued close_command (interlocked_state (codes "CILO1") opn true s) t event step
     (record { heard = refl; fresh = refl; enabled = refl; idle = refl }) told
 
 pub opens-alone : (cls : Bool) (s t : State) (event : Event) (step : Step) → Tells open_command step
-    → CommandedAt 5 event (interlocked_state (codes "CILO1") true cls s) (Ok step) t
+    → CommandsReleased 5 event (interlocked_state (codes "CILO1") true cls s) (Ok step) t
 unfolding digits
 opens-alone cls s t event step told =
     issued open_command (interlocked_state (codes "CILO1") true cls s) t event step
     (record { heard = refl; fresh = refl; enabled = refl; idle = refl }) told
 
 pub no-close : (opn : Bool) (s t : State) (event : Event) (step : Step) → Tells close_command step
-    → CommandedAt 5 event (interlocked_state (codes "CILO1") opn false s) (Ok step) t → ⊥
+    → CommandsReleased 5 event (interlocked_state (codes "CILO1") opn false s) (Ok step) t → ⊥
 unfolding digits
 no-close opn s t event step told h =
     let no : false ≡ true =
@@ -106,7 +106,7 @@ no-close opn s t event step told h =
     absurd cc
 
 pub no-open : (cls : Bool) (s t : State) (event : Event) (step : Step) → Tells open_command step
-    → CommandedAt 5 event (interlocked_state (codes "CILO1") false cls s) (Ok step) t → ⊥
+    → CommandsReleased 5 event (interlocked_state (codes "CILO1") false cls s) (Ok step) t → ⊥
 unfolding digits
 no-open cls s t event step told h =
     let no : false ≡ true =
@@ -115,7 +115,7 @@ no-open cls s t event step told h =
 
 -- those of the second switch
 pub other-close : (s t : State) (event : Event) (step : Step) → Tells close_command step
-    → CommandedAt 5 event (interlocked_state (codes "CILO2") true true s) (Ok step) t → ⊥
+    → CommandsReleased 5 event (interlocked_state (codes "CILO2") true true s) (Ok step) t → ⊥
 unfolding digits
 other-close s t event step told h =
     let no : false ≡ true =
@@ -123,7 +123,7 @@ other-close s t event step told h =
     absurd cc
 
 pub other-open : (s t : State) (event : Event) (step : Step) → Tells open_command step
-    → CommandedAt 5 event (interlocked_state (codes "CILO2") true true s) (Ok step) t → ⊥
+    → CommandsReleased 5 event (interlocked_state (codes "CILO2") true true s) (Ok step) t → ⊥
 unfolding digits
 other-open s t event step told h =
     let no : false ≡ true =

@@ -8,7 +8,7 @@ ghost use Rattle.bay_tree.specs.declared.row.Row.{Row};
 ghost use Rattle.bay_control.specs.Acts.{Closed, Opened, Select, SelectWith};
 ghost use Rattle.bay_control.specs.declared.request.Choice.{Choice};
 ghost use Rattle.bay_mms_services.specs.Bay.{Bay};
-ghost use Rattle.bay_device.specs.Commands.{CommandedAt};
+ghost use Rattle.bay_device.specs.Commands.{CommandsReleased};
 ghost use Rattle.bay_device.specs.Device.{State};
 ghost use Rattle.bay_device.specs.Fresh.{Came, FreshAt, HasScan, IsSameProcess, Past};
 ghost use Rattle.bay_device.specs.Meaning.{HaltsAt, MeansAt};
@@ -82,21 +82,22 @@ pub fn a_select_with_value_backs_what_it_asked_for()
 /// is not released, a switch is operating, or the step sends nothing.
 pub fn a_command_needs_each_of_its_parts()
     ensures commanded { (s t : State) (event : Event) (step : Step) → Tells open_command step
-        → CommandedAt 5 event (released_state s) (Ok step) t }
+        → CommandsReleased 5 event (released_state s) (Ok step) t }
     ensures unscanned { (s t : State) (event : Event) (step : Step) → Tells open_command step
-        → CommandedAt 5 event (record (released_state s) { last_scan = None }) (Ok step) t → ⊥ }
+        → CommandsReleased 5 event (record (released_state s) { last_scan = None }) (Ok step) t
+        → ⊥ }
     ensures old { (s t : State) (event : Event) (step : Step) → Tells open_command step
-        → CommandedAt 1006 event (released_state s) (Ok step) t → ⊥ }
+        → CommandsReleased 1006 event (released_state s) (Ok step) t → ⊥ }
     ensures stale { (s t : State) (event : Event) (step : Step) → Tells open_command step
-        → CommandedAt 5 event (record (released_state s) { is_stale = true }) (Ok step) t → ⊥ }
+        → CommandsReleased 5 event (record (released_state s) { is_stale = true }) (Ok step) t → ⊥ }
     ensures lost { (s t : State) (event : Event) (step : Step) → Tells open_command step
-        → CommandedAt 5 event (record (released_state s) { is_lost = true }) (Ok step) t → ⊥ }
+        → CommandsReleased 5 event (record (released_state s) { is_lost = true }) (Ok step) t → ⊥ }
     ensures blocked { (s t : State) (event : Event) (step : Step) → Tells open_command step
-        → CommandedAt 5 event (record (released_state s) { rows = [] }) (Ok step) t → ⊥ }
+        → CommandsReleased 5 event (record (released_state s) { rows = [] }) (Ok step) t → ⊥ }
     ensures busy { (s t : State) (event : Event) (step : Step) → Tells open_command step
-        → CommandedAt 5 event (operating_state s) (Ok step) t → ⊥ }
+        → CommandsReleased 5 event (operating_state s) (Ok step) t → ⊥ }
     ensures silent { (s t : State) (event : Event) (step : Step) → Tells open_command step
-        → CommandedAt 5 event (released_state s) (Ok (record step { sent = [] })) t → ⊥ }
+        → CommandsReleased 5 event (released_state s) (Ok (record step { sent = [] })) t → ⊥ }
 {}
 
 /// Each operation needs its own value: EnaCls of the switch releases a close whatever the value of
@@ -105,20 +106,20 @@ pub fn a_command_needs_each_of_its_parts()
 pub fn a_close_needs_its_own_release()
     ensures close { (opn : Bool) (s t : State) (event : Event) (step : Step)
         → Tells close_command step
-        → CommandedAt 5 event (interlocked_state (codes "CILO1") opn true s) (Ok step) t }
+        → CommandsReleased 5 event (interlocked_state (codes "CILO1") opn true s) (Ok step) t }
     ensures open { (cls : Bool) (s t : State) (event : Event) (step : Step)
         → Tells open_command step
-        → CommandedAt 5 event (interlocked_state (codes "CILO1") true cls s) (Ok step) t }
+        → CommandsReleased 5 event (interlocked_state (codes "CILO1") true cls s) (Ok step) t }
     ensures no_close { (opn : Bool) (s t : State) (event : Event) (step : Step)
         → Tells close_command step
-        → CommandedAt 5 event (interlocked_state (codes "CILO1") opn false s) (Ok step) t → ⊥ }
+        → CommandsReleased 5 event (interlocked_state (codes "CILO1") opn false s) (Ok step) t → ⊥ }
     ensures no_open { (cls : Bool) (s t : State) (event : Event) (step : Step)
         → Tells open_command step
-        → CommandedAt 5 event (interlocked_state (codes "CILO1") false cls s) (Ok step) t → ⊥ }
+        → CommandsReleased 5 event (interlocked_state (codes "CILO1") false cls s) (Ok step) t → ⊥ }
     ensures other_close { (s t : State) (event : Event) (step : Step) → Tells close_command step
-        → CommandedAt 5 event (interlocked_state (codes "CILO2") true true s) (Ok step) t → ⊥ }
+        → CommandsReleased 5 event (interlocked_state (codes "CILO2") true true s) (Ok step) t → ⊥ }
     ensures other_open { (s t : State) (event : Event) (step : Step) → Tells open_command step
-        → CommandedAt 5 event (interlocked_state (codes "CILO2") true true s) (Ok step) t → ⊥ }
+        → CommandsReleased 5 event (interlocked_state (codes "CILO2") true true s) (Ok step) t → ⊥ }
 {}
 
 /// A step has a command if octets on an open association requested it and a response accepts it.

@@ -184,7 +184,7 @@ unprinted_line writer =
     if writer.has_failed then Some (unwritten_line (codes "standard output") kind.Other) else None
 
 -- what a command works on: files, ports and a clock, a reader, and a writer
-pub record Around (F H R W : Type 0) : Type 0 where
+pub record CommandEnvironment (F H R W : Type 0) : Type 0 where
   pub files : F
   pub host : H
   pub reader : Reading R
@@ -197,7 +197,8 @@ module _ {F L H R W : Type 0} (reads : FileReads F) (guards : FileGuards F) (wri
     (asks : W → WriteCall → W → Type 0) where
   -- A task is executed: what is printed and returned, and what becomes of files and ports. Only a
   -- replay reads from the reader. Only a service that is recorded and a compilation write a file.
-  abbrev pub DoesTask : Task (List ℕ) → Around F H R W → Around F H R W → Result ℕ WriteFault
+  abbrev pub DoesTask : Task (List ℕ) → CommandEnvironment F H R W → CommandEnvironment F H R W
+      → Result ℕ WriteFault
       → Type 0
   DoesTask (Check bay program) old new answer =
       Checks reads contents asks (form_of program) bay (name_of program) old.files old.writer
@@ -236,12 +237,13 @@ module _ {F L H R W : Type 0} (reads : FileReads F) (guards : FileGuards F) (wri
       × (is_some file ≡ false → new.files ≡ old.files) × (new.reader ≡ old.reader)
 
   -- The arguments spell a task, and it is executed, with the log if they have this option.
-  pub record Obeyed (words : List (List ℕ)) (old new : Around F H R W) (ended : CommandResult)
+  pub record Obeyed (words : List (List ℕ)) (old new : CommandEnvironment F H R W)
+      (ended : CommandResult)
       : Type 0 where
     pub asked : Invoked (List ℕ)
     pub is : task_in words ≡ Some asked
     pub answer : Result ℕ WriteFault
-    pub done : Around F H R W
+    pub done : CommandEnvironment F H R W
     pub does : DoesTask asked.task
         (record old { writer = logging asked.log old.writer }) done answer
     pub logged : LogsSome contents asks done.writer (unprinted_line done.writer) new.writer
@@ -249,14 +251,15 @@ module _ {F L H R W : Type 0} (reads : FileReads F) (guards : FileGuards F) (wri
     pub ends : Ends answer ended
 
   -- The arguments spell no task, and are refused: nothing is read, printed or touched.
-  pub record Declined (words : List (List ℕ)) (old new : Around F H R W) (ended : CommandResult)
+  pub record Declined (words : List (List ℕ)) (old new : CommandEnvironment F H R W)
+      (ended : CommandResult)
       : Type 0 where
     pub none : task_in words ≡ None
     pub refused : IsRefused ended
     pub untouched : new ≡ old
 
   -- Memory runs out while the arguments are read, which is printed.
-  pub record Unread (old new : Around F H R W) (ended : CommandResult) : Type 0 where
+  pub record Unread (old new : CommandEnvironment F H R W) (ended : CommandResult) : Type 0 where
     pub answer : Result ℕ WriteFault
     pub told : Prints contents asks (IsLast (codes "fault memory\n") 3) old.writer new.writer answer
     pub ends : Ends answer ended
@@ -264,6 +267,7 @@ module _ {F L H R W : Type 0} (reads : FileReads F) (guards : FileGuards F) (wri
 
   -- Arguments are obeyed: the task that they spell is executed; or they spell none, and are
   -- refused; or memory runs out while they are read.
-  abbrev pub Obeys : List (List ℕ) → Around F H R W → Around F H R W → CommandResult → Type 0
+  abbrev pub Obeys : List (List ℕ) → CommandEnvironment F H R W → CommandEnvironment F H R W
+      → CommandResult → Type 0
   Obeys words old new ended =
       Obeyed words old new ended ⊎ (Declined words old new ended ⊎ Unread old new ended)

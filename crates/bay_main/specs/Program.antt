@@ -8,7 +8,7 @@ use Rattle.bay_stdio.specs.Descriptor.{DescriptorData, taken_by}
 use Rattle.bay_stdio.specs.Output.{Does, Drains, OutputData, written}
 use Rattle.bay_server_turn.specs.Calls.{Call}
 use Rattle.bay_server.specs.Host.{HostCall}
-use Rattle.bay_main.specs.Commands.{Around, Obeys}
+use Rattle.bay_main.specs.Commands.{CommandEnvironment, Obeys}
 use Rattle.bay_main.specs.Ending.{complaint_of, status_of}
 use Rattle.bay_main.specs.declared.ending.CommandResult.{CommandResult}
 use Rattle.bay_main.specs.declared.ending.CommandResult.TheVariants.{Status, WriteFailed, Refused}
@@ -75,8 +75,8 @@ pub record Runs {F L H R O E : Type 0} (reads : FileReads F) (guards : FileGuard
     (step : L → Call → L → Type 0) (acts : H → HostCall L → H → Type 0)
     (remaining : R → Option (List ℕ)) (contents : O → Option (List ℕ))
     (log_contents : E → Option (List ℕ)) (words : List (List ℕ))
-    (old : Around F H R (SystemOutput O E)) (status : ℕ) : Type 0 where
-  pub new : Around F H R (SystemOutput O E)
+    (old : CommandEnvironment F H R (SystemOutput O E)) (status : ℕ) : Type 0 where
+  pub new : CommandEnvironment F H R (SystemOutput O E)
   pub ended : CommandResult
   pub obeys : Obeys reads guards writes same step acts remaining
       (λ output. written (taken_by contents output.out) output.queue)
@@ -97,7 +97,7 @@ pub record Concludes {F L H R O E : Type 0} (reads : FileReads F) (guards : File
     (remaining : R → Option (List ℕ)) (contents : O → Option (List ℕ))
     (log_contents : E → Option (List ℕ)) (words : List (List ℕ)) (out : O) (err : E) (status : ℕ)
     : Type 0 where
-  pub old : Around F H R (SystemOutput O E)
+  pub old : CommandEnvironment F H R (SystemOutput O E)
   pub fresh : old.writer ≡ unused (fresh_output (serves words) out err)
   pub runs : Runs reads guards writes same step acts remaining contents log_contents words old
       status

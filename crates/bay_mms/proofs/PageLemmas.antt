@@ -11,7 +11,7 @@ use Rattle.bay_tree.specs.declared.row.Row.{Row}
 use Rattle.bay_tree.specs.Rows.{names_of}
 use Rattle.bay_ber.specs.Tags.{visible_tag}
 use Rattle.bay_mms.specs.Responses.{names_text, page_text}
-use Rattle.bay_mms.specs.Pages.{AreEnds, NamesText, begin_at, ends_from, text_of_names, greatest, fits, page_count, first_page, length_of_page, page_length, response_of_texts}
+use Rattle.bay_mms.specs.Pages.{AreEnds, NamesText, begin_at, ends_from, text_of_names, greatest, fits, names_on_page, first_page, length_of_page, page_length, response_of_texts}
 use Rattle.bay_mms.proofs.ResponseLemmas.{page-is}
 
 -- ---- the greatest that passes
@@ -205,7 +205,7 @@ pub counted-names : (names : List (List ℕ)) (ends : List ℕ) (id head size st
     → Fits ends head size start count
     → (count ≡ most) ⊎ (length_of_page head
     (begin_at ends (start + (count + 1)) - begin_at ends start) ≤ size → ⊥)
-    → count ≡ page_count id size (drop start names)
+    → count ≡ names_on_page id size (drop start names)
 counted-names names ends id head size start most count are head-is start-in max few fit full =
     let rest : List (List ℕ) = drop start names in
     let all : length ends ≡ length names = ap length are ∙ length-ends 0 names in
@@ -242,7 +242,7 @@ within-ends rows n start is within =
 -- the response with the texts of the names that a page has is the page
 pub page-texts : (rows after : List Row) (n : NamesText) (id size start count : ℕ)
     (texts : List ℕ) (more : Bool) → n ≡ text_of_names (names_of rows) → drop start rows ≡ after
-    → count ≡ page_count id size (drop start (names_of rows))
+    → count ≡ names_on_page id size (drop start (names_of rows))
     → texts ≡ names_text (take count (drop start (names_of rows)))
     → more ≡ ltb count (length n.ends - start)
     → response_of_texts id texts more ≡ first_page id size (names_of after)
@@ -303,6 +303,6 @@ page-short id size n names more some (inr fit) =
 pub first-page-short : (id size : ℕ) (names : List (List ℕ)) → 256 ≤ size
     → length (first_page id size names) ≤ size
 first-page-short id size names some =
-    page-short id size (page_count id size names) names
-    (ltb (page_count id size names) (length names)) some
+    page-short id size (names_on_page id size names) names
+    (ltb (names_on_page id size names) (length names)) some
     (greatest-passes (λ n. fits id size (take n names)) (min 100 (length names)))

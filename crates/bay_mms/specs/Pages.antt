@@ -19,14 +19,14 @@ fits id size names = nat_le (length (page_text id names false)) size
 
 -- the number of names on a page: as many of the first names as fit into a PDU of this size, at most
 -- 100
-abbrev pub page_count : ℕ → ℕ → List (List ℕ) → ℕ
-page_count id size names = greatest (λ n. fits id size (take n names)) (min 100 (length names))
+abbrev pub names_on_page : ℕ → ℕ → List (List ℕ) → ℕ
+names_on_page id size names = greatest (λ n. fits id size (take n names)) (min 100 (length names))
 
 -- the response with this page, and whether more names follow (ISO 9506-2, GetNameList-Response)
 abbrev pub first_page : ℕ → ℕ → List (List ℕ) → List ℕ
 first_page id size names =
-    page_text id (take (page_count id size names) names)
-    (nat_lt (page_count id size names) (length names))
+    page_text id (take (names_on_page id size names) names)
+    (nat_lt (names_on_page id size names) (length names))
 
 -- ---- own: pages of names as the code makes them
 

@@ -6,7 +6,7 @@ ghost use Rattle.bay_ber.specs.Writing.{integer_octets};
 ghost use Rattle.bay_ber.specs.Writing as ber;
 ghost use Rattle.bay_tree.specs.Page.{rows_after, IsUnknown};
 ghost use Rattle.bay_tree.specs.Rows.{names_of};
-ghost use Rattle.bay_mms.specs.Pages.{page_count, first_page, text_of_names};
+ghost use Rattle.bay_mms.specs.Pages.{names_on_page, first_page, text_of_names};
 ghost use Rattle.bay_mms.specs.Pages as spec;
 
 use crate::names::NameTexts;
@@ -57,7 +57,7 @@ fn fitting(names: &NameTexts, start: usize, id: u32, size: u32) -> usize
     requires within { start ≤ length names.now.ends }
     ensures within { start + result ≤ length names.now.ends }
     ensures count { (texts : List (List ℕ)) → names.now ≡ text_of_names texts
-        → result ≡ page_count id size (drop start texts) }
+        → result ≡ names_on_page id size (drop start texts) }
 {
     let head = id_length(id);
     let most = (names.count() - start).min(NAMES_MAX);

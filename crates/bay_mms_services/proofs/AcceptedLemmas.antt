@@ -23,7 +23,7 @@ use Rattle.bay_mms.specs.declared.fault.MmsFault.{MmsFault}
 use Rattle.bay_mms.specs.declared.fault.MmsFault.TheVariants.{BadPdu, UnknownService, TooMany, OutOfMemory}
 use Rattle.bay_mms.specs.declared.response.ErrorClass.TheVariants.{NoSuchObject, Resource}
 use Rattle.bay_mms_services.specs.Accepted.{AreNamedAlike, accepted_in, part_after_id, first_response, is_report, may_be_reported, message_accepted, read_accepted, read_results, service_in, write_accepted, write_results}
-use Rattle.bay_mms_services.specs.Answers.{answer_of, pdu_answer, attributes_at, plain_answer, service_answer}
+use Rattle.bay_mms_services.specs.Answers.{answer_of, pdu_answer, attributes_answer, plain_answer, service_answer}
 use Rattle.bay_mms_services.specs.Bay.{Bay, with_controls}
 use Rattle.bay_mms_services.specs.Controls.{ask_of, has_reports, object_of, refusal_report, refusal_reports, view_of}
 use Rattle.bay_mms_services.specs.Entries.{entries_in, message_entries, read_entries, service_entries, write_entries}
@@ -348,7 +348,7 @@ module _ (c : ClientContext) (small : c.size ≤ 65000) (n b : Bay) (alike : Are
       record { reports = []; response = y; is = refl; stands = rw mute refl; told = none y }
 
   attributes-told : (id : ℕ) (name : Naming) (row : Option ℕ)
-      → Told (Ok (confirmed id (attributes name))) (attributes_at c id b row).sent []
+      → Told (Ok (confirmed id (attributes name))) (attributes_answer c id b row).sent []
   attributes-told id name None =
       record {
         reports = [];

@@ -25,7 +25,7 @@ use Rattle.bay_mms.specs.declared.response.RejectReason.{RejectReason}
 use Rattle.bay_mms.specs.declared.response.RejectReason.TheVariants.{UnrecognizedService, InvalidPdu}
 use Rattle.bay_mms.proofs.ShortLemmas.{error_short, reject_short}
 use Rattle.bay_mms_services.specs.Accepted.{act_of_read, act_of_write, cancel_act, operate_act, read_act, select_with_act, write_act}
-use Rattle.bay_mms_services.specs.Answers.{Answered, answer_of, attributes_at, plain_answer, service_answer, one_pdu_answer}
+use Rattle.bay_mms_services.specs.Answers.{Answered, answer_of, attributes_answer, plain_answer, service_answer, one_pdu_answer}
 use Rattle.bay_mms_services.specs.Bay.{Bay, with_controls}
 use Rattle.bay_mms_services.specs.Controls.{ask_of, view_of}
 use Rattle.bay_mms_services.specs.Entries.{call_of_read, call_of_write, cancel_call, message_entries, operate_call, read_call, read_entries, select_with_call, service_entries, target_at, write_call, write_entries}
@@ -164,7 +164,7 @@ module _ (c : ClientContext) (b : Bay) (P : List Entry → Answered → Type 0)
   response-by id pdu true is = plain pdu (λ most. fits-size c.size pdu most is)
   response-by id pdu false is = error-by id Resource
 
-  attributes-by : (id : ℕ) (row : Option ℕ) → P [] (attributes_at c id b row)
+  attributes-by : (id : ℕ) (row : Option ℕ) → P [] (attributes_answer c id b row)
   attributes-by id None = error-by id NoSuchObject
   attributes-by id (Some place) = response-by id _ _ refl
 

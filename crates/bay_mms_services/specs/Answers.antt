@@ -64,10 +64,11 @@ identify_answer c id b =
     response_answer c id b (response.confirmed_response id
     (element (constructed 2) (identity_text b.vendor b.model b.revision)))
 
--- the type of a variable; a client cannot delete the variable
-abbrev pub attributes_at : ClientContext → ℕ → Bay → Option ℕ → Answered
-attributes_at c id b None = plain_answer (error_text id NoSuchObject) b
-attributes_at c id b (Some place) =
+-- the answer with the type of the variable at this place, which a client cannot delete (ISO 9506-2,
+-- mmsDeletable FALSE)
+abbrev pub attributes_answer : ClientContext → ℕ → Bay → Option ℕ → Answered
+attributes_answer c id b None = plain_answer (error_text id NoSuchObject) b
+attributes_answer c id b (Some place) =
     response_answer c id b (response.confirmed_response id
     (element (constructed 6)
     (element (context 0) (truth_octets false)
@@ -102,7 +103,7 @@ abbrev pub service_answer : ClientContext → ℕ → Bay → Asking → Answere
 service_answer c id b identify = identify_answer c id b
 service_answer c id b (names class place after) =
     response_answer c id b (name_list_text c id class place after b)
-service_answer c id b (attributes name) = attributes_at c id b (row_named b name)
+service_answer c id b (attributes name) = attributes_answer c id b (row_named b name)
 service_answer c id b (read ns) = read_answer c id b ns
 service_answer c id b (write ns values) = write_answer c id b ns values
 

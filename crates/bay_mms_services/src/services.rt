@@ -6,7 +6,7 @@ ghost use Rattle.bay_mms.specs.Responses.{concluded_text, error_text, read_text}
 ghost use Rattle.bay_mms_initiate.specs.Sizes.{IsPduSize, longest_pdu};
 ghost use Rattle.bay_mms.specs.Views.{data_in};
 ghost use Rattle.bay_mms.specs.Writing.{text_within};
-ghost use Rattle.bay_mms_services.specs.Answers.{Answered, answer_of, pdu_answer, attributes_at, identify_answer, read_answer, service_answer, write_answer};
+ghost use Rattle.bay_mms_services.specs.Answers.{Answered, answer_of, pdu_answer, attributes_answer, identify_answer, read_answer, service_answer, write_answer};
 ghost use Rattle.bay_mms_services.specs.Answers as spec;
 ghost use Rattle.bay_mms_services.specs.Bay.{Bay};
 ghost use Rattle.bay_mms_services.specs.Rows.{row_named};
@@ -141,7 +141,7 @@ impl Invocation<'_> {
     fn attributes(&self, name: &ObjectName<'_>) -> Result<PduAnswer, AllocError>
         ensures { IfOk result (λ answer. AnswersAs answer (bay_of self.now).controls
             (bay_of self.now)
-            (attributes_at self.now.client self.now.id (bay_of self.now)
+            (attributes_answer self.now.client self.now.id (bay_of self.now)
             (row_named (bay_of self.now) (object_name_view name.now)))) }
     {
         match self.bay.row_named(name) {

@@ -5,7 +5,7 @@ use Rattle.bay_base.specs.declared.point.Point.{Point}
 use Rattle.bay_nodes.specs.declared.switch.Switch.{Switch}
 use Rattle.bay_tree.specs.declared.row.Row.{Row}
 use Rattle.il_image.specs.Images.{Image}
-use Rattle.il_scan.specs.Scans.{held_first}
+use Rattle.il_scan.specs.Scans.{first_machine}
 use Rattle.bay_process.specs.Layout.{Layout, layout_of, bound_from, meters_of, AreMetersBound}
 use Rattle.bay_process.specs.Sources.{sources_of}
 use Rattle.bay_process.specs.Nodes.{AreAllRows}
@@ -17,7 +17,7 @@ use Rattle.bay_process.specs.declared.switch.BoundSwitch.{BoundSwitch}
 
 -- a machine with an image in its state before the first scan, and the sources of the image's points
 pub record IsWired (bay : List Point) (image : Image) (wired : BoundMachine) : Type 0 where
-  pub machine : wired.machine ≡ held_first image
+  pub machine : wired.machine ≡ first_machine image
   pub reads : wired.reads.items ≡ sources_of false bay image.points
   pub writes : wired.writes.items ≡ sources_of true bay image.points
 

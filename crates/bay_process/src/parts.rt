@@ -1,7 +1,7 @@
 // The parts of the state of a device.
 ghost use Rattle.std.specs.Prelude.{◌≡◌, length, IfOk};
 ghost use Rattle.bay_tree.specs.Rows.{IsTree};
-ghost use Rattle.il_scan.specs.Scans.{held_first};
+ghost use Rattle.il_scan.specs.Scans.{first_machine};
 ghost use Rattle.bay_process.specs.Layout.{layout_of};
 ghost use Rattle.bay_process.specs.Nodes.{AreAllMeters, AreAllNodes, HasSwitches, HaveMeters};
 ghost use Rattle.bay_process.specs.Parts.{AreBoundRows, AreBoundSwitches, IsWired};
@@ -31,7 +31,7 @@ pub struct BoundMachine {
 
 // Creates a machine with a verified image, in its state before the first scan.
 fn machine_of(alloc: Global, verified: Verified) -> Result<Machine, AllocError>
-    ensures { IfOk result (λ machine. machine ≡ held_first verified) }
+    ensures { IfOk result (λ machine. machine ≡ first_machine verified) }
 {
     let machine = Machine::new(alloc, verified)?;
     Ok(machine)

@@ -11,7 +11,7 @@ use Rattle.bay_process.proofs.ToldLemmas.{Keeps}
 use Rattle.bay_mms_services.specs.Released.{enable_name}
 use Rattle.bay_mms_services.specs.declared.answer.Command.{Command}
 use Rattle.bay_tree.specs.Rows.{leaf_of}
-use Rattle.bay_device.specs.Commands.{AreCommanded, CommandedAt, IsReleasedAt}
+use Rattle.bay_device.specs.Commands.{AreCommanded, CommandsReleased, IsReleasedAt}
 use Rattle.bay_device.specs.Device.{State, device_at, ended_at, ran_at}
 use Rattle.bay_device.specs.Fresh.{HasScan, IsFresh, Past}
 use Rattle.bay_device.specs.LookUps.{may_close, may_open}
@@ -139,7 +139,7 @@ record Known (age : ℕ) (first : State) (past : List Past) : Type 0 where
   ids : HaveIds first.switches
   unscanned : first.last_scan ≡ None
   aged : first.scan_max_age_ms ≡ age
-  commanded : EachPast CommandedAt first past
+  commanded : EachPast CommandsReleased first past
   fresh : AllFresh first.scan_max_age_ms past
   few : EachPast AreFew first past
 
@@ -225,8 +225,8 @@ module _ (age : ℕ) (first : State) (past : List Past) (known : Known age first
       let old : State = device_after first earlier in
       let here : EachPast Steps first (order ∷ earlier) =
       order-steps first past known.steps known.ids before line at l in
-      let commanded : CommandedAt order.now order.event old order.answer order.after =
-      (past-in CommandedAt first at.later order earlier past at.split known.commanded).0 in
+      let commanded : CommandsReleased order.now order.event old order.answer order.after =
+      (past-in CommandsReleased first at.later order earlier past at.split known.commanded).0 in
       let are : AreCommanded order.now old l.step =
       subst (λ (r : Result Step StepFault). IfOk r (AreCommanded order.now old)) l.done commanded in
       let rel : IsReleasedAt order.now old l.command =

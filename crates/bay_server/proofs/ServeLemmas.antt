@@ -11,7 +11,7 @@ use Rattle.bay_server.specs.Clock.{ClockData, after_reading, jump_of, moment_rea
 use Rattle.bay_server.specs.Host.{HostCall, Pauses, Tells}
 use Rattle.bay_report.specs.Report.{IsLast, Prints}
 use Rattle.bay_report.specs.TextLines.{CutsLine, lines_of}
-use Rattle.bay_server.specs.ServeReport.{AfterTurn, Chosen, PollOutcome, Hears, MayPause, Serving, ServesTurns, ReportsAndPolls, ReportsConnectionEvent, ReportsTurn, ReportsUnserved, TurnFails, TurnGoes, choice_of, choose_input, moment_of, told_lines}
+use Rattle.bay_server.specs.ServeReport.{AfterTurn, Chosen, ProcessData, PollsProcess, MayPause, Serving, ServesTurns, ReportsAndPolls, ReportsConnectionEvent, ReportsTurn, ReportsTurnRefusal, TurnFails, TurnGoes, choice_of, choose_input, moment_of, told_lines}
 use Rattle.bay_process_port.specs.declared.connection_event.ConnectionEvent.{ConnectionEvent}
 use Rattle.bay_server.specs.Serving.{TriesTurn}
 use Rattle.bay_server.specs.ChangeLines.{bay_seen}
@@ -114,7 +114,7 @@ module _ {L B H W : Type 0} (below : B → L) (does : L → Call → L → Type 
   -- process was attended to
   pub turn-goes : (link-before link-after : B) (held-before held-after : ServerData)
       (clock-before clock-after : ClockData) (host-before host-after : H)
-      (process-before process-chosen process-after : Option (PollOutcome L))
+      (process-before process-chosen process-after : Option (ProcessData L))
       (lines-before lines-after : List (ℕ × List ℕ)) (clocks : Clocks) (clock now : ℕ)
       (next : NextInput)
       (shift : Option ClockShift) (device : State) (before : BayView)
@@ -242,7 +242,7 @@ module _ {L H W : Type 0} (step : L → Call → L → Type 0) (acts : H → Hos
   -- it was not done, and why not is told
   pub turn-fails : (link : L) (held : ServerData) (clock-before : ClockData)
       (host-before host-after : H)
-      (process-before : Option (PollOutcome L)) (lines-before : List (ℕ × List ℕ)) (clocks : Clocks)
+      (process-before : Option (ProcessData L)) (lines-before : List (ℕ × List ℕ)) (clocks : Clocks)
       (clock now : ℕ) (next : NextInput) (shift : Option ClockShift) (device : State) (jump : ℕ)
       (count : LineCount) (old begun new : Writing W) (fault : ServeFault)
       (answer : Result ℕ WriteFault)
@@ -253,7 +253,7 @@ module _ {L H W : Type 0} (step : L → Call → L → Type 0) (acts : H → Hos
       → acts host-before (Tells clocks.system clocks.steady) host-after
       → LogsAll contents asks old (shift_log now shift) begun
       → turn_refusal clock next.given held ≡ Some fault
-      → ReportsUnserved contents asks fault next.number next.shown begun new answer
+      → ReportsTurnRefusal contents asks fault next.number next.shown begun new answer
       → TurnFails step acts contents asks
       (record {
         link = link;
@@ -297,7 +297,8 @@ module _ {L H W : Type 0} (step : L → Call → L → Type 0) (acts : H → Hos
             subst (λ (n : NextInput). turn_refusal (moment_read clocks clock-before) n.given held
             ≡ Some fault) next-is is;
         printed =
-            subst (λ (n : NextInput). ReportsUnserved contents asks fault n.number n.shown begun new
+            subst (λ (n : NextInput). ReportsTurnRefusal contents asks fault n.number n.shown begun
+            new
             answer) next-is tells;
       }
 
@@ -328,10 +329,10 @@ module _ {L H W : Type 0} (step : L → Call → L → Type 0) (acts : H → Hos
   news-cut now None old new one other stays = let e = stays.1 in absurd cc
   news-cut now (Some news) old new one other prints = prints
 
-  hears-cut : (now : ℕ) (turn : Turn) (s : State) (before after : Option (PollOutcome L))
+  hears-cut : (now : ℕ) (turn : Turn) (s : State) (before after : Option (ProcessData L))
       (old new : Writing W) (one other : WriteFault)
-      → Hears step contents asks now turn s before after old new (Err one)
-      → Hears step contents asks now turn s before after old new (Err other)
+      → PollsProcess step contents asks now turn s before after old new (Err one)
+      → PollsProcess step contents asks now turn s before after old new (Err other)
   hears-cut now turn s None None old new one other stays = let e = stays.1 in absurd cc
   hears-cut now turn s None (Some after) old new one other h = absurd h
   hears-cut now turn s (Some before) None old new one other h = absurd h
@@ -343,7 +344,7 @@ module _ {L H W : Type 0} (step : L → Call → L → Type 0) (acts : H → Hos
 
   reports-cut : (now : ℕ) (count : LineCount) (next : NextInput) (seen : BayView) (turn : Turn)
       (s : State)
-      (before after : Option (PollOutcome L)) (old new : Writing W) (one other : WriteFault)
+      (before after : Option (ProcessData L)) (old new : Writing W) (one other : WriteFault)
       → ReportsAndPolls step contents asks now count next seen turn s before after old new (Err one)
       → ReportsAndPolls step contents asks now count next seen turn s before after old new
       (Err other)
@@ -355,7 +356,7 @@ module _ {L H W : Type 0} (step : L → Call → L → Type 0) (acts : H → Hos
           → AfterTurn r
           ((after ≡ before) × (new ≡ goes.between)
           × (◌≡◌ {A = Result ℕ WriteFault} (Err one) r))
-          (Hears step contents asks now turn s before after goes.between new (Err one))
+          (PollsProcess step contents asks now turn s before after goes.between new (Err one))
           → ReportsAndPolls step contents asks now count next seen turn s before after old new
           (Err other)
       by-outcome (Ok status) printed hears = record {
@@ -374,7 +375,7 @@ module _ {L H W : Type 0} (step : L → Call → L → Type 0) (acts : H → Hos
   -- its lines could not be printed, so the process was not attended to
   pub report-cut : (now : ℕ) (count : LineCount) (next : NextInput) (seen : BayView) (turn : Turn)
       (s : State)
-      (process : Option (PollOutcome L)) (old new : Writing W) (fault : WriteFault)
+      (process : Option (ProcessData L)) (old new : Writing W) (fault : WriteFault)
       (r : Result ℕ WriteFault) → IsErr r
       → ReportsTurn contents asks now count next seen turn s old new (Err fault)
       → ReportsAndPolls step contents asks now count next seen turn s process process old new r

@@ -9,7 +9,7 @@ use Rattle.bay_io.specs.declared.outbox.WriteFault.{WriteFault}
 use Rattle.bay_server.specs.Clock.{ClockData, after_reading, jump_of, moment_read, shift_of}
 use Rattle.bay_server.specs.Host.{HostCall, Tells, Pauses}
 use Rattle.bay_report.specs.Report.{IsLast, Prints}
-use Rattle.bay_server.specs.TurnLines.{is_quiet, connection_event_text, turn_text, unserved_text}
+use Rattle.bay_server.specs.TurnLines.{is_quiet, connection_event_text, turn_text, turn_refusal_text}
 use Rattle.bay_server.specs.Logging.{LogsAll}
 use Rattle.bay_server.specs.ChangeLines.{bay_seen, turn_log}
 use Rattle.bay_server.specs.ConnectionLines.{count_after}
@@ -64,12 +64,12 @@ pub record ReportsTurn {W : Type 0} (contents : W → Option (List ℕ))
   pub printed : PrintsTurn contents asks now turn s mid new answer
 
 -- why a turn is refused is logged, printed and flushed
-pub record ReportsUnserved {W : Type 0} (contents : W → Option (List ℕ))
+pub record ReportsTurnRefusal {W : Type 0} (contents : W → Option (List ℕ))
     (asks : W → WriteCall → W → Type 0) (fault : ServeFault) (number : ℕ) (shown : List ℕ)
     (old new : Writing W) (answer : Result ℕ WriteFault) : Type 0 where
   pub mid : Writing W
   pub logged : Logs contents asks old (unserved_log fault number shown) mid
-  pub printed : Prints contents asks (IsLast (unserved_text fault number) 3) mid new answer
+  pub printed : Prints contents asks (IsLast (turn_refusal_text fault number) 3) mid new answer
 
 -- the first, after a turn whose lines could not be written; otherwise the second
 abbrev pub AfterTurn : Result ℕ WriteFault → Type 0 → Type 0 → Type 0
@@ -77,7 +77,7 @@ AfterTurn (Err fault) ends goes = ends
 AfterTurn (Ok status) ends goes = goes
 
 -- the process: its link and its port
-pub record PollOutcome (L : Type 0) : Type 0 where
+pub record ProcessData (L : Type 0) : Type 0 where
   pub link : L
   pub port : PortData
 
@@ -90,7 +90,7 @@ pub record Serving (L H : Type 0) : Type 0 where
   pub clock : ClockData
   pub count : LineCount
   pub host : H
-  pub process : Option (PollOutcome L)
+  pub process : Option (ProcessData L)
   pub lines : List (ℕ × List ℕ)
 
 -- ---- the input of a turn
@@ -99,15 +99,15 @@ pub record Serving (L H : Type 0) : Type 0 where
 pub record Chosen (L : Type 0) : Type 0 where
   pub next : NextInput
   pub lines : List (ℕ × List ℕ)
-  pub process : Option (PollOutcome L)
+  pub process : Option (ProcessData L)
 
 -- a process has gone, or is believed no more, and is lost now; and the process after that
-abbrev pub loss_of : {L : Type 0} → State → ℕ → ℕ → Option (PollOutcome L) → Bool
+abbrev pub loss_of : {L : Type 0} → State → ℕ → ℕ → Option (ProcessData L) → Bool
 loss_of s now jump None = false
 loss_of s now jump (Some p) = (taken_loss s now jump p.port).is_lost
 
-abbrev pub behind_loss : {L : Type 0} → State → ℕ → ℕ → Option (PollOutcome L)
-    → Option (PollOutcome L)
+abbrev pub behind_loss : {L : Type 0} → State → ℕ → ℕ → Option (ProcessData L)
+    → Option (ProcessData L)
 behind_loss s now jump None = None
 behind_loss s now jump (Some p) =
     Some (record { link = p.link; port = (taken_loss s now jump p.port).port })
@@ -127,7 +127,7 @@ next_by s is_lost line = record {
 }
 
 -- what the port of the process has, if one is heard; it has no number
-abbrev pub from_port : {L : Type 0} → State → ℕ → ℕ → List (ℕ × List ℕ) → Option (PollOutcome L)
+abbrev pub from_port : {L : Type 0} → State → ℕ → ℕ → List (ℕ × List ℕ) → Option (ProcessData L)
     → Chosen L
 from_port s now jump lines None = record {
   next = record { number = 0; shown = []; given = Ok (report_of_event None) };
@@ -149,7 +149,7 @@ from_port s now jump lines (Some p) =
 -- The next line of the trace, and beside it that the process is lost; or where there is no line
 -- what the process has.
 abbrev pub from_trace : {L : Type 0} → Option (ℕ × List ℕ) → State → ℕ → ℕ → List (ℕ × List ℕ)
-    → Option (PollOutcome L) → Chosen L
+    → Option (ProcessData L) → Chosen L
 from_trace None s now jump lines process = from_port s now jump lines process
 from_trace (Some line) s now jump lines process = record {
   next = next_by s (loss_of s now jump process) line;
@@ -157,7 +157,7 @@ from_trace (Some line) s now jump lines process = record {
   process = behind_loss s now jump process;
 }
 
-abbrev pub choose_input : {L : Type 0} → State → ℕ → ℕ → List (ℕ × List ℕ) → Option (PollOutcome L)
+abbrev pub choose_input : {L : Type 0} → State → ℕ → ℕ → List (ℕ × List ℕ) → Option (ProcessData L)
     → Chosen L
 choose_input s now jump lines process = from_trace (slice_get lines 0) s now jump lines process
 
@@ -199,7 +199,7 @@ ReportsConnectionEvent {W} contents asks now (Some news) old new answer =
 module _ {L W : Type 0} (step : L → Call → L → Type 0) (contents : W → Option (List ℕ))
     (asks : W → WriteCall → W → Type 0) where
   -- the process's connection is served, if there is one, and its event is reported
-  pub record AttendsTo (now : ℕ) (turn : Turn) (s : State) (before after : PollOutcome L)
+  pub record AttendsTo (now : ℕ) (turn : Turn) (s : State) (before after : ProcessData L)
       (old new : Writing W) (answer : Result ℕ WriteFault) : Type 0 where
     pub news : Option ConnectionEvent
     pub attends : Attends step
@@ -207,25 +207,26 @@ module _ {L W : Type 0} (step : L → Call → L → Type 0) (contents : W → O
         before.link after.link after.port news
     pub printed : ReportsConnectionEvent contents asks now news old new answer
 
-  abbrev pub Hears : ℕ → Turn → State → Option (PollOutcome L) → Option (PollOutcome L) → Writing W
+  -- The process's connection is served, if there is a process; without one the writer stays as it is.
+  abbrev pub PollsProcess : ℕ → Turn → State → Option (ProcessData L) → Option (ProcessData L) → Writing W
       → Writing W → Result ℕ WriteFault → Type 0
-  Hears now turn s None None old new answer = Stays old new answer
-  Hears now turn s None (Some after) old new answer = ⊥
-  Hears now turn s (Some before) None old new answer = ⊥
-  Hears now turn s (Some before) (Some after) old new answer =
+  PollsProcess now turn s None None old new answer = Stays old new answer
+  PollsProcess now turn s None (Some after) old new answer = ⊥
+  PollsProcess now turn s (Some before) None old new answer = ⊥
+  PollsProcess now turn s (Some before) (Some after) old new answer =
       AttendsTo now turn s before after old new answer
 
   -- What a turn reports is logged and printed, and then the process is attended to; or the lines
   -- could not be printed.
   pub record ReportsAndPolls (now : ℕ) (count : LineCount) (next : NextInput) (seen : BayView)
-      (turn : Turn) (s : State) (before after : Option (PollOutcome L)) (old new : Writing W)
+      (turn : Turn) (s : State) (before after : Option (ProcessData L)) (old new : Writing W)
       (answer : Result ℕ WriteFault) : Type 0 where
     pub between : Writing W
     pub outcome : Result ℕ WriteFault
     pub printed : ReportsTurn contents asks now count next seen turn s old between outcome
     pub hears : AfterTurn outcome
         ((after ≡ before) × (new ≡ between) × (answer ≡ outcome))
-        (Hears now turn s before after between new answer)
+        (PollsProcess now turn s before after between new answer)
 
 module _ {L H W : Type 0} (step : L → Call → L → Type 0) (acts : H → HostCall L → H → Type 0)
     (contents : W → Option (List ℕ)) (asks : W → WriteCall → W → Type 0) where
@@ -239,7 +240,7 @@ module _ {L H W : Type 0} (step : L → Call → L → Type 0) (acts : H → Hos
     pub fault : ServeFault
     pub is : turn_refusal (moment_read clocks before.clock) (choice_of clocks before).next.given
         before.held ≡ Some fault
-    pub printed : ReportsUnserved contents asks fault (choice_of clocks before).next.number
+    pub printed : ReportsTurnRefusal contents asks fault (choice_of clocks before).next.number
         (choice_of clocks before).next.shown begun new answer
 
   -- The clock was read, the input of the turn was chosen, the turn was done, its report was

@@ -45,6 +45,6 @@ is_quiet turn =
     && (length turn.closed == 0 && length turn.memory == 0))
 
 -- what is printed if a turn is refused, by the number of its line of the trace
-abbrev pub unserved_text : ServeFault → ℕ → List ℕ
-unserved_text BadLine k = unreadable_text k
-unserved_text MomentTooLarge k = codes "fault 114\n"
+abbrev pub turn_refusal_text : ServeFault → ℕ → List ℕ
+turn_refusal_text BadLine k = unreadable_text k
+turn_refusal_text MomentTooLarge k = codes "fault 114\n"

@@ -287,7 +287,7 @@ fn log_bad_line<W: Sink>(writer: &mut WatchedWriter<W>, number: usize, shown: &E
 }
 
 /// Logs why a turn was refused, with its line of the trace.
-pub fn log_unserved<W: Sink>(
+pub fn log_turn_refusal<W: Sink>(
     writer: &mut WatchedWriter<W>,
     fault: ServeFault,
     number: usize,

@@ -1,7 +1,7 @@
 // The process, and the input of a turn.
 ghost use Rattle.std.specs.Prelude.{◌≡◌, []};
 ghost use Rattle.bay_server_turn.specs.Calls.{Called};
-ghost use Rattle.bay_server.specs.ServeReport.{AttendsTo, Hears, behind_loss, choose_input, from_port, loss_of, next_by};
+ghost use Rattle.bay_server.specs.ServeReport.{AttendsTo, PollsProcess, behind_loss, choose_input, from_port, loss_of, next_by};
 ghost use Rattle.bay_server.specs.ServeReport as spec;
 
 use crate::trace_lines::TraceLines;
@@ -37,9 +37,9 @@ pub struct Process<L> {
 }
 
 impl<L> Model for Process<L> {
-    ghost use Rattle.bay_server.specs.ServeReport.{PollOutcome};
+    ghost use Rattle.bay_server.specs.ServeReport.{ProcessData};
 
-    ghost Value = { PollOutcome L };
+    ghost Value = { ProcessData L };
 
     ghost view = { λ p. record { link = p.link; port = p.port } };
 }
@@ -190,7 +190,7 @@ pub fn poll_process<L: Link, W: Sink>(
     turn: &Turn,
     writer: &mut WatchedWriter<W>,
 ) -> Result<u8, WriteFault>
-    ensures { Hears (Called L.does L.failures) W.contents W.does moment turn.now device.now
+    ensures { PollsProcess (Called L.does L.failures) W.contents W.does moment turn.now device.now
         process.old
         process.new writer.old writer.new result }
 {

@@ -16,7 +16,7 @@ use crate::log_lines::{log_shift, log_used_up};
 use crate::process::{NextInput, Process, next_input, poll_process, was_busy};
 use crate::record_line::log_record;
 use crate::trace_lines::TraceLines;
-use crate::turns::{report_turn, report_unserved};
+use crate::turns::{report_turn, report_turn_refusal};
 use bay_device::device::Device;
 use bay_io::calls::Sink;
 use bay_io::outbox::WriteFault;
@@ -134,7 +134,7 @@ fn try_turn<L: Link, H: Host<L>, W: Sink>(
             Ok(TurnAttempt::Done { was_idle })
         }
         Err(fault) => {
-            let status = report_unserved(writer, fault, next.number, &next.shown)?;
+            let status = report_turn_refusal(writer, fault, next.number, &next.shown)?;
             Ok(TurnAttempt::Ends(status))
         }
     }

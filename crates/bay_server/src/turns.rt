@@ -5,15 +5,15 @@ ghost use Rattle.bay_device.specs.declared.event.Why.TheVariants.{Fault};
 ghost use Rattle.bay_report.specs.Lines.{closing_text};
 ghost use Rattle.bay_report.specs.Report.{IsLast, Prints};
 ghost use Rattle.bay_server_turn.specs.Code.{code_of};
-ghost use Rattle.bay_server.specs.ServeReport.{PrintsTurn, ReportsConnectionEvent, ReportsTurn, ReportsUnserved};
+ghost use Rattle.bay_server.specs.ServeReport.{PrintsTurn, ReportsConnectionEvent, ReportsTurn, ReportsTurnRefusal};
 ghost use Rattle.bay_process_port.specs.ProcessOutput.{refusal_text};
 ghost use Rattle.bay_process_port.specs.declared.connection_event.ConnectionEvent.TheVariants.{Closed, Opened};
-ghost use Rattle.bay_server.specs.TurnLines.{closings_text, memory_closings_text, connection_event_text, turn_text, unserved_text};
+ghost use Rattle.bay_server.specs.TurnLines.{closings_text, memory_closings_text, connection_event_text, turn_text, turn_refusal_text};
 ghost use Rattle.bay_server.specs.TurnLines as spec;
 
 use crate::change_lines::BayView;
 use crate::connection_lines::LineCount;
-use crate::log_lines::{log_connection_event, log_turn, log_unserved};
+use crate::log_lines::{log_connection_event, log_turn, log_turn_refusal};
 use crate::process::NextInput;
 use bay_device::device::Device;
 use bay_device::event::Why;
@@ -201,7 +201,7 @@ pub fn report_connection_event<W: Sink>(
 
 // Writes which line of the trace is not valid.
 fn write_bad_line<W: Sink>(writer: &mut WatchedWriter<W>, number: usize) -> Result<u8, WriteFault>
-    ensures { Prints W.contents W.does (IsLast (unserved_text ServeFault.BadLine number) 3)
+    ensures { Prints W.contents W.does (IsLast (turn_refusal_text ServeFault.BadLine number) 3)
         writer.old
         writer.new result }
 {
@@ -210,12 +210,12 @@ fn write_bad_line<W: Sink>(writer: &mut WatchedWriter<W>, number: usize) -> Resu
 }
 
 // Writes why a turn was refused, with the number of its line of the trace.
-fn write_unserved<W: Sink>(
+fn write_turn_refusal<W: Sink>(
     writer: &mut WatchedWriter<W>,
     fault: ServeFault,
     number: usize,
 ) -> Result<u8, WriteFault>
-    ensures { Prints W.contents W.does (IsLast (unserved_text fault number) 3) writer.old writer.new
+    ensures { Prints W.contents W.does (IsLast (turn_refusal_text fault number) 3) writer.old writer.new
         result }
 {
     match fault {
@@ -226,15 +226,15 @@ fn write_unserved<W: Sink>(
 
 /// Logs and writes why a turn was refused, with its line of the trace. Returns the status 3; fails
 /// if a write or a flush fails.
-pub fn report_unserved<W: Sink>(
+pub fn report_turn_refusal<W: Sink>(
     writer: &mut WatchedWriter<W>,
     fault: ServeFault,
     number: usize,
     shown: &EscapedText,
 ) -> Result<u8, WriteFault>
-    ensures { ReportsUnserved W.contents W.does fault number shown.now writer.old writer.new
+    ensures { ReportsTurnRefusal W.contents W.does fault number shown.now writer.old writer.new
         result }
 {
-    log_unserved(writer, fault, number, shown);
-    write_unserved(writer, fault, number)
+    log_turn_refusal(writer, fault, number, shown);
+    write_turn_refusal(writer, fault, number)
 }

@@ -12,8 +12,8 @@ use Rattle.bay_transport.specs.declared.frame.FramePrefix.TheVariants.{Begun, No
 use Rattle.bay_transport.specs.declared.fault.TransportFault.{TransportFault}
 use Rattle.bay_transport.specs.declared.fault.TransportFault.TheVariants.{BadTpkt, BadCotp, ClassRefused, TsduTooLong, Failed, OutOfMemory}
 use Rattle.bay_transport.specs.Frame.{pair_of, tpdu_of, frame_prefix, missing_count}
-use Rattle.bay_transport.specs.Doings.{Fails, TransportConnection, Left, Broken, Run, TpduEffect, Refuses, effect_of, data_effect, kind_effect, alone, run_of}
-use Rattle.bay_transport.specs.Assembly.{connection_of, rest_of, left_of, body_of, HoldsFrame, run_for, FailsWhere, Takes, Reaches}
+use Rattle.bay_transport.specs.Doings.{Fails, TransportConnection, StreamState, Broken, Run, TpduEffect, Refuses, effect_of, data_effect, kind_effect, alone, run_of}
+use Rattle.bay_transport.specs.Assembly.{connection_of, rest_of, stream_state_of, body_of, HoldsFrame, run_for, FailsWhere, Takes, Reaches}
 use Rattle.bay_transport.proofs.FrameLemmas.{is_whole, whole-within, whole-length, whole-part}
 use Rattle.bay_transport.proofs.RunLemmas.{run-append, run-begun, run-none, run-whole, run-part, run-front}
 
@@ -138,7 +138,7 @@ pub takes-more : (old new : Assembly) (piece : List ℕ) (used : ℕ) → used �
     → frame_prefix (rest_of new) ≡ Begun → Takes old piece used More new
 takes-more old new piece used within moves rest connection begun =
     let b : frame_prefix (rest_of old ++ take used piece) ≡ Begun = rw (← rest) begun in
-    let does : run_of old.number (left_of old) (take used piece) ≡ run_for More new =
+    let does : run_of old.number (stream_state_of old) (take used piece) ≡ run_for More new =
     rw (connection, rest) (run-begun old.number (connection_of old) (rest_of old)
     (take used piece) b) in
     record {
@@ -146,7 +146,7 @@ takes-more old new piece used within moves rest connection begun =
       moves = moves;
       does = does;
       quiet =
-          run-front old.number (left_of old) (take (used - 1) piece)
+          run-front old.number (stream_state_of old) (take (used - 1) piece)
           (drop (used - 1) (take used piece))
           (rw (← shorter piece used) (ap (λ (r : Run). r.doings) does));
     }
@@ -205,26 +205,26 @@ whole-seen old new piece used k begun few within rest whole =
 pub refuses-frame : (old : Assembly) (frame piece : List ℕ) (used : ℕ) (fault : TransportFault)
     → frame ≡ rest_of old ++ take used piece → frame_prefix frame ≡ Whole (length frame)
     → effect_of old.number (connection_of old) frame ≡ Refuses fault
-    → (run_of old.number (left_of old) piece).doings ≡ Fails fault ∷ []
+    → (run_of old.number (stream_state_of old) piece).doings ≡ Fails fault ∷ []
 refuses-frame old frame piece used fault rest whole effect =
     let n : frame_prefix (rest_of old ++ take used piece)
     ≡ Whole (length (rest_of old ++ take used piece)) = rw (← rest) whole in
-    let r : run_of old.number (left_of old) (take used piece)
+    let r : run_of old.number (stream_state_of old) (take used piece)
     ≡ record { doings = Fails fault ∷ []; left = Broken } =
     run-whole old.number (connection_of old) (rest_of old) (take used piece) n
     ∙ ap (λ (ys : List ℕ). alone (effect_of old.number (connection_of old) ys)
     (connection_of old)) (sym rest)
     ∙ ap (λ (e : TpduEffect). alone e (connection_of old)) effect in
-    ap (λ (ys : List ℕ). (run_of old.number (left_of old) ys).doings)
+    ap (λ (ys : List ℕ). (run_of old.number (stream_state_of old) ys).doings)
     (sym (take-append-drop used piece))
     ∙ ap (λ (d : Run). d.doings)
-    (run-append old.number (left_of old) (take used piece) (drop used piece)) ∙ rw r refl
+    (run-append old.number (stream_state_of old) (take used piece) (drop used piece)) ∙ rw r refl
 
 pub refuses-front : (old : Assembly) (begun piece : List ℕ) (used : ℕ)
     → begun ≡ rest_of old ++ take used piece → frame_prefix begun ≡ NoFrame
-    → (run_of old.number (left_of old) piece).doings ≡ Fails BadTpkt ∷ []
+    → (run_of old.number (stream_state_of old) piece).doings ≡ Fails BadTpkt ∷ []
 refuses-front old begun piece used rest none =
-    ap (λ (ys : List ℕ). (run_of old.number (left_of old) ys).doings)
+    ap (λ (ys : List ℕ). (run_of old.number (stream_state_of old) ys).doings)
     (sym (take-append-drop used piece))
     ∙ ap (λ (d : Run). d.doings)
     (run-none old.number (connection_of old) (rest_of old) (take used piece) (drop used piece)
@@ -268,7 +268,7 @@ pub refuses-whole : (old middle : Assembly) (piece : List ℕ) (used k : ℕ) (f
     → middle.number ≡ old.number → frame_prefix (rest_of middle) ≡ Whole k
     → FailsWhere fault (effect_of middle.number (connection_of middle) (rest_of middle)
     ≡ Refuses fault) → FailsWhere fault
-    ((run_of old.number (left_of old) piece).doings ≡ Fails fault ∷ [])
+    ((run_of old.number (stream_state_of old) piece).doings ≡ Fails fault ∷ [])
 refuses-whole old middle piece used k fault begun within few rest connection number whole refused =
     fails-weaker fault (λ r. refuses-frame old (rest_of middle) piece used fault rest
     (whole-seen old middle piece used k begun few within rest whole)
@@ -282,34 +282,34 @@ take-add at more xs =
     ∙ rw (take-take at (at + more) xs (omega arith), drop-take at more xs) refl
 
 -- octets that came to nothing, and what comes next
-pub run-quiet : (number : ℕ) (old middle : Left) (front octets : List ℕ)
+pub run-quiet : (number : ℕ) (old middle : StreamState) (front octets : List ℕ)
     → run_of number old front ≡ record { doings = []; left = middle }
     → run_of number old (front ++ octets) ≡ run_of number middle octets
 run-quiet number old middle front octets quiet = run-append number old front octets ∙ rw quiet refl
 
 pub nothing-yet : (a : Assembly) → frame_prefix (rest_of a) ≡ Begun
-    → run_of a.number (left_of a) [] ≡ record { doings = []; left = left_of a }
+    → run_of a.number (stream_state_of a) [] ≡ record { doings = []; left = stream_state_of a }
 nothing-yet a begun =
     run-begun a.number (connection_of a) (rest_of a) [] (rw (append-nil (rest_of a)) begun)
     ∙ rw (append-nil (rest_of a)) refl
 
 pub quiet-more : (old middle new : Assembly) (piece : List ℕ) (at used : ℕ)
     → middle.number ≡ old.number
-    → run_of old.number (left_of old) (take at piece)
-    ≡ record { doings = []; left = left_of middle }
+    → run_of old.number (stream_state_of old) (take at piece)
+    ≡ record { doings = []; left = stream_state_of middle }
     → Takes middle (drop at piece) used More new
-    → run_of old.number (left_of old) (take (at + used) piece)
-    ≡ record { doings = []; left = left_of new }
+    → run_of old.number (stream_state_of old) (take (at + used) piece)
+    ≡ record { doings = []; left = stream_state_of new }
 quiet-more old middle new piece at used number quiet t =
     rw (take-add at used piece)
-    (run-quiet old.number (left_of old) (left_of middle) (take at piece)
+    (run-quiet old.number (stream_state_of old) (stream_state_of middle) (take at piece)
     (take used (drop at piece)) quiet
-    ∙ ap (λ (n : ℕ). run_of n (left_of middle) (take used (drop at piece))) (sym number) ∙ t.does)
+    ∙ ap (λ (n : ℕ). run_of n (stream_state_of middle) (take used (drop at piece))) (sym number) ∙ t.does)
 
 pub reaches-kind : (old middle new : Assembly) (piece : List ℕ) (at used : ℕ) (kind : Got)
     → at < length piece → middle.number ≡ old.number
-    → run_of old.number (left_of old) (take at piece)
-    ≡ record { doings = []; left = left_of middle }
+    → run_of old.number (stream_state_of old) (take at piece)
+    ≡ record { doings = []; left = stream_state_of middle }
     → Takes middle (drop at piece) used kind new → (kind ≡ More → ⊥)
     → Reaches old piece (at + used) kind new
 reaches-kind old middle new piece at used kind within number quiet t done =
@@ -322,22 +322,22 @@ reaches-kind old middle new piece at used kind within number quiet t done =
       all = λ more. absurd (done more);
       moves = λ _. omega arith;
       does = rw (take-add at used piece)
-          (run-quiet old.number (left_of old) (left_of middle) (take at piece)
+          (run-quiet old.number (stream_state_of old) (stream_state_of middle) (take at piece)
           (take used (drop at piece)) quiet
-          ∙ ap (λ (n : ℕ). run_of n (left_of middle) (take used (drop at piece))) (sym number)
+          ∙ ap (λ (n : ℕ). run_of n (stream_state_of middle) (take used (drop at piece))) (sym number)
           ∙ t.does);
       quiet =
           λ _. rw (e, take-add at (used - 1) piece)
           (ap (λ (d : Run). d.doings)
-          (run-quiet old.number (left_of old) (left_of middle) (take at piece)
+          (run-quiet old.number (stream_state_of old) (stream_state_of middle) (take at piece)
           (take (used - 1) (drop at piece)) quiet)
-          ∙ ap (λ (n : ℕ). (run_of n (left_of middle) (take (used - 1) (drop at piece))).doings)
+          ∙ ap (λ (n : ℕ). (run_of n (stream_state_of middle) (take (used - 1) (drop at piece))).doings)
           (sym number) ∙ t.quiet);
     }
 
 pub reaches-end : (old new : Assembly) (piece : List ℕ) (at : ℕ) → at ≤ length piece
-    → length piece ≤ at → run_of old.number (left_of old) (take at piece)
-    ≡ record { doings = []; left = left_of new } → Reaches old piece at More new
+    → length piece ≤ at → run_of old.number (stream_state_of old) (take at piece)
+    ≡ record { doings = []; left = stream_state_of new } → Reaches old piece at More new
 reaches-end old new piece at within all quiet =
     record {
       within = within;
@@ -349,14 +349,14 @@ reaches-end old new piece at within all quiet =
 
 pub refuses-later : (old middle : Assembly) (piece : List ℕ) (at : ℕ) (fault : TransportFault)
     → middle.number ≡ old.number
-    → run_of old.number (left_of old) (take at piece)
-    ≡ record { doings = []; left = left_of middle }
-    → FailsWhere fault ((run_of middle.number (left_of middle) (drop at piece)).doings
+    → run_of old.number (stream_state_of old) (take at piece)
+    ≡ record { doings = []; left = stream_state_of middle }
+    → FailsWhere fault ((run_of middle.number (stream_state_of middle) (drop at piece)).doings
     ≡ Fails fault ∷ []) → FailsWhere fault
-    ((run_of old.number (left_of old) piece).doings ≡ Fails fault ∷ [])
+    ((run_of old.number (stream_state_of old) piece).doings ≡ Fails fault ∷ [])
 refuses-later old middle piece at fault number quiet refused =
-    fails-weaker fault (λ r. ap (λ (ys : List ℕ). (run_of old.number (left_of old) ys).doings)
+    fails-weaker fault (λ r. ap (λ (ys : List ℕ). (run_of old.number (stream_state_of old) ys).doings)
     (sym (take-append-drop at piece))
     ∙ ap (λ (d : Run). d.doings)
-    (run-quiet old.number (left_of old) (left_of middle) (take at piece) (drop at piece) quiet)
-    ∙ ap (λ (n : ℕ). (run_of n (left_of middle) (drop at piece)).doings) (sym number) ∙ r) refused
+    (run-quiet old.number (stream_state_of old) (stream_state_of middle) (take at piece) (drop at piece) quiet)
+    ∙ ap (λ (n : ℕ). (run_of n (stream_state_of middle) (drop at piece)).doings) (sym number) ∙ r) refused

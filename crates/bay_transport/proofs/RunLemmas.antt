@@ -5,7 +5,7 @@ use Rattle.bay_transport.specs.declared.frame.FramePrefix.{FramePrefix}
 use Rattle.bay_transport.specs.declared.frame.FramePrefix.TheVariants.{Begun, NoFrame, Whole}
 use Rattle.bay_transport.specs.declared.fault.TransportFault.TheVariants.{BadTpkt}
 use Rattle.bay_transport.specs.Frame.{frame_prefix, cut_of}
-use Rattle.bay_transport.specs.Doings.{Fails, TransportConnection, Left, Going, Over, Broken, Run, TpduEffect, Joins, Finishes, Agrees, Closes, Refuses, effect_of, connection_after, on_effect, at_rest, frames_run, alone, run_of, and_then, Stream, doings, after}
+use Rattle.bay_transport.specs.Doings.{Fails, TransportConnection, StreamState, Going, Over, Broken, Run, TpduEffect, Joins, Finishes, Agrees, Closes, Refuses, effect_of, connection_after, on_effect, at_rest, frames_run, alone, run_of, and_then, Stream, doings, after}
 use Rattle.bay_transport.proofs.FrameLemmas.{is_whole, none-append, front-part, cut-rest, cut-whole, cut-append}
 
 rest-run : (f : FramePrefix) (number : ℕ) (connection : TransportConnection) (rest more : List ℕ)
@@ -39,7 +39,7 @@ frames_run-append number connection (frame ∷ frames) rest more =
     (frames_run-append number (connection_after (effect_of number connection frame) connection)
     frames rest more)
 
-pub run-append : (number : ℕ) (left : Left) (octets more : List ℕ)
+pub run-append : (number : ℕ) (left : StreamState) (octets more : List ℕ)
     → run_of number left (octets ++ more) ≡ and_then number (run_of number left octets) more
 run-append number (Going connection rest) octets more =
     rw (← append_assoc rest octets more, cut-append (rest ++ octets) more)
@@ -101,7 +101,7 @@ nil-front [] ys e = refl
 nil-front (x ∷ xs) ys e = absurd (cc)
 
 -- what comes to nothing came to nothing before
-pub run-front : (number : ℕ) (left : Left) (octets more : List ℕ)
+pub run-front : (number : ℕ) (left : StreamState) (octets more : List ℕ)
     → (run_of number left (octets ++ more)).doings ≡ [] → (run_of number left octets).doings ≡ []
 run-front number left octets more e =
     nil-front (run_of number left octets).doings

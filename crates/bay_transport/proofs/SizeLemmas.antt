@@ -8,7 +8,7 @@ use Rattle.bay_transport.specs.declared.frame.Tpdu.{Tpdu}
 use Rattle.bay_transport.specs.declared.frame.Tpdu.TheVariants.{Request, Data}
 use Rattle.bay_transport.specs.Frame.{frame_prefix, tpdu_of, cut_of}
 use Rattle.bay_transport.specs.Connect.{Confirmation}
-use Rattle.bay_transport.specs.Doings.{Doing, Answers, Delivers, Ends, Fails, TransportConnection, Left, Going, Over, Broken, Run, TpduEffect, Joins, Finishes, Agrees, Closes, Refuses, connect_effect, data_effect, kind_effect, tpdu_effect, effect_of, connection_after, on_effect, at_rest, frames_run, run_of, Stream, doings, after}
+use Rattle.bay_transport.specs.Doings.{Doing, Answers, Delivers, Ends, Fails, TransportConnection, StreamState, Going, Over, Broken, Run, TpduEffect, Joins, Finishes, Agrees, Closes, Refuses, connect_effect, data_effect, kind_effect, tpdu_effect, effect_of, connection_after, on_effect, at_rest, frames_run, run_of, Stream, doings, after}
 use Rattle.bay_transport.specs.Feeding.{IsGoing, agreed_from, size_agreed, size_after}
 
 -- ---- one TPDU
@@ -78,7 +78,7 @@ frames-size number connection (frame ∷ frames) rest =
     rest) (frames-size number (connection_after (effect_of number connection frame) connection)
     frames rest)
 
-left-size : (number : ℕ) (left : Left) (octets : List ℕ)
+left-size : (number : ℕ) (left : StreamState) (octets : List ℕ)
     → agreed_from (run_of number left octets).left
     ≡ size_after (agreed_from left) (run_of number left octets).doings
 left-size number (Going connection rest) octets =
@@ -125,7 +125,7 @@ frames-sized number connection (frame ∷ frames) rest =
     effect-sized (effect_of number connection frame) connection (frames_run number next frames rest)
     (tpdu-sized number connection (drop 4 frame)) (frames-sized number next frames rest)
 
-left-sized : (number : ℕ) (left : Left) (octets : List ℕ)
+left-sized : (number : ℕ) (left : StreamState) (octets : List ℕ)
     → AreSized (agreed_from left) (run_of number left octets).doings
 left-sized number (Going connection rest) octets =
     frames-sized number connection (cut_of (rest ++ octets)).frames (cut_of (rest ++ octets)).rest
@@ -164,7 +164,7 @@ frames-going number connection (frame ∷ frames) rest e =
     effect-going (effect_of number connection frame) (frames_run number next frames rest) e
     (frames-going number next frames rest)
 
-left-going : (number : ℕ) (left : Left) (octets : List ℕ) → IsGoing left
+left-going : (number : ℕ) (left : StreamState) (octets : List ℕ) → IsGoing left
     → (run_of number left octets).doings ≡ [] → IsGoing (run_of number left octets).left
 left-going number (Going connection rest) octets going e =
     frames-going number connection (cut_of (rest ++ octets)).frames (cut_of (rest ++ octets)).rest e

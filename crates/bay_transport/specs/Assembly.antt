@@ -7,7 +7,7 @@ use Rattle.bay_transport.specs.declared.assembly.Assembly.{Assembly}
 use Rattle.bay_transport.specs.declared.fed.Got.{Got}
 use Rattle.bay_transport.specs.declared.fed.Got.TheVariants.{More, Answer, Tsdu, Ended}
 use Rattle.bay_transport.specs.Frame.{frame_prefix}
-use Rattle.bay_transport.specs.Doings.{Doing, Answers, Delivers, Ends, TransportConnection, Left, Going, Over, Run, run_of}
+use Rattle.bay_transport.specs.Doings.{Doing, Answers, Delivers, Ends, TransportConnection, StreamState, Going, Over, Run, run_of}
 
 -- ---- own: the buffers of an assembly
 
@@ -21,8 +21,8 @@ abbrev pub rest_of : Assembly → List ℕ
 rest_of a = drop a.group a.buffer.items
 
 -- the state of the stream, while octets are still accepted
-abbrev pub left_of : Assembly → Left
-left_of a = Going (connection_of a) (rest_of a)
+abbrev pub stream_state_of : Assembly → StreamState
+stream_state_of a = Going (connection_of a) (rest_of a)
 
 -- The sizes that a request can agree, in octets.
 pub record IsSize (size : ℕ) : Type 0 where
@@ -65,7 +65,7 @@ doings_for Tsdu a = Delivers a.shown.items ∷ []
 doings_for Ended a = Ends ∷ []
 
 -- the state after a result of this kind: after an end it is `Over`
-abbrev pub left_for : Got → Left → Left
+abbrev pub left_for : Got → StreamState → StreamState
 left_for More left = left
 left_for Answer left = left
 left_for Tsdu left = left
@@ -73,7 +73,7 @@ left_for Ended left = Over
 
 -- the doings of a result of this kind, and the state that the assembly represents
 abbrev pub run_for : Got → Assembly → Run
-run_for kind a = record { doings = doings_for kind a; left = left_for kind (left_of a) }
+run_for kind a = record { doings = doings_for kind a; left = left_for kind (stream_state_of a) }
 
 -- If nothing is completed, what was completed last stays.
 abbrev pub KeepsShown : Got → List ℕ → List ℕ → Type 0
@@ -98,8 +98,8 @@ pub record Takes (old : Assembly) (piece : List ℕ) (used : ℕ) (kind : Got) (
     : Type 0 where
   pub within : used ≤ length piece
   pub moves : 0 < length piece → 0 < used
-  pub does : run_of old.number (left_of old) (take used piece) ≡ run_for kind new
-  pub quiet : (run_of old.number (left_of old) (take (used - 1) piece)).doings ≡ []
+  pub does : run_of old.number (stream_state_of old) (take used piece) ≡ run_for kind new
+  pub quiet : (run_of old.number (stream_state_of old) (take (used - 1) piece)).doings ≡ []
 
 -- The same, up to the end of the TPDU that completes something, or of the piece.
 pub record Reaches (old : Assembly) (piece : List ℕ) (used : ℕ) (kind : Got) (new : Assembly)
@@ -107,6 +107,6 @@ pub record Reaches (old : Assembly) (piece : List ℕ) (used : ℕ) (kind : Got)
   pub within : used ≤ length piece
   pub all : kind ≡ More → used ≡ length piece
   pub moves : (kind ≡ More → ⊥) → 0 < used
-  pub does : run_of old.number (left_of old) (take used piece) ≡ run_for kind new
+  pub does : run_of old.number (stream_state_of old) (take used piece) ≡ run_for kind new
   pub quiet : (kind ≡ More → ⊥)
-      → (run_of old.number (left_of old) (take (used - 1) piece)).doings ≡ []
+      → (run_of old.number (stream_state_of old) (take (used - 1) piece)).doings ≡ []

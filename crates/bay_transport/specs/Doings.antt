@@ -27,15 +27,15 @@ pub record TransportConnection : Type 0 where
 
 -- the state of a stream after octets: the state after their complete TPDUs, and the rest after
 -- these; or that the connection ended or failed
-pub data Left : Type 0 where
-  Going : TransportConnection → List ℕ → Left
-  Over : Left
-  Broken : Left
+pub data StreamState : Type 0 where
+  Going : TransportConnection → List ℕ → StreamState
+  Over : StreamState
+  Broken : StreamState
 
 -- the doings of octets, in order, and the state after them
 pub record Run : Type 0 where
   pub doings : List Doing
-  pub left : Left
+  pub left : StreamState
 
 -- the effect of one TPDU: its data join the group, or complete it; a size is agreed, and the
 -- request answered; the connection ends; or the TPDU is refused
@@ -129,7 +129,7 @@ frames_run number connection (frame ∷ frames) rest =
 
 -- The run of octets, from a state of the stream: the rest and the octets after it are cut into
 -- frames.
-abbrev pub run_of : ℕ → Left → List ℕ → Run
+abbrev pub run_of : ℕ → StreamState → List ℕ → Run
 run_of number (Going connection rest) octets =
     frames_run number connection (cut_of (rest ++ octets)).frames (cut_of (rest ++ octets)).rest
 run_of number Over octets = record { doings = []; left = Over }
@@ -151,10 +151,10 @@ and_then number first octets =
 -- a stream on the association of this number, after some octets
 pub record Stream : Type 0 where
   pub number : ℕ
-  pub left : Left
+  pub left : StreamState
 
 -- the state before any octet
-abbrev pub start : Left
+abbrev pub start : StreamState
 start = Going (record { size = None; group = [] }) []
 
 -- the doings of octets, from the state of a stream

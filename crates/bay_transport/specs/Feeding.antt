@@ -7,8 +7,8 @@ use Rattle.bay_transport.specs.declared.fed.Got.{Got}
 use Rattle.bay_transport.specs.declared.fed.Got.TheVariants.{More, Answer, Tsdu, Ended}
 use Rattle.bay_transport.specs.declared.transport.TransportState.{TransportState}
 use Rattle.bay_transport.specs.declared.transport.TransportState.TheVariants.{Open, Closed, Refused}
-use Rattle.bay_transport.specs.Doings.{Doing, Answers, Delivers, Ends, Fails, Left, Going, Over, Broken, Stream, doings}
-use Rattle.bay_transport.specs.Assembly.{left_of, IsSound, HasNoRoom}
+use Rattle.bay_transport.specs.Doings.{Doing, Answers, Delivers, Ends, Fails, StreamState, Going, Over, Broken, Stream, doings}
+use Rattle.bay_transport.specs.Assembly.{stream_state_of, IsSound, HasNoRoom}
 
 -- ---- own: the result of feeding a piece
 
@@ -21,7 +21,7 @@ pub record CompletesDoing (s : Stream) (piece : List ℕ) (used : ℕ) (doing : 
 
 -- `used` octets of the piece are consumed, and the result is the first doing of the piece, or None
 -- if there is none yet. After an end, no octet is consumed and the result is the end again.
-abbrev pub FeedsFrom : Left → Stream → List ℕ → ℕ → Option Doing → Type 0
+abbrev pub FeedsFrom : StreamState → Stream → List ℕ → ℕ → Option Doing → Type 0
 FeedsFrom (Going connection rest) s piece used None = (used ≡ length piece) × (doings s piece ≡ [])
 FeedsFrom (Going connection rest) s piece used (Some doing) = CompletesDoing s piece used doing
 FeedsFrom Over s piece used answer = (used ≡ 0) × (answer ≡ Some Ends)
@@ -36,7 +36,7 @@ abbrev pub GoesOn : Stream → Stream → List ℕ → ℕ → Doing → Type 0
 GoesOn old new piece used doing = doings old piece ≡ doing ∷ doings new (drop used piece)
 
 -- The stream still accepts octets.
-abbrev pub IsGoing : Left → Type 0
+abbrev pub IsGoing : StreamState → Type 0
 IsGoing (Going connection rest) = Unit {0}
 IsGoing Over = ⊥
 IsGoing Broken = ⊥
@@ -53,7 +53,7 @@ RefusesPiece s piece Failed = s.left ≡ Broken
 RefusesPiece s piece OutOfMemory = IsGoing s.left × (0 < length piece)
 
 -- the agreed size, if the stream still accepts octets and there was a request
-abbrev pub agreed_from : Left → Option ℕ
+abbrev pub agreed_from : StreamState → Option ℕ
 agreed_from (Going connection rest) = connection.size
 agreed_from Over = None
 agreed_from Broken = None
@@ -84,7 +84,7 @@ size_after size (Fails fault ∷ doings) = None
 
 -- The buffers are within their limits: 70,000 octets of a group, less than the longest frame of a
 -- rest, and 70,000 octets of what was completed last; and nothing after an end or a fault.
-abbrev pub KeepsWithin : Left → List ℕ → Type 0
+abbrev pub KeepsWithin : StreamState → List ℕ → Type 0
 KeepsWithin (Going connection rest) shown =
     (length connection.group ≤ 70000) × (length rest < 65535) × (length shown ≤ 70000)
 KeepsWithin Over shown = shown ≡ []
@@ -104,8 +104,8 @@ broken s = record { number = s.number; left = Broken }
 -- ---- own: views of the code
 
 -- the state of the stream: that of the assembly while octets are accepted
-abbrev pub left_in : TransportState → Assembly → Left
-left_in Open a = left_of a
+abbrev pub left_in : TransportState → Assembly → StreamState
+left_in Open a = stream_state_of a
 left_in Closed a = Over
 left_in Refused a = Broken
 

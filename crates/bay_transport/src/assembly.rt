@@ -3,7 +3,7 @@ ghost use Rattle.std.specs.Prelude.{◌≡◌, ◌+◌, ◌-◌, ◌<◌, ◌≤
 ghost use Rattle.bay_transport.specs.Frame.{missing_count};
 ghost use Rattle.bay_transport.specs.Connect as spec;
 ghost use Rattle.bay_transport.specs.Doings.{Fails, Refuses, effect_of, data_effect, connect_effect, alone, run_of};
-ghost use Rattle.bay_transport.specs.Assembly.{connection_of, rest_of, left_of, body_of, IsSound, HoldsFrame, HasNoRoom, run_for, FailsWhere, KeepsShown, Takes, Reaches};
+ghost use Rattle.bay_transport.specs.Assembly.{connection_of, rest_of, stream_state_of, body_of, IsSound, HoldsFrame, HasNoRoom, run_for, FailsWhere, KeepsShown, Takes, Reaches};
 
 use crate::fault::TransportFault;
 use crate::fed::Got;
@@ -193,7 +193,7 @@ impl Assembly {
             (λ taken. KeepsShown taken.1 self.old.shown.items self.new.shown.items) }
         ensures err { IfErr result
             (λ fault. FailsWhere fault
-            ((run_of self.old.number (left_of self.old) piece.now).doings ≡ Fails fault ∷ [])) }
+            ((run_of self.old.number (stream_state_of self.old) piece.now).doings ≡ Fails fault ∷ [])) }
     {
         let taken = self.extend(piece)?;
         match frame_prefix(&self.buffer[self.group..]) {
@@ -217,7 +217,7 @@ impl Assembly {
             (λ taken. KeepsShown taken.1 self.old.shown.items self.new.shown.items) }
         ensures err { IfErr result
             (λ fault. FailsWhere fault
-            ((run_of self.old.number (left_of self.old) piece.now).doings ≡ Fails fault ∷ [])) }
+            ((run_of self.old.number (stream_state_of self.old) piece.now).doings ≡ Fails fault ∷ [])) }
         ensures some { OnErr result (0 < length piece.now) }
     {
         let mut used = 0;

@@ -2,7 +2,7 @@
 ghost use Rattle.std.specs.Prelude.{◌≡◌, ◌++◌, ◌∷◌, [], ◌↔◌, List, ℕ, Some, IsSome, take, drop};
 ghost use Rattle.bay_transport.specs.Frame.{Cut, IsCut, cut_of};
 ghost use Rattle.bay_transport.specs.Connect.{Parameter, parameter_octets, parameters_of};
-ghost use Rattle.bay_transport.specs.Doings.{Doing, Delivers, Left, Stream, run_of, and_then, doings, after};
+ghost use Rattle.bay_transport.specs.Doings.{Doing, Delivers, StreamState, Stream, run_of, and_then, doings, after};
 ghost use Rattle.bay_transport.specs.Feeding.{CompletesDoing, GoesOn, IsGoing, size_agreed, size_after};
 
 /// There is exactly one way to split a list of octets into complete frames and a rest that begins
@@ -17,7 +17,7 @@ pub fn one_cutting()
 /// followed by a piece are the doings of the list, followed by those of the piece from the state
 /// after the list.
 pub fn any_cutting()
-    ensures run { (number : ℕ) (left : Left) (octets piece : List ℕ)
+    ensures run { (number : ℕ) (left : StreamState) (octets piece : List ℕ)
         → run_of number left (octets ++ piece) ≡ and_then number (run_of number left octets) piece }
     ensures doings { (s : Stream) (octets piece : List ℕ)
         → doings s (octets ++ piece) ≡ doings s octets ++ doings (after s octets) piece }

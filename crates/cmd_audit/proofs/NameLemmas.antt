@@ -36,7 +36,7 @@ use Rattle.il_text.specs.Reading.{lines, prepend_lexeme, program_of, tokens_of}
 use Rattle.il_text.specs.Symbols.{is_line_end, literal_piece, mark_of, mark_piece, name_or_reserved, piece, pieces_of, plain_word, word}
 use Rattle.il_text.specs.Texts.{Allowed, OnParts, OnTokens, Reads, ReadsAs, Refused, TextLine, all_parts, numbered_parts}
 use Rattle.il_text.specs.TokenForms.{Form as LineForm, no_token, spelled_names}
-use Rattle.il_text.specs.Tokens.{Symbol, name, keyword_word, mnemonic_word, mark_symbol, Piece, blank, line_end, token, bad_token, bad_literal}
+use Rattle.il_text.specs.Tokens.{Symbol, name, keyword_word, mnemonic_word, mark_symbol, LexemeData, blank, line_end, token, bad_token, bad_literal}
 use Rattle.il_text.specs.Words.{reserved_symbol, symbol_of_word}
 use Rattle.il_text.specs.declared.literal.LiteralFault.{LiteralFault}
 use Rattle.il_text.specs.declared.literal.LiteralFault.TheVariants.{Malformed, OutOfRange}
@@ -121,7 +121,7 @@ abbrev IsNamed : Symbol → Type 0
 IsNamed (name n) = IsWord n
 IsNamed other = Unit {0}
 
-abbrev IsPieceNamed : Piece → Type 0
+abbrev IsPieceNamed : LexemeData → Type 0
 IsPieceNamed (token s) = IsNamed s
 IsPieceNamed other = Unit {0}
 
@@ -219,12 +219,12 @@ pieces-named (p ∷ ps) all = (piece-named p all.0, pieces-named ps all.1)
 
 -- ---- lines
 
-onto-named : (p : Piece) (ls : List (List Piece)) → IsPieceNamed p → Each (Each IsPieceNamed) ls
+onto-named : (p : LexemeData) (ls : List (List LexemeData)) → IsPieceNamed p → Each (Each IsPieceNamed) ls
     → Each (Each IsPieceNamed) (prepend_lexeme p ls)
 onto-named p [] is all = ((is, tt), tt)
 onto-named p (l ∷ ls) is all = ((is, all.0), all.1)
 
-lines-named : (ps : List Piece) → Each IsPieceNamed ps → Each (Each IsPieceNamed) (lines ps)
+lines-named : (ps : List LexemeData) → Each IsPieceNamed ps → Each (Each IsPieceNamed) (lines ps)
 unfolding lines
 lines-named [] all = (tt, tt)
 lines-named (blank ∷ ps) all = lines-named ps all.1
@@ -242,7 +242,7 @@ token-first : (s : Symbol) (r : Result (List Symbol) TextFault) → IsNamed s �
 token-first s (Ok ts) is all = (is, all)
 token-first s (Err fault) is all = tt
 
-tokens-named : (line : ℕ) (l : List Piece) → Each IsPieceNamed l → AreNamed (tokens_of line l)
+tokens-named : (line : ℕ) (l : List LexemeData) → Each IsPieceNamed l → AreNamed (tokens_of line l)
 unfolding tokens_of
 tokens-named line [] all = tt
 tokens-named line (blank ∷ ps) all = tokens-named line ps all.1
@@ -396,7 +396,7 @@ derived-named ps p d all =
 
 -- ---- programs
 
-reads-named : (last : ℕ) (before : List TextLine) (n : ℕ) (ls : List (List Piece))
+reads-named : (last : ℕ) (before : List TextLine) (n : ℕ) (ls : List (List LexemeData))
     (p : PlainProgram)
     → Each IsNumberedNamed (all_parts before) → Each (Each IsPieceNamed) ls
     → Reads last before n ls (Ok p) → Each IsDeclaredNamed p.declarations

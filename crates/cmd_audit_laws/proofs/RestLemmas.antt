@@ -8,7 +8,7 @@ use Rattle.il_image.specs.Tables.{slot_types}
 use Rattle.il_image.specs.Values.{type_of}
 use Rattle.il_verify.specs.Verdicts.{IsSafe}
 use Rattle.il_scan.specs.Laws.{Ends}
-use Rattle.il_scan.specs.Scans.{AreInputs, Held, held_of, with_inputs}
+use Rattle.il_scan.specs.Scans.{AreInputs, MachineData, machine_data, with_inputs}
 use Rattle.il_scan.specs.MachineStates.{IsHeld, RunsTo, Turns, Typed, first_state, words_at}
 use Rattle.il_scan.specs.Words.{values_of, words_of}
 use Rattle.il_scan.specs.Working.{Words, leads, words_after}
@@ -67,13 +67,13 @@ module _ (image : Image) (now : ℕ) (slots : List ℤ) (timers : List TimerStat
           after turn) (omega arith)
 
 -- A scan ends, and what it leaves has its types.
-pub record Rests (old : Held) (inputs : List Value) (now : ℕ) : Type 0 where
+pub record Rests (old : MachineData) (inputs : List Value) (now : ℕ) : Type 0 where
   pub ends : Ends old inputs now
   pub typed : Typed (slot_types old.image) (length old.image.timers) ends.new.slots ends.new.timers
 
 words-rest : (image : Image) (inputs : List Value) (now : ℕ) (slots : List ℤ)
     (timers : List TimerState) → AreOctets image.code → IsSafe image → IsHeld image slots timers
-    → AreInputs image.points inputs → Rests (held_of image slots timers) inputs now
+    → AreInputs image.points inputs → Rests (machine_data image slots timers) inputs now
 words-rest image inputs now slots timers octets safe is-held are =
     let taken : List ℤ = with_inputs image.points (words_of inputs) slots in
     let before : IsHeld image taken timers =
@@ -83,7 +83,7 @@ words-rest image inputs now slots timers octets safe is-held are =
     (starts image now taken timers octets safe before) (omega arith) in
     record {
       ends = record {
-        new = held_of image e.new_slots e.new_timers;
+        new = machine_data image e.new_slots e.new_timers;
         steps = e.steps;
         scans = scanned image image.points refl inputs now slots timers is-held are taken refl
             e.new_slots e.new_timers e.steps _ e.runs

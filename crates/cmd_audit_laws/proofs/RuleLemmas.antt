@@ -13,7 +13,7 @@ use Rattle.bay_audit_rules.specs.Grammar.{Spells}
 use Rattle.bay_audit_rules.specs.Meaning.{LineRead, LinesRead, TextRead, TokensRead, is_blank_piece, is_comment, is_line_end, line_tokens, prepend_rules, operations_of, rule_of, rules_of, some_rule, template_of, timing_of, tokens_of}
 use Rattle.bay_audit_rules.specs.Numbers.{number_in, time_in}
 use Rattle.bay_audit_rules.specs.Pieces.{pieces}
-use Rattle.bay_audit_rules.specs.Words.{is_name, known_of, literal_of, named_in, other_of, token_of, word_of, words}
+use Rattle.bay_audit_rules.specs.Words.{is_name, known_of, literal_of, named_in, other_of, token_of, reserved_token, words}
 use Rattle.bay_audit_rules.specs.declared.fault.RuleFault.{RuleFault}
 use Rattle.bay_audit_rules.specs.declared.pieces.Cut.TheVariants.{Line}
 use Rattle.bay_audit_rules.specs.declared.rule.Rule.{Rule}
@@ -79,12 +79,12 @@ module _ (bay : Bay) where
   unfolding words
   are-words = search
 
-  word-fits : (piece : List ℕ) → IfSome (word_of piece) Fits
-  unfolding word_of
+  word-fits : (piece : List ℕ) → IfSome (reserved_token piece) Fits
+  unfolding reserved_token
   word-fits piece = found-word (λ entry. same_name piece entry.0) words are-words
 
   token-fits : (piece : List ℕ) → IfSome (token_of bay piece) Fits
-  token-fits piece = by-word (word_of piece) (word-fits piece)
+  token-fits piece = by-word (reserved_token piece) (word-fits piece)
     where
       by-time : (o : Option (Option ℕ)) → IfSome (other_of bay piece o) Fits
       by-time (Some time) = tt

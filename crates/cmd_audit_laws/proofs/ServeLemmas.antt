@@ -15,7 +15,7 @@ use Rattle.bay_server_turn.specs.Calls.{Call}
 use Rattle.bay_server_turn.specs.Turns.{ServerData}
 use Rattle.bay_server.specs.Host.{HostCall}
 use Rattle.bay_server.specs.Clock.{jump_of}
-use Rattle.bay_server.specs.ServeReport.{AfterTurn, PollOutcome, Serving, ServesTurns, moment_of}
+use Rattle.bay_server.specs.ServeReport.{AfterTurn, ProcessData, Serving, ServesTurns, moment_of}
 use Rattle.bay_server.specs.declared.host.BindFault.{BindFault}
 use Rattle.cmd_serve.specs.Live.{InLater}
 use Rattle.cmd_serve.specs.Serve.{BindsPorts, BindsProcess, EndsUnserved, FileNames, IsBound, IsRecordFault, LoadsFiles, ServesBound, ServesLoaded, made_of}
@@ -58,7 +58,7 @@ module _ {L H W : Type 0} (step : L → Call → L → Type 0) (acts : H → Hos
 -- ---- the server that is bound
 
 module _ {L H : Type 0} (acts : H → HostCall L → H → Type 0) where
-  is-made : (records : Bool) (s : State) (link : L) (process : Option (PollOutcome L))
+  is-made : (records : Bool) (s : State) (link : L) (process : Option (ProcessData L))
       (ports : Bound L) → IsBound records s link process (Ok ports) → ports.server ≡ made_of s
   is-made records s link process ports (inl is) =
       let same : ports ≡ record { server = made_of s; link = link; process = process } = cc in

@@ -44,7 +44,7 @@ use Rattle.il_image.specs.Tables.{slot_types}
 use Rattle.il_image.specs.Timers.{first_state}
 use Rattle.il_image.specs.Values.{is_between, type_of}
 use Rattle.il_image.specs.declared.value.Value.TheVariants.{Long}
-use Rattle.il_scan.specs.Scans.{AreInputs, Held, read_only, type_of_point}
+use Rattle.il_scan.specs.Scans.{AreInputs, MachineData, read_only, type_of_point}
 use Rattle.il_scan.specs.MachineStates.{Typed}
 use Rattle.il_scan.specs.Words.{AreTyped}
 use Rattle.il_scan.proofs.SlotLemmas.{first-stand, times-first}
@@ -162,12 +162,12 @@ HaltsTo now old answer new =
 
 sound-as : (s t : State) → t.machine ≡ s.machine → t.reads ≡ s.reads → Sound s → Sound t
 sound-as s t machine reads sound = record {
-  octets = subst (λ (h : Held). AreOctets h.image.code) (sym machine) sound.octets;
-  safe = subst (λ (h : Held). IsSafe h.image) (sym machine) sound.safe;
-  typed = subst (λ (h : Held). Typed (slot_types h.image) (length h.image.timers) h.slots h.timers)
+  octets = subst (λ (h : MachineData). AreOctets h.image.code) (sym machine) sound.octets;
+  safe = subst (λ (h : MachineData). IsSafe h.image) (sym machine) sound.safe;
+  typed = subst (λ (h : MachineData). Typed (slot_types h.image) (length h.image.timers) h.slots h.timers)
       (sym machine) sound.typed;
   reads = ap (map type_of_source) reads ∙ sound.reads
-      ∙ sym (ap (λ (h : Held). map type_of_point (read_only h.image.points)) machine);
+      ∙ sym (ap (λ (h : MachineData). map type_of_point (read_only h.image.points)) machine);
 }
 
 pub sound-halts : (now : ℕ) (event : Event) (old : State) (answer : Result Step StepFault)

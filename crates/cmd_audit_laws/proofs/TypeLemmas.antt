@@ -26,7 +26,7 @@ use Rattle.bay_server_turn.specs.Supervised.{text_without_end, timed_by, timed_e
 use Rattle.bay_server_turn.specs.Turns.{event_of as event_in_turn}
 use Rattle.bay_server_turn.specs.declared.process_input.ProcessEvent.{ProcessEvent}
 use Rattle.bay_server_turn.specs.declared.supervised.TimedLine.{TimedLine}
-use Rattle.bay_server.specs.ServeReport.{PollOutcome, from_trace, with_loss}
+use Rattle.bay_server.specs.ServeReport.{ProcessData, from_trace, with_loss}
 use Rattle.bay_trace.specs.Resolving.{placed_event}
 use Rattle.bay_trace.specs.Trace.{LineData, NamedData, association_event_of, association_of, at_moment, bad_measure, blank, connects, contact, disconnects, event_of, field_of, first_number, input, is_association_verb, is_space, lost, measure, measure_of, name_of, named_of, only_word, process_of, process_event, read_integer, received_of, receives, scan, measure_event_of, trace_line_of, words_line}
 use Rattle.bay_trace.specs.Digits.{octets_of}
@@ -331,7 +331,7 @@ taken-fits Here s now jump p =
 
 -- what is chosen for a turn
 pub choice-fits : {L : Type 0} (s : State) (now jump : ℕ) (lines : List (ℕ × List ℕ))
-    (line : Option (ℕ × List ℕ)) (process : Option (PollOutcome L))
+    (line : Option (ℕ × List ℕ)) (process : Option (ProcessData L))
     → IfSome (reported_in (from_trace line s now jump lines process).next.given).event EventFits
 choice-fits s now jump lines None None = tt
 choice-fits s now jump lines None (Some p) = taken-fits p.port.presence s now jump p.port

@@ -1,7 +1,7 @@
 -- A report is a run.
 use Rattle.std.proofs.Common.{ℕ, List, [], ◌++◌, length, Option, Result, Ok, inl, inr, ap, subst, ◌∙◌}
 use Rattle.std.proofs.lemmas.List.Elements.{All-nil}
-use Rattle.bay_device.specs.Commands.{CommandedAt}
+use Rattle.bay_device.specs.Commands.{CommandsReleased}
 use Rattle.bay_device.specs.Device.{State, bay_of}
 use Rattle.bay_device.specs.Entries.{IsIdle}
 use Rattle.bay_device.specs.Fresh.{Came, Past}
@@ -35,7 +35,7 @@ one-run first past begin idle steps =
     in
     record {
       came = past-came begin.0 begin.1 first past begin.2 steps;
-      commanded = past-so CommandedAt step-commanded first past steps;
+      commanded = past-so CommandsReleased step-commanded first past steps;
       fresh = past-fresh begin.0 begin.1 first past begin.2 steps;
       operated = tells.operates;
       backed =

@@ -2,7 +2,7 @@
 use Rattle.std.specs.Prelude.{ℕ, ◌≡◌, ◌+◌, List, [], ◌∷◌, ◌++◌, All, length, codes, Option, None, Some, Ok, ◌⊎◌}
 use Rattle.bay_control.specs.Backing.{AreBacked}
 use Rattle.il_check.specs.Program.{Checked}
-use Rattle.bay_device.specs.Commands.{CommandedAt}
+use Rattle.bay_device.specs.Commands.{CommandsReleased}
 use Rattle.bay_device.specs.Device.{State, bay_of}
 use Rattle.bay_device.specs.Fresh.{Came, Past}
 use Rattle.bay_device.specs.Load.{IsCompiled, IsLoaded}
@@ -84,7 +84,7 @@ pub record IsOneRun (first : State) (past : List Past) (last : State) : Type 0 w
   pub came : Came past last
   -- Each command is one that the interlocking releases, on a fresh scan, while no switch is
   -- operating, and something is sent with it;
-  pub commanded : EachPast CommandedAt first past
+  pub commanded : EachPast CommandsReleased first past
   -- it follows a scan of these events that is not too old, since which the process has not changed;
   pub fresh : AllFresh first.scan_max_age_ms past
   -- and the commands are the accepted operates in the entries of the run, by the octets of the

@@ -24,7 +24,7 @@ use Rattle.bay_server_turn_laws.specs.Flows.{IsTidy}
 use Rattle.bay_server_turn_laws.proofs.PartLemmas.{Part-turn}
 use Rattle.bay_server.specs.Clock.{jump_of}
 use Rattle.bay_server.specs.Host.{HostCall}
-use Rattle.bay_server.specs.ServeReport.{AfterTurn, Chosen, PollOutcome, Hears, MayPause, Serving, ServesTurns, TurnGoes, choice_of, choose_input, from_port, moment_of}
+use Rattle.bay_server.specs.ServeReport.{AfterTurn, Chosen, ProcessData, PollsProcess, MayPause, Serving, ServesTurns, TurnGoes, choice_of, choose_input, from_port, moment_of}
 use Rattle.bay_server.specs.declared.clock.Clocks.{Clocks}
 use Rattle.cmd_serve.specs.Live.{CommandsLive, InLater, IsSupervised, Lived}
 use Rattle.cmd_serve.specs.Orders.{IsOrdered}
@@ -67,7 +67,7 @@ record Stands-by (duties : SupervisionSettings) (d : State) (p : PortData) : Typ
   state : (p.presence ≡ Leaving) ⊎ ((d.is_lost ≡ true) ⊎ IsKnown p)
 
 record Keeps {L H : Type 0} (duties : SupervisionSettings) (b : Serving L H) : Type 0 where
-  process : PollOutcome L
+  process : ProcessData L
   is : b.process ≡ Some process
   stands : Stands-by duties b.held.device process.port
   alone : b.lines ≡ []
@@ -296,8 +296,8 @@ module _ {L H W : Type 0} (step : L → Call → L → Type 0) (acts : H → Hos
         )
 
     -- the process was attended to
-    by-process : (process : Option (PollOutcome L)) → after.process ≡ process
-        → Hears step contents asks t.now goes.turn after.held.device
+    by-process : (process : Option (ProcessData L)) → after.process ≡ process
+        → PollsProcess step contents asks t.now goes.turn after.held.device
         (Some (record { link = k.process.link; port = taken.port })) process goes.reports.between
         goes.told answer
         → Keeps duties after
@@ -324,7 +324,7 @@ module _ {L H W : Type 0} (step : L → Call → L → Type 0) (acts : H → Hos
             → AfterTurn r
             ((after.process ≡ (choice_of goes.clocks before).process)
             × (goes.told ≡ goes.reports.between) × (answer ≡ r))
-            (Hears step contents asks t.now goes.turn after.held.device
+            (PollsProcess step contents asks t.now goes.turn after.held.device
             (choice_of goes.clocks before).process after.process goes.reports.between goes.told
             answer)
             → Keeps duties after
@@ -334,7 +334,7 @@ module _ {L H W : Type 0} (step : L → Call → L → Type 0) (acts : H → Hos
             sym ok ∙ told in cc)
         by-outcome (Ok told) hears =
             by-process after.process refl
-            (subst (λ (c : Chosen L). Hears step contents asks t.now goes.turn after.held.device
+            (subst (λ (c : Chosen L). PollsProcess step contents asks t.now goes.turn after.held.device
             c.process after.process goes.reports.between goes.told answer)
             (port-chosen before k goes.clocks)
             hears)

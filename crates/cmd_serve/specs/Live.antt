@@ -10,7 +10,7 @@ use Rattle.bay_process_port.specs.Supervised.{SupervisionSettings, settings_in}
 use Rattle.bay_server_turn.specs.Calls.{Call}
 use Rattle.bay_server.specs.Clock.{jump_of}
 use Rattle.bay_server.specs.Host.{HostCall}
-use Rattle.bay_server.specs.ServeReport.{AfterTurn, PollOutcome, Serving, ServesTurns, choice_of, moment_of}
+use Rattle.bay_server.specs.ServeReport.{AfterTurn, ProcessData, Serving, ServesTurns, choice_of, moment_of}
 
 -- The process has these supervision settings, none has connected yet, and no line of a trace is
 -- left.
@@ -24,7 +24,7 @@ pub record IsSupervised {L H : Type 0} (duties : SupervisionSettings) (b : Servi
 -- The process is connected and supervised by these settings, it has introduced itself as the
 -- process of this bay, and its last line counts from a moment at most the milliseconds of the
 -- settings before this one.
-abbrev pub Lived : {L : Type 0} → SupervisionSettings → ℕ → Option (PollOutcome L) → Type 0
+abbrev pub Lived : {L : Type 0} → SupervisionSettings → ℕ → Option (ProcessData L) → Type 0
 Lived duties now None = ⊥
 Lived duties now (Some p) = IsLive now p.port × (settings_in p.port.watch ≡ Some duties)
 

@@ -32,7 +32,7 @@ use Rattle.bay_server.specs.Host.{HostCall, Binds, Tells}
 use Rattle.bay_server.specs.LogLines.{ports_log, unbound_log}
 use Rattle.bay_server.specs.Logging.{LogsAll}
 use Rattle.bay_server.specs.RecordLine.{room_log}
-use Rattle.bay_server.specs.ServeReport.{AfterTurn, PollOutcome, Serving, ServesTurns, told_lines}
+use Rattle.bay_server.specs.ServeReport.{AfterTurn, ProcessData, Serving, ServesTurns, told_lines}
 use Rattle.bay_server.specs.declared.clock.Clocks.{Clocks}
 use Rattle.bay_server.specs.declared.host.BindFault.{BindFault}
 use Rattle.cmd_serve.specs.Live.{CommandsLive, IsSupervised}
@@ -167,7 +167,7 @@ IsRecordFault records (unserved.Unbound port fault) = ⊥
 
 -- a server of a device is created, with the link of its clients and the process; or memory runs
 -- out, or the record can't be started
-abbrev pub IsBound : {L : Type 0} → Bool → State → L → Option (PollOutcome L)
+abbrev pub IsBound : {L : Type 0} → Bool → State → L → Option (ProcessData L)
     → Result (Bound L) ServeStartFault
     → Type 0
 IsBound records s link process bound =

@@ -7,7 +7,7 @@ use Rattle.il_image.specs.declared.value.Value.{Value}
 use Rattle.il_image.specs.Images.{Image}
 use Rattle.il_image.specs.Timers.{first_state}
 use Rattle.il_image.specs.Values.{default_value}
-use Rattle.il_scan.specs.Scans.{Held, Scans, first_input, first_slots, held_first, scan_start, with_inputs}
+use Rattle.il_scan.specs.Scans.{MachineData, Scans, first_input, first_slots, first_machine, scan_start, with_inputs}
 use Rattle.il_range.specs.declared.range.Range.{Range}
 use Rattle.il_range.specs.declared.range.Range.TheVariants.{Any}
 use Rattle.il_range.specs.declared.timer.KnownTimer.{KnownTimer}
@@ -123,7 +123,7 @@ limits-young now (t ∷ timers) (u ∷ known) h = (h.0.young, limits-young now t
 
 -- ---- what each scan keeps
 
-leaves-keep : (machine : Held) (inputs : List Value) (now : ℕ) (slots : List Value)
+leaves-keep : (machine : MachineData) (inputs : List Value) (now : ℕ) (slots : List Value)
     (timers : List TimerState) → Leaves machine inputs now slots timers
     → Keeps now slots timers (scan_start machine inputs)
 leaves-keep machine inputs now slots timers l =
@@ -135,7 +135,7 @@ delays-continue machine inputs now slots timers l =
     (leaves-keep machine inputs now slots timers l).begins
 
 -- What `scan` does is a run.
-pub leaves-by-scan : (old new : Held) (inputs outputs : List Value) (now steps : ℕ)
+pub leaves-by-scan : (old new : MachineData) (inputs outputs : List Value) (now steps : ℕ)
     → Scans old inputs now new steps outputs → Leaves old inputs now new.slots new.timers
 leaves-by-scan old new inputs outputs now steps s =
     record { most = steps; steps = steps; halts = s.halts steps (omega arith) }
@@ -152,7 +152,7 @@ first-kinds : (kinds : List TimerKind) → map kind_of (map first_state kinds) �
 first-kinds [] = refl
 first-kinds (k ∷ kinds) = ap (λ (l : List TimerKind). k ∷ l) (first-kinds kinds)
 
-kinds-stay : (machine : Held) → IsReached machine
+kinds-stay : (machine : MachineData) → IsReached machine
     → map kind_of machine.timers ≡ machine.image.timers
 kinds-stay machine (First image) = first-kinds image.timers
 kinds-stay machine (Next before inputs now slots timers r l) =
@@ -174,7 +174,7 @@ first-size (p ∷ points) variables = let less = first-size points variables in 
 abbrev pub slot_count : Image → ℕ
 slot_count image = length image.points + length image.variables
 
-size-stays : (machine : Held) → IsReached machine → length machine.slots ≡ slot_count machine.image
+size-stays : (machine : MachineData) → IsReached machine → length machine.slots ≡ slot_count machine.image
 size-stays machine (First image) = first-size image.points image.variables
 size-stays machine (Next before inputs now slots timers r l) =
     (leaves-keep before inputs now slots timers l).size
@@ -259,10 +259,10 @@ firsts-in [] [] = tt
 firsts-in [] (v ∷ variables) = (in-exactly v, firsts-in [] variables)
 
 -- There is a range for each slot.
-pub firsts-size : (image : Image) (ranges : List Range) → AreIn (held_first image).slots ranges
+pub firsts-size : (image : Image) (ranges : List Range) → AreIn (first_machine image).slots ranges
     → length ranges ≡ slot_count image
 firsts-size image ranges h =
-    sym (each-size IsIn (held_first image).slots ranges h)
+    sym (each-size IsIn (first_machine image).slots ranges h)
     ∙ first-size image.points image.variables
 
 -- What ranges stand for, they stand for where they are widened.
@@ -272,14 +272,14 @@ grows is_late slots ranges left h =
     each-left IsIn (widen_range is_late) (in-widened is_late) slots ranges left h
 
 -- Ranges of the first values, within which a scan stays, are those of the memory.
-pub settled : (image : Image) (ranges left : List Range) → AreIn (held_first image).slots ranges
+pub settled : (image : Image) (ranges left : List Range) → AreIn (first_machine image).slots ranges
     → Carries image ranges left → are_within left ranges ≡ true → IsMemory image ranges
 settled image ranges left first carries inside machine is r = go machine r is
   where
-    go : (machine : Held) → IsReached machine → machine.image ≡ image
+    go : (machine : MachineData) → IsReached machine → machine.image ≡ image
         → AreIn machine.slots ranges
     go machine (First i) is =
-        subst (λ (j : Image). AreIn (held_first j).slots ranges) (sym is) first
+        subst (λ (j : Image). AreIn (first_machine j).slots ranges) (sym is) first
     go machine (Next before inputs now slots timers r l) is =
         are-within slots left ranges inside
         (carries before inputs now slots timers is r (go before r is) l)

@@ -4,17 +4,17 @@ use Rattle.il_image.specs.declared.timer.TimerState.{TimerState}
 use Rattle.il_image.specs.declared.value.Value.{Value}
 use Rattle.il_image.specs.Images.{Image}
 use Rattle.il_image.specs.Machine.{Halted, run_from}
-use Rattle.il_scan.specs.Scans.{Held, held_first, scan_start}
+use Rattle.il_scan.specs.Scans.{MachineData, first_machine, scan_start}
 use Rattle.il_range.specs.declared.range.Range.{Range}
 pub use Rattle.il_range.specs.Ranges.{AreIn, AreYoung, delay_start, delay_start_at, kind_of}
 
 -- the machine with these slots and timers
-abbrev pub with_memory : List Value → List TimerState → Held → Held
+abbrev pub with_memory : List Value → List TimerState → MachineData → MachineData
 with_memory slots timers machine =
     record { image = machine.image; slots = slots; timers = timers }
 
 -- The machine's run from these inputs at this moment ends at HALT, with these slots and timers.
-pub record Leaves (machine : Held) (inputs : List Value) (now : ℕ) (slots : List Value)
+pub record Leaves (machine : MachineData) (inputs : List Value) (now : ℕ) (slots : List Value)
     (timers : List TimerState) : Type 0 where
   pub most : ℕ
   pub steps : ℕ
@@ -23,16 +23,16 @@ pub record Leaves (machine : Held) (inputs : List Value) (now : ℕ) (slots : Li
 
 -- The machine is in its state before the first scan, or in a state that a scan leaves of a reached
 -- machine, with any inputs at any moment.
-pub data IsReached : Held → Type 0 where
-  First : (image : Image) → IsReached (held_first image)
-  Next : (machine : Held) (inputs : List Value) (now : ℕ) (slots : List Value)
+pub data IsReached : MachineData → Type 0 where
+  First : (image : Image) → IsReached (first_machine image)
+  Next : (machine : MachineData) (inputs : List Value) (now : ℕ) (slots : List Value)
       (timers : List TimerState) → IsReached machine → Leaves machine inputs now slots timers
       → IsReached (with_memory slots timers machine)
 
 -- The slots of each reached machine with the image are in the ranges.
 abbrev pub IsMemory : Image → List Range → Type 0
 IsMemory image ranges =
-    (machine : Held) → machine.image ≡ image → IsReached machine → AreIn machine.slots ranges
+    (machine : MachineData) → machine.image ≡ image → IsReached machine → AreIn machine.slots ranges
 
 -- Take any reached machine with the image whose slots are in the ranges `memory` and whose delays
 -- have run for less than the limits, at any moment. A scan with inputs in the ranges `given` leaves
@@ -40,7 +40,7 @@ IsMemory image ranges =
 abbrev pub Foretells : Image → List Range → List (Option ℕ) → List Range → List (Option ℕ)
     → List Range → Type 0
 Foretells image memory limits given last result =
-    (machine : Held) (inputs : List Value) (now : ℕ) (slots : List Value)
+    (machine : MachineData) (inputs : List Value) (now : ℕ) (slots : List Value)
     (timers : List TimerState) → machine.image ≡ image → IsReached machine
     → AreIn machine.slots memory → AreYoung now machine.timers limits → AreIn inputs given
     → Leaves machine inputs now slots timers → AreIn slots result × AreYoung now timers last

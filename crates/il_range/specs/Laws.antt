@@ -2,19 +2,19 @@
 use Rattle.std.specs.Prelude.{ℕ, ◌≡◌, ◌⊎◌, List, Some}
 use Rattle.il_image.specs.declared.timer.TimerState.{TimerState}
 use Rattle.il_image.specs.declared.value.Value.{Value}
-use Rattle.il_scan.specs.Scans.{Held, Scans}
+use Rattle.il_scan.specs.Scans.{MachineData, Scans}
 use Rattle.il_range.specs.Foretold.{IsReached, Leaves, delay_start_at}
 
 -- Each scan of il_scan is a run as `Leaves` defines it.
 abbrev pub IsByScan : Type 0
 IsByScan =
-    (old new : Held) (inputs outputs : List Value) (now steps : ℕ)
+    (old new : MachineData) (inputs outputs : List Value) (now steps : ℕ)
     → Scans old inputs now new steps outputs → Leaves old inputs now new.slots new.timers
 
 -- Each scan leads from a reached machine to a reached one.
 abbrev pub ReachesByScan : Type 0
 ReachesByScan =
-    (old new : Held) (inputs outputs : List Value) (now steps : ℕ)
+    (old new : MachineData) (inputs outputs : List Value) (now steps : ℕ)
     → Scans old inputs now new steps outputs → IsReached old → IsReached new
 
 -- A delay that runs after this moment began at this moment, or already ran before it.
@@ -26,6 +26,6 @@ Continues now after before =
 -- In each scan, delays continue so.
 abbrev pub DelaysContinue : Type 0
 DelaysContinue =
-    (machine : Held) (inputs : List Value) (now : ℕ) (slots : List Value)
+    (machine : MachineData) (inputs : List Value) (now : ℕ) (slots : List Value)
     (timers : List TimerState) → Leaves machine inputs now slots timers
     → Continues now timers machine.timers

@@ -4,7 +4,7 @@ use Rattle.il_image.specs.declared.timer.TimerState.{TimerState}
 use Rattle.il_image.specs.declared.value.Value.{Value}
 use Rattle.il_image.specs.Images.{Image}
 use Rattle.il_image.specs.Machine.{Halted, initial_state, run_from}
-use Rattle.il_scan.specs.Scans.{Held, scan_start}
+use Rattle.il_scan.specs.Scans.{MachineData, scan_start}
 use Rattle.il_range.specs.declared.timer.KnownTimer.{KnownTimer}
 use Rattle.il_range.specs.declared.range.Range.{Range}
 use Rattle.il_range.specs.Foretold.{IsReached, Leaves}
@@ -33,7 +33,7 @@ Predicts code timers slots timers_after result =
 -- that have run for less than the limits `last`.
 abbrev pub Tells : Image → List Range → List (Option ℕ) → List (Option ℕ) → List Range → Type 0
 Tells image start limits last result =
-    (machine : Held) (inputs : List Value) (now : ℕ) (slots : List Value)
+    (machine : MachineData) (inputs : List Value) (now : ℕ) (slots : List Value)
     (timers : List TimerState) → machine.image ≡ image → IsReached machine
     → AreIn (scan_start machine inputs).slots start → AreYoung now machine.timers limits
     → Leaves machine inputs now slots timers → AreIn slots result × AreYoung now timers last
@@ -41,6 +41,6 @@ Tells image start limits last result =
 -- From slots in `memory` a scan leaves slots in `result`, with any inputs.
 abbrev pub Carries : Image → List Range → List Range → Type 0
 Carries image memory result =
-    (machine : Held) (inputs : List Value) (now : ℕ) (slots : List Value)
+    (machine : MachineData) (inputs : List Value) (now : ℕ) (slots : List Value)
     (timers : List TimerState) → machine.image ≡ image → IsReached machine
     → AreIn machine.slots memory → Leaves machine inputs now slots timers → AreIn slots result

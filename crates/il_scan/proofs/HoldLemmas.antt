@@ -13,7 +13,7 @@ use Rattle.il_image.specs.Tables.{slot_types}
 use Rattle.il_image.specs.Values.{number_of, type_of}
 use Rattle.il_scan.specs.declared.span.Span.{Span}
 use Rattle.il_scan.specs.PointPlaces.{AllAbove, IsPut, IsRising, read_places, with_words}
-use Rattle.il_scan.specs.Scans.{AreHeld, AreInputs, Held, IsOutside, Scans, first_input, inputs_in, read_only, type_of_point, with_inputs}
+use Rattle.il_scan.specs.Scans.{AreHeld, AreInputs, MachineData, IsOutside, Scans, first_input, inputs_in, read_only, type_of_point, with_inputs}
 use Rattle.il_scan.specs.MachineStates.{IsHeld}
 use Rattle.il_scan.specs.Words.{AreTyped, slot_at, values_of, words_of}
 use Rattle.il_scan.proofs.SlotLemmas.{held-points}
@@ -331,7 +331,7 @@ inputs-stay (p ∷ points) inputs (s ∷ slots) (w ∷ new) are few less keeps =
         ap (λ (x : Value). x ∷ inputs_in points new) (same_Some w i (own refl))
         ∙ ap (λ (xs : List Value). i ∷ xs) (rest is are.1 keeps)
 
-pub scan-keeps : (old new : Held) (inputs : List Value) (now steps : ℕ) (outputs : List Value)
+pub scan-keeps : (old new : MachineData) (inputs : List Value) (now steps : ℕ) (outputs : List Value)
     → Scans old inputs now new steps outputs → AreInputs old.image.points inputs
     → length old.image.points ≤ length old.slots → length old.image.points ≤ length new.slots
     → inputs_in old.image.points new.slots ≡ inputs

@@ -10,7 +10,7 @@ use Rattle.il_verify.specs.Verdicts.{IsSafe}
 use Rattle.il_scan.specs.Laws.{Ends, NeverGoesWrong}
 use Rattle.il_scan.specs.Scans.{AreInputs, with_inputs}
 use Rattle.il_scan.specs.MachineStates.{IsHeld, RunsTo, Turns, first_state, words_at}
-use Rattle.il_scan.specs.Scans.{held_of}
+use Rattle.il_scan.specs.Scans.{machine_data}
 use Rattle.il_scan.specs.Words.{values_of, words_of}
 use Rattle.il_scan.specs.Working.{Words, leads, words_after}
 use Rattle.il_scan.proofs.RunLemmas.{Comes, comes-next, forward, run-ends, starts}
@@ -77,14 +77,14 @@ module _ (image : Image) (now : ℕ) (slots : List ℤ) (timers : List TimerStat
 -- a scan of words, from words that are held
 scan-ends : (image : Image) (inputs : List Value) (now : ℕ) (slots : List ℤ)
     (timers : List TimerState) → AreOctets image.code → IsSafe image → IsHeld image slots timers
-    → AreInputs image.points inputs → Ends (held_of image slots timers) inputs now
+    → AreInputs image.points inputs → Ends (machine_data image slots timers) inputs now
 scan-ends image inputs now slots timers octets safe is-held are =
     let taken : List ℤ = with_inputs image.points (words_of inputs) slots in
     let before : IsHeld image taken timers =
     held-taken image image.points refl inputs now slots timers is-held are taken refl in
     let e = run-ends-somewhere image now taken timers safe before octets in
     record {
-      new = held_of image e.new_slots e.new_timers;
+      new = machine_data image e.new_slots e.new_timers;
       steps = e.steps;
       scans = scanned image image.points refl inputs now slots timers is-held are taken refl
           e.new_slots e.new_timers e.steps _ e.runs

@@ -10,9 +10,9 @@ use Rattle.il_image.specs.Machine.{State, run_from, initial_state}
 use Rattle.il_image.specs.Timers as time
 use Rattle.il_image.specs.Tables.{slot_types}
 use Rattle.il_image.specs.Values.{type_of}
-use Rattle.il_scan.specs.Scans.{AreInputs, Held, IsWithin, Scans, first_slots, held_first, scan_start, with_inputs}
+use Rattle.il_scan.specs.Scans.{AreInputs, MachineData, IsWithin, Scans, first_slots, first_machine, scan_start, with_inputs}
 use Rattle.il_scan.specs.MachineStates.{AreWords, IsHeld, RunsTo, first_state, given_by}
-use Rattle.il_scan.specs.Scans.{held_of}
+use Rattle.il_scan.specs.Scans.{machine_data}
 use Rattle.il_scan.specs.Words.{StandFor, values_of, words_of}
 use Rattle.il_scan.proofs.SlotLemmas.{first-stand, held-words, only-read, outputs_are, same-slot, taken-stand, times-first}
 use Rattle.il_scan.proofs.StandLemmas.{stand-again, stand-itself}
@@ -48,13 +48,13 @@ module _ (image : Image) (points : List ImagePoint) (is : points ≡ image.point
         stand-again (slot_types image) taken
         (with_inputs image.points inputs (values_of (slot_types image) slots)) stand
 
-    first-is : first_state image taken timers ≡ scan_start (held_of image slots timers) inputs
+    first-is : first_state image taken timers ≡ scan_start (machine_data image slots timers) inputs
     first-is = ap (λ (v : List Value). initial_state v timers) values-taken
 
     pub scanned : (new_slots : List ℤ) (new_timers : List TimerState) (steps : ℕ)
         (outputs : List Value) → RunsTo image now taken timers new_slots new_timers steps
         → outputs ≡ given_by points new_slots
-        → Scans (held_of image slots timers) inputs now (held_of image new_slots new_timers) steps
+        → Scans (machine_data image slots timers) inputs now (machine_data image new_slots new_timers) steps
         outputs
     scanned new_slots new_timers steps outputs r given = record {
       image = refl;
@@ -82,13 +82,13 @@ module _ (image : Image) (kept : IsImage image) (slots : List ℤ) (timers : Lis
     times = times-first timers image.timers f;
   }
 
-  pub first-held : held_of image slots timers ≡ held_first image
+  pub first-held : machine_data image slots timers ≡ first_machine image
   first-held =
       let values =
       stand-again (slot_types image) slots (first_slots image.points image.variables)
       (first-stand image slots kept.values e) in
-      ap (λ (v : List Value). let h : Held = record { image = image; slots = v; timers = timers } in
+      ap (λ (v : List Value). let h : MachineData = record { image = image; slots = v; timers = timers } in
       h) values
-      ∙ ap (λ (ts : List TimerState). let h : Held =
+      ∙ ap (λ (ts : List TimerState). let h : MachineData =
       record { image = image; slots = first_slots image.points image.variables; timers = ts } in
       h) f

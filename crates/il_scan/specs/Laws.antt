@@ -6,17 +6,18 @@ use Rattle.il_image.specs.Images.{Image}
 use Rattle.il_image.specs.Octets.{AreOctets}
 use Rattle.il_image.specs.Tables.{slot_types}
 use Rattle.il_verify.specs.Verdicts.{IsSafe}
-use Rattle.il_scan.specs.Scans.{AreInputs, Held, Scans, outputs_of}
+use Rattle.il_scan.specs.Scans.{AreInputs, MachineData, Scans, outputs_of}
 use Rattle.il_scan.specs.MachineStates.{Typed}
 
 -- A scan with these inputs at this moment ends: there are a state and a number of steps after it.
-pub record Ends (old : Held) (inputs : List Value) (now : ℕ) : Type 0 where
-  pub new : Held
+pub record Ends (old : MachineData) (inputs : List Value) (now : ℕ) : Type 0 where
+  pub new : MachineData
   pub steps : ℕ
   pub scans : Scans old inputs now new steps (outputs_of old.image.points new.slots)
 
--- Code of octets with an agreeing table, which writes only what it may, ends in each scan: from all
--- slots and timers of its types, with all inputs that fit, at each moment.
+-- If a table of stack types agrees with an image's code, and the code writes no point that is read
+-- only, then each scan ends: from any slots and timers of its types, with any inputs that fit, at
+-- any moment.
 abbrev pub NeverGoesWrong : Type 0
 NeverGoesWrong =
     (image : Image) (slots : List Value) (timers : List TimerState) (inputs : List Value) (now : ℕ)

@@ -15,14 +15,14 @@ use Rattle.il_scan.specs.declared.span.Span.{Span}
 
 -- a machine as callers see it: its verified image, and the values of its slots and timers between
 -- scans
-pub record Held : Type 0 where
+pub record MachineData : Type 0 where
   pub image : Image
   pub slots : List Value
   pub timers : List TimerState
 
 -- a machine as callers see it, from its words and timers
-abbrev pub held_of : Image → List ℤ → List TimerState → Held
-held_of image slots timers =
+abbrev pub machine_data : Image → List ℤ → List TimerState → MachineData
+machine_data image slots timers =
     record { image = image; slots = values_of (slot_types image) slots; timers = timers }
 
 -- ---- the first state
@@ -33,8 +33,8 @@ first_slots [] variables = variables
 first_slots (p ∷ points) variables = default_value p.elementary ∷ first_slots points variables
 
 -- a machine before its first scan
-abbrev pub held_first : Image → Held
-held_first image =
+abbrev pub first_machine : Image → MachineData
+first_machine image =
     record {
       image = image;
       slots = first_slots image.points image.variables;
@@ -100,9 +100,9 @@ AreHeld span inputs held =
 -- ---- a scan
 
 -- the state in which the run of a scan starts
-abbrev pub scan_start : Held → List Value → State
-scan_start held_of inputs =
-    initial_state (with_inputs held_of.image.points inputs held_of.slots) held_of.timers
+abbrev pub scan_start : MachineData → List Value → State
+scan_start machine_data inputs =
+    initial_state (with_inputs machine_data.image.points inputs machine_data.slots) machine_data.timers
 
 -- No state of a run of at most this number of steps has more cells than `depth` on its stack.
 abbrev pub IsWithin : List ℕ → ℕ → ℕ → ℕ → State → Type 0
@@ -113,7 +113,7 @@ IsWithin code now depth (suc most) s =
 
 -- The machine's run from these inputs at this moment ends at HALT, after `steps` steps, with the
 -- new slots and timers.
-pub record Scans (old : Held) (inputs : List Value) (now : ℕ) (new : Held) (steps : ℕ)
+pub record Scans (old : MachineData) (inputs : List Value) (now : ℕ) (new : MachineData) (steps : ℕ)
     (outputs : List Value) : Type 0 where
   -- the image is unchanged
   pub image : new.image ≡ old.image

@@ -2,9 +2,9 @@
 ghost use Rattle.std.specs.Prelude.{◌≡◌, ◌↔◌, IfErr, IfOk, IsTrue, map};
 ghost use Rattle.std.specs.Borrow.{sem};
 ghost use Rattle.il_scan.specs.PointPlaces.{read_places};
-ghost use Rattle.il_scan.specs.Scans.{AreHeld, AreInputs, Scans, TakesMemory, held_first, inputs_in, outputs_of, read_only, type_of_point};
+ghost use Rattle.il_scan.specs.Scans.{AreHeld, AreInputs, Scans, TakesMemory, first_machine, inputs_in, outputs_of, read_only, type_of_point};
 ghost use Rattle.il_scan.specs.MachineStates.{IsHeld, IsKept};
-ghost use Rattle.il_scan.specs.Scans.{held_of};
+ghost use Rattle.il_scan.specs.Scans.{machine_data};
 ghost use Rattle.il_scan.specs.Words.{values_of};
 ghost use Rattle.il_image.specs.Tables.{slot_types};
 ghost use Rattle.il_verify.specs.Verdicts.{IsSafe};
@@ -35,13 +35,13 @@ pub struct Machine {
 }
 
 impl Model for Machine {
-    ghost use Rattle.il_scan.specs.Scans.{Held};
+    ghost use Rattle.il_scan.specs.Scans.{MachineData};
     ghost use Rattle.il_scan.specs.MachineStates.{IsKept};
-    ghost use Rattle.il_scan.specs.Scans.{held_of};
+    ghost use Rattle.il_scan.specs.Scans.{machine_data};
 
-    ghost Value = { Held };
+    ghost Value = { MachineData };
 
-    ghost view = { λ m. held_of m.verified m.slots.items m.timers.items };
+    ghost view = { λ m. machine_data m.verified m.slots.items m.timers.items };
 
     ghost invariant = { λ m. IsKept m.verified m.slots.items m.timers.items m.places.reads.items
         m.places.writes.items m.outputs.items };
@@ -69,7 +69,7 @@ struct Memory {
 // Creates the initial memory of a machine.
 fn memory_of(alloc: Global, image: &Image) -> Result<Memory, AllocError>
     ensures first { IfOk result
-        (λ m. held_of image.now m.slots.items m.timers.items ≡ held_first image.now) }
+        (λ m. machine_data image.now m.slots.items m.timers.items ≡ first_machine image.now) }
     ensures kept { IfOk result
         (λ m. IsKept image.now m.slots.items m.timers.items m.places.reads.items
         m.places.writes.items m.outputs.items) }
@@ -104,8 +104,8 @@ fn run_points<I: Inputs>(
     requires read { reads.now ≡ read_places 0 image.now.points }
     requires hold { AreHeld span (I.values inputs.now)
         (inputs_in image.now.points (values_of (slot_types image.now) slots.old)) }
-    ensures scans { Scans (held_of image.now slots.old timers.old) (I.values inputs.now) now
-        (held_of image.now slots.new timers.new) result
+    ensures scans { Scans (machine_data image.now slots.old timers.old) (I.values inputs.now) now
+        (machine_data image.now slots.new timers.new) result
         (outputs_of image.now.points (values_of (slot_types image.now) slots.new)) }
     ensures held { IsHeld image.now slots.new timers.new }
     ensures kept { inputs_in image.now.points (values_of (slot_types image.now) slots.new)
@@ -129,8 +129,8 @@ fn run_once(
     requires inputs { AreInputs image.now.points inputs.now }
     requires kept { IsKept image.now slots.old timers.old places.now.reads.items
         places.now.writes.items outputs.old }
-    ensures scans { Scans (held_of image.now slots.old timers.old) inputs.now now
-        (held_of image.now slots.new timers.new) result outputs.new }
+    ensures scans { Scans (machine_data image.now slots.old timers.old) inputs.now now
+        (machine_data image.now slots.new timers.new) result outputs.new }
     ensures kept { IsKept image.now slots.new timers.new places.now.reads.items
         places.now.writes.items outputs.new }
 {
@@ -152,7 +152,7 @@ impl Machine {
     /// and whose timers were never called. If an allocation fails, the error has the verified
     /// image; this is possible only if the image has a slot or a timer.
     pub fn new(alloc: Global, verified: Verified) -> Result<Machine, AllocFailed<Verified>>
-        ensures ok { IfOk result (λ m. m ≡ held_first verified) }
+        ensures ok { IfOk result (λ m. m ≡ first_machine verified) }
         ensures back { IfErr result (λ refused. refused.value ≡ verified) }
         ensures memory { IfErr result (λ _. TakesMemory verified) }
     {

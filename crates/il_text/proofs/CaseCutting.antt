@@ -13,7 +13,7 @@ use Rattle.il_text.specs.Words.{symbol_of_word, reserved_symbol}
 use Rattle.il_text.specs.Pieces.{opens, ends, closes, without_comments, blank_of, joins, join, pieces}
 use Rattle.il_text.specs.Places.{last_line}
 use Rattle.il_text.specs.Symbols.{literal_piece, name_or_reserved, plain_word, word, mark_of, mark_piece, is_line_end, piece, pieces_of}
-use Rattle.il_text.specs.Tokens.{Symbol, name, keyword_word, type_word, literal, mnemonic_word, mark_symbol, Piece, blank, line_end, token, bad_token, bad_literal}
+use Rattle.il_text.specs.Tokens.{Symbol, name, keyword_word, type_word, literal, mnemonic_word, mark_symbol, LexemeData, blank, line_end, token, bad_token, bad_literal}
 use Rattle.bay_base.specs.Words.{reserved_of}
 use Rattle.bay_base.specs.declared.words.ReservedWord.{ReservedWord}
 use Rattle.il_text.specs.declared.literal.LiteralFault.{LiteralFault}
@@ -29,7 +29,7 @@ upper_symbol (literal v) = literal v
 upper_symbol (mnemonic_word m) = mnemonic_word m
 upper_symbol (mark_symbol m) = mark_symbol m
 
-abbrev pub upper_piece : Piece → Piece
+abbrev pub upper_piece : LexemeData → LexemeData
 upper_piece blank = blank
 upper_piece line_end = line_end
 upper_piece (token s) = token (upper_symbol s)

@@ -11,10 +11,10 @@ use Rattle.il_text.specs.Listing.{Action, Entry, label, action, block, entry, en
 use Rattle.il_text.specs.Parts.{LineContent, heading, opening, declaring, closing, labelling, acting, entering, leaving, ending}
 use Rattle.il_text.specs.Places.{last_line}
 use Rattle.il_text.specs.Reading.{prepend_lexeme, lines, tokens_of, Read, is_instruction, has_instruction, past_limit, with_instruction, within_bounds, within_limits, after_text_line, after_parts, after_line, whole_at, program_of_lines, none_yet, program_of, most_instructions, most_open}
-use Rattle.il_text.specs.Steps.{Opened, Reached, at_place, with_name, declared_in, with_declarations, with_item, with_opened, is_start, is_between_blocks, block_scope, is_outside, is_some, is_load, may_begin_with, declared_here, closed_block, left_here, may_stand, may_act, may_enter, may_leave, step, steps}
+use Rattle.il_text.specs.Steps.{Opened, Reached, at_place, with_name, declared_in, with_declarations, with_item, with_opened, is_start, is_between_blocks, block_scope, is_outside, is_some, is_load, may_begin_with, declared_here, closed_block, left_here, may_stand, may_have_instruction, may_enter, may_leave, step, steps}
 use Rattle.il_text.specs.Symbols.{pieces_of}
 use Rattle.il_text.specs.Texts.{ReadsAs}
-use Rattle.il_text.specs.Tokens.{Symbol, Piece, blank, line_end, token, bad_token, bad_literal}
+use Rattle.il_text.specs.Tokens.{Symbol, LexemeData, blank, line_end, token, bad_token, bad_literal}
 use Rattle.il_text.specs.declared.fault.TextFault.{TextFault}
 use Rattle.il_text.specs.declared.fault.TextFault.TheVariants.{TooDeep, TooLong}
 use Rattle.il_text.specs.declared.listing.Stage.{Stage}
@@ -28,17 +28,17 @@ use Rattle.il_text.proofs.CaseForms.{parts-up, then-up, upper_part, upper_parts,
 use Rattle.il_text.proofs.TextLemmas.{text-reads}
 use Rattle.il_text.proofs.UniqueLemmas.{one_reading}
 
-onto-up : (p : Piece) (ls : List (List Piece))
+onto-up : (p : LexemeData) (ls : List (List LexemeData))
     → prepend_lexeme (upper_piece p) (map (map upper_piece) ls)
     ≡ map (map upper_piece) (prepend_lexeme p ls)
 onto-up p [] = refl
 onto-up p (l ∷ ls) = refl
 
-lines-up : (ps : List Piece) → lines (map upper_piece ps) ≡ map (map upper_piece) (lines ps)
+lines-up : (ps : List LexemeData) → lines (map upper_piece ps) ≡ map (map upper_piece) (lines ps)
 unfolding lines
 lines-up [] = refl
 lines-up (blank ∷ ps) = unfold lines in lines-up ps
-lines-up (line_end ∷ ps) = ap (λ (l : List (List Piece)). [] ∷ l) (unfold lines in lines-up ps)
+lines-up (line_end ∷ ps) = ap (λ (l : List (List LexemeData)). [] ∷ l) (unfold lines in lines-up ps)
 lines-up (token s ∷ ps) =
     ap (prepend_lexeme (upper_piece (token s))) (unfold lines in lines-up ps)
     ∙ onto-up (token s) (lines ps)
@@ -58,7 +58,7 @@ ok-then : {A B C D E : Type 0} (u : A → B) (v : C → D) (f : B → Result D E
 ok-then u v f g h (Ok x) = h x
 ok-then u v f g h (Err e) = refl
 
-tokens-up : (n : ℕ) (ps : List Piece)
+tokens-up : (n : ℕ) (ps : List LexemeData)
     → tokens_of n (map upper_piece ps) ≡ on_ok upper_symbols (tokens_of n ps)
 unfolding tokens_of
 tokens-up n (blank ∷ ps) = unfold tokens_of in tokens-up n ps
@@ -114,8 +114,8 @@ stand-up : (r : Reached) → may_stand (upper_reached r) ≡ may_stand r
 unfolding may_stand
 stand-up r = rw (outside-up r.parentheses) refl
 
-act-up : (r : Reached) (a : Action) → may_act (upper_reached r) (upper_action a) ≡ may_act r a
-unfolding may_act
+act-up : (r : Reached) (a : Action) → may_have_instruction (upper_reached r) (upper_action a) ≡ may_have_instruction r a
+unfolding may_have_instruction
 act-up r a = rw (outside-up r.parentheses, plain-up a, some-up r.items, load-up a) refl
 
 enter-up : (r : Reached) → may_enter (upper_reached r) ≡ may_enter r
@@ -179,7 +179,7 @@ step-up n r (labelling name) =
     (reached-if (may_stand r) (Some (with_item (label n name) r)))
 step-up n r (acting a) =
     rw (act-up r a, item-up r (action n a))
-    (reached-if (may_act r a) (Some (with_item (action n a) r)))
+    (reached-if (may_have_instruction r a) (Some (with_item (action n a) r)))
 step-up n r (entering o g) =
     rw (enter-up r) (reached-if (may_enter r) (Some (with_opened n o g r)))
 step-up n r leaving =
@@ -252,7 +252,7 @@ whole-up : (last : ℕ) (s : Reached) (p : Stage)
     → whole_at last (upper_reached s) p ≡ on_ok upper_listing (whole_at last s p)
 whole-up last s p = grind (arith, common_steps)
 
-reading-up : (last : ℕ) (r : Read) (n : ℕ) (ls : List (List Piece))
+reading-up : (last : ℕ) (r : Read) (n : ℕ) (ls : List (List LexemeData))
     → program_of_lines last (upper_read r) n (map (map upper_piece) ls)
     ≡ on_ok upper_listing (program_of_lines last r n ls)
 unfolding program_of_lines

@@ -9,7 +9,7 @@ use Rattle.std.proofs.lemmas.Bool.{false≢true, or_left, and_parts}
 use Rattle.il_text.specs.Grammar.{Numbered, Declaration, Block, declaration_part, block_parts, names_declared, block_declared, may_declare, is_allowed, entry_parts, entries_parts, is_plain, is_first, is_inner, all_inner, is_parenthesis, is_outer, Derives}
 use Rattle.il_text.specs.Listing.{Action, Entry, label, action, block, Entries, no_entries, entry, entries_of, Declared, PlainProgram}
 use Rattle.il_text.specs.Parts.{LineContent, heading, opening, declaring, closing, labelling, acting, entering, leaving, ending}
-use Rattle.il_text.specs.Steps.{Opened, Reached, nothing_read, is_body, is_outside, is_some, is_load, may_begin_with, may_stand, may_act, may_enter, may_leave, step}
+use Rattle.il_text.specs.Steps.{Opened, Reached, nothing_read, is_body, is_outside, is_some, is_load, may_begin_with, may_stand, may_have_instruction, may_enter, may_leave, step}
 use Rattle.il_text.specs.declared.listing.Stage.{Stage}
 use Rattle.il_text.specs.declared.listing.Stage.TheVariants as place
 use Rattle.il_text.specs.declared.program.Literal.{Literal}
@@ -49,14 +49,14 @@ act-step : (n : ℕ) (a : Action) (name : List ℕ) (p : Stage) (ds : List Decla
     → is_body p ≡ true
     → step n (state p name ds is []) (acting a)
     ≡ Some (state place.Body name ds (is ++ action n a ∷ []) [])
-unfolding step may_act
+unfolding step may_have_instruction
 act-step n a name p ds is b = rw b refl
 
 act-inside : (n : ℕ) (a : Action) (name : List ℕ) (ds : List Declared) (is : List Entry)
     (fs : List Opened) → is_plain a ≡ true → is_some is || is_first (action n a) ≡ true
     → step n (state place.Body name ds is fs) (acting a)
     ≡ Some (state place.Body name ds (is ++ action n a ∷ []) fs)
-unfolding step may_act
+unfolding step may_have_instruction
 act-inside n a name ds is fs i k =
     let q : is_some is || is_load a ≡ true =
     subst (λ (b : Bool). is_some is || b ≡ true) (first-is n a) k in

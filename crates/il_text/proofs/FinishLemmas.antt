@@ -4,7 +4,7 @@ use Rattle.il_text.specs.Grammar.{Numbered, Derives, CanGoOn}
 use Rattle.il_text.specs.Listing.{load, Entry, action, block, entries_of, Declared, PlainProgram, constant}
 use Rattle.il_text.specs.Parts.{heading, closing, acting, leaving, ending}
 use Rattle.il_text.specs.Reading.{program_made}
-use Rattle.il_text.specs.Steps.{Opened, Reached, nothing_read, is_body, is_some, may_act, may_leave, step}
+use Rattle.il_text.specs.Steps.{Opened, Reached, nothing_read, is_body, is_some, may_have_instruction, may_leave, step}
 use Rattle.il_text.specs.declared.listing.Stage.{Stage}
 use Rattle.il_text.specs.declared.listing.Stage.TheVariants as place
 use Rattle.il_text.specs.declared.program.Literal.TheVariants.{Truth}
@@ -52,7 +52,7 @@ loads : (name : List ℕ) (ds : List Declared) (f : Opened) (fs : List Opened)
     → step 0 (state place.Body name ds [] (f ∷ fs)) (acting (load false (constant (Truth true))))
     ≡ Some (state place.Body name ds (action 0 (load false (constant (Truth true))) ∷ [])
     (f ∷ fs))
-unfolding step may_act
+unfolding step may_have_instruction
 loads name ds f fs = refl
 
 end-body : (fs : List Opened) (name : List ℕ) (ds : List Declared) (is : List Entry)

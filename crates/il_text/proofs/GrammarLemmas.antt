@@ -11,7 +11,7 @@ use Rattle.il_text.specs.Grammar.{Numbered, Declaration, Block, declaration_part
 use Rattle.il_text.specs.Listing.{Action, load, Entry, label, action, block, Entries, entries_of, Declared}
 use Rattle.il_text.specs.Parts.{LineContent, heading, opening, declaring, closing, labelling, acting, entering, leaving, ending}
 use Rattle.il_text.specs.Reading.{program_made}
-use Rattle.il_text.specs.Steps.{Opened, Reached, nothing_read, at_place, with_name, declared_in, with_declarations, with_item, with_opened, with_closed, is_start, is_between_blocks, block_scope, is_body, is_outside, is_some, is_load, may_begin_with, declared_here, closed_block, may_stand, may_act, may_enter, may_leave, left_here, step}
+use Rattle.il_text.specs.Steps.{Opened, Reached, nothing_read, at_place, with_name, declared_in, with_declarations, with_item, with_opened, with_closed, is_start, is_between_blocks, block_scope, is_body, is_outside, is_some, is_load, may_begin_with, declared_here, closed_block, may_stand, may_have_instruction, may_enter, may_leave, left_here, step}
 use Rattle.il_text.specs.declared.listing.Stage.{Stage}
 use Rattle.il_text.specs.declared.listing.Stage.TheVariants as place
 use Rattle.il_text.specs.declared.program.DeclaredType.{DeclaredType}
@@ -442,7 +442,7 @@ block-back ps r i scope h x = cc
 -- a part that is taken is the next of the grammar's
 step-reaches : (n : ℕ) (ps : List Numbered) (r s : Reached) (p : LineContent) → Reaches ps r
     → step n r p ≡ Some s → Reaches (ps ++ (n, p) ∷ []) s
-unfolding step may_stand may_act may_enter may_leave
+unfolding step may_stand may_have_instruction may_enter may_leave
 step-reaches n ps r s (heading name) x e =
     let c = cond_some (is_start r.place) (with_name name r) s e in
     subst (λ (t : Reached). Reaches (ps ++ (n, heading name) ∷ []) t) c.1

@@ -9,7 +9,7 @@ use Rattle.il_text.specs.Places.{last_line}
 use Rattle.il_text.specs.Reading.{lines, program_of_lines, none_yet, program_of}
 use Rattle.il_text.specs.Respelling.{ends_inside, ends_with_cr, LineEndsMayBeRespelled}
 use Rattle.il_text.specs.Symbols.{piece, pieces_of}
-use Rattle.il_text.specs.Tokens.{Piece, line_end}
+use Rattle.il_text.specs.Tokens.{LexemeData, line_end}
 use Rattle.il_text.proofs.CutLemmas.{blanked-plain}
 use Rattle.il_text.proofs.ReadLemmas.{alone-line_end, pieces-alone}
 use Rattle.il_text.proofs.RespellingLemmas.{blanked-parts, cond-parts, last-line-parts, moved}
@@ -95,7 +95,7 @@ cut-lf u v h c =
     ∙ ap (map piece) (parts-lf (without_comments false u) (without_comments false v) c)
     ∙ map-append piece (pieces (without_comments false u))
     ((10 ∷ []) ∷ pieces (without_comments false v))
-    ∙ ap (λ (p : Piece). map piece (pieces (without_comments false u))
+    ∙ ap (λ (p : LexemeData). map piece (pieces (without_comments false u))
     ++ p ∷ map piece (pieces (without_comments false v))) piece-lf
 
 cut-cr : (u v : List ℕ) → ends_inside false u ≡ false
@@ -110,7 +110,7 @@ cut-cr u v h =
     ∙ ap (map piece) (parts-cr (without_comments false u) (without_comments false v))
     ∙ map-append piece (pieces (without_comments false u))
     ((13 ∷ 10 ∷ []) ∷ pieces (without_comments false v))
-    ∙ ap (λ (p : Piece). map piece (pieces (without_comments false u))
+    ∙ ap (λ (p : LexemeData). map piece (pieces (without_comments false u))
     ++ p ∷ map piece (pieces (without_comments false v))) piece-cr
 
 last-cr : (v : List ℕ) → last_line (13 ∷ 10 ∷ v) ≡ last_line (10 ∷ v)
@@ -124,7 +124,7 @@ unfolding program_of
 same-program u v h c =
     ap (λ (n : ℕ). program_of_lines n none_yet 1 (lines (pieces_of false (u ++ 10 ∷ v))))
     (sym (last-line-parts u (13 ∷ 10 ∷ v) (10 ∷ v) (omega arith) (omega arith) (last-cr v)))
-    ∙ ap (λ (ps : List Piece). program_of_lines (last_line (u ++ 13 ∷ 10 ∷ v)) none_yet 1
+    ∙ ap (λ (ps : List LexemeData). program_of_lines (last_line (u ++ 13 ∷ 10 ∷ v)) none_yet 1
     (lines ps))
     (cut-lf u v h c ∙ sym (cut-cr u v h))
 

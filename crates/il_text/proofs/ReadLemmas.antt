@@ -16,7 +16,7 @@ use Rattle.il_text.specs.ReaderViews.{read_on}
 use Rattle.il_text.specs.Runs.{IsPiece}
 use Rattle.bay_base.specs.Names.{same_name}
 use Rattle.il_text.specs.Symbols.{piece, pieces_of, mark_of}
-use Rattle.il_text.specs.Tokens.{Symbol, name, keyword_word, type_word, literal, mnemonic_word, mark_symbol, Piece, blank, line_end, token, bad_token, bad_literal}
+use Rattle.il_text.specs.Tokens.{Symbol, name, keyword_word, type_word, literal, mnemonic_word, mark_symbol, LexemeData, blank, line_end, token, bad_token, bad_literal}
 use Rattle.il_text.specs.declared.fault.TextFault.{TextFault}
 use Rattle.il_text.specs.declared.fault.TextFault.TheVariants.{BadToken, BadLine, BadLiteral}
 use Rattle.bay_base.proofs.ListLemmas.{front_of, none-left}
@@ -24,22 +24,22 @@ use Rattle.il_text.proofs.PieceLemmas.{index-drop}
 use Rattle.il_text.proofs.CutLemmas.{join-alone, not-N, within-of, and-right}
 
 -- good tokens in front of the first of the lines
-abbrev onto_all : List Symbol → List (List Piece) → List (List Piece)
+abbrev onto_all : List Symbol → List (List LexemeData) → List (List LexemeData)
 onto_all [] ls = ls
 onto_all (s ∷ ss) ls = prepend_lexeme (token s) (onto_all ss ls)
 
-lines-onto : (ss : List Symbol) (ps : List Piece)
+lines-onto : (ss : List Symbol) (ps : List LexemeData)
     → lines (map token ss ++ ps) ≡ onto_all ss (lines ps)
 unfolding lines
 lines-onto [] ps = refl
 lines-onto (s ∷ ss) ps = ap (prepend_lexeme (token s)) (unfold lines in lines-onto ss ps)
 
-onto-line : (ss : List Symbol) (l : List Piece) (ls : List (List Piece))
+onto-line : (ss : List Symbol) (l : List LexemeData) (ls : List (List LexemeData))
     → onto_all ss (l ∷ ls) ≡ (map token ss ++ l) ∷ ls
 onto-line [] l ls = refl
 onto-line (s ∷ ss) l ls = ap (prepend_lexeme (token s)) (onto-line ss l ls)
 
-onto-more : (ss : List Symbol) (s : Symbol) (ls : List (List Piece))
+onto-more : (ss : List Symbol) (s : Symbol) (ls : List (List LexemeData))
     → onto_all ss (prepend_lexeme (token s) ls) ≡ onto_all (ss ++ s ∷ []) ls
 onto-more [] s ls = refl
 onto-more (t ∷ ss) s ls = ap (prepend_lexeme (token t)) (onto-more ss s ls)
@@ -51,7 +51,7 @@ tokens-good line (s ∷ ss) =
     ap (λ (r : Result (List Symbol) TextFault). r >>= (λ xs. Ok (s ∷ xs)))
     (unfold tokens_of in tokens-good line ss)
 
-tokens-bad : (line : ℕ) (ss : List Symbol) (l : List Piece)
+tokens-bad : (line : ℕ) (ss : List Symbol) (l : List LexemeData)
     → tokens_of line (map token ss ++ bad_token ∷ l) ≡ Err (BadToken line)
 unfolding tokens_of
 tokens-bad line [] l = refl
@@ -59,7 +59,7 @@ tokens-bad line (s ∷ ss) l =
     ap (λ (r : Result (List Symbol) TextFault). r >>= (λ xs. Ok (s ∷ xs)))
     (unfold tokens_of in tokens-bad line ss l)
 
-tokens-bad-literal : (line : ℕ) (ss : List Symbol) (l : List Piece)
+tokens-bad-literal : (line : ℕ) (ss : List Symbol) (l : List LexemeData)
     → tokens_of line (map token ss ++ bad_literal ∷ l) ≡ Err (BadLiteral line)
 unfolding tokens_of
 tokens-bad-literal line [] l = refl
@@ -67,13 +67,13 @@ tokens-bad-literal line (s ∷ ss) l =
     ap (λ (r : Result (List Symbol) TextFault). r >>= (λ xs. Ok (s ∷ xs)))
     (unfold tokens_of in tokens-bad-literal line ss l)
 
-read-blank : (last : ℕ) (r : Read) (n : ℕ) (ss : List Symbol) (ps : List Piece)
+read-blank : (last : ℕ) (r : Read) (n : ℕ) (ss : List Symbol) (ps : List LexemeData)
     → read_on last r n ss (blank ∷ ps) ≡ read_on last r n ss ps
 unfolding read_on lines
 read-blank last r n ss ps =
     ap (program_of_lines last r n) (lines-onto ss (blank ∷ ps) ∙ sym (lines-onto ss ps))
 
-read-token : (last : ℕ) (r : Read) (n : ℕ) (ss : List Symbol) (s : Symbol) (ps : List Piece)
+read-token : (last : ℕ) (r : Read) (n : ℕ) (ss : List Symbol) (s : Symbol) (ps : List LexemeData)
     → read_on last r n ss (token s ∷ ps) ≡ read_on last r n (ss ++ s ∷ []) ps
 unfolding read_on lines
 read-token last r n ss s ps =
@@ -81,7 +81,7 @@ read-token last r n ss s ps =
     ∙ sym (lines-onto (ss ++ s ∷ []) ps))
 
 -- a line of good tokens, and the lines after it
-reading-line : (last : ℕ) (r : Read) (n : ℕ) (ss : List Symbol) (ls : List (List Piece))
+reading-line : (last : ℕ) (r : Read) (n : ℕ) (ss : List Symbol) (ls : List (List LexemeData))
     → program_of_lines last r n (map token ss ∷ ls)
     ≡ (after_line n last r ss >>= (λ s. program_of_lines last s (n + 1) ls))
 unfolding program_of_lines
@@ -90,13 +90,13 @@ reading-line last r n ss ls =
     >>= (λ ts. after_line n last r ts >>= (λ s. program_of_lines last s (n + 1) ls)))
     (tokens-good n ss)
 
-read-line-end : (last : ℕ) (r : Read) (n : ℕ) (ss : List Symbol) (ps : List Piece)
+read-line-end : (last : ℕ) (r : Read) (n : ℕ) (ss : List Symbol) (ps : List LexemeData)
     → read_on last r n ss (line_end ∷ ps)
     ≡ (after_line n last r ss >>= (λ s. read_on last s (n + 1) [] ps))
 unfolding read_on lines
 read-line-end last r n ss ps =
     ap (program_of_lines last r n) (lines-onto ss (line_end ∷ ps) ∙ onto-line ss [] (lines ps)
-    ∙ ap (λ (l : List Piece). l ∷ lines ps) (append-nil (map token ss)))
+    ∙ ap (λ (l : List LexemeData). l ∷ lines ps) (append-nil (map token ss)))
     ∙ reading-line last r n ss (lines ps)
 
 pub read-end : (last : ℕ) (r : Read) (n : ℕ) (ss : List Symbol)
@@ -104,16 +104,16 @@ pub read-end : (last : ℕ) (r : Read) (n : ℕ) (ss : List Symbol)
 unfolding read_on lines program_of_lines
 read-end last r n ss =
     ap (program_of_lines last r n) (lines-onto ss [] ∙ onto-line ss [] []
-    ∙ ap (λ (l : List Piece). l ∷ []) (append-nil (map token ss)))
+    ∙ ap (λ (l : List LexemeData). l ∷ []) (append-nil (map token ss)))
     ∙ reading-line last r n ss []
 
-bad-lines : (last : ℕ) (r : Read) (n : ℕ) (ss : List Symbol) (ls : List (List Piece))
+bad-lines : (last : ℕ) (r : Read) (n : ℕ) (ss : List Symbol) (ls : List (List LexemeData))
     → program_of_lines last r n (onto_all ss (prepend_lexeme bad_token ls)) ≡ Err (BadToken n)
 unfolding program_of_lines
 bad-lines last r n ss [] = rw (onto-line ss (bad_token ∷ []) [], tokens-bad n ss []) refl
 bad-lines last r n ss (l ∷ ls) = rw (onto-line ss (bad_token ∷ l) ls, tokens-bad n ss l) refl
 
-bad-literal-lines : (last : ℕ) (r : Read) (n : ℕ) (ss : List Symbol) (ls : List (List Piece))
+bad-literal-lines : (last : ℕ) (r : Read) (n : ℕ) (ss : List Symbol) (ls : List (List LexemeData))
     → program_of_lines last r n (onto_all ss (prepend_lexeme bad_literal ls)) ≡ Err (BadLiteral n)
 unfolding program_of_lines
 bad-literal-lines last r n ss [] =
@@ -121,14 +121,14 @@ bad-literal-lines last r n ss [] =
 bad-literal-lines last r n ss (l ∷ ls) =
     rw (onto-line ss (bad_literal ∷ l) ls, tokens-bad-literal n ss l) refl
 
-read-bad : (last : ℕ) (r : Read) (n : ℕ) (ss : List Symbol) (ps : List Piece)
+read-bad : (last : ℕ) (r : Read) (n : ℕ) (ss : List Symbol) (ps : List LexemeData)
     → read_on last r n ss (bad_token ∷ ps) ≡ Err (BadToken n)
 unfolding read_on lines
 read-bad last r n ss ps =
     ap (program_of_lines last r n) (lines-onto ss (bad_token ∷ ps))
     ∙ bad-lines last r n ss (lines ps)
 
-read-bad-literal : (last : ℕ) (r : Read) (n : ℕ) (ss : List Symbol) (ps : List Piece)
+read-bad-literal : (last : ℕ) (r : Read) (n : ℕ) (ss : List Symbol) (ps : List LexemeData)
     → read_on last r n ss (bad_literal ∷ ps) ≡ Err (BadLiteral n)
 unfolding read_on lines
 read-bad-literal last r n ss ps =
@@ -189,37 +189,37 @@ unclosed-piece = refl
 space-first : (xs : List ℕ) → map piece (pieces (32 ∷ xs)) ≡ blank ∷ map piece (pieces xs)
 space-first xs =
     cut-first 32 xs alone-space (λ e. absurd (omega (arith, e)))
-    ∙ ap (λ (p : Piece). p ∷ map piece (pieces xs)) space-piece
+    ∙ ap (λ (p : LexemeData). p ∷ map piece (pieces xs)) space-piece
 
 end-first : (xs : List ℕ) → map piece (pieces (10 ∷ xs)) ≡ line_end ∷ map piece (pieces xs)
 end-first xs =
     cut-first 10 xs alone-line_end (λ e. absurd (omega (arith, e)))
-    ∙ ap (λ (p : Piece). p ∷ map piece (pieces xs)) end-piece
+    ∙ ap (λ (p : LexemeData). p ∷ map piece (pieces xs)) end-piece
 
 unclosed-first : (xs : List ℕ) → map piece (pieces (256 ∷ xs)) ≡ bad_token ∷ map piece (pieces xs)
 unclosed-first xs =
     cut-first 256 xs alone-unclosed (λ e. absurd (omega (arith, e)))
-    ∙ ap (λ (p : Piece). p ∷ map piece (pieces xs)) unclosed-piece
+    ∙ ap (λ (p : LexemeData). p ∷ map piece (pieces xs)) unclosed-piece
 
 opening-cons : (x y : ℕ) (xs : List ℕ) → opens (x ∷ y ∷ xs) ≡ true → closes xs ≡ true
     → pieces_of false (x ∷ y ∷ xs) ≡ blank ∷ blank ∷ pieces_of true xs
 unfolding pieces_of without_comments
 opening-cons x y xs h k =
     rw (h, k) (space-first _
-    ∙ ap (λ (l : List Piece). blank ∷ l) (space-first (without_comments true xs)))
+    ∙ ap (λ (l : List LexemeData). blank ∷ l) (space-first (without_comments true xs)))
 
 unclosed-cons : (x y : ℕ) (xs : List ℕ) → opens (x ∷ y ∷ xs) ≡ true → closes xs ≡ false
     → pieces_of false (x ∷ y ∷ xs) ≡ bad_token ∷ blank ∷ pieces_of true xs
 unfolding pieces_of without_comments
 unclosed-cons x y xs h k =
     rw (h, k) (unclosed-first _
-    ∙ ap (λ (l : List Piece). bad_token ∷ l) (space-first (without_comments true xs)))
+    ∙ ap (λ (l : List LexemeData). bad_token ∷ l) (space-first (without_comments true xs)))
 
 closing-cons : (x y : ℕ) (xs : List ℕ) → ends (x ∷ y ∷ xs) ≡ true
     → pieces_of true (x ∷ y ∷ xs) ≡ blank ∷ blank ∷ pieces_of false xs
 unfolding pieces_of without_comments
 closing-cons x y xs h =
-    rw h (space-first _ ∙ ap (λ (l : List Piece). blank ∷ l)
+    rw h (space-first _ ∙ ap (λ (l : List LexemeData). blank ∷ l)
     (space-first (without_comments false xs)))
 
 inside-end : (x : ℕ) (xs : List ℕ) → ends (x ∷ xs) ≡ false → x ≡ 10
@@ -360,7 +360,7 @@ front-none : (t : Result (List Symbol) TextFault) → t ≡ with_front [] t
 front-none (Ok ts) = refl
 front-none (Err e) = refl
 
-tokens-front : (n : ℕ) (ss : List Symbol) (l : List Piece)
+tokens-front : (n : ℕ) (ss : List Symbol) (l : List LexemeData)
     → tokens_of n (map token ss ++ l) ≡ with_front ss (tokens_of n l)
 unfolding tokens_of
 tokens-front n [] l = front-none (unfold tokens_of in tokens_of n l)
@@ -373,7 +373,7 @@ abbrev hopeless_end : ℕ → Result (List Symbol) TextFault → Result PlainPro
 hopeless_end n (Ok ts) = Err (BadLine n)
 hopeless_end n (Err e) = Err e
 
-hopeless-by : (last : ℕ) (r : Read) (n : ℕ) (ss : List Symbol) (ls : List (List Piece))
+hopeless-by : (last : ℕ) (r : Read) (n : ℕ) (ss : List Symbol) (ls : List (List LexemeData))
     (t : Result (List Symbol) TextFault) → is_hopeless ss ≡ true
     → (with_front ss t >>= (λ ts. after_line n last r ts
     >>= (λ s. program_of_lines last s (n + 1) ls)))
@@ -383,8 +383,8 @@ hopeless-by last r n ss ls (Ok ts) h =
     ap (λ (x : Result Read TextFault). x >>= (λ s. program_of_lines last s (n + 1) ls))
     (hopeless-line last r n ss ts h)
 
-hopeless-reads : (last : ℕ) (r : Read) (n : ℕ) (ss : List Symbol) (l : List Piece)
-    (ls : List (List Piece)) → is_hopeless ss ≡ true
+hopeless-reads : (last : ℕ) (r : Read) (n : ℕ) (ss : List Symbol) (l : List LexemeData)
+    (ls : List (List LexemeData)) → is_hopeless ss ≡ true
     → program_of_lines last r n ((map token ss ++ l) ∷ ls) ≡ hopeless_end n (tokens_of n l)
 unfolding program_of_lines
 hopeless-reads last r n ss l ls h =
@@ -409,14 +409,14 @@ hopeless-empty : (last : ℕ) (r : Read) (n : ℕ) (ss : List Symbol) (s : Symbo
 hopeless-empty last r n [] s h = absurd (false≢true h)
 hopeless-empty last r n (a ∷ ss) s h =
     ap (program_of_lines last r n) (onto-none a (ss ++ s ∷ [])
-    ∙ ap (λ (l : List Piece). l ∷ []) (sym (append-nil (map token (a ∷ (ss ++ s ∷ []))))))
+    ∙ ap (λ (l : List LexemeData). l ∷ []) (sym (append-nil (map token (a ∷ (ss ++ s ∷ []))))))
     ∙ hopeless-reads last r n (a ∷ (ss ++ s ∷ [])) [] [] (hopeless-more (a ∷ ss) s h)
     ∙ sym (hopeless-reads last r n (a ∷ ss) [] [] h)
     ∙ ap (program_of_lines last r n) (sym
-    (onto-none a ss ∙ ap (λ (l : List Piece). l ∷ []) (sym (append-nil (map token (a ∷ ss))))))
+    (onto-none a ss ∙ ap (λ (l : List LexemeData). l ∷ []) (sym (append-nil (map token (a ∷ ss))))))
 
 hopeless-lines : (last : ℕ) (r : Read) (n : ℕ) (ss : List Symbol) (s : Symbol)
-    (ls : List (List Piece)) → is_hopeless ss ≡ true
+    (ls : List (List LexemeData)) → is_hopeless ss ≡ true
     → program_of_lines last r n (onto_all (ss ++ s ∷ []) ls)
     ≡ program_of_lines last r n (onto_all ss ls)
 hopeless-lines last r n ss s [] h = hopeless-empty last r n ss s h
@@ -427,7 +427,7 @@ hopeless-lines last r n ss s (l ∷ ls) h =
     ∙ ap (program_of_lines last r n) (sym (onto-line ss l ls))
 
 -- a token behind such tokens makes no difference
-read-dropped : (last : ℕ) (r : Read) (n : ℕ) (ss : List Symbol) (s : Symbol) (ps : List Piece)
+read-dropped : (last : ℕ) (r : Read) (n : ℕ) (ss : List Symbol) (s : Symbol) (ps : List LexemeData)
     → is_hopeless ss ≡ true → read_on last r n ss (token s ∷ ps) ≡ read_on last r n ss ps
 unfolding read_on
 read-dropped last r n ss s ps h =

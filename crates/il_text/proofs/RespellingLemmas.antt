@@ -11,7 +11,7 @@ use Rattle.il_text.specs.Places.{last_line}
 use Rattle.il_text.specs.Reading.{lines, prepend_lexeme, program_of_lines, none_yet, program_of}
 use Rattle.il_text.specs.Respelling.{ends_inside, AreBlanks, BlanksMayBeRespelled}
 use Rattle.il_text.specs.Symbols.{piece, pieces_of}
-use Rattle.il_text.specs.Tokens.{Piece, blank, line_end, token, bad_token, bad_literal}
+use Rattle.il_text.specs.Tokens.{LexemeData, blank, line_end, token, bad_token, bad_literal}
 use Rattle.il_text.proofs.CutLemmas.{and-left, and-right, Stands, blanked-first, blanked-plain}
 use Rattle.il_text.specs.Listing.{PlainProgram}
 use Rattle.il_text.specs.Texts.{ReadsAs}
@@ -179,24 +179,24 @@ blank-piece : (c : ℕ) → is_blank c ≡ true → piece (c ∷ []) ≡ blank
 blank-piece c h =
     ⊎_elim (λ (e : c ≡ 32). rw e space-piece) (λ (e : c ≡ 9). rw e tab-piece) (blank-cases c h)
 
-lines-blank : (ps qs : List Piece) → lines (ps ++ (blank ∷ qs)) ≡ lines (ps ++ qs)
+lines-blank : (ps qs : List LexemeData) → lines (ps ++ (blank ∷ qs)) ≡ lines (ps ++ qs)
 unfolding lines
 lines-blank [] qs = refl
 lines-blank (blank ∷ ps) qs = unfold lines in lines-blank ps qs
 lines-blank (line_end ∷ ps) qs =
-    ap (λ (l : List (List Piece)). [] ∷ l) (unfold lines in lines-blank ps qs)
+    ap (λ (l : List (List LexemeData)). [] ∷ l) (unfold lines in lines-blank ps qs)
 lines-blank (token s ∷ ps) qs = ap (prepend_lexeme (token s)) (unfold lines in lines-blank ps qs)
 lines-blank (bad_token ∷ ps) qs = ap (prepend_lexeme bad_token) (unfold lines in lines-blank ps qs)
 lines-blank (bad_literal ∷ ps) qs =
     ap (prepend_lexeme bad_literal) (unfold lines in lines-blank ps qs)
 
-lines-blanks : (bs t : List ℕ) (ps : List Piece) → list_all is_blank bs ≡ true
+lines-blanks : (bs t : List ℕ) (ps : List LexemeData) → list_all is_blank bs ≡ true
     → lines (ps ++ map piece (pieces (bs ++ t))) ≡ lines (ps ++ map piece (pieces t))
 lines-blanks [] t ps h = refl
 lines-blanks (c ∷ bs) t ps h =
     let here : is_blank c ≡ true = and-left (is_blank c) _ h in
     ap (λ (q : List (List ℕ)). lines (ps ++ map piece q)) (blank-alone c (bs ++ t) here)
-    ∙ ap (λ (q : Piece). lines (ps ++ (q ∷ map piece (pieces (bs ++ t))))) (blank-piece c here)
+    ∙ ap (λ (q : LexemeData). lines (ps ++ (q ∷ map piece (pieces (bs ++ t))))) (blank-piece c here)
     ∙ lines-blank ps (map piece (pieces (bs ++ t)))
     ∙ lines-blanks bs t ps (and-right (is_blank c) _ h)
 
@@ -209,7 +209,7 @@ lines-between u (c ∷ bs) t n h =
     let here : is_blank c ≡ true = and-left (is_blank c) _ h in
     ap (λ (q : List (List ℕ)). lines (map piece q)) (pieces-parts u c (bs ++ t) here)
     ∙ ap lines (map-append piece (pieces u) ((c ∷ []) ∷ pieces (bs ++ t)))
-    ∙ ap (λ (q : Piece). lines (map piece (pieces u) ++ (q ∷ map piece (pieces (bs ++ t)))))
+    ∙ ap (λ (q : LexemeData). lines (map piece (pieces u) ++ (q ∷ map piece (pieces (bs ++ t)))))
     (blank-piece c here)
     ∙ lines-blank (map piece (pieces u)) (map piece (pieces (bs ++ t)))
     ∙ lines-blanks bs t (map piece (pieces u)) (and-right (is_blank c) _ h)

@@ -11,10 +11,10 @@ use Rattle.il_text.specs.Listing.{label, action, PlainProgram}
 use Rattle.il_text.specs.Parts.{LineContent, heading, opening, declaring, closing, labelling, acting, entering, leaving, ending}
 use Rattle.il_text.specs.Places.{last_line}
 use Rattle.il_text.specs.Reading.{Read, tokens_of, is_instruction, has_instruction, past_limit, with_instruction, within_bounds, after_text_line, after_parts, after_line, whole_at, program_of_lines, none_yet, program_of, lines, most_instructions, most_open}
-use Rattle.il_text.specs.Steps.{Reached, nothing_read, at_place, with_name, with_item, with_opened, with_declarations, declared_in, left_here, block_scope, is_start, is_between_blocks, may_stand, may_act, may_enter, may_leave, step, steps}
+use Rattle.il_text.specs.Steps.{Reached, nothing_read, at_place, with_name, with_item, with_opened, with_declarations, declared_in, left_here, block_scope, is_start, is_between_blocks, may_stand, may_have_instruction, may_enter, may_leave, step, steps}
 use Rattle.il_text.specs.Symbols.{pieces_of}
 use Rattle.il_text.specs.Texts.{TextLine, numbered_parts, all_parts, is_entering, is_leaving, IsDeep, Allowed, no_program, too_deep, too_long, Refused, Ends, OnParts, OnTokens, Reads, ReadsAs}
-use Rattle.il_text.specs.Tokens.{Symbol, Piece}
+use Rattle.il_text.specs.Tokens.{Symbol, LexemeData}
 use Rattle.il_text.specs.declared.fault.TextFault.{TextFault}
 use Rattle.il_text.specs.declared.fault.TextFault.TheVariants.{TooDeep, TooLong}
 use Rattle.il_text.specs.declared.listing.Stage.{Stage}
@@ -53,7 +53,7 @@ part-depth n r s (labelling name) e =
     (cond_some (may_stand r) (with_item (label n name) r) s e).1 in omega (arith, d)
 part-depth n r s (acting a) e =
     let d = depth_of r s (with_item (action n a) r) refl
-    (cond_some (may_act r a) (with_item (action n a) r) s e).1 in omega (arith, d)
+    (cond_some (may_have_instruction r a) (with_item (action n a) r) s e).1 in omega (arith, d)
 part-depth n r s (entering o g) e =
     let d : depth (with_opened n o g r) ≡ depth s =
     ap depth (cond_some (may_enter r) (with_opened n o g r) s e).1 in omega (arith, d)
@@ -202,22 +202,22 @@ ends-so last before s place.Body e h = (not-finished before s place.Body e refl 
 ends-so last before s place.Finished e h = ended-derives (all_parts before) s h (sym e)
 
 -- what a line's parts make, and what the lines behind it read as
-abbrev Going : ℕ → List TextLine → ℕ → List (List Piece) → Result PlainProgram TextFault
+abbrev Going : ℕ → List TextLine → ℕ → List (List LexemeData) → Result PlainProgram TextFault
     → List LineContent
     → Type 0
 Going last before n ls x ps =
     (Allowed (before ++ (n, ps) ∷ []) × Reads last (before ++ (n, ps) ∷ []) (n + 1) ls x)
     ⊎ Refused last n (before ++ (n, ps) ∷ []) x
 
-abbrev rest : ℕ → ℕ → List (List Piece) → Read → Result PlainProgram TextFault
+abbrev rest : ℕ → ℕ → List (List LexemeData) → Read → Result PlainProgram TextFault
 rest last n ls s = program_of_lines last s (n + 1) ls
 
 -- all that is to be shown of the lines behind
-abbrev More : ℕ → ℕ → List (List Piece) → Type 0
+abbrev More : ℕ → ℕ → List (List LexemeData) → Type 0
 More last n ls =
     (b : List TextLine) (s : Read) → After b s → Reads last b (n + 1) ls (rest last n ls s)
 
-goes-quiet : (last n instr : ℕ) (before : List TextLine) (ls : List (List Piece))
+goes-quiet : (last n instr : ℕ) (before : List TextLine) (ls : List (List LexemeData))
     (ps : List LineContent)
     (s : Reached) → More last n ls
     → run nothing_read (all_parts (before ++ (n, ps) ∷ [])) ≡ Some s → has_instruction ps ≡ false
@@ -237,7 +237,7 @@ goes-quiet last n instr before ls ps s f h q c k d =
           (record { runs = h; count = t; short = k; shallow = d }),
     )
 
-counts-so : (last n instr : ℕ) (before : List TextLine) (ls : List (List Piece))
+counts-so : (last n instr : ℕ) (before : List TextLine) (ls : List (List LexemeData))
     (ps : List LineContent)
     (s : Reached) (b : Bool) → More last n ls
     → run nothing_read (all_parts (before ++ (n, ps) ∷ [])) ≡ Some s → has_instruction ps ≡ true
@@ -267,7 +267,7 @@ counts-so last n instr before ls ps s false f h q c t d =
     inr (too_long (goes_on _ s h) (shallow-so (before ++ (n, ps) ∷ []) s h d)
     (omega (arith, m, z, c, k)) refl)
 
-bounded-so : (last n instr : ℕ) (before : List TextLine) (ls : List (List Piece))
+bounded-so : (last n instr : ℕ) (before : List TextLine) (ls : List (List LexemeData))
     (ps : List LineContent)
     (s : Reached) (b : Bool) → More last n ls
     → run nothing_read (all_parts (before ++ (n, ps) ∷ [])) ≡ Some s → has_instruction ps ≡ true
@@ -283,7 +283,7 @@ bounded-so last n instr before ls ps s false f h q c t =
     let k : most_open < depth s = leb-false _ _ t in
     inr (too_deep (goes_on _ s h) (deep-so (before ++ (n, ps) ∷ []) s h k) refl)
 
-limited-so : (last n : ℕ) (before : List TextLine) (r : Read) (ls : List (List Piece))
+limited-so : (last n : ℕ) (before : List TextLine) (r : Read) (ls : List (List LexemeData))
     (ps : List LineContent)
     (s : Reached) (b : Bool) → More last n ls → After before r
     → run nothing_read (all_parts (before ++ (n, ps) ∷ [])) ≡ Some s → steps n r.reached ps ≡ Some s
@@ -299,7 +299,7 @@ limited-so last n before r ls ps s false f a h e q =
     goes-quiet last n r.instructions before ls ps s f h q a.count a.short
     (omega (arith, d, a.shallow))
 
-stepped-so : (last n : ℕ) (before : List TextLine) (r : Read) (ls : List (List Piece))
+stepped-so : (last n : ℕ) (before : List TextLine) (r : Read) (ls : List (List LexemeData))
     (ps : List LineContent)
     (o : Option Reached) → More last n ls → After before r
     → steps n r.reached ps ≡ o
@@ -311,7 +311,7 @@ stepped-so last n before r ls ps (Some s) f a e =
     limited-so last n before r ls ps s (has_instruction ps) f a
     (line-run before n ps r.reached a.runs ∙ e) e refl
 
-parts-so : (last n : ℕ) (before : List TextLine) (r : Read) (ls : List (List Piece))
+parts-so : (last n : ℕ) (before : List TextLine) (r : Read) (ls : List (List LexemeData))
     (o : Option (List LineContent)) → More last n ls → After before r
     → OnParts n (Going last before n ls (after_parts n last r o >>= rest last n ls)) o
     (after_parts n last r o >>= rest last n ls)
@@ -319,7 +319,7 @@ parts-so last n before r ls None f a = refl
 parts-so last n before r ls (Some ps) f a =
     stepped-so last n before r ls ps (steps n r.reached ps) f a refl
 
-tokens-so : (last n : ℕ) (before : List TextLine) (r : Read) (ls : List (List Piece))
+tokens-so : (last n : ℕ) (before : List TextLine) (r : Read) (ls : List (List LexemeData))
     (t : Result (List Symbol) TextFault) → More last n ls → After before r
     → OnTokens n (Going last before n ls (t >>= (λ ts. after_line n last r ts >>= rest last n ls)))
     t (t >>= (λ ts. after_line n last r ts >>= rest last n ls))
@@ -327,7 +327,7 @@ unfolding after_line
 tokens-so last n before r ls (Err e) f a = refl
 tokens-so last n before r ls (Ok ts) f a = parts-so last n before r ls (parts_of ts) f a
 
-reads-so : (last : ℕ) (before : List TextLine) (r : Read) (n : ℕ) (ls : List (List Piece))
+reads-so : (last : ℕ) (before : List TextLine) (r : Read) (n : ℕ) (ls : List (List LexemeData))
     → After before r → Reads last before n ls (program_of_lines last r n ls)
 unfolding program_of_lines
 reads-so last before r n [] a = ends-so last before r.reached r.reached.place refl a.runs

@@ -11,7 +11,7 @@ use Rattle.il_text.specs.Places.{last_line}
 use Rattle.il_text.specs.Reading.{tokens_of, program_of, lines}
 use Rattle.il_text.specs.Symbols.{pieces_of}
 use Rattle.il_text.specs.Texts.{TextLine, numbered_parts, all_parts, Allowed, LineFault, no_program, too_deep, too_long, Refused, Ends, OnParts, OnTokens, Reads, ReadsAs, OneReading, ProgramIsRead}
-use Rattle.il_text.specs.Tokens.{Symbol, Piece}
+use Rattle.il_text.specs.Tokens.{Symbol, LexemeData}
 use Rattle.il_text.specs.declared.fault.TextFault.{TextFault}
 use Rattle.il_text.proofs.FinishLemmas.{one-derived}
 use Rattle.il_text.proofs.GrammarLemmas.{flat-one}
@@ -78,7 +78,7 @@ tokens-one : (n : ℕ) (t : Result (List Symbol) TextFault)
 tokens-one n (Err e) G x y f a b = a ∙ sym b
 tokens-one n (Ok ts) G x y f a b = parts-one n (parts_of ts) G x y f a b
 
-reads-one : (last : ℕ) (before : List TextLine) (n : ℕ) (ls : List (List Piece))
+reads-one : (last : ℕ) (before : List TextLine) (n : ℕ) (ls : List (List LexemeData))
     (x y : Result PlainProgram TextFault) → Reads last before n ls x → Reads last before n ls y
     → x ≡ y
 reads-one last before n [] x y a b = ends-one last before x y a b
@@ -180,7 +180,7 @@ going_rises : (A B R : Type 0) → (B → R) → (A × B) ⊎ ⊥ → R
 going_rises A B R f (inl a) = f a.1
 going_rises A B R f (inr b) = absurd b
 
-reads-rise : (last : ℕ) (before : List TextLine) (n : ℕ) (ls : List (List Piece)) (p : PlainProgram)
+reads-rise : (last : ℕ) (before : List TextLine) (n : ℕ) (ls : List (List LexemeData)) (p : PlainProgram)
     → Climbs 0 (map line_of (all_parts before)) n → Reads last before n ls (Ok p)
     → Rises 0 (item_lines p.items)
 reads-rise last before n [] p c d = derived-rises (all_parts before) p n d c

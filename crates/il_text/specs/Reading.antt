@@ -2,7 +2,7 @@
 use Rattle.std.specs.Prelude.{ℕ, ◌+◌, Bool, true, false, ◌||◌, ◌==◌, nat_lt, nat_le, if◌then◌else◌, List, [], ◌∷◌, length, Option, Some, None, Result, Ok, Err}
 use Rattle.bay_base.specs.Results.{◌>>=◌}
 use Rattle.il_text.specs.Listing.{PlainProgram}
-use Rattle.il_text.specs.Tokens.{Symbol, Piece, blank, line_end, token, bad_token, bad_literal}
+use Rattle.il_text.specs.Tokens.{Symbol, LexemeData, blank, line_end, token, bad_token, bad_literal}
 use Rattle.il_text.specs.Symbols.{pieces_of}
 use Rattle.il_text.specs.Forms.{parts_of}
 use Rattle.il_text.specs.Parts.{LineContent, heading, opening, declaring, closing, labelling, acting, entering, leaving, ending}
@@ -16,12 +16,12 @@ use Rattle.il_text.specs.declared.listing.Stage.TheVariants as place
 -- ---- own: how a program is read line by line
 
 -- a lexeme before those of the first line
-abbrev pub prepend_lexeme : Piece → List (List Piece) → List (List Piece)
+abbrev pub prepend_lexeme : LexemeData → List (List LexemeData) → List (List LexemeData)
 prepend_lexeme p [] = (p ∷ []) ∷ []
 prepend_lexeme p (l ∷ ls) = (p ∷ l) ∷ ls
 
 -- the lexemes of each line of a text, without blanks
-unfoldable pub lines : List Piece → List (List Piece)
+unfoldable pub lines : List LexemeData → List (List LexemeData)
 lines [] = [] ∷ []
 lines (blank ∷ ps) = lines ps
 lines (line_end ∷ ps) = [] ∷ lines ps
@@ -30,7 +30,7 @@ lines (bad_token ∷ ps) = prepend_lexeme bad_token (lines ps)
 lines (bad_literal ∷ ps) = prepend_lexeme bad_literal (lines ps)
 
 -- the tokens of a line, or its leftmost fault
-unfoldable pub tokens_of : ℕ → List Piece → Result (List Symbol) TextFault
+unfoldable pub tokens_of : ℕ → List LexemeData → Result (List Symbol) TextFault
 tokens_of line [] = Ok []
 tokens_of line (blank ∷ ps) = tokens_of line ps
 tokens_of line (line_end ∷ ps) = tokens_of line ps
@@ -124,7 +124,7 @@ complete_program last s = whole_at last s s.place
 
 -- the program of the lines after others; the first of them has the number `line`, and the first
 -- faulty one decides
-unfoldable pub program_of_lines : ℕ → Read → ℕ → List (List Piece) → Result PlainProgram TextFault
+unfoldable pub program_of_lines : ℕ → Read → ℕ → List (List LexemeData) → Result PlainProgram TextFault
 program_of_lines last r line [] = complete_program last r.reached
 program_of_lines last r line (l ∷ ls) =
     tokens_of line l >>= (λ ts. after_line line last r ts

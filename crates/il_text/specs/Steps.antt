@@ -169,8 +169,8 @@ unfoldable pub may_stand : Reached → Bool
 may_stand r = is_body r.place && is_outside r.parentheses
 
 -- whether an instruction may come here: the first in a parenthesis is a load, and none leaves it
-unfoldable pub may_act : Reached → Action → Bool
-may_act r a =
+unfoldable pub may_have_instruction : Reached → Action → Bool
+may_have_instruction r a =
     is_body r.place && (is_outside r.parentheses || (is_plain a && (is_some r.items || is_load a)))
 
 -- whether a parenthesis may begin here
@@ -194,7 +194,7 @@ step n r (opening scope) =
 step n r (declaring ns kind initial) = declared_here n ns kind initial r (block_scope r.place)
 step n r closing = closed_block r (block_scope r.place)
 step n r (labelling name) = if may_stand r then Some (with_item (label n name) r) else None
-step n r (acting a) = if may_act r a then Some (with_item (action n a) r) else None
+step n r (acting a) = if may_have_instruction r a then Some (with_item (action n a) r) else None
 step n r (entering operator negated) =
     if may_enter r then Some (with_opened n operator negated r) else None
 step n r leaving = if may_leave r then left_here n r r.parentheses else None

@@ -8,7 +8,7 @@ use Rattle.il_text.specs.Parts.{LineContent, entering, leaving}
 use Rattle.il_text.specs.Places.{last_line}
 use Rattle.il_text.specs.Reading.{lines, tokens_of, has_instruction, most_instructions, most_open, past_limit, program_of}
 use Rattle.il_text.specs.Symbols.{pieces_of}
-use Rattle.il_text.specs.Tokens.{Symbol, Piece}
+use Rattle.il_text.specs.Tokens.{Symbol, LexemeData}
 use Rattle.il_text.specs.declared.fault.TextFault.{TextFault}
 use Rattle.il_text.specs.declared.fault.TextFault.TheVariants.{BadLine, TooDeep, TooLong}
 
@@ -86,7 +86,7 @@ OnTokens line goes (Ok ts) r = OnParts line goes (parts_of ts) r
 -- How the lines from this number on are read, after allowed lines: the first faulty line decides.
 -- In a line a bad token or literal comes first, then a missing form, then a line after which no
 -- program is possible, then the limits.
-abbrev pub Reads : ℕ → List TextLine → ℕ → List (List Piece) → Result PlainProgram TextFault
+abbrev pub Reads : ℕ → List TextLine → ℕ → List (List LexemeData) → Result PlainProgram TextFault
     → Type 0
 Reads last before line [] r = Ends last before r
 Reads last before line (l ∷ ls) r =

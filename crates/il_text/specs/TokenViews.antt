@@ -1,6 +1,6 @@
 -- Inner: tokens and lexemes of the code as plain data.
 use Rattle.std.specs.Prelude.{List, map}
-use Rattle.il_text.specs.Tokens.{Symbol, name, keyword_word, type_word, literal, mnemonic_word, mark_symbol, Piece, blank, line_end, token, bad_token, bad_literal}
+use Rattle.il_text.specs.Tokens.{Symbol, name, keyword_word, type_word, literal, mnemonic_word, mark_symbol, LexemeData, blank, line_end, token, bad_token, bad_literal}
 use Rattle.il_text.specs.declared.token.Token.{Token}
 use Rattle.il_text.specs.declared.token.Token.TheVariants as t
 use Rattle.il_text.specs.declared.lexeme.Lexeme.{Lexeme}
@@ -22,9 +22,9 @@ abbrev pub symbols_of : List Token → List Symbol
 symbols_of = map symbol_of
 
 -- a lexeme of the text
-abbrev pub piece_of : Lexeme → Piece
-piece_of x.Blank = blank
-piece_of x.LineEnd = line_end
-piece_of (x.Token k) = token (symbol_of k)
-piece_of x.BadToken = bad_token
-piece_of x.BadLiteral = bad_literal
+abbrev pub lexeme_data : Lexeme → LexemeData
+lexeme_data x.Blank = blank
+lexeme_data x.LineEnd = line_end
+lexeme_data (x.Token k) = token (symbol_of k)
+lexeme_data x.BadToken = bad_token
+lexeme_data x.BadLiteral = bad_literal

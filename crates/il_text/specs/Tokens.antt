@@ -17,10 +17,10 @@ pub data Symbol : Type 0 where
   mnemonic_word : Mnemonic → Symbol
   mark_symbol : Mark → Symbol
 
--- a lexeme (own)
-pub data Piece : Type 0 where
-  blank : Piece
-  line_end : Piece
-  token : Symbol → Piece
-  bad_token : Piece
-  bad_literal : Piece
+-- the contents of a lexeme
+pub data LexemeData : Type 0 where
+  blank : LexemeData
+  line_end : LexemeData
+  token : Symbol → LexemeData
+  bad_token : LexemeData
+  bad_literal : LexemeData

@@ -1,7 +1,7 @@
 // Lexemes: a blank, a line end, a token, or none of these.
 ghost use Rattle.std.specs.Prelude.{◌≡◌, ◌<◌, ◌≤◌, ◌-◌, length, slice_index, slice_range, option_map};
 ghost use Rattle.il_text.specs.Symbols as spec;
-ghost use Rattle.il_text.specs.TokenViews.{piece_of, symbol_of};
+ghost use Rattle.il_text.specs.TokenViews.{lexeme_data, symbol_of};
 
 use crate::character::{begins_name, begins_word, byte_at, is_blank};
 use crate::literal::{LiteralFault, decimal, halves, prefixed, untyped};
@@ -25,7 +25,7 @@ const MAX_NAME: usize = 64;
 
 // Returns the lexeme of a word that was read as a literal, or of the fault found in it.
 fn literal_lexeme<'a>(read: Result<Literal, LiteralFault>) -> Lexeme<'a>
-    ensures { piece_of result ≡ spec.literal_piece read }
+    ensures { lexeme_data result ≡ spec.literal_piece read }
 {
     match read {
         Ok(value) => Lexeme::Token(Token::Literal(value)),
@@ -37,7 +37,7 @@ fn literal_lexeme<'a>(read: Result<Literal, LiteralFault>) -> Lexeme<'a>
 // Reads a word that begins with a letter or `_` and has no `#`.
 #[tactic(auto, unfolding(crate::specs::Symbols::plain_word))]
 fn plain_word(word: &str) -> Lexeme<'_>
-    ensures { piece_of result ≡ spec.plain_word word.now }
+    ensures { lexeme_data result ≡ spec.plain_word word.now }
 {
     if let Some(token) = reserved_token(word) {
         return Lexeme::Token(token);
@@ -52,7 +52,7 @@ fn plain_word(word: &str) -> Lexeme<'_>
 // Reads a name, a reserved word or a literal.
 #[tactic(auto, using(crate::proofs::LexemeLemmas::word_rules))]
 fn word_lexeme(word: &str) -> Lexeme<'_>
-    ensures { piece_of result ≡ spec.word word.now }
+    ensures { lexeme_data result ≡ spec.word word.now }
 {
     if let Some((before, after)) = halves(word) {
         return literal_lexeme(prefixed(before, after));
@@ -95,7 +95,7 @@ pub(crate) fn lexeme_at(text: &str, start: usize, end: usize) -> Lexeme<'_>
     requires after { start < end }
     requires within { end ≤ length text.now }
     requires ascii { slice_index text.now start < 128 → slice_index text.now (end - 1) < 128 }
-    ensures { piece_of result ≡ spec.piece (slice_range text.now start end) }
+    ensures { lexeme_data result ≡ spec.piece (slice_range text.now start end) }
 {
     let bytes = text.as_bytes();
     let first = bytes[start];

@@ -262,10 +262,11 @@ impl<'a> Draft<'a> {
         is_body(self.place) && is_outside(self.parentheses.as_slice())
     }
 
-    // Returns whether an instruction may come here.
-    #[tactic(auto, unfolding(crate::specs::Steps::may_act))]
-    fn may_act(&self, instruction: Instruction<'a>) -> bool
-        ensures { result ≡ rules.may_act (reached_of self.now) (action_of instruction.entry) }
+    // Returns whether an instruction may come here. In a parenthesis the first instruction is a load,
+    // and none leaves the program.
+    #[tactic(auto, unfolding(crate::specs::Steps::may_have_instruction))]
+    fn may_have_instruction(&self, instruction: Instruction<'a>) -> bool
+        ensures { result ≡ rules.may_have_instruction (reached_of self.now) (action_of instruction.entry) }
     {
         let inside = is_plain(instruction)
             && (is_some(self.items.as_slice()) || is_load(instruction));
@@ -397,7 +398,7 @@ impl<'a> Draft<'a> {
             (λ e. e ≢ OutOfMemory → step line (reached_of self.old)
             (acting (action_of instruction.entry)) ≡ None) }
     {
-        if !self.may_act(instruction) {
+        if !self.may_have_instruction(instruction) {
             return Err(TextFault::BadLine { line });
         }
         self.items.push(Item::Instruction { line, instruction })?;

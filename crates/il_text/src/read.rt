@@ -113,7 +113,7 @@ fn last_line_of(text: &str) -> usize
 }
 
 impl<'a> Reader<'a> {
-    ghost use Rattle.il_text.specs.ReaderViews.{left_of, ended_of, whole_of};
+    ghost use Rattle.il_text.specs.ReaderViews.{result_from, result_at_line_end, result_at_text_end};
 
     // Reads one lexeme, or a step of a comment: its opening, one character or its closing.
     #[tactic(auto, using(crate::proofs::ReadLemmas::step_rules))]
@@ -121,8 +121,8 @@ impl<'a> Reader<'a> {
         requires { self.old.at < length self.old.text.now }
         ensures text { OnOk result (self.new.text.now ≡ self.old.text.now) }
         ensures progress { OnOk result (self.old.at < self.new.at) }
-        ensures ok { OnOk result (left_of self.new ≡ left_of self.old) }
-        ensures refused { IfErr result (λ e. e ≢ OutOfMemory → left_of self.old ≡ Err e) }
+        ensures ok { OnOk result (result_from self.new ≡ result_from self.old) }
+        ensures refused { IfErr result (λ e. e ≢ OutOfMemory → result_from self.old ≡ Err e) }
     {
         if self.in_comment {
             return self.comment_step();
@@ -141,8 +141,8 @@ impl<'a> Reader<'a> {
         requires plain { starts_comment (drop self.old.at self.old.text.now) ≡ false }
         ensures text { OnOk result (self.new.text.now ≡ self.old.text.now) }
         ensures progress { OnOk result (self.old.at < self.new.at) }
-        ensures ok { OnOk result (left_of self.new ≡ left_of self.old) }
-        ensures refused { IfErr result (λ e. e ≢ OutOfMemory → left_of self.old ≡ Err e) }
+        ensures ok { OnOk result (result_from self.new ≡ result_from self.old) }
+        ensures refused { IfErr result (λ e. e ≢ OutOfMemory → result_from self.old ≡ Err e) }
     {
         let end = piece_end(self.text.as_bytes(), self.at);
         let lexeme = lexeme_at(self.text, self.at, end);
@@ -168,8 +168,8 @@ impl<'a> Reader<'a> {
         requires opening { starts_comment (drop self.old.at self.old.text.now) ≡ true }
         ensures text { OnOk result (self.new.text.now ≡ self.old.text.now) }
         ensures progress { OnOk result (self.old.at < self.new.at) }
-        ensures ok { OnOk result (left_of self.new ≡ left_of self.old) }
-        ensures refused { IfErr result (λ e. e ≢ OutOfMemory → left_of self.old ≡ Err e) }
+        ensures ok { OnOk result (result_from self.new ≡ result_from self.old) }
+        ensures refused { IfErr result (λ e. e ≢ OutOfMemory → result_from self.old ≡ Err e) }
     {
         if !closes(self.text.as_bytes(), self.at + 2) {
             return Err(TextFault::BadToken { line: self.line });
@@ -186,8 +186,8 @@ impl<'a> Reader<'a> {
         requires inside { self.old.in_comment ≡ true }
         ensures text { OnOk result (self.new.text.now ≡ self.old.text.now) }
         ensures progress { OnOk result (self.old.at < self.new.at) }
-        ensures ok { OnOk result (left_of self.new ≡ left_of self.old) }
-        ensures refused { IfErr result (λ e. e ≢ OutOfMemory → left_of self.old ≡ Err e) }
+        ensures ok { OnOk result (result_from self.new ≡ result_from self.old) }
+        ensures refused { IfErr result (λ e. e ≢ OutOfMemory → result_from self.old ≡ Err e) }
     {
         if ends(self.text.as_bytes(), self.at) {
             self.at += 2;
@@ -207,8 +207,8 @@ impl<'a> Reader<'a> {
         requires { self.old.line ≤ self.old.at }
         ensures text { OnOk result (self.new.text.now ≡ self.old.text.now) }
         ensures place { OnOk result (self.new.at ≡ self.old.at) }
-        ensures ok { OnOk result (left_of self.new ≡ ended_of self.old) }
-        ensures refused { IfErr result (λ e. e ≢ OutOfMemory → ended_of self.old ≡ Err e) }
+        ensures ok { OnOk result (result_from self.new ≡ result_at_line_end self.old) }
+        ensures refused { IfErr result (λ e. e ≢ OutOfMemory → result_at_line_end self.old ≡ Err e) }
     {
         let position = Position {
             line: self.line,
@@ -223,8 +223,8 @@ impl<'a> Reader<'a> {
     // Reads the last line, after which the program must be complete.
     fn finish(&mut self) -> Result<(), TextFault>
         ensures ok { OnOk result
-            (whole_of self.old ≡ Ok (program_made (reached_of self.new.listing))) }
-        ensures refused { IfErr result (λ e. e ≢ OutOfMemory → whole_of self.old ≡ Err e) }
+            (result_at_text_end self.old ≡ Ok (program_made (reached_of self.new.listing))) }
+        ensures refused { IfErr result (λ e. e ≢ OutOfMemory → result_at_text_end self.old ≡ Err e) }
     {
         let position = Position {
             line: self.line,

@@ -2,7 +2,7 @@ use Rattle.std.proofs.Common.{◌≡◌, List, Option, ℕ, map, sym, ap, subst,
 use Rattle.std.specs.Prelude.{IfSome, position}
 use Rattle.bay_process.specs.Values.{is_point}
 use Rattle.il_image.specs.declared.value.Value.{Value}
-use Rattle.il_scan.specs.Scans.{Held, held_first}
+use Rattle.il_scan.specs.Scans.{MachineData, first_machine}
 use Rattle.bay_audit.specs.Cases.{example_of}
 use Rattle.bay_audit.specs.Conditions.{condition_truths}
 use Rattle.bay_audit.specs.Process.{process_value}
@@ -18,8 +18,8 @@ returns c shown =
     let case = c.args.case.now in
     let p = example_of case in
     let inside = sym c.if-not-has_example.ensures in
-    let machine : c.in-Some.machine ≡ held_first g.image =
-    subst (λ (o : Option Held). IfSome o (λ m. m ≡ held_first g.image)) c.in-Some.is
+    let machine : c.in-Some.machine ≡ first_machine g.image =
+    subst (λ (o : Option MachineData). IfSome o (λ m. m ≡ first_machine g.image)) c.in-Some.is
     c.in_ok-machine.ensures in
     let inputs = subst
     (λ o. IfSome o (λ values. values.items ≡ map (process_value p) g.reads)) c.in-Some-2.is
@@ -34,10 +34,11 @@ returns c shown =
       asked = asked-so p (example-is case) case inside rule.when c.in_ok-asked.asked
           (c.in_ok-asked.ensures ∙ ap (condition_truths case) c.as_slice.ensures) c.if-asked.false;
       early = subst
-          (λ (xs : List Value). IsEarlyBy xs (held_first g.image) (place_of g rule) c.args.time)
+          (λ (xs : List Value). IsEarlyBy xs (first_machine g.image) (place_of g rule) c.args.time)
           (c.as_slice-2.ensures.value ∙ inputs)
           (subst
-          (λ (m : Held). IsEarlyBy c.as_slice-2.result.now m (place_of g rule) c.args.time) machine
+          (λ (m : MachineData). IsEarlyBy c.as_slice-2.result.now m (place_of g rule) c.args.time)
+          machine
           (subst
           (λ (o : Option ℕ). IsEarlyBy c.as_slice-2.result.now c.in-Some.machine o c.args.time)
           place (c.releases_early.ensures shown)));

@@ -11,7 +11,7 @@ use Rattle.bay_device.proofs.HeldLemmas.{all-noted}
 use Rattle.bay_process.proofs.SourceLemmas.{IsTyped, bay-typed, points-fit, reads-typed}
 use Rattle.bay_mms_services.specs.Views.{bay_view}
 use Rattle.il_image.specs.Images.{Each}
-use Rattle.il_scan.specs.Scans.{Held, read_only, type_of_point}
+use Rattle.il_scan.specs.Scans.{MachineData, read_only, type_of_point}
 use Rattle.bay_device.specs.StateView.{state_view}
 use Rattle.bay_device.specs.declared.state.DeviceState.{DeviceState}
 use Rattle.bay_device.proofs.LoadLemmas.{loaded-view}
@@ -44,7 +44,8 @@ invariant_of-new c =
           rw (c.as_slice-4.ensures, c.as_slice-5.ensures, c.as_slice-6.ensures) at
           c.tables_of-tables.ensures;
       typed = ap (map type_of_source) read ∙ typed
-          ∙ sym (ap (λ (h : Held). map type_of_point (read_only h.image.points)) wired.machine);
+          ∙ sym (ap (λ (h : MachineData). map type_of_point (read_only h.image.points))
+          wired.machine);
       spans_sized = many ∙ c.in_ok-spans.ensures.sized
           ∙ ap (λ (bs : List BoundSwitch). length bs) c.as_slice-count.ensures;
       few = omega (arith, many, c.in_ok-spans.spans.small);

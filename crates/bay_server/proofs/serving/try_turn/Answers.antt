@@ -73,7 +73,7 @@ returns-in_err-status-in-Err g c =
     ap (λ (x : ClockData). x.moment) c.read-reading.ensures.clock in
     failed-cut (Called g.L.Link.does g.L.Link.failures) g.H.Host.does g.W.Sink.contents
     g.W.Sink.does (with_host c.args.served.now c.args.host.now c.args.lines.now) c.args.writer.now
-    _ c.report_unserved.new.writer _ c.from_residual-in_err-status-in-Err.result
+    _ c.report_turn_refusal.new.writer _ c.from_residual-in_err-status-in-Err.result
     c.from_residual-in_err-status-in-Err.ensures.0
     (turn-fails (Called g.L.Link.does g.L.Link.failures) g.H.Host.does g.W.Sink.contents
     g.W.Sink.does _ _ _ _ _ _ _ _ _ _ _ _ _ _ _ _ _ _ _ _

@@ -1,7 +1,7 @@
 use Rattle.std.proofs.Common.{◌≡◌, List, true, length, ◌+◌, replicate, subst, sym, ap, ap₂, ◌∙◌}
 use Rattle.std.proofs.lemmas.Result.{IfOk-weaker}
 use Rattle.il_image.specs.Images.{Image}
-use Rattle.il_scan.specs.Scans.{held_first}
+use Rattle.il_scan.specs.Scans.{first_machine}
 use Rattle.il_range.specs.declared.range.Range.{Range}
 use Rattle.il_range.specs.declared.range.Range.TheVariants.{Any}
 use Rattle.il_range.specs.Effects.{are_within}
@@ -14,7 +14,7 @@ use Rattle.il_range.proofs.memory.memory_ranges.Goals as goal
 pub loop-round-init : goal.loop-round-init
 loop-round-init c =
     let image = c.image-image.result.now in
-    subst (AreIn (held_first image).slots) (sym c.in_ok-ranges.ensures)
+    subst (AreIn (first_machine image).slots) (sym c.in_ok-ranges.ensures)
     (firsts-in image.points image.variables)
 
 pub returns-then-are_within : goal.returns-then-are_within
@@ -36,7 +36,7 @@ widen-requires c =
 
 pub loop-round-preserved : goal.loop-round-preserved
 loop-round-preserved c =
-    let slots = (held_first c.image-image.result.now).slots in
+    let slots = (first_machine c.image-image.result.now).slots in
     subst (AreIn slots) (sym c.widen.ensures)
     (grows _ slots c.loop-round.ranges.items c.as_slice-in-loop-round-3.result.now
     c.loop-round.invariant)

@@ -8,7 +8,7 @@ use Rattle.il_image.specs.declared.value.Value.{Value}
 use Rattle.il_scan.specs.Places.{output_value}
 use Rattle.il_scan.specs.PointPlaces.{AllBelow}
 use Rattle.il_scan.specs.Scans.{Scans, read_only, type_of_point}
-use Rattle.il_scan.specs.Scans.{held_of}
+use Rattle.il_scan.specs.Scans.{machine_data}
 use Rattle.il_scan.proofs.PlaceLemmas.{are-values, outputs-placed, so-many-types, so-many-writes, types_of, writes-below}
 use Rattle.il_scan.proofs.ScanLemmas.{points-words}
 use Rattle.il_scan.proofs.SlotLemmas.{held-points, outputs_are}
@@ -72,6 +72,6 @@ returns-clause-scans c =
     (c.as_slice.ensures.value ∙ c.requires.kept.written)
     ∙ outputs-placed image.points new enough
     ∙ outputs_are image.points (map type_of image.variables) new in
-    subst (λ (os : List Value). Scans (held_of image c.args.slots.now c.args.timers.now)
-    c.args.inputs.now c.args.now (held_of image new c.run_points-steps.new.timers)
+    subst (λ (os : List Value). Scans (machine_data image c.args.slots.now c.args.timers.now)
+    c.args.inputs.now c.args.now (machine_data image new c.run_points-steps.new.timers)
     c.run_points-steps.result os) (sym given) c.run_points-steps.ensures.scans

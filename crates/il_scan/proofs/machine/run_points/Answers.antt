@@ -2,7 +2,7 @@ use Rattle.std.proofs.Common.{ℕ, List, length, map, refl, sym, ap, subst, ◌�
 use Rattle.bay_base.specs.declared.types.ElementaryType.{ElementaryType}
 use Rattle.il_image.specs.Values.{type_of}
 use Rattle.il_scan.specs.PointPlaces.{AllBelow, IsRising}
-use Rattle.il_scan.specs.Scans.{held_of, outputs_of}
+use Rattle.il_scan.specs.Scans.{machine_data, outputs_of}
 use Rattle.il_image.specs.Tables.{slot_types}
 use Rattle.il_scan.specs.Words.{AreTyped, values_of, words_of}
 use Rattle.il_scan.proofs.HoldLemmas.{enough-values, held-put, reads-rise, scan-keeps}
@@ -72,8 +72,8 @@ returns-clause-kept g c =
     subst (λ (ts : List ElementaryType). AreTyped ts values) c.requires.types
     c.read_inputs.ensures.typed in
     let new = c.run.new.slots in
-    scan-keeps (held_of image c.args.slots.now c.args.timers.now)
-    (held_of image new c.run.new.timers) values c.args.now c.run.result
+    scan-keeps (machine_data image c.args.slots.now c.args.timers.now)
+    (machine_data image new c.run.new.timers) values c.args.now c.run.result
     (outputs_of image.points (values_of (slot_types image) new)) (returns-clause-scans g c) are
     (enough-values image c.args.slots.now c.args.timers.now c.requires.held)
     (enough-values image new c.run.new.timers c.run.ensures.held)

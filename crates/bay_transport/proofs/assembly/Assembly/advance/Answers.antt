@@ -3,7 +3,7 @@ use Rattle.std.proofs.lemmas.List.{length-drop, take_rest}
 use Rattle.std.proofs.lemmas.Result.{err_from_is_err_and}
 use Rattle.bay_transport.specs.declared.fed.Got.TheVariants.{More}
 use Rattle.bay_transport.specs.Doings.{Fails, run_of}
-use Rattle.bay_transport.specs.Assembly.{left_of, FailsWhere, Takes}
+use Rattle.bay_transport.specs.Assembly.{stream_state_of, FailsWhere, Takes}
 use Rattle.bay_transport.proofs.AssemblyLemmas.{quiet-more, reaches-kind, refuses-later}
 use Rattle.bay_transport.proofs.assembly.Assembly.advance.Goals as goal
 
@@ -11,7 +11,7 @@ pub returns-in_err-taken-clause-err : goal.returns-in_err-taken-clause-err
 returns-in_err-taken-clause-err c =
     let p = err_from_is_err_and c.from_residual.result c.from_residual.ensures.1 in
     let r : FailsWhere c.in_err-taken.field-0.0
-    ((run_of c.loop-used.self.number (left_of c.loop-used.self)
+    ((run_of c.loop-used.self.number (stream_state_of c.loop-used.self)
     (drop c.loop-used.used c.args.piece.now)).doings ≡ Fails c.in_err-taken.field-0.0 ∷ []) =
     rw (take_rest c.args.piece.now c.loop-used.used) at c.in_err-taken.ensures.err in
     rw (p.1, p.2) (refuses-later c.args.self.now c.loop-used.self c.args.piece.now c.loop-used.used

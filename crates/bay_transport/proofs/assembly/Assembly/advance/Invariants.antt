@@ -1,6 +1,6 @@
 use Rattle.std.proofs.Common.{◌≡◌, ◌-◌, ◌≤◌, [], length, take}
 use Rattle.bay_transport.specs.Doings.{run_of}
-use Rattle.bay_transport.specs.Assembly.{left_of, IsSound}
+use Rattle.bay_transport.specs.Assembly.{stream_state_of, IsSound}
 use Rattle.bay_transport.proofs.assembly.Assembly.advance.Given as goal
 
 abbrev pub invariant-loop-used : goal.invariant-loop-used
@@ -8,8 +8,8 @@ invariant-loop-used l =
     (l.used ≤ length l.piece)
     × IsSound l.self
     × (l.self.number ≡ l.initial.self.number)
-    × (run_of l.initial.self.number (left_of l.initial.self) (take l.used l.piece)
-    ≡ record { doings = []; left = left_of l.self })
+    × (run_of l.initial.self.number (stream_state_of l.initial.self) (take l.used l.piece)
+    ≡ record { doings = []; left = stream_state_of l.self })
     × (l.self.shown.items ≡ l.initial.self.shown.items)
 
 abbrev pub decreases-loop-used : goal.decreases-loop-used

@@ -4,7 +4,7 @@ use Rattle.il_image.specs.Values.{type_of}
 use Rattle.il_image.specs.declared.image.ImagePoint.{ImagePoint}
 use Rattle.il_scan.specs.Places.{output_value}
 use Rattle.il_scan.specs.PointPlaces.{AllBelow}
-use Rattle.il_scan.specs.Scans.{Held, outputs_of}
+use Rattle.il_scan.specs.Scans.{MachineData, outputs_of}
 use Rattle.il_scan.specs.MachineStates.{AreWords}
 use Rattle.il_scan.proofs.PlaceLemmas.{outputs-placed, writes-below}
 use Rattle.il_scan.proofs.ScanLemmas.{points-words}
@@ -41,4 +41,4 @@ returns c =
     (c.as_slice.ensures.value ∙ c.self.invariant.written)
     ∙ outputs-placed image.points m.slots.items enough
     ∙ outputs_are image.points (map type_of image.variables) m.slots.items
-    ∙ ap (λ (h : Held). outputs_of h.image.points h.slots) c.self.view_is
+    ∙ ap (λ (h : MachineData). outputs_of h.image.points h.slots) c.self.view_is
