@@ -14,7 +14,7 @@ VAR_EXTERNAL
 END_VAR
 
 VAR
-    lockout : BOOL;         (* a trip that has not been reset *)
+    lockout : BOOL := TRUE; (* a trip that has not been reset; the program starts locked *)
     no_current : BOOL;      (* less than 5 A in each phase *)
     at_rest : BOOL;         (* no disconnector or earthing switch is on its way or bad *)
     earth_apart : BOOL;     (* no earth can be reached through the breaker *)
