@@ -104,7 +104,7 @@ abbrev pub connection_state_at : Option ℕ → List (Option ConnectionState) �
 connection_state_at None talks = None
 connection_state_at (Some place) talks = unwrap_or (slice_get talks place) None
 
--- the states of all connections, with the state of the one at this place replaced
+-- the states of all connections, with one of them replaced, if it has an index
 abbrev pub with_connection_state : Option ℕ → Option ConnectionState → List (Option ConnectionState)
     → List (Option ConnectionState)
 with_connection_state None talk talks = talks

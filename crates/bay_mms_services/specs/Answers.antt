@@ -64,7 +64,7 @@ identify_answer c id b =
     response_answer c id b (response.confirmed_response id
     (element (constructed 2) (identity_text b.vendor b.model b.revision)))
 
--- the answer with the type of the variable at this place, which a client cannot delete (ISO 9506-2,
+-- the answer with the type of a variable, which a client cannot delete (ISO 9506-2,
 -- mmsDeletable FALSE)
 abbrev pub attributes_answer : ClientContext → ℕ → Bay → Option ℕ → Answered
 attributes_answer c id b None = plain_answer (error_text id NoSuchObject) b
