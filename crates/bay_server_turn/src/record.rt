@@ -31,7 +31,7 @@ pub struct Record {
 }
 
 // Returns whether the event has a line in the record.
-fn is_close_reported(event: Event<'_>, source_line: &[u8]) -> bool {
+fn has_line(event: Event<'_>, source_line: &[u8]) -> bool {
     match event {
         Event::Recv { octets, .. } => !octets.is_empty(),
         Event::Contact { .. }
@@ -68,9 +68,7 @@ impl Record {
         if self.is_over {
             return;
         }
-        if !is_close_reported(event, source_line)
-            || !put_event(&mut self.lines, now, event, source_line)
-        {
+        if !has_line(event, source_line) || !put_event(&mut self.lines, now, event, source_line) {
             self.finish(RecordEnd::Overlong);
             return;
         }
