@@ -1,25 +1,59 @@
 """A served session that is recorded, joined and replayed. Each check has the name of the wrong
-behaviour that it refuses."""
+behaviour that it refuses. The comparison is tried, too: it must refuse the replay of a record that
+lacks some of its lines."""
 import contextlib
+import dataclasses
 import re
 import socket
 import subprocess
 import time
+from collections.abc import Iterator
 
+from baytools.bay.files import octets_of
+from baytools.report.joined import merged, read_lines, renumbered, scenario_of
+from baytools.wire.client import Client
+from devtools.made_captures import FIN
 from devtools.served import Server, free_port, until, value
 
 from .sessions import BAY, LOGIC, Tap
 
 SAID = (b'0 contact QA1 2\n0 contact qb1 2\n0 contact QC1 1\n0 input SPRING 1\n'
         b'0 measure M1 TOTW -4180\n0 measure M1 AA bad\n0 contact NONE 1\n')
+SAID_LATER = b'0 contact QA1 1\n0 contact QB1 1\n0 contact QC1 1\n0 input SPRING 1\n'
 POSITION = 'CSWI1$ST$Pos$stVal'
+# What the watching client reads of each switch and of the meter: values, qualities and times.
+WATCHED = ('CSWI1$ST$Pos', 'CSWI2$ST$Pos', 'CSWI3$ST$Pos', 'CILO1$ST$EnaOpn', 'CILO2$ST$EnaOpn',
+           'MMXU1$MX$TotW', 'MMXU1$MX$A')
+OPEN, BAD = '01', '11'
+WATCHING, OPERATING = 1, 2  # associations
+# Lines of a record, without which the replay must not pass for the session.
+PARTS_OF_RECORD = (
+    ('the losses', r'lost'), ('association 1', r'(?:open|recv|close) 1\b.*'),
+    ('association 2', r'(?:open|recv|close) 2\b.*'), ('the contacts', r'contact .*'),
+    ('the inputs', r'input .*'), ('the measured values', r'measure .*'), ('the scans', r'scan'))
 
 
-def replayed(checks, record) -> str:
-    """What a replay of a record prints."""
-    scenario, _ = checks.run('join', BAY, LOGIC, record)
-    return subprocess.run([checks.bayctl, 'replay'], input=scenario.encode(), check=False,
+@dataclasses.dataclass(frozen=True)
+class Seen:
+    """What went out of a served session: what the server printed and logged, the octets that it
+    sent to each association, and what it told the first process and the second one."""
+    printed: str
+    sent: dict[int, bytes]
+    told: tuple[str, str]
+
+
+def replayed(checks, scenario: bytes) -> str:
+    """What a replay of a scenario prints."""
+    return subprocess.run([checks.bayctl, 'replay'], input=scenario, check=False,
                           capture_output=True).stdout.decode()
+
+
+def scenario_without(record: str, form: str) -> bytes:
+    """The scenario of a record without the lines of a form, as tools/join makes it."""
+    text = re.sub(rf'(?m)^\d+ {form}\n', '', record)
+    assert text != record, form
+    trace = merged(renumbered([read_lines(text)]))
+    return scenario_of(octets_of(BAY), octets_of(LOGIC), trace.encode())
 
 
 def told_in(text: str, form: str) -> list[str]:
@@ -27,42 +61,108 @@ def told_in(text: str, form: str) -> list[str]:
 
 
 def releases_in(report: str) -> list[str]:
-    """The releases of the first scan of a report, and then each that changes."""
-    known, found = set(), []
+    """The releases of a report that change, in order; at first nothing is released."""
+    known: dict[str, str] = {}
+    found = []
     for scan in told_in(report, r'\d+ scan steps=\d+ (.*)'):
-        found += [told for told in scan.split() if told not in known]
-        known = set(scan.split())
+        for name, release in (told.split('=') for told in scan.split()):
+            if release != known.get(name, '00'):
+                found.append(f'{name}={release}')
+            known[name] = release
     return found
 
 
-def session(checks) -> None:
-    """A process tells of itself and goes; one client watches, and one operates and goes."""
-    record = checks.folder / 'record'
-    with Server(checks.bayctl, BAY, LOGIC, '--tell', 'releases', '--record', record,
-                with_process=True) as server, contextlib.closing(server.client()) as watching:
-        with socket.create_connection(('127.0.0.1', server.process)) as process:
-            process.sendall(SAID)
-            until(lambda: ' refused 113' in server.printed(), 'what the process said is taken')
-            tap = Tap(server.port)
-            checks.run('client', '--bay', BAY, str(tap.own), 'operate', 'QA1', 'open', '--wait',
-                       '0')
-            process.sendall(b'0 contact QA1 1\n')
-            until(lambda: value(watching, POSITION) == '01', 'QA1 is open')
-            told = process.recv(65536).decode()
-        until(lambda: value(watching, POSITION) == '11', 'the process is lost')
-        printed = server.printed()
-    report = replayed(checks, record)
+def logged_releases(log: str) -> list[str]:
+    """The releases that a server logged, as a report has them."""
+    found = told_in(log, r'\S+Z release (\w+) open=([01]) close=([01])')
+    return [f'{name}={opens}{closes}' for name, opens, closes in found]
+
+
+def is_told(told: list[str], changes: list[str]) -> bool:
+    """Whether a process was told the state of each switch after some of the changes, and then the
+    changes that follow these."""
+    states = dict.fromkeys(it.partition('=')[0] for it in told)
+    head, rest = told[:len(states)], told[len(states):]
+    state = {it: f'{it}=00' for it in states}
+    for at in range(len(changes) + 1):
+        if head == list(state.values()) and rest == changes[at:at + len(rest)] != []:
+            return True
+        if at < len(changes):
+            state[changes[at].partition('=')[0]] = changes[at]
+    return False
+
+
+def differences(seen: Seen, report: str) -> Iterator[tuple[str, bool, str]]:
+    """Compares a session with the report of a replay: the name of each wrong behaviour, whether the
+    session is free of it, and what shows it."""
     form = r'\d+ (?:command .*|refused \d+)'
-    checks.holds('a command or a refusal is replayed another way',
-                 told_in(printed, form) == told_in(report, form) != [], f'{printed}\n{report}')
-    sent = b''.join(octets for _, side, _, octets in tap.seen if side == 1)
-    again = ''.join(told_in(report, r'\d+ send 2 (.*)'))
-    checks.holds('a client is replayed another answer', sent.hex() == again != '',
-                 f'{sent.hex()}\n{again}')
-    releases, again = told_in(told, r'\w+=[01]{2}'), releases_in(report)
-    checks.holds('a release is replayed another way',
-                 releases == again[:len(releases)] and 'QA1=11' in releases,
-                 f'{releases}\n{again}')
+    commands, again = told_in(seen.printed, form), told_in(report, form)
+    yield ('a command or a refusal is replayed another way', commands == again != [],
+           f'{commands}\n{again}')
+    for place in WATCHING, OPERATING:
+        sent, answers = seen.sent[place].hex(), ''.join(told_in(report, rf'\d+ send {place} (.*)'))
+        yield ('a client is replayed another answer', sent == answers != '',
+               f'association {place}: {sent}\n{answers}')
+    releases, again = logged_releases(seen.printed), releases_in(report)
+    yield ('a release is replayed another way', releases == again != [], f'{releases}\n{again}')
+    for told in seen.told:
+        found = told_in(told, r'\w+=[01]{2}')
+        yield ('a process is told other releases than those of the replay', is_told(found, again),
+               f'{found}\n{again}')
+
+
+def watch(client: Client, wanted: str) -> None:
+    """Reads until QA1 has a position, and then everything that is watched."""
+    until(lambda: value(client, POSITION) == wanted, f'QA1 is {wanted}')
+    for row in WATCHED:
+        client.read([row])
+
+
+def served_session(checks, record) -> Seen:
+    """A process reports and goes, and another one comes and goes; one client watches, and one
+    operates and goes."""
+    with Server(checks.bayctl, BAY, LOGIC, '--tell', 'releases', '--record', record, '--log',
+                with_process=True) as server:
+        server.waits_for(f'clients on 127.0.0.1:{server.port}')
+        taps = {it: Tap(server.port) for it in (WATCHING, OPERATING)}
+        with contextlib.closing(Client('127.0.0.1', taps[WATCHING].own,
+                                       on_report=lambda told: None)) as watching:
+            with socket.create_connection(('127.0.0.1', server.process)) as process:
+                process.sendall(SAID)
+                until(lambda: ' refused 113' in server.printed(), 'what the process said is taken')
+                checks.run('client', '--bay', BAY, str(taps[OPERATING].own), 'operate', 'QA1',
+                           'open', '--wait', '0')
+                process.sendall(b'0 contact QA1 1\n')
+                watch(watching, OPEN)
+                first = process.recv(65536).decode()
+            watch(watching, BAD)
+            with socket.create_connection(('127.0.0.1', server.process)) as process:
+                process.sendall(SAID_LATER)
+                watch(watching, OPEN)
+                until(lambda: 'release QA1 open=1 close=1' in server.printed().rpartition('lost')[2],
+                      'QA1 is released')
+                later = process.recv(65536).decode()
+            watch(watching, BAD)
+        until(lambda: all(it.seen[-1][2] == FIN for it in taps.values()), 'the clients are gone')
+        return Seen(server.printed(), {it: sent_by(taps[it]) for it in taps}, (first, later))
+
+
+def sent_by(tap: Tap) -> bytes:
+    """What a server sent to the client of a tap."""
+    return b''.join(octets for _, side, _, octets in tap.seen if side == 1)
+
+
+def session(checks) -> None:
+    """A record is replayed as the session was, and a record that lacks lines is not."""
+    path = checks.folder / 'record'
+    seen = served_session(checks, path)
+    joined, record = checks.run('join', BAY, LOGIC, path)[0], path.read_text()
+    for name, is_so, told in differences(seen, replayed(checks, joined.encode())):
+        checks.holds(name, is_so, told)
+    for what, form in PARTS_OF_RECORD:
+        report = replayed(checks, scenario_without(record, form))
+        checks.holds(f'a record without {what} passes for the session',
+                     not all(is_so for _, is_so, _ in differences(seen, report)), record)
 
 
 def full(checks) -> None:
