@@ -1,5 +1,6 @@
 """The copy on which wrong bodies are tried; each edit can be applied; how many the gate has."""
 import contextlib
+import dataclasses
 import io
 import os
 import pathlib
@@ -8,27 +9,16 @@ from unittest import mock
 
 from baytools.common.paths import TOP
 from devtools.commands import loaded
+from devtools.crate_copy import applied, edited
+from devtools.trace import refusals
 from devtools.trace.calls import calls_of
-from devtools.trace.refusals import TRIED, answers_in, kept
+from devtools.trace.edits import edits_of, is_refused_at
+from devtools.trace.promises import borne_by, promises
+from devtools.trace.refusals import TRIED, Refusal, answers_in, completed, kept, marked
+from devtools.trace.trace_page import breaks
 from tests.tool import Tools
 
 CRATES = TOP / 'crates'
-
-
-def applied(crate: pathlib.Path, edit: str) -> dict[str, str]:
-    """The texts that an edit makes of the files of a crate: each `old` stands in its file once."""
-    path, old, texts = '', '', {}
-    for kind, _, text in (line.partition(': ') for line in edit.splitlines()):
-        if kind == 'file':
-            path = text
-        elif kind == 'old':
-            old = text
-        elif kind in ('new', 'new:'):
-            before = texts.get(path) or (crate / path).read_text(encoding='utf-8')
-            if before.count(old) != 1:
-                raise ValueError(f'{old} stands in {path} {before.count(old)} times')
-            texts[path] = before.replace(old, text)
-    return texts
 
 
 class Copy(Tools):
@@ -63,6 +53,12 @@ class Copy(Tools):
     def test_a_crate_that_is_not_named(self) -> None:
         self.assertEqual(self.copied([], True), {'src/lib.rt', 'out/rlib/stamp'})
 
+    def test_an_edit_is_taken_back(self) -> None:
+        crate = self.crates / 'low'
+        with edited(crate, 'file: src/lib.rt\nold: lib\nnew: other\n'):
+            self.assertEqual((crate / 'src' / 'lib.rt').read_text(), 'src/other.rt')
+        self.assertEqual((crate / 'src' / 'lib.rt').read_text(), 'src/lib.rt')
+
     def test_the_sources_stay_as_they_are(self) -> None:
         self.copied(['low'], True)
         (self.room / 'crates' / 'low' / 'src' / 'lib.rt').write_text('changed')
@@ -94,6 +90,43 @@ class Answers(unittest.TestCase):
         found = {name: (it.call, it.clause, it.goal) for name, it in answers_in(log).items()}
         self.assertEqual(found, {'bay_device/one': ('Device::step', 'steps', 'error: a goal'),
                                  'bay_device/two': ('', '', 'none')})
+
+    def test_what_the_kit_says_against_an_answer(self) -> None:
+        log = ('must-fail bay_device/one.edit: refused, as it must be (only because a proof file '
+               'names what the edit took away, so this says little of the contract: change a value '
+               'and keep the names): proofs/x/Answers.antt:3:1: error: record `a (b)` has no field\n'
+               'must-fail bay_device/two.edit: refused, as it must be (only by a limit of the '
+               'prover, which gave no verdict, so this says less of the contract: choose a change '
+               'that it refuses sooner): antt ran out of stack\n'
+               'must-fail bay_device/three.edit: refused, as it must be\n')
+        self.assertEqual([bool(it) for it in TRIED.findall(log)], [True] * 3)
+        found = {name: (it.caveat, it.goal) for name, it in answers_in(log).items()}
+        self.assertEqual(found, {
+            'bay_device/one': ('only because a proof file names what the edit took away, so this '
+                               'says little of the contract', 'error: record `a (b)` has no field'),
+            'bay_device/two': ('only by a limit of the prover, which gave no verdict, so this says '
+                               'less of the contract', 'antt ran out of stack'),
+            'bay_device/three': ('', '')})
+
+    def test_what_the_kit_cuts(self) -> None:
+        head = 'note: src/none.rt:3:1: it is not proved that what the function ensures holds'
+        more = '; the facts known there allow values at which this goal is false: x = 1'
+        line = head + ' ' * (140 - len(head)) + more
+        cut = answers_in('must-fail bay_device/one.edit: refused, as it must be: '
+                         f'{line[:160]}\n')['bay_device/one']
+        self.assertTrue(cut.goal.endswith('values at which this goal is false ..'), cut.goal)
+        other = marked('error: the two types differ only where one ha')
+        self.assertEqual(other, 'error: the two types differ only where one ha ..')
+        told = dataclasses.replace(cut, goal='it is not proved that what the function ensures ..')
+        self.assertTrue(completed(told, f'so far\n{line}\n').goal.endswith('false: x = 1'))
+        self.assertEqual(completed(told, 'another line\n'), told)
+
+    def test_a_caveat_is_shown_and_counts_for_no_clause(self) -> None:
+        edit = edits_of('bay_device')[0]
+        told = Refusal('Device::step', 'steps', 'error: a goal', 'c0ffee', '2026-11-29', 'only so')
+        with mock.patch.object(refusals, 'kept', lambda: {edit.key: told}):
+            self.assertEqual(breaks(edit), 'refused, only so (c0ffee): error: a goal')
+            self.assertFalse(any(is_refused_at(edit, borne_by(it)) for it in promises()))
 
     def test_the_table_is_of_edits_that_are_there(self) -> None:
         there = {f'{it.parent.parent.name}/{it.stem}' for it in CRATES.glob('*/*/*.edit')}

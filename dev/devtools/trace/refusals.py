@@ -1,10 +1,11 @@
 """What the prover said of wrong bodies, as `dev/wrong_bodies` keeps it: the first open goal of
-each, and the call and the clause at which it stands."""
+each, the call and the clause at which it stands, and what the kit itself says against it."""
 import dataclasses
 import datetime
 import functools
 import json
 import re
+from collections.abc import Callable
 
 from devtools.figures.stamps import output_of
 from devtools.paths import CRATES, DATA
@@ -12,8 +13,18 @@ from devtools.paths import CRATES, DATA
 from .calls import Call, Clause, calls_of
 
 TABLE = DATA / 'refusals.json'
+# A refusal: the edit; in parentheses what the kit says against it, and what it advises; and the
+# first line of the prover that is of a goal.
 ANSWER = re.compile(r'^(?:\S+ )?must-fail (\w+)/([\w.-]+)\.edit: refused, as it must be'
-                    r'(?: \([^)]*\))?: (?:note: )?(?:\./)?(\S+?):(\d+):\d+: (.*)$', re.M)
+                    r'(?: \((only .*?)(?:: [^()]*)?\))?(?:: (.*))?$', re.M)
+PLACED = re.compile(r'(?:note: )?(?:\./)?(\S+?):(\d+):\d+: (.*)')
+SHOWN = 160  # characters of the prover's line, with its place, of which the kit shows no more
+CUT = ' ..'  # after a goal that the kit cut
+# What the prover says of a goal that it does not prove. Where the kit cuts within one of these, it
+# is completed.
+SENTENCES = ('; the facts known there allow values at which this goal is false',
+             '; `search` gave up at one of its limits')
+LEAST = 4  # characters of a sentence by which it is known
 # Each edit that was tried, with a word of its refusal, or without.
 TRIED = re.compile(r'^(?:\S+ )?must-fail \w+/[\w.-]+\.edit: (refused, as it must be)?', re.M)
 OF_CALLS = ('Answers', 'Invariants', 'Proof')
@@ -24,12 +35,14 @@ NAMED = re.compile(r'`[\w-]+-clause-(\w+)`')
 @dataclasses.dataclass(frozen=True)
 class Refusal:
     """Where the first open goal of a wrong body stands: a call and the label of its clause, as far
-    as it stands at one; and what the prover printed."""
+    as it stands at one; what the prover printed; and the kit's caveat, if it has one: why the
+    refusal says little of the contract."""
     call: str
     clause: str
     goal: str
     commit: str
     date: str
+    caveat: str = ''
 
 
 def place_of(crate: str, file: str, line: int) -> tuple[Call | None, Clause | None]:
@@ -51,14 +64,35 @@ def answers_in(log: str) -> dict[str, Refusal]:
     commit, date = output_of('git', 'rev-parse', '--short', 'HEAD'), str(
         datetime.datetime.now(datetime.UTC).date())
     found = {}
-    for crate, edit, file, line, goal in ANSWER.findall(log):
-        call, clause = place_of(crate, file, int(line))
+    for crate, edit, caveat, line in ANSWER.findall(log):
+        placed = PLACED.fullmatch(line)
+        goal = placed[3] if placed else line
+        call, clause = place_of(crate, placed[1], int(placed[2])) if placed else (None, None)
         named = NAMED.search(goal)
         label = named[1] if call and named and named[1] in call.labels else ''
         found[f'{crate}/{edit}'] = Refusal(
             call.title if call else '', label or (clause and (clause.label or clause.kind)) or '',
-            goal.strip(), commit, date)
+            marked(goal) if len(line) == SHOWN else goal.strip(), commit, date, caveat)
     return found
+
+
+def marked(goal: str) -> str:
+    """A goal that the kit cut, with the rest of the sentence in which it did, and a mark."""
+    for sentence in SENTENCES:
+        for size in range(len(sentence), LEAST - 1, -1):
+            if goal.endswith(sentence[:size]):
+                return goal + sentence[size:] + CUT
+    return goal.strip() + CUT
+
+
+def completed(told: Refusal, printed: str) -> Refusal:
+    """An answer with the whole of its goal, as a check of the edit printed it."""
+    head = told.goal.removesuffix(CUT)
+    for line in printed.splitlines():
+        placed = PLACED.fullmatch(line)
+        if placed and placed[3].startswith(head):
+            return dataclasses.replace(told, goal=placed[3].strip())
+    return told
 
 
 @functools.cache
@@ -70,12 +104,22 @@ def kept() -> dict[str, Refusal]:
     return {name: Refusal(**it) for name, it in told.items()}
 
 
-def keep(log: str) -> int:
-    """Puts the answers of a log into the table, and returns how many there are."""
+def shortened(told: Refusal) -> dict[str, str]:
+    """An answer as the table has it: without a caveat, if it has none."""
+    return {name: it for name, it in dataclasses.asdict(told).items() if it or name != 'caveat'}
+
+
+def keep(log: str, check: Callable[[str], str] | None = None) -> int:
+    """Puts the answers of a log into the table, and returns how many there are. `check` returns
+    what a check of an edit prints, by its crate and name: it is asked for those that the kit
+    cut."""
     found = answers_in(log)
+    for name, told in found.items():
+        if check and told.goal.endswith(CUT):
+            found[name] = completed(told, check(name))
     table = {**kept(), **found}
     there = {f'{it.parent.parent.name}/{it.stem}' for it in CRATES.glob('*/*/*.edit')}
-    told = {name: dataclasses.asdict(table[name]) for name in sorted(table) if name in there}
+    told = {name: shortened(table[name]) for name in sorted(table) if name in there}
     TABLE.write_text(json.dumps(told, indent=1, ensure_ascii=False) + '\n', encoding='utf-8')
     kept.cache_clear()
     return len(found)

@@ -62,7 +62,11 @@ proved for every value. A row that names no law has here those that cite a defin
 <li><b>Wrong bodies.</b> Each is a change of the code that would break this promise, with which the
 proof fails: at the call and the clause that the prover names. First stand those that fail at a
 clause of this row, then those that break this row most directly, then those of other rows that
-break this one too. The gate tries some; <code>dev/wrong_bodies</code> tries the others.</li>
+break this one too. The gate tries some; <code>dev/wrong_bodies</code> tries the others. After each
+stands the prover's answer: "the facts known there allow values at which this goal is false" says
+most, "gave up" less. "Refused, only .." are the kit's own words for an answer that says little of
+the contract. An answer that ends with <code>..</code> was cut by the kit;
+<code>dev/wrong_bodies --whole</code> asks for the rest.</li>
 <li><b>Cases.</b> They are run in each gate.</li></ul>'''
 
 
@@ -313,6 +317,8 @@ def breaks(edit: Edit) -> str:
         return 'its answer is not kept yet'
     at = f'{told.call}: {told.clause}' if told.clause else told.call
     words = f'breaks {at}' if at else 'refused'
+    if told.caveat:
+        words = f'refused, {told.caveat}'
     return html.escape(f'{words} ({told.commit}): {told.goal}')
 
 
