@@ -52,6 +52,12 @@ class Gate(unittest.TestCase):
         status, lines = self.run_with({'rt': (0, r'40 passed, 0 failed\n'), **parts})
         self.assertEqual((status, lines[-1]), (1, '46 passed, 2 failed'))
 
+    def test_what_was_not_tried_is_counted(self) -> None:
+        parts = {part: (0, r'one: 2 checks, 0 failed\n') for part in PARTS}
+        parts['examples/check'] = 0, r'tools: 5 checks, 0 failed, 3 not tried\n'
+        status, lines = self.run_with({'rt': (0, r'40 passed, 0 failed\n'), **parts})
+        self.assertEqual((status, lines[-1]), (0, '49 passed, 0 failed, 3 not tried'))
+
     def test_what_tells_no_counts(self) -> None:
         status, lines = self.run_with({'rt': (2, '')})
         self.assertEqual((status, lines[-1]), (2, '0 passed, 1 failed'))

@@ -130,8 +130,9 @@ class Completions(Tools):
 class Evidence(Tools):
     def test_a_count(self):
         log = '1 passed, 0 failed\nci: 3 passed, 1 failed\n12 passed, 0 failed\n'
-        self.assertEqual(evidence.counted(log), (12, 0))
-        self.assertEqual(evidence.counted('no count\n'), (0, 0))
+        self.assertEqual(evidence.counted(log), (12, 0, 0))
+        self.assertEqual(evidence.counted('no count\n'), (0, 0, 0))
+        self.assertEqual(evidence.counted('9 passed, 0 failed, 4 not tried\n'), (9, 0, 4))
 
     def test_a_run(self):
         found = evidence.run(['sh', '-c', 'echo "7 passed, 0 failed"'], self.folder,

@@ -347,7 +347,8 @@ def goes(bench: Bench, part: Callable[[Bench, Page], None], page: Page) -> None:
 def browsing(checks) -> None:
     """All of it, where there is a Chromium."""
     if not program():
-        return print('left out, since chromium is not installed: the page of a panel in a browser')
+        checks.left_out('chromium is not installed', 'the page of a panel in a browser')
+        return
     with Browser() as browser, contextlib.ExitStack() as room:
         diagrams(checks, browser)
         bench = Bench(checks, browser, room)

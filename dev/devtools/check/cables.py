@@ -69,13 +69,13 @@ class Cable:
 
 
 @contextlib.contextmanager
-def laid() -> Iterator[Cable | None]:
-    """A cable, or None with a word where there can be none."""
+def laid(checks) -> Iterator[Cable | None]:
+    """A cable, or None where there can be none, which is counted."""
     cable = Cable()
     try:
         why = cable.lay()
         if why:
-            print(f'left out, since {why}: a cable that is pulled')
+            checks.left_out(why, 'a cable that is pulled')
         yield None if why else cable
     finally:
         cable.remove()
@@ -99,7 +99,7 @@ def client_at(cable: Cable, end: str, authority: Authority) -> Running:
 
 def pulled(checks) -> None:
     """The server is told of a client whose cable was pulled, and one that is silent stays."""
-    with laid() as cable:
+    with laid(checks) as cable:
         if cable:
             folder = checks.folder / 'cable'
             folder.mkdir()

@@ -101,7 +101,7 @@ def closed(checks) -> None:
         try:
             printed([program, 'replay'], stdin=subprocess.DEVNULL, **user)
         except OSError as error:
-            print(f'left out, since no other user can be had here: files that are closed ({error})')
+            checks.left_out('no other user can be had here', f'files that are closed ({error})')
             return
         shut = folder / 'shut'
         shut.mkdir()
@@ -144,7 +144,7 @@ def ends(checks) -> None:
             told = printed([checks.bayctl, *words])
             checks.holds(name, told == wanted and report.startswith('instructions='), str(told))
     if not FULL.exists():
-        print(f'left out, since there is no {FULL}: output that is full')
+        checks.left_out(f'there is no {FULL}', 'output that is full')
         return
     why = "bayctl: fault 122: standard output: it can't be written\n"
     for words, wanted in (([], 'fault 122\n'), (['--log'], f'{why}fault 122\n')):

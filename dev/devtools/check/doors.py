@@ -88,7 +88,8 @@ def knock(port: int, context: ssl.SSLContext | None, octets: bytes = b'') -> byt
     return b''
 
 
-def strangers(own: Authority, other: Authority) -> list[tuple[str, Callable[[], object], bytes]]:
+def strangers(checks, own: Authority,
+              other: Authority) -> list[tuple[str, Callable[[], object], bytes]]:
     """Those that must not reach the bay, each with the octets that it sends."""
     http = b'GET / HTTP/1.1\r\n\r\n'
     found: list[tuple[str, Callable[[], object], bytes]] = [
@@ -96,7 +97,7 @@ def strangers(own: Authority, other: Authority) -> list[tuple[str, Callable[[], 
     if ssl.HAS_TLSv1_1:
         found.append(('by TLS 1.1', lambda: context_of(own, 'operator', TOO_OLD, TOO_OLD), b''))
     else:
-        print('left out, since this Python has no TLS 1.1: a client by TLS 1.1')
+        checks.left_out('this Python has no TLS 1.1', 'a client by TLS 1.1')
     for version in (OLD, NEW):
         for name, whose, file in (('without a certificate', None, ''),
                                   ('with a revoked certificate', own, 'old'),
@@ -112,7 +113,7 @@ def let_in(checks) -> None:
     with guarded(checks, 'doors') as it:
         reads(checks, it)
         first = it.opens()
-        for name, context, octets in strangers(it.authority, it.other):
+        for name, context, octets in strangers(checks, it.authority, it.other):
             before, answer = it.opens(), knock(it.door.port, context(), octets)
             checks.holds(f'a client {name} is answered', answer in (b'', alert(answer)),
                          f'{answer!r}')
@@ -249,7 +250,7 @@ def all_of(checks) -> None:
     absent = missing()
     if absent:
         are = 'is' if len(absent) == 1 else 'are'
-        print(f'left out, since {" and ".join(absent)} {are} not installed: a bay behind stunnel')
+        checks.left_out(f'{" and ".join(absent)} {are} not installed', 'a bay behind stunnel')
         return
     for part in (let_in, revoked, pulled):
         checks.goes(part)

@@ -115,7 +115,7 @@ def outs(checks) -> None:
             try:
                 place.compile(place.own / 'first')
             except OSError as error:
-                print(f'left out, since no other user can be had here: what is replaced ({error})')
+                checks.left_out('no other user can be had here', f'what is replaced ({error})')
                 continue
             replaced(checks, place)
             refused(checks, place)

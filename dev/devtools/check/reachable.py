@@ -36,14 +36,13 @@ def packets(checks) -> None:
     """The syntax of the table, and what it does."""
     text = with_users(TABLE.read_text(encoding='utf-8'))
     if not shutil.which('nft') or checked('nft', 'list', 'tables').returncode:
-        print('left out, since nftables is not installed or may not be asked: who reaches the '
-              'ports')
+        checks.left_out('nftables is not installed or may not be asked', 'who reaches the ports')
         return
     done = checked('nft', '-c', '-f', '-', given=text)
     checks.holds('the table of nftables is refused', done.returncode == 0, done.stderr)
     if not all(map(shutil.which, ('unshare', 'ip'))) or checked(
             'unshare', '--net', 'nft', 'list', 'tables').returncode:
-        print('left out, since there may be no network namespace: who reaches the ports')
+        checks.left_out('there may be no network namespace', 'who reaches the ports')
         return
     path = checks.file('bay.nft', text)
     words = ['unshare', '--net', sys.executable, '-B', '-m', 'devtools.check.reachable', path]

@@ -456,7 +456,7 @@ def steps(checks) -> None:
     step forward, which looks like a machine that slept, ends the process; a step back does not."""
     library = next((it for way in FAKETIME for it in sorted(glob.glob(way))), None)
     if library is None:
-        print('left out, since libfaketime is not installed: steps of the system\'s clock')
+        checks.left_out('libfaketime is not installed', "steps of the system's clock")
         return
     step = checks.file('step', '+0')
     env = {**os.environ, 'LD_PRELOAD': library, 'FAKETIME_TIMESTAMP_FILE': str(step),
@@ -464,7 +464,7 @@ def steps(checks) -> None:
     with supervised(checks, '--log', env=env) as (server, client):
         maps = pathlib.Path(f'/proc/{server.run.pid}/maps').read_text(encoding='utf-8')
         if 'faketime' not in maps:
-            print('left out, since bayctl does not load libfaketime: steps of the system\'s clock')
+            checks.left_out('bayctl does not load libfaketime', "steps of the system's clock")
             return
         control = Control(client, 'QA1')
         for word in STEPS:

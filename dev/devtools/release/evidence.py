@@ -14,17 +14,19 @@ from baytools.common.paths import TOP
 from devtools.figures.costs import FIGURES
 from devtools.figures.stamps import machine, output_of
 
-PASSED = re.compile(r'^(?:\w+: )?(\d+) passed, (\d+) failed$', re.M)
+PASSED = re.compile(r'^(?:\w+: )?(\d+) passed, (\d+) failed(?:, (\d+) not tried)?$', re.M)
 GATE, BODIES = 'gate.log', 'wrong_bodies.log'
 
 
 @dataclasses.dataclass(frozen=True)
 class Run:
-    """What a command came to: its status, its minutes, and its last count."""
+    """What a command came to: its status, its minutes, and its last count, of which those that were
+    not tried are parts of checks for which a package is missing."""
     status: int
     minutes: float
     passed: int
     failed: int
+    untried: int = 0
 
     @property
     def is_good(self) -> bool:
@@ -47,10 +49,11 @@ def clone(folder: pathlib.Path) -> pathlib.Path:
     return path
 
 
-def counted(log: str) -> tuple[int, int]:
-    """The last count of a log."""
+def counted(log: str) -> tuple[int, int, int]:
+    """The last count of a log: how many passed, failed, and were not tried."""
     found = PASSED.findall(log)
-    return (int(found[-1][0]), int(found[-1][1])) if found else (0, 0)
+    passed, failed, untried = found[-1] if found else ('0', '0', '')
+    return int(passed), int(failed), int(untried or '0')
 
 
 def run(words: list[str], place: pathlib.Path, log: pathlib.Path) -> Run:
@@ -60,8 +63,8 @@ def run(words: list[str], place: pathlib.Path, log: pathlib.Path) -> Run:
         status = subprocess.run(words, cwd=place, stdin=subprocess.DEVNULL, stdout=file,
                                 stderr=subprocess.STDOUT, env={**os.environ, 'CI': 'true'}
                                 ).returncode
-    passed, failed = counted(log.read_text(encoding='utf-8', errors='replace'))
-    return Run(status, (time.monotonic() - begun) / 60, passed, failed)
+    return Run(status, (time.monotonic() - begun) / 60,
+               *counted(log.read_text(encoding='utf-8', errors='replace')))
 
 
 def measured_minutes() -> float:
@@ -73,8 +76,8 @@ def measured_minutes() -> float:
 
 def kept(log: pathlib.Path, minutes: float = 0.0) -> Run:
     """What a log of an earlier run says, which took so many minutes, or 0 for nobody knows."""
-    passed, failed = counted(log.read_text(encoding='utf-8', errors='replace'))
-    return Run(0 if passed and not failed else 1, minutes, passed, failed)
+    passed, failed, untried = counted(log.read_text(encoding='utf-8', errors='replace'))
+    return Run(0 if passed and not failed else 1, minutes, passed, failed, untried)
 
 
 def sums(folder: pathlib.Path) -> str:
@@ -90,7 +93,8 @@ def summary(version: str, gate: Run | None, bodies: Run | None) -> str:
         if it is None:
             return 'not run'
         minutes = f', {it.minutes:.0f} minutes' if it.minutes else ''
-        return f'{it.passed} passed, {it.failed} failed{minutes}'
+        untried = f', {it.untried} not tried' if it.untried else ''
+        return f'{it.passed} passed, {it.failed} failed{untried}{minutes}'
     day = datetime.datetime.now(datetime.UTC).date()
     commit = output_of('git', 'rev-parse', '--short', 'HEAD')
     return (f'| {version} | {day} | {commit} | {output_of("rt", "version")} | {machine()} | '
