@@ -165,6 +165,38 @@ def session(checks) -> None:
                      not all(is_so for _, is_so, _ in differences(seen, report)), record)
 
 
+# Shows P-113, P-114.
+def lines(checks) -> None:
+    """A process sends lines in pieces, with empty lines and both ends of lines, and goes within a
+    line. Another one comes, whose first octet would end that line."""
+    record = checks.folder / 'lines'
+
+    def has(line: str) -> None:
+        with contextlib.suppress(TimeoutError):
+            until(lambda: f'{line}\n' in record.read_text(), 'the line is recorded')
+
+    said = [f'0 measure M1 TOTW {at}' for at in range(200)]
+    text = ''.join(it + ('\n', '\r\n', '\n\n')[at % 3] for at, it in enumerate(said)).encode()
+    with Server(checks.bayctl, BAY, LOGIC, '--record', record, with_process=True) as server:
+        server.client().close()
+        with socket.create_connection(('127.0.0.1', server.process)) as process:
+            process.setsockopt(socket.IPPROTO_TCP, socket.TCP_NODELAY, 1)
+            rest, size = text + b'0 measure M1 TOTW 7', 0
+            while rest:
+                size = size % 97 + 1
+                process.sendall(rest[:size])
+                rest = rest[size:]
+                time.sleep(0.002)
+            has(said[-1][2:])
+        with socket.create_connection(('127.0.0.1', server.process)) as process:
+            process.sendall(b'\n0 measure M1 AA 1\n')
+            has('measure M1 AA 1')
+    found = told_in(record.read_text(), r'\d+ (lost|measure .*)')
+    wanted = [*(it[2:] for it in said), 'lost', 'measure M1 AA 1']
+    checks.holds('a line of a process is lost, repeated, torn or joined with that of another',
+                 found in (wanted, [*wanted, 'lost']), str(found))
+
+
 def full(checks) -> None:
     """A record ends with the last line that fits, and a name that is taken ends the server."""
     record = checks.folder / 'full'
@@ -204,4 +236,4 @@ exec {checks.bayctl} "$@"
                      server.printed())
 
 
-PARTS = (session, full, failed)
+PARTS = (session, lines, full, failed)

@@ -4,6 +4,7 @@ import contextlib
 import os
 import re
 import socket
+import struct
 import subprocess
 import threading
 import time
@@ -120,6 +121,30 @@ def clients(checks) -> None:
             number = heard(second, 5)[8:10]
         checks.holds('the end of a client is never seen', is_told and number == b'\0\1',
                      f'number {number!r}, {server.printed()!r}')
+
+
+# Shows P-128.
+def closings(checks) -> None:
+    """Clients that go in each way, some with two reasons at once: a fault in what they sent, and
+    their end or a reset."""
+    with Server(checks.bayctl, BAY, LOGIC) as server:
+        server.client().socket.close()
+        numbers = [1]
+        for rubbish in (b'', b'\x04'):
+            for is_reset in (False, True):
+                for _ in range(3):
+                    one = connected(server.port)
+                    numbers.append(number_of(one))
+                    one.sendall(rubbish)
+                    if is_reset:
+                        one.setsockopt(socket.SOL_SOCKET, socket.SO_LINGER, struct.pack('ii', 1, 0))
+                    one.close()
+        with contextlib.suppress(TimeoutError):
+            until(lambda: server.printed().count(' closed ') >= len(numbers), 'all are closed')
+        time.sleep(0.3)
+        closed = [int(it) for it in re.findall(r'(?m)^\d+ closed (\d) \d+$', server.printed())]
+        checks.holds('an association is reported closed twice, or never',
+                     sorted(closed) == sorted(numbers), f'{numbers}, {server.printed()!r}')
 
 
 # Shows P-122.
@@ -284,6 +309,6 @@ def all_of(checks) -> None:
     """Does all of it. The connections that are silent for ten seconds are so meanwhile."""
     silent = threading.Thread(target=checks.goes, args=(silence,))
     silent.start()
-    for part in (clients, eight, moments, turns, pieces, wakes, rests):
+    for part in (clients, closings, eight, moments, turns, pieces, wakes, rests):
         checks.goes(part)
     silent.join()

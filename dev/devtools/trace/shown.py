@@ -24,7 +24,6 @@ NONE = {
     'P-053': ONE_LINE,
     'P-054': 'no case can: the verifier lets no such program pass',
     'P-058': ONE_LINE,
-    'P-068': 'no program of cases calls it',
     'P-071': 'no case can: it speaks of every run',
     'P-082': 'no case looks at what is lent behind a later piece',
     'P-124': 'no trial refuses memory to a server that begins',
