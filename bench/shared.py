@@ -74,22 +74,13 @@ def compiled(folder: str, source: str, *words: str) -> str:
     return made
 
 
-def kit_compiler() -> pathlib.Path | None:
-    """The compiler of the kit that `rt` belongs to, which has no headers."""
-    rt = shutil.which('rt')
-    clang = rt and pathlib.Path(rt).resolve().parent.parent / 'toolchain' / 'bin' / 'clang'
-    return clang if clang and clang.exists() else None
-
-
 def library(folder: str, source: str) -> str:
     """Compiles a C file of bench/ as a library to preload, and returns its path. The kit's compiler
     does it where the file includes nothing, and else `cc`."""
-    clang = kit_compiler()
-    if clang and '#include' not in text_of(TOP / 'bench' / source):
-        made = os.path.join(folder, pathlib.Path(source).stem)
-        subprocess.run([clang, '-O2', '-shared', '-fPIC', '-nostdlib', '-fuse-ld=lld', '-o', made,
-                        TOP / 'bench' / source], check=True)
-        return made
+    from devtools import preloads
+    path = TOP / 'bench' / source
+    if '#include' not in text_of(path):
+        return preloads.library(folder, path) or compiled(folder, source)
     return compiled(folder, source, '-shared', '-fPIC', '-ldl')
 
 

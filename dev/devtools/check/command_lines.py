@@ -1,6 +1,7 @@
 """What stands in no contract: the words of the help, word for word, words that are no text, files
 that may not be read or written, and what reaches standard output and standard error. Each check has
 the name of the wrong behaviour that it refuses."""
+import fcntl
 import os
 import pathlib
 import re
@@ -10,8 +11,10 @@ import signal
 import socket
 import subprocess
 import tempfile
+import time
 
 from devtools.paths import DATA
+from devtools.served import free_port
 
 from .limits import LOGIC, bay
 
@@ -155,4 +158,25 @@ def ends(checks) -> None:
                      f'{done.returncode} {done.stderr!r}')
 
 
-PARTS = (helps, no_texts, telling, files, closed, ends)
+# Shows P-102.
+def late(checks) -> None:
+    """A reader of a server's output reads nothing until a while after the last turn. The pipe has
+    room for a part of the output; the rest waits."""
+    count = 300
+    words = ['serve', '--log', '--turns', str(count), '--port', str(free_port()),
+             '--bay', checks.file('late.toml', bay()), '--logic', checks.file('late.il', LOGIC),
+             '--trace', checks.file('late.trace', '0 contact NONE 1\n' * count)]
+    with subprocess.Popen([checks.bayctl, *words], stdout=subprocess.PIPE,
+                          stderr=subprocess.PIPE) as server:
+        fcntl.fcntl(server.stdout, fcntl.F_SETPIPE_SZ, 4_096)
+        log = b''
+        while b' all turns are served' not in log and (line := server.stderr.readline()):
+            log += line
+        time.sleep(0.3)
+        out = server.stdout.read()
+        log += server.stderr.read()
+    checks.holds('a reader that is late at the end loses output', server.returncode == 0
+                 and out.count(b' refused 113\n') == count, f'{server.returncode} {out!r} {log!r}')
+
+
+PARTS = (helps, no_texts, telling, files, closed, ends, late)

@@ -144,6 +144,10 @@ def served_session(checks, record) -> Seen:
                 later = process.recv(65536).decode()
             watch(watching, BAD)
         until(lambda: all(it.seen[-1][2] == FIN for it in taps.values()), 'the clients are gone')
+        until(lambda: len(told_in(server.printed(), r'\d+ closed \d 0')) == len(taps),
+              'their ends are reported')
+        size = record.stat().st_size
+        until(lambda: record.stat().st_size > size, 'a later turn is recorded')
         return Seen(server.printed(), {it: sent_by(taps[it]) for it in taps}, (first, later))
 
 

@@ -30,9 +30,13 @@ def connected(port: int) -> socket.socket:
 
 
 def number_of(one: socket.socket) -> int:
-    """Asks for a transport connection, and tells the association's number in the answer."""
+    """Asks for a transport connection, and tells the association's number in the answer; 0 where
+    there is no answer."""
     one.sendall(stream.connection_request())
-    return int.from_bytes(one.recv(100)[8:10], 'big')
+    try:
+        return int.from_bytes(one.recv(100)[8:10], 'big')
+    except (TimeoutError, ConnectionError):
+        return 0
 
 
 def prints(server: Server, told: str) -> bool:
@@ -89,7 +93,11 @@ def silence(checks) -> None:
         client, begun = server.client(), time.monotonic()
         client.domain()
         with connected(server.port) as one:
-            is_closed = one.recv(1) == b''
+            one.settimeout(20)
+            try:
+                is_closed = one.recv(1) == b''
+            except TimeoutError:
+                is_closed = False
             waited = time.monotonic() - begun
         checks.holds('a client that says nothing is never closed',
                      is_closed and 9.5 < waited < 20 and prints(server, ' closed 2 131\n'),

@@ -3,7 +3,6 @@ lines are of another time or go back in time; a server that is held up; what a p
 steps of the system's clock. Each check has the name of the wrong behaviour that it refuses."""
 import concurrent.futures
 import contextlib
-import glob
 import os
 import pathlib
 import select
@@ -18,6 +17,7 @@ from baytools.bay.names import Names
 from baytools.wire.client import Client
 from baytools.wire.control import Control
 from baytools.wire.process import Life, ServerClock, greeting_of, moment_of
+from devtools import preloads
 from devtools.served import Server, Simulator, free_port, until, value
 
 from .processes import connected, news
@@ -62,8 +62,7 @@ COUNTS = ('XCBR1$ST$OpCnt$stVal', 'XSWI1$ST$OpCnt$stVal')
 OPEN, CLOSED, BAD = '01', '10', '11'
 BY_PROCESS = 9  # the AddCause while the process is lost
 KEY = '0123456789abcdef' * 3
-FAKETIME = [f'{place}/faketime/libfaketime.so.1'
-            for place in ('/usr/lib/*', '/usr/lib', '/usr/lib64', '/usr/local/lib')]
+STEPPING = pathlib.Path(__file__).with_name('stepping.c')
 STEPS = '+3600', '-3600', '+315360000'  # seconds
 STALLS = 0.3, 0.7, 0.9, 2, 8  # seconds for which a server is held up
 BUSY = 6  # busy loops beside a server
@@ -134,8 +133,14 @@ class Process:
 
 
 def files_of(checks) -> tuple:
-    """The bay file and the program, which `all_of` writes."""
+    """The bay file and the program, which `write_files` writes."""
     return checks.folder / 'supervised.toml', checks.folder / 'supervised.il'
+
+
+def write_files(checks) -> None:
+    """Writes the bay file and the program of these checks."""
+    for path, text in zip(files_of(checks), (BAY, LOGIC)):
+        checks.file(path.name, text)
 
 
 @contextlib.contextmanager
@@ -454,17 +459,16 @@ def refused_words(checks) -> None:
 def steps(checks) -> None:
     """The system's clock steps while a switch is selected: no moment does, and no selection ends. A
     step forward, which looks like a machine that slept, ends the process; a step back does not."""
-    library = next((it for way in FAKETIME for it in sorted(glob.glob(way))), None)
+    library = preloads.library(checks.folder, STEPPING)
     if library is None:
-        checks.left_out('libfaketime is not installed', "steps of the system's clock")
+        checks.left_out('neither the kit nor cc is installed', "steps of the system's clock")
         return
     step = checks.file('step', '+0')
-    env = {**os.environ, 'LD_PRELOAD': library, 'FAKETIME_TIMESTAMP_FILE': str(step),
-           'FAKETIME_NO_CACHE': '1', 'FAKETIME_DONT_FAKE_MONOTONIC': '1'}
+    env = {**os.environ, 'LD_PRELOAD': library, 'CLOCK_STEP': str(step)}
     with supervised(checks, '--log', env=env) as (server, client):
         maps = pathlib.Path(f'/proc/{server.run.pid}/maps').read_text(encoding='utf-8')
-        if 'faketime' not in maps:
-            checks.left_out('bayctl does not load libfaketime', "steps of the system's clock")
+        if library not in maps:
+            checks.left_out('bayctl loads no library', "steps of the system's clock")
             return
         control = Control(client, 'QA1')
         for word in STEPS:
@@ -511,8 +515,7 @@ def stepped(path: pathlib.Path, word: str) -> None:
 
 def all_of(checks) -> None:
     """Does all of it. The process that only lives does so meanwhile."""
-    for path, text in zip(files_of(checks), (BAY, LOGIC)):
-        checks.file(path.name, text)
+    write_files(checks)
     living = threading.Thread(target=checks.goes, args=(idle,))
     living.start()
     for part in (refused_words, keys, frozen, waited, strangers, untimely, backward, silent,
