@@ -10,6 +10,24 @@ const SUPERVISED: ServedCase = ServedCase {
     ..HEARD
 };
 
+// A process that names another bay, or another revision, has another key, or reports before it
+// names any: it is closed before anything is written to it.
+const STRANGER: ServedCase = ServedCase {
+    told: "",
+    wanted: "instructions=2 depth=1 budget=2
+| 1970-01-01T00:00:01.000Z clients on 127.0.0.1:7, process on 127.0.0.1:9
+| 1970-01-01T00:00:02.000Z process lost
+| 1970-01-01T00:00:02.000Z position Q bad
+| 1970-01-01T00:00:02.000Z process open
+2000 process open
+| 1970-01-01T00:00:03.000Z process lost
+| 1970-01-01T00:00:03.000Z process closed 132: it is not the process of this bay, or has another key
+3000 process closed 132
+| 1970-01-01T00:00:05.000Z all turns are served
+",
+    ..SUPERVISED
+};
+
 const ROWS: [ServedCase; 12] = [
     // The process names this bay, reports a position, and is answered that the server is alive.
     ServedCase {
@@ -28,73 +46,24 @@ const ROWS: [ServedCase; 12] = [
 ",
         ..SUPERVISED
     },
-    // It names another bay, or another revision, or reports before it names any: it is closed before
-    // anything is written to it.
+    // It names another bay, or another revision, or reports before it names any.
     ServedCase {
         said: "2000 bay - C 1\n",
-        told: "",
-        wanted: "instructions=2 depth=1 budget=2
-| 1970-01-01T00:00:01.000Z clients on 127.0.0.1:7, process on 127.0.0.1:9
-| 1970-01-01T00:00:02.000Z process lost
-| 1970-01-01T00:00:02.000Z position Q bad
-| 1970-01-01T00:00:02.000Z process open
-2000 process open
-| 1970-01-01T00:00:03.000Z process lost
-| 1970-01-01T00:00:03.000Z process closed 132: it is not the process of this bay, or has another key
-3000 process closed 132
-| 1970-01-01T00:00:05.000Z all turns are served
-",
-        ..SUPERVISED
+        ..STRANGER
     },
     ServedCase {
         said: "2000 bay - B 2\n",
-        told: "",
-        wanted: "instructions=2 depth=1 budget=2
-| 1970-01-01T00:00:01.000Z clients on 127.0.0.1:7, process on 127.0.0.1:9
-| 1970-01-01T00:00:02.000Z process lost
-| 1970-01-01T00:00:02.000Z position Q bad
-| 1970-01-01T00:00:02.000Z process open
-2000 process open
-| 1970-01-01T00:00:03.000Z process lost
-| 1970-01-01T00:00:03.000Z process closed 132: it is not the process of this bay, or has another key
-3000 process closed 132
-| 1970-01-01T00:00:05.000Z all turns are served
-",
-        ..SUPERVISED
+        ..STRANGER
     },
     ServedCase {
         said: "2000 contact Q 1\n",
-        told: "",
-        wanted: "instructions=2 depth=1 budget=2
-| 1970-01-01T00:00:01.000Z clients on 127.0.0.1:7, process on 127.0.0.1:9
-| 1970-01-01T00:00:02.000Z process lost
-| 1970-01-01T00:00:02.000Z position Q bad
-| 1970-01-01T00:00:02.000Z process open
-2000 process open
-| 1970-01-01T00:00:03.000Z process lost
-| 1970-01-01T00:00:03.000Z process closed 132: it is not the process of this bay, or has another key
-3000 process closed 132
-| 1970-01-01T00:00:05.000Z all turns are served
-",
-        ..SUPERVISED
+        ..STRANGER
     },
     // It has another key, then the right one.
     ServedCase {
         said: "2000 bay - B 1\n",
-        told: "",
         words: "serve --log --bay bay --logic logic --port 7 --turns 4 --process 9 --supervise 1500 --key key",
-        wanted: "instructions=2 depth=1 budget=2
-| 1970-01-01T00:00:01.000Z clients on 127.0.0.1:7, process on 127.0.0.1:9
-| 1970-01-01T00:00:02.000Z process lost
-| 1970-01-01T00:00:02.000Z position Q bad
-| 1970-01-01T00:00:02.000Z process open
-2000 process open
-| 1970-01-01T00:00:03.000Z process lost
-| 1970-01-01T00:00:03.000Z process closed 132: it is not the process of this bay, or has another key
-3000 process closed 132
-| 1970-01-01T00:00:05.000Z all turns are served
-",
-        ..SUPERVISED
+        ..STRANGER
     },
     ServedCase {
         said: "2000 bay 0123456789abcdefABCDEF0123456789 B 1\n",

@@ -25,6 +25,7 @@ POSITION = 'CSWI1$ST$Pos$stVal'
 WATCHED = ('CSWI1$ST$Pos', 'CSWI2$ST$Pos', 'CSWI3$ST$Pos', 'CILO1$ST$EnaOpn', 'CILO2$ST$EnaOpn',
            'MMXU1$MX$TotW', 'MMXU1$MX$A')
 OPEN, BAD = '01', '11'
+RELEASED = 'release QA1 open=1 close=1'
 WATCHING, OPERATING = 1, 2  # associations
 # Lines of a record, without which the replay must not pass for the session.
 PARTS_OF_RECORD = (
@@ -139,8 +140,7 @@ def served_session(checks, record) -> Seen:
             with socket.create_connection(('127.0.0.1', server.process)) as process:
                 process.sendall(SAID_LATER)
                 watch(watching, OPEN)
-                until(lambda: 'release QA1 open=1 close=1' in server.printed().rpartition('lost')[2],
-                      'QA1 is released')
+                until(lambda: RELEASED in server.printed().rpartition('lost')[2], 'QA1 is released')
                 later = process.recv(65536).decode()
             watch(watching, BAD)
         until(lambda: all(it.seen[-1][2] == FIN for it in taps.values()), 'the clients are gone')

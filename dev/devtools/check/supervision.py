@@ -18,6 +18,7 @@ from baytools.wire.client import Client
 from baytools.wire.control import Control
 from baytools.wire.process import Life, ServerClock, greeting_of, moment_of
 from devtools import preloads
+from devtools.paths import DEV
 from devtools.served import Server, Simulator, free_port, until, value
 
 from .processes import connected, news
@@ -62,7 +63,7 @@ COUNTS = ('XCBR1$ST$OpCnt$stVal', 'XSWI1$ST$OpCnt$stVal')
 OPEN, CLOSED, BAD = '01', '10', '11'
 BY_PROCESS = 9  # the AddCause while the process is lost
 KEY = '0123456789abcdef' * 3
-STEPPING = pathlib.Path(__file__).with_name('stepping.c')
+STEPPING = DEV / 'devtools' / 'check' / 'stepping.c'
 STEPS = '+3600', '-3600', '+315360000'  # seconds
 STALLS = 0.3, 0.7, 0.9, 2, 8  # seconds for which a server is held up
 BUSY = 6  # busy loops beside a server
