@@ -94,7 +94,7 @@ class Answers(unittest.TestCase):
     def test_what_the_kit_says_against_an_answer(self) -> None:
         log = ('must-fail bay_device/one.edit: refused, as it must be (only because a proof file '
                'names what the edit took away, so this says little of the contract: change a value '
-               'and keep the names): proofs/x/Answers.antt:3:1: error: record `a (b)` has no field\n'
+               'and keep the names): proofs/x/Answers.antt:3:1: error: `a (b)` has no field\n'
                'must-fail bay_device/two.edit: refused, as it must be (only by a limit of the '
                'prover, which gave no verdict, so this says less of the contract: choose a change '
                'that it refuses sooner): antt ran out of stack\n'
@@ -103,7 +103,7 @@ class Answers(unittest.TestCase):
         found = {name: (it.caveat, it.goal) for name, it in answers_in(log).items()}
         self.assertEqual(found, {
             'bay_device/one': ('only because a proof file names what the edit took away, so this '
-                               'says little of the contract', 'error: record `a (b)` has no field'),
+                               'says little of the contract', 'error: `a (b)` has no field'),
             'bay_device/two': ('only by a limit of the prover, which gave no verdict, so this says '
                                'less of the contract', 'antt ran out of stack'),
             'bay_device/three': ('', '')})
