@@ -138,7 +138,7 @@ fn read_timed<'a>(
     ensures { IfOk result (λ r. option_map (λ one. (one.0, one.1.now)) r
         ≡ timed_at kind tokens.entry.now) }
 {
-    let [RuleToken::HeldCondition(which), rest @ ..] = tokens else {
+    let [RuleToken::Since(which), rest @ ..] = tokens else {
         return Ok(Some((None, tokens)));
     };
     if !same_kind(kind, *which) {
