@@ -302,21 +302,40 @@ def under_way(port: int) -> int:
                if row[3] == '01' and place in row[1:3])
 
 
-def fill(client, port: int) -> None:
+def fill(client, port: int, room: int = 4_096) -> int:
     """Asks for names, and reads none, until the system takes no more of them. What is asked at a
-    time fits the server's queue."""
-    client.socket.setsockopt(socket.SOL_SOCKET, socket.SO_RCVBUF, 4_096)
-    before = -1
+    time fits the server's queue. Returns how often it has asked."""
+    client.socket.setsockopt(socket.SOL_SOCKET, socket.SO_RCVBUF, room)
+    before, count = -1, 0
     while under_way(port) > before:
         before = under_way(port)
         client.socket.sendall(PAGE * 50)
+        count += 50
         time.sleep(0.05)
+    return count
+
+
+# Shows P-127.
+def unread(checks) -> None:
+    """A client asks until the system takes no more answers, and then reads them all."""
+    with Server(checks.bayctl, BAY, LOGIC) as server:
+        client, read = server.client(), 0
+        client.socket.sendall(PAGE)
+        size = len(client.socket.recv(65_536))
+        wanted = fill(client, server.port, 131_072) * size
+        client.socket.settimeout(5)
+        with contextlib.suppress(OSError):
+            while read < wanted and (piece := client.socket.recv(1_048_576)):
+                read += len(piece)
+        checks.holds('octets that a socket does not take are lost', read == wanted,
+                     f'{read} of {wanted} octets, {server.printed()!r}')
+        client.socket.close()
 
 
 def all_of(checks) -> None:
     """Does all of it. The connections that are silent for ten seconds are so meanwhile."""
     silent = threading.Thread(target=checks.goes, args=(silence,))
     silent.start()
-    for part in (clients, closings, eight, moments, turns, pieces, wakes, rests):
+    for part in (clients, closings, eight, moments, turns, pieces, wakes, rests, unread):
         checks.goes(part)
     silent.join()
