@@ -1,5 +1,5 @@
-"""The wrong bodies of what is only tested, and what refuses each: a part of dev/check, a test of
-bayctl_tests, a trial, or a program of cases."""
+"""The wrong bodies of what is only tested, and what refuses each: a part of dev/check, a trial, or
+a program of cases."""
 import contextlib
 import dataclasses
 import functools
@@ -18,8 +18,8 @@ from .crate_copy import KEPT, LIBRARY, applied, copy_of
 from .paths import CRATES
 
 FOLDER = 'tested-bodies'
-BY = re.compile(r'(?m)^by: (check|test|trial|cases) ([\w.]+)(?:: (.+))?$')
-TESTS, TRIALS = 'bayctl_tests', TOP / 'bench' / 'trials'
+BY = re.compile(r'(?m)^by: (check|trial|cases) ([\w.]+)(?:: (.+))?$')
+TRIALS = TOP / 'bench' / 'trials'
 SECONDS = 600  # of a run without a proof
 
 
@@ -104,11 +104,11 @@ def checked(program: pathlib.Path, body: Body, folder: pathlib.Path) -> str:
     return printed.getvalue()
 
 
-def tried(body: Body, room: pathlib.Path, crate: str, *words: str, given: bytes = b'') -> str:
-    """What `rt try` prints of a crate with the edit."""
+def tried(body: Body, room: pathlib.Path, given: bytes) -> str:
+    """What `rt try` prints of a program of cases with the edit."""
     put_in(body, room, set())
-    done = subprocess.run(['rt', 'try', *words, '--steps', '1', '--seconds', str(SECONDS)],
-                          cwd=room / 'crates' / crate, input=given, capture_output=True)
+    done = subprocess.run(['rt', 'try', '--steps', '1', '--seconds', str(SECONDS)],
+                          cwd=room / 'crates' / body.part, input=given, capture_output=True)
     return (done.stdout + done.stderr).decode('utf-8', 'replace')
 
 
@@ -116,7 +116,7 @@ def failed_cases(body: Body, room: pathlib.Path) -> str | None:
     """Why a program of cases does not refuse an edit, or None."""
     crate = CRATES / body.part
     given = loaded('try_all').given_to(crate, False)
-    printed = tried(body, room, body.part, given=given)
+    printed = tried(body, room, given)
     wanted = (crate / 'stdout').read_text(encoding='utf-8')
     is_run = re.search(r'(?m)^\d+ differ$', printed)
     return None if is_run and wanted.strip() not in printed.splitlines() else printed[-300:]
@@ -126,10 +126,6 @@ def refused(body: Body, room: pathlib.Path, programs: pathlib.Path | None = None
     """Why an edit is not refused by what it names, or None."""
     if body.kind == 'cases':
         return failed_cases(body, room)
-    if body.kind == 'test':
-        printed = tried(body, room, TESTS, '--test')
-        failed = [line for line in printed.splitlines() if body.part in line and 'FAILED' in line]
-        return None if failed else f'{body.part} passes: {printed[-300:]}'
     program = program_of(body, room, programs)
     if isinstance(program, str):
         return program
@@ -144,9 +140,6 @@ def refused(body: Body, room: pathlib.Path, programs: pathlib.Path | None = None
 
 @functools.cache
 def names_in(module: str) -> str:
-    """The source of a module of dev/check, of a trial, or of the tests."""
-    if module == 'tests':
-        return ''.join(it.read_text(encoding='utf-8')
-                       for it in sorted((CRATES / TESTS / 'src').glob('*.rt')))
+    """The source of a module of dev/check, or of a trial."""
     path = (TOP / 'dev' / 'devtools' / 'check' / f'{module}.py')
     return (path if path.exists() else TRIALS / module).read_text(encoding='utf-8')

@@ -27,8 +27,6 @@ class Listed(unittest.TestCase):
                 if body.kind == 'check':
                     self.assertTrue(callable(tested.part_of(body.part)))
                     self.assertIn(body.name, tested.names_in(body.part.partition('.')[0]))
-                elif body.kind == 'test':
-                    self.assertIn(f'\nfn {body.part}(', tested.names_in('tests'))
                 elif body.kind == 'trial':
                     self.assertIn(body.name, tested.names_in(body.part))
                 else:
@@ -84,16 +82,12 @@ class Refused(Tools):
             self.assertEqual(tested.refused(body, self.folder / 'room'),
                              'it is not proved, so it belongs into wrong-bodies: logic=not-proved')
 
-    def test_a_test_and_cases(self) -> None:
-        printed = {'test clients': (('test sockets::clients ... FAILED', True),
-                                    ('test sockets::clients ... ok', False)),
-                   'cases bayctl_cases': (('not so: run 0\n13 differ', True), ('0 differ', False),
-                                          ('error: it does not compile', False))}
-        for by, answers in printed.items():
-            for answer, is_refused in answers:
-                with mock.patch.object(tested, 'tried', lambda *words, it=answer, **more: it):
-                    why = tested.refused(self.body(by), self.folder)
-                self.assertEqual(why is None, is_refused, (by, answer))
+    def test_cases(self) -> None:
+        for answer, is_refused in (('not so: run 0\n13 differ', True), ('0 differ', False),
+                                   ('error: it does not compile', False)):
+            with mock.patch.object(tested, 'tried', lambda *words, it=answer: it):
+                why = tested.refused(self.body('cases bayctl_cases'), self.folder)
+            self.assertEqual(why is None, is_refused, answer)
 
 
 if __name__ == '__main__':
