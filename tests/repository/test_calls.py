@@ -6,12 +6,13 @@ from devtools.paths import CRATES
 from tests.repository.test_crates import crates
 
 # What runs cases and tests.
-TESTING = {'bayctl_tests', 'bayctl_cases', 'layer_cases', 'cases'}
+TESTING = {'bayctl_tests', 'bay_diagram_tests', 'bayctl_cases', 'layer_cases', 'cases'}
 # Public calls for whoever uses the layer by itself; the product makes others of the same bodies.
 FOR_USERS = {
     'bits',  # a bit string, written; the product's are constants
     'failures', 'reads',  # how many calls failed, and how many were made
     'fits',  # whether a scan can take these inputs
+    'is_hazard',  # whether an operation is a hazard; no command uses it yet
     'is_tree',  # whether rows are a tree
     'job_of',  # the job that words ask for
     'names_after',  # a page of a tree's names

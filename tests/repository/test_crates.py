@@ -10,7 +10,8 @@ from devtools.trace.promises import promises
 from devtools.trace.trace_page import Sheet, head_of
 
 # What runs cases and tests, or is handed to these, promises nothing; the program hands all on.
-WITHOUT_PROMISE = {'bayctl_tests', 'bayctl', 'bayctl_cases', 'cases', 'layer_cases'}
+WITHOUT_PROMISE = {'bayctl_tests', 'bay_diagram_tests', 'bayctl', 'bayctl_cases', 'cases',
+                   'layer_cases'}
 # What is only tested.
 TESTED = {'bay_net'}
 ROW = re.compile(r'^\| ((?:\w+(?:, )?)+) \|', re.M)

@@ -11,6 +11,7 @@ from devtools.paths import CRATES
 from .promises import Promise, borne_by, promises
 
 PLACES = ('crates/layer_cases/stdin', 'crates/bayctl_cases/stdin', 'crates/bayctl_tests/src/*.rt',
+          'crates/bay_diagram_tests/src/*.rt',
           'dev/devtools/check/*.py', 'bench/speed/allocations', 'bench/trials/faults')
 SHOWS = re.compile(r'^(?:#|//|== note) Shows (P-\d{3}(?:, P-\d{3})*)\.$')
 TITLE = re.compile(r'^(?:# (?!Shows )|== note (?!Shows )|== (?=report|eight|hostile|bay'

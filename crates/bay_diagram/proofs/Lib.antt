@@ -1,0 +1,4 @@
+pub mod GrowthLemmas
+pub mod JoinedLemmas
+pub mod ReadingLemmas
+pub mod WalkLemmas

@@ -1,0 +1,26 @@
+-- Where less is known nothing that was a hazard becomes harmless.
+use Rattle.std.specs.Prelude.{ℕ, ◌≡◌, true}
+use Rattle.bay_nodes.specs.declared.switch.Operation.{Operation}
+use Rattle.bay_diagram.specs.declared.network.Network.{Network}
+use Rattle.bay_diagram.specs.Hazards.{is_hazard}
+use Rattle.bay_diagram.specs.Reading.{Allowed, IsAllowed, IsWorse, Reading, best_of, reading_of, worst_of}
+use Rattle.bay_audit_rules.specs.Process.{Process}
+
+-- Where less is known, each hazard is one still.
+abbrev pub HazardsGrow : Type 0
+HazardsGrow = (net : Network) (r worse : Reading) → IsWorse r worse
+    → (k : ℕ) (operation : Operation)
+    → is_hazard net r k operation ≡ true → is_hazard net worse k operation ≡ true
+
+-- A hazard in the best that can be known in a case is one in each process of the case, and a hazard
+-- in a process of the case is one in the worst that can be known.
+pub record IsBounded (net : Network) (a : Allowed) (p : Process) (k : ℕ) (operation : Operation)
+    : Type 0 where
+  pub best : is_hazard net (best_of a) k operation ≡ true
+      → is_hazard net (reading_of p) k operation ≡ true
+  pub worst : is_hazard net (reading_of p) k operation ≡ true
+      → is_hazard net (worst_of a) k operation ≡ true
+
+abbrev pub HazardsAreBounded : Type 0
+HazardsAreBounded = (net : Network) (a : Allowed) (p : Process) → IsAllowed a p
+    → (k : ℕ) (operation : Operation) → IsBounded net a p k operation

@@ -1,0 +1,141 @@
+-- What is known of switches and sources, by what the process reports.
+use Rattle.std.specs.Prelude.{ℕ, ◌≡◌, Bool, true, false, not, ◌&&◌, ◌||◌, Option, None, Some, slice_get}
+use Rattle.bay_tree.specs.declared.leaf.Dbpos.{Dbpos}
+use Rattle.bay_tree.specs.declared.leaf.Dbpos.TheVariants.{Intermediate, Off, On, Bad}
+use Rattle.bay_diagram.specs.declared.network.Device.{Device}
+use Rattle.bay_diagram.specs.declared.network.Device.TheVariants.{Own, Other}
+use Rattle.bay_diagram.specs.declared.reading.Bound.{Bound}
+use Rattle.bay_diagram.specs.declared.reading.Bound.TheVariants.{Worst, Best}
+use Rattle.bay_diagram.specs.declared.reading.InputSet.{InputSet}
+use Rattle.bay_diagram.specs.declared.reading.PositionSet.{PositionSet}
+use Rattle.bay_diagram.specs.declared.reading.Known.{Known}
+use Rattle.bay_audit_rules.specs.Process.{Process, same_position}
+
+-- What is known of a switch, by its device, and of a source, by the input that shows it dead.
+pub record Reading : Type 0 where
+  -- it may be closed: it is not known to be open
+  pub may : Device → Bool
+  -- it is known to be closed
+  pub sure : Device → Bool
+  -- it may be on its way: it is not known to be in an end position
+  pub moves : Device → Bool
+  -- it may be live: it is not known to be dead
+  pub alive : Option ℕ → Bool
+
+-- In the second less is known, or as much.
+pub record IsWorse (r worse : Reading) : Type 0 where
+  pub may : (d : Device) → r.may d ≡ true → worse.may d ≡ true
+  pub sure : (d : Device) → worse.sure d ≡ true → r.sure d ≡ true
+  pub moves : (d : Device) → r.moves d ≡ true → worse.moves d ≡ true
+  pub alive : (i : Option ℕ) → r.alive i ≡ true → worse.alive i ≡ true
+
+-- ---- of a process
+
+-- the input is TRUE
+abbrev pub says : Process → Option ℕ → Bool
+says p None = false
+says p (Some k) = p.input k
+
+-- a switch of the bay is known by its position, a switch of another bay by that one of its two
+-- inputs which alone is TRUE
+abbrev pub is_open : Process → Device → Bool
+is_open p (Own k) = same_position (p.position k) Off
+is_open p (Other closed opened) = says p opened && not (says p closed)
+
+abbrev pub is_closed : Process → Device → Bool
+is_closed p (Own k) = same_position (p.position k) On
+is_closed p (Other closed opened) = says p closed && not (says p opened)
+
+-- what is known from the values that a process reports
+abbrev pub reading_of : Process → Reading
+reading_of p = record {
+  may = λ d. not (is_open p d);
+  sure = λ d. is_closed p d;
+  moves = λ d. not (is_open p d || is_closed p d);
+  alive = λ i. not (says p i);
+}
+
+-- ---- of a case
+
+-- the positions that each switch may have in a case, and the values that each input may have
+pub record Allowed : Type 0 where
+  pub position : ℕ → Dbpos → Bool
+  pub input : ℕ → Bool → Bool
+
+-- The process has only positions and values that are allowed.
+pub record IsAllowed (a : Allowed) (p : Process) : Type 0 where
+  pub positions : (k : ℕ) → a.position k (p.position k) ≡ true
+  pub inputs : (k : ℕ) → a.input k (p.input k) ≡ true
+
+-- the input may have the value
+abbrev pub may_say : Allowed → Option ℕ → Bool → Bool
+may_say a None value = not value
+may_say a (Some k) value = a.input k value
+
+-- the switch may be known to be open, to be closed, and to be neither
+abbrev pub may_be_open : Allowed → Device → Bool
+may_be_open a (Own k) = a.position k Off
+may_be_open a (Other closed opened) = may_say a opened true && may_say a closed false
+
+abbrev pub may_be_closed : Allowed → Device → Bool
+may_be_closed a (Own k) = a.position k On
+may_be_closed a (Other closed opened) = may_say a closed true && may_say a opened false
+
+abbrev pub may_be_neither : Allowed → Device → Bool
+may_be_neither a (Own k) = a.position k Intermediate || a.position k Bad
+may_be_neither a (Other closed opened) =
+    may_say a closed true && may_say a opened true
+    || may_say a closed false && may_say a opened false
+
+-- the worst of what can be known in a case, and the best
+abbrev pub worst_of : Allowed → Reading
+worst_of a = record {
+  may = λ d. may_be_closed a d || may_be_neither a d;
+  sure = λ d. not (may_be_open a d || may_be_neither a d);
+  moves = λ d. may_be_neither a d;
+  alive = λ i. may_say a i false;
+}
+
+abbrev pub best_of : Allowed → Reading
+best_of a = record {
+  may = λ d. not (may_be_open a d);
+  sure = λ d. may_be_closed a d;
+  moves = λ d. not (may_be_open a d || may_be_closed a d);
+  alive = λ i. not (may_say a i true);
+}
+
+-- ---- as the program has it
+
+-- the set has the position; a switch without a set may have any
+abbrev pub has_position : Option PositionSet → Dbpos → Bool
+has_position None position = true
+has_position (Some s) Intermediate = s.intermediate
+has_position (Some s) Off = s.off
+has_position (Some s) On = s.on
+has_position (Some s) Bad = s.bad
+
+-- the set has the value; an input without a set may have any
+abbrev pub has_value : Option InputSet → Bool → Bool
+has_value None value = true
+has_value (Some s) true = s.yes
+has_value (Some s) false = s.no
+
+abbrev pub allowed_by : Known → Allowed
+allowed_by known = record {
+  position = λ k. has_position (slice_get known.positions k);
+  input = λ k. has_value (slice_get known.inputs k);
+}
+
+abbrev pub reading_at : Bound → Allowed → Reading
+reading_at Worst a = worst_of a
+reading_at Best a = best_of a
+
+abbrev pub reading_in : Known → Reading
+reading_in known = reading_at known.bound (allowed_by known)
+
+-- ---- laws
+
+-- What is known in each process of a case lies between the best and the worst of the case.
+abbrev pub ReadingsBound : Type 0
+ReadingsBound = (a : Allowed) (p : Process) → IsAllowed a p
+    → IsWorse (best_of a) (reading_of p) × IsWorse (reading_of p) (worst_of a)
