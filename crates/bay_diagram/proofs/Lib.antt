@@ -1,3 +1,4 @@
+pub mod ExactLemmas
 pub mod GrowthLemmas
 pub mod JoinedLemmas
 pub mod ReadingLemmas

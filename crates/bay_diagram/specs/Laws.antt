@@ -3,7 +3,7 @@ use Rattle.std.specs.Prelude.{ℕ, ◌≡◌, true}
 use Rattle.bay_nodes.specs.declared.switch.Operation.{Operation}
 use Rattle.bay_diagram.specs.declared.network.Network.{Network}
 use Rattle.bay_diagram.specs.Hazards.{is_hazard}
-use Rattle.bay_diagram.specs.Reading.{Allowed, IsAllowed, IsWorse, Reading, best_of, reading_of, worst_of}
+use Rattle.bay_diagram.specs.Reading.{Allowed, IsAllowed, IsOnly, IsWorse, Reading, best_of, reading_of, worst_of}
 use Rattle.bay_audit_rules.specs.Process.{Process}
 
 -- Where less is known, each hazard is one still.
@@ -24,3 +24,13 @@ pub record IsBounded (net : Network) (a : Allowed) (p : Process) (k : ℕ) (oper
 abbrev pub HazardsAreBounded : Type 0
 HazardsAreBounded = (net : Network) (a : Allowed) (p : Process) → IsAllowed a p
     → (k : ℕ) (operation : Operation) → IsBounded net a p k operation
+
+-- In a case that allows one process alone, the worst and the best are what the process shows.
+pub record IsExact (net : Network) (a : Allowed) (p : Process) (k : ℕ) (operation : Operation)
+    : Type 0 where
+  pub worst : is_hazard net (worst_of a) k operation ≡ is_hazard net (reading_of p) k operation
+  pub best : is_hazard net (best_of a) k operation ≡ is_hazard net (reading_of p) k operation
+
+abbrev pub HazardsAreExact : Type 0
+HazardsAreExact = (net : Network) (a : Allowed) (p : Process) → IsAllowed a p → IsOnly a p
+    → (k : ℕ) (operation : Operation) → IsExact net a p k operation

@@ -67,6 +67,12 @@ pub record IsAllowed (a : Allowed) (p : Process) : Type 0 where
   pub positions : (k : ℕ) → a.position k (p.position k) ≡ true
   pub inputs : (k : ℕ) → a.input k (p.input k) ≡ true
 
+-- The case allows no other position or value than those of the process.
+pub record IsOnly (a : Allowed) (p : Process) : Type 0 where
+  pub positions : (k : ℕ) (position : Dbpos) → a.position k position ≡ true
+      → p.position k ≡ position
+  pub inputs : (k : ℕ) (value : Bool) → a.input k value ≡ true → p.input k ≡ value
+
 -- the input may have the value
 abbrev pub may_say : Allowed → Option ℕ → Bool → Bool
 may_say a None value = not value

@@ -1,6 +1,6 @@
 // Laws of the definitions. Each function does nothing; its contract is the law.
 ghost use Rattle.bay_diagram.specs.Joined.{JoinedGrows, JoinedIsWalk};
-ghost use Rattle.bay_diagram.specs.Laws.{HazardsAreBounded, HazardsGrow};
+ghost use Rattle.bay_diagram.specs.Laws.{HazardsAreBounded, HazardsAreExact, HazardsGrow};
 ghost use Rattle.bay_diagram.specs.Reading.{ReadingsBound};
 
 /// Two nodes are joined if and only if a walk leads from one to the other, and more branches join
@@ -11,9 +11,11 @@ pub fn joined_is_a_walk()
 {}
 
 /// Where less is known, each hazard is one still. What is known in a process of a case lies between
-/// the best and the worst of the case, and so do its hazards.
+/// the best and the worst of the case, and so do its hazards. In a case that allows one process
+/// alone, its hazards are those of the process.
 pub fn hazards_grow()
     ensures grow { HazardsGrow }
     ensures readings { ReadingsBound }
     ensures bounded { HazardsAreBounded }
+    ensures exact { HazardsAreExact }
 {}
