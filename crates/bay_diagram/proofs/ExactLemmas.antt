@@ -1,14 +1,15 @@
 -- What is known in a case that allows one process alone is what that process shows.
 use Rattle.std.proofs.Common.{◌≡◌, ◌⊎◌, inl, inr, ℕ, Bool, true, false, not, ◌&&◌, ◌||◌, refl, sym, subst, Option, None, Some}
 use Rattle.std.proofs.lemmas.Bool.{and_parts}
-use Rattle.bay_tree.specs.declared.leaf.Dbpos.{Dbpos}
-use Rattle.bay_tree.specs.declared.leaf.Dbpos.TheVariants.{Intermediate, Off, On, Bad}
+use Rattle.bay_base.specs.declared.position.Dbpos.{Dbpos}
+use Rattle.bay_base.specs.declared.position.Dbpos.TheVariants.{Intermediate, Off, On, Bad}
 use Rattle.bay_diagram.specs.declared.network.Device.{Device}
 use Rattle.bay_diagram.specs.declared.network.Device.TheVariants.{Own, Other}
 use Rattle.bay_diagram.specs.Hazards.{is_hazard}
 use Rattle.bay_diagram.specs.Laws.{HazardsAreExact}
 use Rattle.bay_diagram.specs.Reading.{Allowed, IsAllowed, IsOnly, IsWorse, best_of, is_closed, is_open, may_be_closed, may_be_neither, may_be_open, may_say, reading_of, says, worst_of}
-use Rattle.bay_audit_rules.specs.Process.{Process, same_position}
+use Rattle.bay_base.specs.Positions.{same_position}
+use Rattle.bay_audit_rules.specs.Process.{Process}
 use Rattle.bay_diagram.proofs.GrowthLemmas.{hazards-grow}
 use Rattle.bay_diagram.proofs.ReadingLemmas.{best-bounds, worst-bounds}
 

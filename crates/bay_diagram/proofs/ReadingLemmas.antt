@@ -1,11 +1,12 @@
 -- What is known in a process of a case lies between the best and the worst of the case.
 use Rattle.std.proofs.Common.{◌≡◌, ℕ, Bool, true, false, not, ◌&&◌, ◌||◌, refl, subst, Option, None, Some}
-use Rattle.bay_tree.specs.declared.leaf.Dbpos.{Dbpos}
-use Rattle.bay_tree.specs.declared.leaf.Dbpos.TheVariants.{Intermediate, Off, On, Bad}
+use Rattle.bay_base.specs.declared.position.Dbpos.{Dbpos}
+use Rattle.bay_base.specs.declared.position.Dbpos.TheVariants.{Intermediate, Off, On, Bad}
 use Rattle.bay_diagram.specs.declared.network.Device.{Device}
 use Rattle.bay_diagram.specs.declared.network.Device.TheVariants.{Own, Other}
 use Rattle.bay_diagram.specs.Reading.{Allowed, IsAllowed, IsWorse, ReadingsBound, best_of, is_closed, is_open, may_be_closed, may_be_neither, may_be_open, may_say, reading_of, says, worst_of}
-use Rattle.bay_audit_rules.specs.Process.{Process, same_position}
+use Rattle.bay_base.specs.Positions.{same_position}
+use Rattle.bay_audit_rules.specs.Process.{Process}
 
 -- ---- of a switch of the bay: the position p is allowed by a
 

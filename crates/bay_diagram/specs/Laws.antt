@@ -1,6 +1,6 @@
 -- Where less is known nothing that was a hazard becomes harmless.
 use Rattle.std.specs.Prelude.{ℕ, ◌≡◌, true}
-use Rattle.bay_nodes.specs.declared.switch.Operation.{Operation}
+use Rattle.bay_base.specs.declared.switch.Operation.{Operation}
 use Rattle.bay_diagram.specs.declared.network.Network.{Network}
 use Rattle.bay_diagram.specs.Hazards.{is_hazard}
 use Rattle.bay_diagram.specs.Reading.{Allowed, IsAllowed, IsOnly, IsWorse, Reading, best_of, reading_of, worst_of}

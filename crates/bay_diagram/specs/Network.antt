@@ -1,8 +1,8 @@
 -- The nodes and branches of a single line diagram.
 use Rattle.std.specs.Prelude.{ℕ, Bool, true, false, ◌&&◌, ◌==◌}
 use Rattle.std.specs.List.{list_any}
-use Rattle.bay_nodes.specs.declared.switch.SwitchKind.{SwitchKind}
-use Rattle.bay_nodes.specs.declared.switch.SwitchKind.TheVariants.{Breaker, Disconnector, Earthing}
+use Rattle.bay_base.specs.declared.switch.SwitchKind.{SwitchKind}
+use Rattle.bay_base.specs.declared.switch.SwitchKind.TheVariants.{Breaker, Disconnector, Earthing}
 use Rattle.bay_diagram.specs.declared.network.Device.{Device}
 use Rattle.bay_diagram.specs.declared.network.Device.TheVariants.{Own, Other}
 use Rattle.bay_diagram.specs.declared.network.Network.{Network}

@@ -1,7 +1,7 @@
 -- What is known of switches and sources, by what the process reports.
 use Rattle.std.specs.Prelude.{ℕ, ◌≡◌, Bool, true, false, not, ◌&&◌, ◌||◌, Option, None, Some, slice_get}
-use Rattle.bay_tree.specs.declared.leaf.Dbpos.{Dbpos}
-use Rattle.bay_tree.specs.declared.leaf.Dbpos.TheVariants.{Intermediate, Off, On, Bad}
+use Rattle.bay_base.specs.declared.position.Dbpos.{Dbpos}
+use Rattle.bay_base.specs.declared.position.Dbpos.TheVariants.{Intermediate, Off, On, Bad}
 use Rattle.bay_diagram.specs.declared.network.Device.{Device}
 use Rattle.bay_diagram.specs.declared.network.Device.TheVariants.{Own, Other}
 use Rattle.bay_diagram.specs.declared.reading.Bound.{Bound}
@@ -9,7 +9,8 @@ use Rattle.bay_diagram.specs.declared.reading.Bound.TheVariants.{Worst, Best}
 use Rattle.bay_diagram.specs.declared.reading.InputSet.{InputSet}
 use Rattle.bay_diagram.specs.declared.reading.PositionSet.{PositionSet}
 use Rattle.bay_diagram.specs.declared.reading.Known.{Known}
-use Rattle.bay_audit_rules.specs.Process.{Process, same_position}
+use Rattle.bay_base.specs.Positions.{same_position}
+use Rattle.bay_audit_rules.specs.Process.{Process}
 
 -- What is known of a switch, by its device, and of a source, by the input that shows it dead.
 pub record Reading : Type 0 where

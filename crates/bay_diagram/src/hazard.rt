@@ -8,7 +8,7 @@ ghost use Rattle.bay_diagram.specs.Walks.{joined_in};
 use crate::network::{Branch, Network, Node};
 use crate::reading::Known;
 use crate::walk::{Avoid, Over, Route, is_same_label, labels_of, leads};
-use bay_nodes::switch::{Operation, SwitchKind};
+use bay_base::switch::{Operation, SwitchKind};
 
 /// The nodes that a walk looks for.
 #[derive(Clone, Copy)]

@@ -3,7 +3,7 @@ ghost use Rattle.std.specs.Prelude.{◌≡◌};
 ghost use Rattle.bay_diagram.specs.Network as spec;
 
 use bay_base::listing::Listing;
-use bay_nodes::switch::SwitchKind;
+use bay_base::switch::SwitchKind;
 
 /// A single line diagram.
 #[derive(Drop)]

@@ -4,7 +4,7 @@ ghost use Rattle.bay_diagram.specs.Reading as spec;
 
 use crate::network::Device;
 use bay_base::listing::Listing;
-use bay_tree::leaf::Dbpos;
+use bay_base::position::Dbpos;
 
 /// The positions that a switch may have in a case.
 #[derive(Clone, Copy)]

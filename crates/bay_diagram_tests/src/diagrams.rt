@@ -1,8 +1,8 @@
 // Two bays of examples/07_diagrams, and what is known of them.
 use bay_base::listing::Listing;
+use bay_base::switch::SwitchKind;
 use bay_diagram::network::{Branch, Device, Network, Node, NodeKind};
 use bay_diagram::reading::{Bound, InputSet, Known, PositionSet};
-use bay_nodes::switch::SwitchKind;
 use std::alloc::{AllocError, Global};
 
 // Returns a node.

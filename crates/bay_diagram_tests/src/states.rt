@@ -1,9 +1,9 @@
 // States, and the operations that are hazards in them.
 use crate::diagrams::{known_of, line_bay, transformer_bay};
+use bay_base::switch::Operation;
 use bay_diagram::hazard::is_hazard;
 use bay_diagram::network::Network;
 use bay_diagram::reading::Bound;
-use bay_nodes::switch::Operation;
 use std::alloc::{AllocError, Global};
 use std::process::Abort;
 use std::test::Fail;
