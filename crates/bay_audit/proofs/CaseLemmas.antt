@@ -21,8 +21,10 @@ use Rattle.bay_base.specs.declared.position.Dbpos.{Dbpos}
 use Rattle.bay_base.specs.declared.position.Dbpos.TheVariants.{Intermediate, Off, On, Bad}
 use Rattle.bay_tree.specs.declared.leaf.Leaf.TheVariants as leaf
 use Rattle.il_image.specs.declared.value.Value.TheVariants.{Truth}
-use Rattle.il_range.specs.Ranges.{AreIn, IsIn}
-use Rattle.bay_audit.specs.Cases.{allows_position, answer_of, bad_positions, example_of, false_inputs, allows_input, high_after, high_by, high_of, input_may, is_in, is_of_field, lost_case, low_after, low_by, low_of, lesser_int, may_be, meets, position_range, greater_int, range_of, same_field, test_allows_position, test_allows_input, truth_range}
+use Rattle.il_range.specs.Ranges.{AreIn, IsIn, Switches, has_position}
+use Rattle.il_range.specs.declared.range.Positions.{Positions}
+use Rattle.il_range.proofs.RangeLemmas.{in-among}
+use Rattle.bay_audit.specs.Cases.{allows_position, answer_of, bad_positions, example_of, false_inputs, allows_input, high_after, high_by, high_of, input_may, is_in, is_of_field, lost_case, low_after, low_by, low_of, lesser_int, may_be, meets, position_range, greater_int, first_position, has_at, only, told_positions, range_of, same_field, test_allows_position, test_allows_input, truth_range}
 use Rattle.bay_audit.specs.Process.{IsLost, IsProcess, process_value}
 use Rattle.bay_audit.specs.declared.case.TestAnswer.{TestAnswer}
 use Rattle.bay_audit.specs.declared.case.Test.{Test}
@@ -81,17 +83,17 @@ module _ (p : Process) where
 
   -- ---- positions and inputs
 
-  position-if : (b : Bool) (j k : ℕ) (which : Dbpos) (value : Bool) → nat_eq j k ≡ b
-      → beq (same_position which (p.position j)) value ≡ true
-      → (not b || beq (same_position which (p.position k)) value) ≡ true
-  position-if false j k which value e h = refl
-  position-if true j k which value e h =
-      ap (λ n. beq (same_position which (p.position n)) value) (sym (same-place j k e)) ∙ h
+  position-if : (b : Bool) (j k : ℕ) (s : Positions) (value : Bool) → nat_eq j k ≡ b
+      → beq (has_position s (p.position j)) value ≡ true
+      → (not b || beq (has_position s (p.position k)) value) ≡ true
+  position-if false j k s value e h = refl
+  position-if true j k s value e h =
+      ap (λ n. beq (has_position s (p.position n)) value) (sym (same-place j k e)) ∙ h
 
   position-allowed : (k : ℕ) (t : Test) (value : Bool) → beq (answer_of p t) value ≡ true
       → test_allows_position k (p.position k) value t ≡ true
-  position-allowed k (test.Position j which) value h =
-      position-if (nat_eq j k) j k which value refl h
+  position-allowed k (test.Position j s) value h =
+      position-if (nat_eq j k) j k s value refl h
   position-allowed k (test.Input j) value h = refl
   position-allowed k (test.AtMost j field most) value h = refl
 
@@ -180,15 +182,15 @@ module _ (p : Process) where
 
 -- ---- the points
 
-truth-in : (b t f : Bool) → cond b t f ≡ true → IsIn (Truth b) (truth_range t f)
-truth-in true true true h = tt
-truth-in true true false h = tt
-truth-in true false f h = absurd cc
-truth-in false true true h = tt
-truth-in false false true h = tt
-truth-in false t false h = absurd cc
+truth-in : (w : Switches) (b t f : Bool) → cond b t f ≡ true → IsIn w (Truth b) (truth_range t f)
+truth-in w true true true h = tt
+truth-in w true true false h = tt
+truth-in w true false f h = absurd cc
+truth-in w false true true h = tt
+truth-in w false false true h = tt
+truth-in w false t false h = absurd cc
 
-module _ (i o n b : Bool) where
+module _ (w : Switches) (k : ℕ) (i o n b : Bool) where
   abbrev Allowed : Dbpos → Type 0
   Allowed Intermediate = i ≡ true
   Allowed Off = o ≡ true
@@ -196,33 +198,40 @@ module _ (i o n b : Bool) where
   Allowed Bad = b ≡ true
 
   position-number : (d : Dbpos) → Allowed d
-      → IsIn (position_value Position (Some (leaf.Dbpos d))) (position_range Position i o n b)
+      → IsIn w (position_value Position (Some (leaf.Dbpos d))) (position_range k Position i o n b)
   position-number Intermediate h = (grind (arith, ints), grind (arith, ints))
   position-number Off h = (grind (arith, ints), grind (arith, ints))
   position-number On h = (grind (arith, ints), grind (arith, ints))
   position-number Bad h = (grind (arith, ints), grind (arith, ints))
 
-  position-in : (d : Dbpos) → Allowed d → (point : SwitchPoint)
-      → IsIn (position_value point (Some (leaf.Dbpos d))) (position_range point i o n b)
-  position-in d h Position = position-number d h
-  position-in Intermediate h Open = truth-in false o (i || n || b) (or-first i n b h)
-  position-in Off h Open = truth-in true o (i || n || b) h
-  position-in On h Open = truth-in false o (i || n || b) (or-second i n b h)
-  position-in Bad h Open = truth-in false o (i || n || b) (or-third i n b h)
-  position-in Intermediate h Closed = truth-in false n (i || o || b) (or-first i o b h)
-  position-in Off h Closed = truth-in false n (i || o || b) (or-second i o b h)
-  position-in On h Closed = truth-in true n (i || o || b) h
-  position-in Bad h Closed = truth-in false n (i || o || b) (or-third i o b h)
-  position-in d h EnableOpen = tt
-  position-in d h EnableClose = tt
+  -- a position that the switch may have is told
+  told-at : (which d : Dbpos) → Allowed d
+      → same_position which d ≡ has_position (told_positions which i o n b) d
+  told-at which Intermediate h =
+      sym (ap (λ may. has_at which (first_position i o n) may Intermediate) h)
+  told-at which Off h = sym (ap (λ may. has_at which (first_position i o n) may Off) h)
+  told-at which On h = sym (ap (λ may. has_at which (first_position i o n) may On) h)
+  told-at which Bad h = sym (ap (λ may. has_at which (first_position i o n) may Bad) h)
 
-allowed : (case : List TestAnswer) (k : ℕ) (d : Dbpos) → may_be case k d ≡ true
-    → Allowed (may_be case k Intermediate) (may_be case k Off) (may_be case k On)
+  position-in : (d : Dbpos) → w k ≡ d → Allowed d → (point : SwitchPoint)
+      → IsIn w (position_value point (Some (leaf.Dbpos d))) (position_range k point i o n b)
+  position-in d is h Position = position-number d h
+  position-in d is h Open =
+      in-among w (same_position Off d) k (told_positions Off i o n b)
+      (told-at Off d h ∙ ap (has_position (told_positions Off i o n b)) (sym is))
+  position-in d is h Closed =
+      in-among w (same_position On d) k (told_positions On i o n b)
+      (told-at On d h ∙ ap (has_position (told_positions On i o n b)) (sym is))
+  position-in d is h EnableOpen = tt
+  position-in d is h EnableClose = tt
+
+allowed : (w : Switches) (case : List TestAnswer) (k : ℕ) (d : Dbpos) → may_be case k d ≡ true
+    → Allowed w k (may_be case k Intermediate) (may_be case k Off) (may_be case k On)
     (may_be case k Bad) d
-allowed case k Intermediate h = h
-allowed case k Off h = h
-allowed case k On h = h
-allowed case k Bad h = h
+allowed w case k Intermediate h = h
+allowed w case k Off h = h
+allowed w case k On h = h
+allowed w case k Bad h = h
 
 granted : (case : List TestAnswer) (k : ℕ) (b : Bool) → input_may case k b ≡ true
     → cond b (input_may case k true) (input_may case k false) ≡ true
@@ -236,18 +245,18 @@ module _ (p : Process) (is : IsProcess p) (case : List TestAnswer) (h : is_in ca
   pub high-of : (k : ℕ) (field : MeterField) → p.measure k field ≤ℤ high_of case k field
   high-of k field = high-all p k field case (pos 2147483647) h (is.greatest k field)
 
-  range-has : (s : Source) → IsIn (process_value p s) (range_of case s)
+  range-has : (s : Source) → IsIn p.position (process_value p s) (range_of case s)
   range-has (source.Switch k point) =
-      position-in (may_be case k Intermediate) (may_be case k Off) (may_be case k On)
-      (may_be case k Bad) (p.position k)
-      (allowed case k (p.position k) (position-may p case h k)) point
+      position-in p.position k (may_be case k Intermediate) (may_be case k Off) (may_be case k On)
+      (may_be case k Bad) (p.position k) refl
+      (allowed p.position case k (p.position k) (position-may p case h k)) point
   range-has (source.Input k) =
-      truth-in (p.input k) (input_may case k true) (input_may case k false)
+      truth-in p.position (p.input k) (input_may case k true) (input_may case k false)
       (granted case k (p.input k) (input-may p case h k))
   range-has (source.Meter k field) = (low-of k field, high-of k field)
 
   pub ranges-have : (reads : List Source)
-      → AreIn (map (process_value p) reads) (map (range_of case) reads)
+      → AreIn p.position (map (process_value p) reads) (map (range_of case) reads)
   ranges-have [] = tt
   ranges-have (s ∷ reads) = (range-has s, ranges-have reads)
 
@@ -263,9 +272,9 @@ module _ (p : Process) where
   bad-in : (n : ℕ) → ((k : ℕ) → k < n → p.position k ≡ Bad) → is_in (bad_positions n) p ≡ true
   bad-in zero h = refl
   bad-in (suc n) h =
-      in-more (bad_positions n) (record { test = test.Position n Bad; value = true })
+      in-more (bad_positions n) (record { test = test.Position n (only Bad); value = true })
       (bad-in n (λ k less. h k (omega (arith, less))))
-      (ap (λ d. beq (same_position Bad d) true) (h n (omega arith)))
+      (ap (λ d. beq (has_position (only Bad) d) true) (h n (omega arith)))
 
   false-in : (n : ℕ) → ((k : ℕ) → k < n → p.input k ≡ false) → is_in (false_inputs n) p ≡ true
   false-in zero h = refl

@@ -12,9 +12,9 @@ use Rattle.il_image.specs.declared.timer.TimerState.{TimerState}
 use Rattle.il_image.specs.declared.value.Value.{Value}
 use Rattle.il_image.specs.declared.value.Value.TheVariants.{Truth, Short, Long, Wide, Span}
 use Rattle.il_range.specs.Foretold.{AreYoung, Foretells, IsMemory, IsReached, Leaves, delay_start, delay_start_at}
-use Rattle.il_range.specs.Ranges.{AreIn, IsIn, IsYoung}
+use Rattle.il_range.specs.Ranges.{AreIn, IsIn, IsYoung, Switches}
 use Rattle.il_range.specs.declared.range.Range.{Range}
-use Rattle.il_range.specs.declared.range.Range.TheVariants.{Any, No, Yes, Either, Between}
+use Rattle.il_range.specs.declared.range.Range.TheVariants.{Any, No, Yes, Either, Between, Among}
 use Rattle.il_scan.specs.Places.{is_true}
 use Rattle.il_scan.specs.Scans.{outputs_of}
 use Rattle.il_scan.specs.Scans as scans
@@ -34,20 +34,21 @@ use Rattle.bay_audit.proofs.OutlookLemmas.{condition-included, of-both, of-oppos
 
 -- ---- outputs
 
-in-if : (b : Bool) (v : Value) (r : Range) (values : List Value) (ranges : List Range) → IsIn v r
-    → AreIn values ranges → AreIn (cond b (v ∷ values) values) (cond b (r ∷ ranges) ranges)
-in-if true v r values ranges h k = (h, k)
-in-if false v r values ranges h k = k
+in-if : (w : Switches) (b : Bool) (v : Value) (r : Range) (values : List Value)
+    (ranges : List Range) → IsIn w v r → AreIn w values ranges
+    → AreIn w (cond b (v ∷ values) values) (cond b (r ∷ ranges) ranges)
+in-if w true v r values ranges h k = (h, k)
+in-if w false v r values ranges h k = k
 
-outputs-in : (points : List ImagePoint) (slots : List Value) (ranges : List Range)
-    → AreIn slots ranges → AreIn (outputs_of points slots) (outputs_of points ranges)
-outputs-in [] slots ranges h = tt
-outputs-in (p ∷ points) [] [] h = tt
-outputs-in (p ∷ points) (v ∷ slots) (r ∷ ranges) h =
-    in-if p.writable v r (outputs_of points slots) (outputs_of points ranges) h.0
-    (outputs-in points slots ranges h.1)
-outputs-in (p ∷ points) [] (r ∷ ranges) h = absurd h
-outputs-in (p ∷ points) (v ∷ slots) [] h = absurd h
+outputs-in : (w : Switches) (points : List ImagePoint) (slots : List Value) (ranges : List Range)
+    → AreIn w slots ranges → AreIn w (outputs_of points slots) (outputs_of points ranges)
+outputs-in w [] slots ranges h = tt
+outputs-in w (p ∷ points) [] [] h = tt
+outputs-in w (p ∷ points) (v ∷ slots) (r ∷ ranges) h =
+    in-if w p.writable v r (outputs_of points slots) (outputs_of points ranges) h.0
+    (outputs-in w points slots ranges h.1)
+outputs-in w (p ∷ points) [] (r ∷ ranges) h = absurd h
+outputs-in w (p ∷ points) (v ∷ slots) [] h = absurd h
 
 -- what a range tells of a truth value
 abbrev Told : Range → Bool → Type 0
@@ -56,36 +57,39 @@ Told Yes b = b ≡ true
 Told Any b = Unit {0}
 Told Either b = Unit {0}
 Told (Between low high) b = Unit {0}
+Told (Among k s) b = Unit {0}
 
-value-told : (v : Value) (r : Range) → IsIn v r → Told r (is_true (Some v))
-value-told (Truth false) No h = refl
-value-told (Truth true) No h = absurd h
-value-told (Truth true) Yes h = refl
-value-told (Truth false) Yes h = absurd h
-value-told (Short z) No h = absurd h
-value-told (Short z) Yes h = absurd h
-value-told (Long z) No h = absurd h
-value-told (Long z) Yes h = absurd h
-value-told (Wide z) No h = absurd h
-value-told (Wide z) Yes h = absurd h
-value-told (Span n) No h = absurd h
-value-told (Span n) Yes h = absurd h
-value-told v Any h = tt
-value-told v Either h = tt
-value-told v (Between low high) h = tt
+value-told : (w : Switches) (v : Value) (r : Range) → IsIn w v r → Told r (is_true (Some v))
+value-told w (Truth false) No h = refl
+value-told w (Truth true) No h = absurd h
+value-told w (Truth true) Yes h = refl
+value-told w (Truth false) Yes h = absurd h
+value-told w (Short z) No h = absurd h
+value-told w (Short z) Yes h = absurd h
+value-told w (Long z) No h = absurd h
+value-told w (Long z) Yes h = absurd h
+value-told w (Wide z) No h = absurd h
+value-told w (Wide z) Yes h = absurd h
+value-told w (Span n) No h = absurd h
+value-told w (Span n) Yes h = absurd h
+value-told w v Any h = tt
+value-told w v Either h = tt
+value-told w v (Between low high) h = tt
+value-told w v (Among k s) h = tt
 
-there-told : (values : List Value) (ranges : List Range) (n : ℕ) → AreIn values ranges
+there-told : (w : Switches) (values : List Value) (ranges : List Range) (n : ℕ)
+    → AreIn w values ranges
     → Told (range_there (slice_get ranges n)) (is_true (slice_get values n))
-there-told [] [] n h = refl
-there-told (v ∷ values) (r ∷ ranges) zero h = value-told v r h.0
-there-told (v ∷ values) (r ∷ ranges) (suc n) h = there-told values ranges n h.1
-there-told [] (r ∷ ranges) n h = absurd h
-there-told (v ∷ values) [] n h = absurd h
+there-told w [] [] n h = refl
+there-told w (v ∷ values) (r ∷ ranges) zero h = value-told w v r h.0
+there-told w (v ∷ values) (r ∷ ranges) (suc n) h = there-told w values ranges n h.1
+there-told w [] (r ∷ ranges) n h = absurd h
+there-told w (v ∷ values) [] n h = absurd h
 
-place-told : (values : List Value) (ranges : List Range) (place : Option ℕ) → AreIn values ranges
-    → Told (range_at ranges place) (is_true (output_at place values))
-place-told values ranges None h = refl
-place-told values ranges (Some n) h = there-told values ranges n h
+place-told : (w : Switches) (values : List Value) (ranges : List Range) (place : Option ℕ)
+    → AreIn w values ranges → Told (range_at ranges place) (is_true (output_at place values))
+place-told w values ranges None h = refl
+place-told w values ranges (Some n) h = there-told w values ranges n h
 
 -- a limit tells of a delay only that none runs
 young-told : (now : ℕ) (phase : TimerPhase) (below : Option ℕ) → IsYoung now phase below
@@ -116,6 +120,8 @@ kept-obeyed Always No b e told = absurd cc
 kept-obeyed Always Any b e told = absurd cc
 kept-obeyed Always Either b e told = absurd cc
 kept-obeyed Always (Between x y) b e told = absurd cc
+kept-obeyed Never (Among k s) b e told = absurd cc
+kept-obeyed Always (Among k s) b e told = absurd cc
 
 missed-broken : (kind : RuleKind) (r : Range) (b : Bool) → is_surely_missed kind r ≡ true → Told r b
     → is_obeyed kind true b ≡ false
@@ -129,6 +135,8 @@ missed-broken Always Yes b e told = absurd cc
 missed-broken Always Any b e told = absurd cc
 missed-broken Always Either b e told = absurd cc
 missed-broken Always (Between x y) b e told = absurd cc
+missed-broken Never (Among k s) b e told = absurd cc
+missed-broken Always (Among k s) b e told = absurd cc
 
 -- what each decision says of its tests
 is-obeyed : (kept t missed f : Bool)
@@ -181,15 +189,15 @@ idle-told now (t ∷ timers) (below ∷ limits) zero y = young-told now t.phase 
 idle-told now (t ∷ timers) (below ∷ limits) (suc n) y = idle-told now timers limits n y.1
 
 -- what is known of whether a goal is reached tells it
-pub goal-told : (g : BoundProgram) (goal : Goal) (now : ℕ) (slots : List Value)
+pub goal-told : (w : Switches) (g : BoundProgram) (goal : Goal) (now : ℕ) (slots : List Value)
     (timers : List TimerState) (ranges : List Range) (limits : List (Option ℕ))
-    → AreIn slots ranges → AreYoung now timers limits
+    → AreIn w slots ranges → AreYoung now timers limits
     → Told (goal_range g.image.points g.writes ranges limits goal) (reaches g goal slots timers)
-goal-told g (goals.Release k operation) now slots timers ranges limits h y =
-    place-told (outputs_of g.image.points slots) (outputs_of g.image.points ranges)
+goal-told w g (goals.Release k operation) now slots timers ranges limits h y =
+    place-told w (outputs_of g.image.points slots) (outputs_of g.image.points ranges)
     (position (is_point k (releasing_point operation)) g.writes)
-    (outputs-in g.image.points slots ranges h)
-goal-told g (goals.Idle n) now slots timers ranges limits h y = idle-told now timers limits n y
+    (outputs-in w g.image.points slots ranges h)
+goal-told w g (goals.Idle n) now slots timers ranges limits h y = idle-told now timers limits n y
 
 -- ---- what is asked
 
@@ -208,10 +216,10 @@ asked-included d p is case inside =
 pub foresees-by : (g : BoundProgram) (memory : List Range) (limits : List (Option ℕ))
     (given : List Range) (last : List (Option ℕ)) (result : List Range) → IsMemory g.image memory
     → Foretells g.image memory limits given last result → Foresees g limits given last result
-foresees-by g memory limits given last result is foretells machine inputs now slots timers image
+foresees-by g memory limits given last result is foretells w machine inputs now slots timers image
     reached young inside leaves =
-    foretells machine inputs now slots timers image reached (is machine image reached) young inside
-    leaves
+    foretells w machine inputs now slots timers image reached (is w machine image reached) young
+    inside leaves
 
 module _ (g : BoundProgram) (d : Demand) (case : List TestAnswer) (ranges : List Range)
     (limits : List (Option ℕ))
@@ -227,10 +235,11 @@ module _ (g : BoundProgram) (d : Demand) (case : List TestAnswer) (ranges : List
       told : Told r (reaches g d.goal slots timers)
       told =
           let end =
-          foresees machine (map (process_value p) g.reads) now slots timers image kept young
+          foresees p.position machine (map (process_value p) g.reads) now slots timers image kept
+          young
           (ranges-have p is case inside g.reads) leaves in
           subst (λ (x : Range). Told x (reaches g d.goal slots timers)) (sym is-range)
-          (goal-told g d.goal now slots timers ranges limits end.0 end.1)
+          (goal-told p.position g d.goal now slots timers ranges limits end.0 end.1)
 
       included : includes asked (is_covered d p) ≡ true
       included = ap (λ (o : TruthSet). includes o (is_covered d p)) is-asked

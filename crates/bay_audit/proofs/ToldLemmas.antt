@@ -8,7 +8,7 @@ use Rattle.std.proofs.lemmas.Bool.Decides.{nat_tests}
 use Rattle.std.proofs.lemmas.Int.{ints}
 use Rattle.bay_base.specs.declared.point.MeterField.{MeterField}
 use Rattle.bay_base.specs.declared.point.MeterField.TheVariants.{TotW, TotVAr, Hz, PhaseA, PhaseB, PhaseC}
-use Rattle.bay_base.specs.Positions.{same_position}
+use Rattle.il_range.specs.Ranges.{has_position}
 use Rattle.bay_audit_rules.specs.Process.{Process}
 use Rattle.bay_base.specs.declared.position.Dbpos.{Dbpos}
 use Rattle.bay_base.specs.declared.position.Dbpos.TheVariants.{Intermediate, Off, On, Bad}
@@ -57,8 +57,8 @@ module _ (p : Process) where
       → ((k : ℕ) (field : MeterField)
       → p.measure k field ≤ℤ high_by k field (high k field) value t)
       → beq (answer_of p t) value ≡ true
-  meets-one (test.Position j which) value low high a g least greatest =
-      unless-other (nat_eq j j) (beq (same_position which (p.position j)) value) (same-number j)
+  meets-one (test.Position j s) value low high a g least greatest =
+      unless-other (nat_eq j j) (beq (has_position s (p.position j)) value) (same-number j)
       (a j)
   meets-one (test.Input j) value low high a g least greatest =
       unless-other (nat_eq j j) (beq (p.input j) value) (same-number j) (g j)

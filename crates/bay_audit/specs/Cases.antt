@@ -10,6 +10,8 @@ use Rattle.bay_base.specs.declared.point.SwitchPoint.{SwitchPoint}
 use Rattle.bay_base.specs.declared.point.SwitchPoint.TheVariants.{Position, Open, Closed, EnableOpen, EnableClose}
 use Rattle.bay_base.specs.declared.position.Dbpos.{Dbpos}
 use Rattle.bay_base.specs.declared.position.Dbpos.TheVariants.{Intermediate, Off, On, Bad}
+use Rattle.il_range.specs.Ranges.{among, has_position}
+use Rattle.il_range.specs.declared.range.Positions.{Positions}
 use Rattle.il_range.specs.declared.range.Range.{Range}
 use Rattle.il_range.specs.declared.range.Range.TheVariants.{No, Yes, Either, Between}
 use Rattle.bay_base.specs.Positions.{same_position}
@@ -20,10 +22,10 @@ use Rattle.bay_audit.specs.declared.case.Test.TheVariants as test
 
 -- ---- cases
 
--- the answer of a test: the switch has this position, the input is TRUE, the measured value is at
--- most this number
+-- the answer of a test: the switch has one of these positions, the input is TRUE, the measured
+-- value is at most this number
 abbrev pub answer_of : Process → Test → Bool
-answer_of p (test.Position k position) = same_position position (p.position k)
+answer_of p (test.Position k positions) = has_position positions (p.position k)
 answer_of p (test.Input k) = p.input k
 answer_of p (test.AtMost k field most) = int_le (p.measure k field) most
 
@@ -37,10 +39,20 @@ is_in case p = list_all (meets p) case
 
 -- ---- the case of a process that is lost
 
+-- the set of a position alone
+abbrev pub only : Dbpos → Positions
+only which = record {
+  intermediate = same_position which Intermediate;
+  off = same_position which Off;
+  on = same_position which On;
+  bad = same_position which Bad;
+}
+
 -- each of the first n switches has a bad position
 abbrev pub bad_positions : ℕ → List TestAnswer
 bad_positions zero = []
-bad_positions (suc k) = bad_positions k ++ record { test = test.Position k Bad; value = true } ∷ []
+bad_positions (suc k) =
+    bad_positions k ++ record { test = test.Position k (only Bad); value = true } ∷ []
 
 -- each of the first n inputs is FALSE
 abbrev pub false_inputs : ℕ → List TestAnswer
@@ -64,8 +76,8 @@ same_field a b = false
 
 -- a switch may have the position, by one test and by all
 abbrev pub test_allows_position : ℕ → Dbpos → Bool → Test → Bool
-test_allows_position k position value (test.Position j which) =
-    not (j == k) || beq (same_position which position) value
+test_allows_position k position value (test.Position j positions) =
+    not (j == k) || beq (has_position positions position) value
 test_allows_position k position value (test.Input j) = true
 test_allows_position k position value (test.AtMost j field most) = true
 
@@ -159,17 +171,33 @@ least_position i o n = if i then pos 0 else if o then pos 1 else if n then pos 2
 abbrev pub greatest_position : Bool → Bool → Bool → ℤ
 greatest_position o n b = if b then pos 3 else if n then pos 2 else if o then pos 1 else pos 0
 
-abbrev pub position_range : SwitchPoint → Bool → Bool → Bool → Bool → Range
-position_range Position i o n b = Between (least_position i o n) (greatest_position o n b)
-position_range Open i o n b = truth_range o (i || n || b)
-position_range Closed i o n b = truth_range n (i || o || b)
-position_range EnableOpen i o n b = No
-position_range EnableClose i o n b = No
+-- whether a switch has the position `which`: one that has the position `at` if it may, and else the
+-- first that it may have
+abbrev pub has_at : Dbpos → Dbpos → Bool → Dbpos → Bool
+has_at which first may at = if may then same_position which at else same_position which first
+
+-- the set of the position `which`, for a switch that may have these positions: each other position
+-- counts as the first that it may have
+abbrev pub told_positions : Dbpos → Bool → Bool → Bool → Bool → Positions
+told_positions which i o n b = record {
+  intermediate = has_at which (first_position i o n) i Intermediate;
+  off = has_at which (first_position i o n) o Off;
+  on = has_at which (first_position i o n) n On;
+  bad = has_at which (first_position i o n) b Bad;
+}
+
+-- the range of a point of the switch at index k
+abbrev pub position_range : ℕ → SwitchPoint → Bool → Bool → Bool → Bool → Range
+position_range k Position i o n b = Between (least_position i o n) (greatest_position o n b)
+position_range k Open i o n b = among k (told_positions Off i o n b)
+position_range k Closed i o n b = among k (told_positions On i o n b)
+position_range k EnableOpen i o n b = No
+position_range k EnableClose i o n b = No
 
 -- the range of a source in a case
 abbrev pub range_of : List TestAnswer → Source → Range
 range_of case (source.Switch k point) =
-    position_range point (may_be case k Intermediate) (may_be case k Off) (may_be case k On)
+    position_range k point (may_be case k Intermediate) (may_be case k Off) (may_be case k On)
     (may_be case k Bad)
 range_of case (source.Input k) = truth_range (input_may case k true) (input_may case k false)
 range_of case (source.Meter k field) = Between (low_of case k field) (high_of case k field)

@@ -21,7 +21,7 @@ use Rattle.il_image.specs.declared.timer.TimerState.{TimerState}
 use Rattle.il_image.specs.declared.value.Value.{Value}
 use Rattle.il_image.specs.Images.{Image}
 use Rattle.il_range.specs.Foretold.{AreYoung, IsReached, Leaves, delay_start_at}
-use Rattle.il_range.specs.Ranges.{AreIn}
+use Rattle.il_range.specs.Ranges.{AreIn, Switches}
 use Rattle.il_range.specs.declared.range.Range.{Range}
 use Rattle.il_range.specs.declared.range.Range.TheVariants as range
 use Rattle.il_scan.specs.Scans.{MachineData, first_machine, outputs_of}
@@ -334,16 +334,16 @@ release_demand k operation = record {
 
 -- ---- verdicts
 
--- From every state that the program can reach, a scan with inputs in the given ranges, and with
--- timers whose delays have run for less than the limits, leaves slots in the resulting ranges, and
--- timers with the resulting limits.
+-- With the switches in any positions, from every state that the program can reach, a scan with
+-- inputs in the given ranges, and with timers whose delays have run for less than the limits,
+-- leaves slots in the resulting ranges, and timers with the resulting limits.
 abbrev pub Foresees : BoundProgram → List (Option ℕ) → List Range → List (Option ℕ) → List Range
     → Type 0
 Foresees g limits given last result =
-    (machine : MachineData) (inputs : List Value) (now : ℕ) (slots : List Value)
+    (w : Switches) (machine : MachineData) (inputs : List Value) (now : ℕ) (slots : List Value)
     (timers : List TimerState) → machine.image ≡ g.image → IsReached machine
-    → AreYoung now machine.timers limits → AreIn inputs given
-    → Leaves machine inputs now slots timers → AreIn slots result × AreYoung now timers last
+    → AreYoung now machine.timers limits → AreIn w inputs given
+    → Leaves machine inputs now slots timers → AreIn w slots result × AreYoung now timers last
 
 -- the verdict on a demand in a case is right
 abbrev pub IsVerdict : BoundProgram → Demand → List TestAnswer → Verdict → Type 0

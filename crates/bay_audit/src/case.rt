@@ -2,22 +2,47 @@
 ghost use Rattle.std.specs.Prelude.{◌≡◌, IfOk, IfSome, ◌++◌, ◌∷◌, [], Some};
 ghost use Rattle.bay_audit.specs.Cases as spec;
 ghost use Rattle.bay_audit.specs.Process.{process_value};
+ghost use Rattle.il_range.specs.Ranges.{has_position};
 
 use bay_base::position::Dbpos;
 use bay_config::bay::{MeterField, Source, SwitchPoint};
 use bay_process::scan::value_at_position;
 use il_image::value::Value;
-use il_range::range::Range;
+use il_range::range::{Positions, Range, among};
 use std::alloc::{AllocError, Global};
 use std::marker::Model;
+
+/// Returns the set of a position alone.
+pub(crate) fn only(position: Dbpos) -> Positions
+    ensures { result ≡ spec.only position }
+{
+    Positions {
+        intermediate: position == Dbpos::Intermediate,
+        off: position == Dbpos::Off,
+        on: position == Dbpos::On,
+        bad: position == Dbpos::Bad,
+    }
+}
+
+/// Returns whether a position is in a set.
+pub(crate) fn has_position(positions: Positions, position: Dbpos) -> bool
+    ensures { result ≡ has_position positions position }
+{
+    match position {
+        Dbpos::Intermediate => positions.intermediate,
+        Dbpos::Off => positions.off,
+        Dbpos::On => positions.on,
+        Dbpos::Bad => positions.bad,
+    }
+}
 
 /// A test of the values that the process reports.
 #[derive(Clone, Copy)]
 pub enum Test {
-    /// The switch at this index, counted from 0, has this position.
+    /// The switch at this index, counted from 0, has one of these positions.
     Position {
         switch: usize,
-        position: Dbpos,
+        positions: Positions,
     },
     /// The input at this index is TRUE.
     Input {
@@ -46,8 +71,8 @@ impl TestAnswer {
         match self.test {
             Test::Position {
                 switch: at,
-                position: which,
-            } => at != switch || (which == position) == self.value,
+                positions,
+            } => at != switch || has_position(positions, position) == self.value,
             Test::Input { .. } | Test::AtMost { .. } => true,
         }
     }
@@ -173,17 +198,52 @@ fn greatest_position(off: bool, on: bool, bad: bool) -> i64
     }
 }
 
+// Returns whether a switch has the position `which`, for one that has the position `at` if it may,
+// and else the first that it may have.
+fn has_at(which: Dbpos, first: Dbpos, may: bool, at: Dbpos) -> bool
+    ensures { result ≡ spec.has_at which first may at }
+{
+    if may { which == at } else { which == first }
+}
+
+// Returns the set of the position `which`, for a switch that may have these positions: each other
+// position counts as the first that it may have.
+fn told_positions(which: Dbpos, intermediate: bool, off: bool, on: bool, bad: bool) -> Positions
+    ensures { result ≡ spec.told_positions which intermediate off on bad }
+{
+    let first = first_position(intermediate, off, on);
+    Positions {
+        intermediate: has_at(which, first, intermediate, Dbpos::Intermediate),
+        off: has_at(which, first, off, Dbpos::Off),
+        on: has_at(which, first, on, Dbpos::On),
+        bad: has_at(which, first, bad, Dbpos::Bad),
+    }
+}
+
 // Returns the range of a point of a switch that may have these positions.
-fn position_range(point: SwitchPoint, intermediate: bool, off: bool, on: bool, bad: bool) -> Range
-    ensures { result ≡ spec.position_range point intermediate off on bad }
+fn position_range(
+    switch: usize,
+    point: SwitchPoint,
+    intermediate: bool,
+    off: bool,
+    on: bool,
+    bad: bool,
+) -> Range
+    ensures { result ≡ spec.position_range switch point intermediate off on bad }
 {
     match point {
         SwitchPoint::Position => Range::Between(
             least_position(intermediate, off, on),
             greatest_position(off, on, bad),
         ),
-        SwitchPoint::Open => truth_range(off, intermediate || on || bad),
-        SwitchPoint::Closed => truth_range(on, intermediate || off || bad),
+        SwitchPoint::Open => among(
+            switch,
+            told_positions(Dbpos::Off, intermediate, off, on, bad),
+        ),
+        SwitchPoint::Closed => among(
+            switch,
+            told_positions(Dbpos::On, intermediate, off, on, bad),
+        ),
         SwitchPoint::EnableOpen | SwitchPoint::EnableClose => Range::No,
     }
 }
@@ -232,7 +292,7 @@ impl Case {
         for switch in 0..switches {
             let test = Test::Position {
                 switch,
-                position: Dbpos::Bad,
+                positions: only(Dbpos::Bad),
             };
             literals.push(TestAnswer { test, value: true })?;
         }
@@ -336,7 +396,9 @@ impl Case {
         ensures { result ≡ spec.answer_of (spec.example_of self.now) test }
     {
         match test {
-            Test::Position { switch, position } => position == self.example_position(switch),
+            Test::Position { switch, positions } => {
+                has_position(positions, self.example_position(switch))
+            }
             Test::Input { input } => self.input_may(input, true),
             Test::AtMost { meter, field, most } => {
                 self.example_measure(meter, field) <= i64::from(most)
@@ -359,6 +421,7 @@ impl Case {
     {
         match source {
             Source::Switch { switch, point } => position_range(
+                switch,
                 point,
                 self.may_be(switch, Dbpos::Intermediate),
                 self.may_be(switch, Dbpos::Off),

@@ -4,7 +4,7 @@ ghost use Rattle.std.specs.Prelude.{IfOk};
 ghost use Rattle.bay_audit.specs.Rules.{IsUndecided};
 
 use crate::answer::{StateDependencies, Verdict};
-use crate::case::{Case, Test};
+use crate::case::{Case, Test, has_position, only};
 use crate::demand::{Demand, Goal};
 use crate::program::AuditedProgram;
 use crate::verdict::release_place;
@@ -15,6 +15,7 @@ use il_image::image::ImagePoint;
 use il_image::instr::Instr;
 use il_image::read::instr_at;
 use il_image::value::Value;
+use il_range::range::Positions;
 use il_range::scan::ScanPrediction;
 use std::alloc::{AllocError, Global};
 
@@ -32,7 +33,10 @@ fn is_open_at(case: &Case, switch: usize, position: Dbpos) -> bool {
 // Returns the test of a switch's position; `None` if the case decides it.
 fn position_test(case: &Case, switch: usize, position: Dbpos) -> Option<Test> {
     if is_open_at(case, switch, position) {
-        Some(Test::Position { switch, position })
+        Some(Test::Position {
+            switch,
+            positions: only(position),
+        })
     } else {
         None
     }
@@ -45,8 +49,111 @@ fn any_position_test(case: &Case, switch: usize) -> Option<Test> {
         .find(|position| is_open_at(case, switch, **position))
         .map(|position| Test::Position {
             switch,
-            position: *position,
+            positions: only(*position),
         })
+}
+
+// The sets of positions by which a test parts the four positions in two, those of one position
+// first.
+const SETS: [[Dbpos; 2]; 7] = [
+    [Dbpos::Off, Dbpos::Off],
+    [Dbpos::On, Dbpos::On],
+    [Dbpos::Intermediate, Dbpos::Intermediate],
+    [Dbpos::Bad, Dbpos::Bad],
+    [Dbpos::Off, Dbpos::On],
+    [Dbpos::Intermediate, Dbpos::Off],
+    [Dbpos::Intermediate, Dbpos::On],
+];
+
+// Returns the set of two positions.
+fn either(two: [Dbpos; 2]) -> Positions {
+    let first = only(two[0]);
+    let second = only(two[1]);
+    Positions {
+        intermediate: first.intermediate || second.intermediate,
+        off: first.off || second.off,
+        on: first.on || second.on,
+        bad: first.bad || second.bad,
+    }
+}
+
+// Returns whether a case has both a process with the switch at one of these positions and one with
+// the switch at another.
+fn parts(case: &Case, switch: usize, positions: Positions) -> bool {
+    let may = [
+        (
+            positions.intermediate,
+            case.may_be(switch, Dbpos::Intermediate),
+        ),
+        (positions.off, case.may_be(switch, Dbpos::Off)),
+        (positions.on, case.may_be(switch, Dbpos::On)),
+        (positions.bad, case.may_be(switch, Dbpos::Bad)),
+    ];
+    may.iter().any(|one| one.0 && one.1) && may.iter().any(|one| !one.0 && one.1)
+}
+
+// Returns whether two sets part the positions that a case allows a switch in the same way.
+fn part_alike(case: &Case, switch: usize, one: Positions, other: Positions) -> bool {
+    let is_same = POSITIONS.iter().all(|position| {
+        !case.may_be(switch, *position)
+            || has_position(one, *position) == has_position(other, *position)
+    });
+    let is_opposite = POSITIONS.iter().all(|position| {
+        !case.may_be(switch, *position)
+            || has_position(one, *position) != has_position(other, *position)
+    });
+    is_same || is_opposite
+}
+
+// Returns whether a goal distinguishes these positions of a switch from the others.
+fn is_told_apart(
+    case: &Case,
+    switch: usize,
+    positions: Positions,
+    forecast: &ScanPrediction,
+    goal: usize,
+) -> bool {
+    for two in SETS {
+        let told = either(two);
+        if forecast.sources.depends_on_positions(goal, switch, told)
+            && part_alike(case, switch, told, positions)
+        {
+            return true;
+        }
+    }
+    false
+}
+
+// Returns the test of a set of positions of a switch that the goal distinguishes and that the case
+// leaves open.
+fn set_test(case: &Case, switch: usize, forecast: &ScanPrediction, goal: usize) -> Option<Test> {
+    for two in SETS {
+        let positions = either(two);
+        if parts(case, switch, positions)
+            && is_told_apart(case, switch, positions, forecast, goal)
+        {
+            return Some(Test::Position { switch, positions });
+        }
+    }
+    None
+}
+
+// Returns the test of a switch by its point of a position: whether it has the position, if the goal
+// distinguishes it; else by another set that the goal distinguishes.
+fn point_test(
+    case: &Case,
+    switch: usize,
+    position: Dbpos,
+    forecast: &ScanPrediction,
+    goal: usize,
+) -> Option<Test> {
+    if is_told_apart(case, switch, only(position), forecast, goal) {
+        let test = position_test(case, switch, position);
+        if test.is_some() {
+            return test;
+        }
+    }
+    set_test(case, switch, forecast, goal).or_else(|| position_test(case, switch, position))
 }
 
 // Returns the test of an input; `None` if the case decides it.
@@ -133,11 +240,17 @@ fn constant_test(code: &[u8], case: &Case, meter: usize, field: MeterField) -> O
 }
 
 // Returns the test of a source; `None` if the case decides it.
-fn source_test(code: &[u8], case: &Case, source: Source) -> Option<Test> {
+fn source_test(
+    code: &[u8],
+    case: &Case,
+    source: Source,
+    forecast: &ScanPrediction,
+    goal: usize,
+) -> Option<Test> {
     match source {
         Source::Switch { switch, point } => match point {
-            SwitchPoint::Open => position_test(case, switch, Dbpos::Off),
-            SwitchPoint::Closed => position_test(case, switch, Dbpos::On),
+            SwitchPoint::Open => point_test(case, switch, Dbpos::Off, forecast, goal),
+            SwitchPoint::Closed => point_test(case, switch, Dbpos::On, forecast, goal),
             SwitchPoint::Position => any_position_test(case, switch),
             SwitchPoint::EnableOpen | SwitchPoint::EnableClose => None,
         },
@@ -176,7 +289,7 @@ fn program_split(
         .filter(|(_, point)| !point.writable);
     for ((slot, _), source) in slots.zip(program.reads().iter()) {
         if forecast.sources.depends_on_slot(goal, slot) {
-            let test = source_test(image.code(), case, *source);
+            let test = source_test(image.code(), case, *source, forecast, goal);
             if test.is_some() {
                 return test;
             }

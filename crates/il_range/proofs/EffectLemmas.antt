@@ -28,9 +28,9 @@ use Rattle.il_image.specs.Timers.{after_call}
 use Rattle.il_range.specs.declared.timer.KnownTimer.{KnownTimer}
 use Rattle.il_range.proofs.TimerLemmas.{timer-called}
 use Rattle.il_range.specs.declared.range.Range.{Range}
-use Rattle.il_range.specs.declared.range.Range.TheVariants.{Any, No, Yes, Either, Between}
+use Rattle.il_range.specs.declared.range.Range.TheVariants.{Any, No, Yes, Either, Between, Among}
 use Rattle.il_range.specs.declared.known.Known.{Known}
-use Rattle.il_range.specs.Ranges.{AreTimersIn, IsIn, IsTimerIn, AreIn}
+use Rattle.il_range.specs.Ranges.{AreIn, AreTimersIn, IsIn, IsTimerIn, Switches}
 use Rattle.il_range.specs.Effects.{Plain, and_ranges, compare_ranges, compute_range, connect_ranges, known_after, or_ranges, value_range, not_range, timer_after_call, slot_of, timer_of, with_cells, with_input, with_preset, with_timer}
 use Rattle.il_range.specs.Pending.{Arrives, Covers, CoversAt, Held, Lands, Moves, held_by}
 use Rattle.il_range.proofs.RangeLemmas.{in-exactly, of-both, of-compared, of-connected, of-either, of-negated}
@@ -38,39 +38,41 @@ use Rattle.il_range.proofs.NumberLemmas.{of-computed}
 use Rattle.il_range.proofs.ListLemmas.{are-get, are-set, each-get, each-set}
 
 -- the step goes to the next place, with what is covered there; or it traps
-abbrev NextIs : StepResult → ℕ → ℕ → Plain → Type 0
-NextIs (Goes s) now next p = (s.place ≡ next) × Covers p (held_by now s)
-NextIs Halts now next p = ⊥
-NextIs (Traps trap) now next p = Unit {0}
+abbrev NextIs : Switches → StepResult → ℕ → ℕ → Plain → Type 0
+NextIs ps (Goes s) now next p = (s.place ≡ next) × Covers p (held_by now ps s)
+NextIs ps Halts now next p = ⊥
+NextIs ps (Traps trap) now next p = Unit {0}
 
-next-if : (b : Bool) (t : StepResult) (trap : Trap) (now next : ℕ) (p : Plain) → NextIs t now next p
-    → NextIs (cond b t (Traps trap)) now next p
-next-if true t trap now next p h = h
-next-if false t trap now next p h = tt
+next-if : (ps : Switches) (b : Bool) (t : StepResult) (trap : Trap) (now next : ℕ) (p : Plain)
+    → NextIs ps t now next p
+    → NextIs ps (cond b t (Traps trap)) now next p
+next-if ps true t trap now next p h = h
+next-if ps false t trap now next p h = tt
 
-next-unless : (b : Bool) (t : StepResult) (trap : Trap) (now next : ℕ) (p : Plain)
-    → NextIs t now next p
-    → NextIs (cond b (Traps trap) t) now next p
-next-unless true t trap now next p h = tt
-next-unless false t trap now next p h = h
+next-unless : (ps : Switches) (b : Bool) (t : StepResult) (trap : Trap) (now next : ℕ) (p : Plain)
+    → NextIs ps t now next p
+    → NextIs ps (cond b (Traps trap) t) now next p
+next-unless ps true t trap now next p h = tt
+next-unless ps false t trap now next p h = h
 
-next-slot : (n : ℕ) (s : State) (f : Value → StepResult) (now next : ℕ) (p : Plain)
-    → ((v : Value) → slice_get s.slots n ≡ Some v → NextIs (f v) now next p)
-    → NextIs (with_slot n s f) now next p
-next-slot n s f now next p h = go (slice_get s.slots n) refl
+next-slot : (ps : Switches) (n : ℕ) (s : State) (f : Value → StepResult) (now next : ℕ) (p : Plain)
+    → ((v : Value) → slice_get s.slots n ≡ Some v → NextIs ps (f v) now next p)
+    → NextIs ps (with_slot n s f) now next p
+next-slot ps n s f now next p h = go (slice_get s.slots n) refl
   where
     go : (o : Option Value) → slice_get s.slots n ≡ o
-        → NextIs (elim o [ None ↦ Traps MissingSlot | Some v ↦ f v ]) now next p
+        → NextIs ps (elim o [ None ↦ Traps MissingSlot | Some v ↦ f v ]) now next p
     go None e = tt
     go (Some v) e = h v e
 
-next-timer : (n : ℕ) (s : State) (f : TimerState → StepResult) (now next : ℕ) (p : Plain)
-    → ((t : TimerState) → slice_get s.timers n ≡ Some t → NextIs (f t) now next p)
-    → NextIs (machine.with_timer n s f) now next p
-next-timer n s f now next p h = go (slice_get s.timers n) refl
+next-timer : (ps : Switches) (n : ℕ) (s : State) (f : TimerState → StepResult) (now next : ℕ)
+    (p : Plain)
+    → ((t : TimerState) → slice_get s.timers n ≡ Some t → NextIs ps (f t) now next p)
+    → NextIs ps (machine.with_timer n s f) now next p
+next-timer ps n s f now next p h = go (slice_get s.timers n) refl
   where
     go : (o : Option TimerState) → slice_get s.timers n ≡ o
-        → NextIs (elim o [ None ↦ Traps MissingTimer | Some t ↦ f t ]) now next p
+        → NextIs ps (elim o [ None ↦ Traps MissingTimer | Some t ↦ f t ]) now next p
     go None e = tt
     go (Some t) e = h t e
 
@@ -108,106 +110,106 @@ has-timer n us f p e = go (slice_get us n) refl e
     go None at e = absurd (cc)
     go (Some r) at e = record { known = r; at = at; gives = e }
 
-module _ (now next place : ℕ) (timers : List TimerState) (ts : List KnownTimer)
-    (fits : AreTimersIn now timers ts) (p : Plain) where
+module _ (ps : Switches) (now next place : ℕ) (timers : List TimerState) (ts : List KnownTimer)
+    (fits : AreTimersIn ps now timers ts) (p : Plain) where
   abbrev plain_of : List Range → List Range → Plain
   plain_of rs us = record { cells = rs; slots = us; timers = ts }
 
   -- the state is covered with these cells, slots and timers
   abbrev DoneWith : List Value → List Value → List TimerState → Type 0
   DoneWith cells slots after =
-      Covers p (record { now = now; cells = cells; slots = slots; timers = after })
+      Covers p (record { now = now; switches = ps; cells = cells; slots = slots; timers = after })
 
   abbrev Done : List Value → List Value → Type 0
   Done cells slots = DoneWith cells slots timers
 
   covers-with : (q : Plain) (cells slots : List Value) (after : List TimerState) → Some q ≡ Some p
-      → AreIn cells q.cells → AreIn slots q.slots → AreTimersIn now after q.timers
+      → AreIn ps cells q.cells → AreIn ps slots q.slots → AreTimersIn ps now after q.timers
       → DoneWith cells slots after
   covers-with q cells slots after e h k t =
       subst (λ (r : Plain). Covers r
-      (record { now = now; cells = cells; slots = slots; timers = after }))
+      (record { now = now; switches = ps; cells = cells; slots = slots; timers = after }))
       (same_Some q p e) (record { cells = h; slots = k; timers = t })
 
   covers-along : (rs us : List Range) (cells slots : List Value) → Some (plain_of rs us) ≡ Some p
-      → AreIn cells rs → AreIn slots us → Done cells slots
+      → AreIn ps cells rs → AreIn ps slots us → Done cells slots
   covers-along rs us cells slots e h k = covers-with (plain_of rs us) cells slots timers e h k fits
 
   timers-get : (n : ℕ) (t : TimerState) (u : KnownTimer) → slice_get timers n ≡ Some t
-      → slice_get ts n ≡ Some u → IsTimerIn now t u
-  timers-get n t u at there = each-get (IsTimerIn now) timers ts n t u fits at there
+      → slice_get ts n ≡ Some u → IsTimerIn ps now t u
+  timers-get n t u at there = each-get (IsTimerIn ps now) timers ts n t u fits at there
 
   -- a timer has changed
   timer-done : (rs us : List Range) (n : ℕ) (t : TimerState) (u : KnownTimer)
       (cells slots : List Value) → with_timer rs n u (plain_of rs us) ≡ Some p
-      → AreIn cells rs → AreIn slots us → IsTimerIn now t u
+      → AreIn ps cells rs → AreIn ps slots us → IsTimerIn ps now t u
       → DoneWith cells slots (slice_set timers n t)
   timer-done rs us n t u cells slots e h k is =
       covers-with (record { cells = rs; slots = us; timers = slice_set ts n u }) cells slots
-      (slice_set timers n t) e h k (each-set (IsTimerIn now) timers ts n t u fits is)
+      (slice_set timers n t) e h k (each-set (IsTimerIn ps now) timers ts n t u fits is)
 
   -- what the step of an instruction comes to
   abbrev Comes : Instr → List Value → List Value → Type 0
-  Comes i cells slots = NextIs (act now i next (state_of place cells slots timers)) now next p
+  Comes i cells slots = NextIs ps (act now i next (state_of place cells slots timers)) now next p
 
   comes-load : (n : ℕ) (rs us : List Range) → known_after (Slot Load n) (plain_of rs us) ≡ Some p
-      → (cells slots : List Value) → AreIn cells rs → AreIn slots us
+      → (cells slots : List Value) → AreIn ps cells rs → AreIn ps slots us
       → Comes (Slot Load n) cells slots
   unfolding act
   comes-load n rs us e cells slots h k =
       let g = has n us (λ r. with_cells (r ∷ rs) (plain_of rs us)) p e in
-      next-slot n (state_of place cells slots timers) _ now next p
-      (λ v at. next-if (nat_lt (length cells) most_cells) _ FullStack now next p (
+      next-slot ps n (state_of place cells slots timers) _ now next p
+      (λ v at. next-if ps (nat_lt (length cells) most_cells) _ FullStack now next p (
         refl,
         covers-along (g.range ∷ rs) us (v ∷ cells) slots g.gives
-            (are-get slots us n v g.range k at g.at, h) k,
+            (are-get ps slots us n v g.range k at g.at, h) k,
       ))
 
   comes-store : (n : ℕ) (rs us : List Range) → known_after (Slot Store n) (plain_of rs us) ≡ Some p
-      → (cells slots : List Value) → AreIn cells rs → AreIn slots us
+      → (cells slots : List Value) → AreIn ps cells rs → AreIn ps slots us
       → Comes (Slot Store n) cells slots
   unfolding act
   comes-store n rs us e [] slots h k =
-      next-slot n (state_of place [] slots timers) _ now next p (λ v at. tt)
+      next-slot ps n (state_of place [] slots timers) _ now next p (λ v at. tt)
   comes-store n [] us e (v ∷ cells) slots h k = absurd h
   comes-store n (r ∷ rs) us e (v ∷ cells) slots h k =
       let g = has n us (λ old. Some (plain_of (r ∷ rs) (slice_set us n r))) p e in
       let done : Done (v ∷ cells) (slice_set slots n v) =
       covers-along (r ∷ rs) (slice_set us n r) (v ∷ cells) (slice_set slots n v)
-      g.gives h (are-set slots us n v r k h.0) in
-      next-slot n (state_of place (v ∷ cells) slots timers) _ now next p
-      (λ old at. next-if (same_type (type_of v) (type_of old))
+      g.gives h (are-set ps slots us n v r k h.0) in
+      next-slot ps n (state_of place (v ∷ cells) slots timers) _ now next p
+      (λ old at. next-if ps (same_type (type_of v) (type_of old))
       (stores n v next (state_of place (v ∷ cells) slots timers)) WrongKind now next p (refl, done))
 
   -- a slot of a truth changes
   change-next : (old : Value) (n : ℕ) (f : Bool → Bool) (s : State) (range : Range)
-      → IsIn old range
-      → ((o : Bool) → IsIn (Truth o) range
+      → IsIn ps old range
+      → ((o : Bool) → IsIn ps (Truth o) range
       → DoneWith s.cells (slice_set s.slots n (Truth (f o))) s.timers)
-      → NextIs (as_truth old (λ o. stores n (Truth (f o)) next s)) now next p
+      → NextIs ps (as_truth old (λ o. stores n (Truth (f o)) next s)) now next p
   change-next (Truth o) n f s range h k = (refl, k o h)
   change-next old n f s range h k = tt
 
   comes-set : (n : ℕ) (rs us : List Range) → known_after (Slot SetIf n) (plain_of rs us) ≡ Some p
-      → (cells slots : List Value) → AreIn cells rs → AreIn slots us
+      → (cells slots : List Value) → AreIn ps cells rs → AreIn ps slots us
       → Comes (Slot SetIf n) cells slots
   unfolding act
   comes-set n [] us e (v ∷ cells) slots h k = absurd h
   comes-set n (r ∷ rs) us e (Truth b ∷ cells) slots h k =
       let g = has n us (λ old. Some (plain_of (r ∷ rs) (slice_set us n (or_ranges r old)))) p e in
-      next-slot n (state_of place (Truth b ∷ cells) slots timers) _ now next p
+      next-slot ps n (state_of place (Truth b ∷ cells) slots timers) _ now next p
       (λ old at. change-next old n (λ o. b || o) (state_of place (Truth b ∷ cells) slots timers)
-      g.range (are-get slots us n old g.range k at g.at)
+      g.range (are-get ps slots us n old g.range k at g.at)
       (λ o is. covers-along (r ∷ rs) (slice_set us n (or_ranges r g.range))
       (Truth b ∷ cells) (slice_set slots n (Truth (b || o))) g.gives h
-      (are-set slots us n (Truth (b || o)) (or_ranges r g.range) k
-      (of-either b o r g.range h.0 is))))
+      (are-set ps slots us n (Truth (b || o)) (or_ranges r g.range) k
+      (of-either ps b o r g.range h.0 is))))
   comes-set n rs us e cells slots h k =
-      next-slot n (state_of place cells slots timers) _ now next p (λ v at. tt)
+      next-slot ps n (state_of place cells slots timers) _ now next p (λ v at. tt)
 
   comes-reset : (n : ℕ) (rs us : List Range)
       → known_after (Slot ResetIf n) (plain_of rs us) ≡ Some p
-      → (cells slots : List Value) → AreIn cells rs → AreIn slots us
+      → (cells slots : List Value) → AreIn ps cells rs → AreIn ps slots us
       → Comes (Slot ResetIf n) cells slots
   unfolding act
   comes-reset n [] us e (v ∷ cells) slots h k = absurd h
@@ -215,26 +217,27 @@ module _ (now next place : ℕ) (timers : List TimerState) (ts : List KnownTimer
       let g = has n us (λ old. Some
       (plain_of (r ∷ rs) (slice_set us n (and_ranges (not_range r) old)))) p e
       in
-      next-slot n (state_of place (Truth b ∷ cells) slots timers) _ now next p
+      next-slot ps n (state_of place (Truth b ∷ cells) slots timers) _ now next p
       (λ old at. change-next old n (λ o. not b && o) (state_of place (Truth b ∷ cells) slots timers)
-      g.range (are-get slots us n old g.range k at g.at)
+      g.range (are-get ps slots us n old g.range k at g.at)
       (λ o is. covers-along (r ∷ rs) (slice_set us n (and_ranges (not_range r) g.range))
       (Truth b ∷ cells) (slice_set slots n (Truth (not b && o))) g.gives h
-      (are-set slots us n (Truth (not b && o)) (and_ranges (not_range r) g.range) k
-      (of-both (not b) o (not_range r) g.range (of-negated b r h.0) is))))
+      (are-set ps slots us n (Truth (not b && o)) (and_ranges (not_range r) g.range) k
+      (of-both ps (not b) o (not_range r) g.range (of-negated ps b r h.0) is))))
   comes-reset n rs us e cells slots h k =
-      next-slot n (state_of place cells slots timers) _ now next p (λ v at. tt)
+      next-slot ps n (state_of place cells slots timers) _ now next p (λ v at. tt)
 
   comes-combine : (c : Connective) (rs us : List Range)
       → known_after (Combine c) (plain_of rs us) ≡ Some p
-      → (cells slots : List Value) → AreIn cells rs → AreIn slots us → Comes (Combine c) cells slots
+      → (cells slots : List Value) → AreIn ps cells rs → AreIn ps slots us
+      → Comes (Combine c) cells slots
   unfolding act
   comes-combine c [] us e cells slots h k = absurd (cc)
   comes-combine c (r ∷ []) us e cells slots h k = absurd (cc)
   comes-combine c (rb ∷ ra ∷ rs) us e (Truth b ∷ Truth a ∷ cells) slots h k = (
     refl,
     covers-along (connect_ranges c ra rb ∷ rs) us (Truth (logic_of c a b) ∷ cells) slots e
-        (of-connected c a b ra rb h.1.0 h.0, h.1.1) k,
+        (of-connected ps c a b ra rb h.1.0 h.0, h.1.1) k,
   )
   comes-combine c (rb ∷ ra ∷ rs) us e [] slots h k = tt
   comes-combine c (rb ∷ ra ∷ rs) us e (v ∷ []) slots h k = tt
@@ -242,7 +245,8 @@ module _ (now next place : ℕ) (timers : List TimerState) (ts : List KnownTimer
 
   comes-compare : (c : Comparison) (rs us : List Range)
       → known_after (Compare c) (plain_of rs us) ≡ Some p
-      → (cells slots : List Value) → AreIn cells rs → AreIn slots us → Comes (Compare c) cells slots
+      → (cells slots : List Value) → AreIn ps cells rs → AreIn ps slots us
+      → Comes (Compare c) cells slots
   unfolding act
   comes-compare c [] us e cells slots h k = absurd (cc)
   comes-compare c (r ∷ []) us e cells slots h k = absurd (cc)
@@ -252,12 +256,13 @@ module _ (now next place : ℕ) (timers : List TimerState) (ts : List KnownTimer
       let x = Truth (comparison_holds c (number_of u) (number_of v)) in
       let done : Done (x ∷ cells) slots =
       covers-along (compare_ranges c ra rb ∷ rs) us (x ∷ cells) slots e
-      (of-compared c u v ra rb h.1.0 h.0, h.1.1) k in
-      next-if (is_comparable c u v)
+      (of-compared ps c u v ra rb h.1.0 h.0, h.1.1) k in
+      next-if ps (is_comparable c u v)
       (Goes (state_of next (x ∷ cells) slots timers)) WrongKind now next p (refl, done)
 
   number-next : (w : Width) (v : Value) (f : ℤ → StepResult)
-      → ((z : ℤ) → number_of v ≡ z → NextIs (f z) now next p) → NextIs (as_number w v f) now next p
+      → ((z : ℤ) → number_of v ≡ z → NextIs ps (f z) now next p)
+      → NextIs ps (as_number w v f) now next p
   number-next width.Int (Short z) f h = h z refl
   number-next width.Dint (Long z) f h = h z refl
   number-next width.Lint (Wide z) f h = h z refl
@@ -265,7 +270,7 @@ module _ (now next place : ℕ) (timers : List TimerState) (ts : List KnownTimer
 
   comes-compute : (o : ArithmeticOperation) (w : Width) (rs us : List Range)
       → known_after (Compute o w) (plain_of rs us) ≡ Some p
-      → (cells slots : List Value) → AreIn cells rs → AreIn slots us
+      → (cells slots : List Value) → AreIn ps cells rs → AreIn ps slots us
       → Comes (Compute o w) cells slots
   unfolding act
   comes-compute o w [] us e cells slots h k = absurd (cc)
@@ -277,27 +282,30 @@ module _ (now next place : ℕ) (timers : List TimerState) (ts : List KnownTimer
       (λ a is_a. let x = value_of_width w (computation_of o w a b) in
       let done : Done (x ∷ cells) slots =
       covers-along (compute_range o w ra rb ∷ rs) us (x ∷ cells) slots e
-      (of-computed o w u v a b ra rb is_a is_b h.1.0 h.0, h.1.1) k in
-      next-unless (divides o && int_eq b (pos 0))
+      (of-computed ps o w u v a b ra rb is_a is_b h.1.0 h.0, h.1.1) k in
+      next-unless ps (divides o && int_eq b (pos 0))
       (Goes (state_of next (x ∷ cells) slots timers)) ZeroDivisor now next p (refl, done)))
 
-  short-long : (z : ℤ) (r : Range) → IsIn (Short z) r → IsIn (Long z) r
+  short-long : (z : ℤ) (r : Range) → IsIn ps (Short z) r → IsIn ps (Long z) r
   short-long z Any h = h
   short-long z No h = h
   short-long z Yes h = h
   short-long z Either h = h
   short-long z (Between l m) h = h
+  short-long z (Among k s) h = absurd cc
 
-  long-wide : (z : ℤ) (r : Range) → IsIn (Long z) r → IsIn (Wide z) r
+  long-wide : (z : ℤ) (r : Range) → IsIn ps (Long z) r → IsIn ps (Wide z) r
   long-wide z Any h = h
   long-wide z No h = h
   long-wide z Yes h = h
   long-wide z Either h = h
   long-wide z (Between l m) h = h
+  long-wide z (Among k s) h = absurd cc
 
   comes-widen : (w : Widening) (rs us : List Range)
       → known_after (Widen w) (plain_of rs us) ≡ Some p
-      → (cells slots : List Value) → AreIn cells rs → AreIn slots us → Comes (Widen w) cells slots
+      → (cells slots : List Value) → AreIn ps cells rs → AreIn ps slots us
+      → Comes (Widen w) cells slots
   unfolding act
   comes-widen w [] us e (v ∷ cells) slots h k = absurd h
   comes-widen IntToDint (r ∷ rs) us e (Short z ∷ cells) slots h k =
@@ -309,14 +317,15 @@ module _ (now next place : ℕ) (timers : List TimerState) (ts : List KnownTimer
   -- a timer changes, and what is known of it
   comes-changed : (n : ℕ) (rs us : List Range) (change : TimerState → TimerState)
       (known : KnownTimer → KnownTimer)
-      → ((t : TimerState) (u : KnownTimer) → IsTimerIn now t u → IsTimerIn now (change t) (known u))
+      → ((t : TimerState) (u : KnownTimer) → IsTimerIn ps now t u
+      → IsTimerIn ps now (change t) (known u))
       → timer_of n ts (λ u. with_timer rs n (known u) (plain_of rs us)) ≡ Some p
-      → (before cells slots : List Value) → AreIn cells rs → AreIn slots us
-      → NextIs (machine.with_timer n (state_of place before slots timers)
+      → (before cells slots : List Value) → AreIn ps cells rs → AreIn ps slots us
+      → NextIs ps (machine.with_timer n (state_of place before slots timers)
       (λ t. changes n (change t) next cells (state_of place before slots timers))) now next p
   comes-changed n rs us change known fits_in e before cells slots h k =
       let g = has-timer n ts (λ u. with_timer rs n (known u) (plain_of rs us)) p e in
-      next-timer n (state_of place before slots timers) _ now next p
+      next-timer ps n (state_of place before slots timers) _ now next p
       (λ t at. (
         refl,
         timer-done rs us n (change t) (known g.known) cells slots g.gives h k
@@ -325,7 +334,7 @@ module _ (now next place : ℕ) (timers : List TimerState) (ts : List KnownTimer
 
   comes-input : (n : ℕ) (rs us : List Range)
       → known_after (Timer SetInput n) (plain_of rs us) ≡ Some p
-      → (cells slots : List Value) → AreIn cells rs → AreIn slots us
+      → (cells slots : List Value) → AreIn ps cells rs → AreIn ps slots us
       → Comes (Timer SetInput n) cells slots
   unfolding act
   comes-input n [] us e (v ∷ cells) slots h k = absurd h
@@ -340,11 +349,11 @@ module _ (now next place : ℕ) (timers : List TimerState) (ts : List KnownTimer
         young = was.young;
       }) e (Truth b ∷ cells) cells slots h.1 k
   comes-input n rs us e cells slots h k =
-      next-timer n (state_of place cells slots timers) _ now next p (λ t at. tt)
+      next-timer ps n (state_of place cells slots timers) _ now next p (λ t at. tt)
 
   comes-preset : (n : ℕ) (rs us : List Range)
       → known_after (Timer SetPreset n) (plain_of rs us) ≡ Some p
-      → (cells slots : List Value) → AreIn cells rs → AreIn slots us
+      → (cells slots : List Value) → AreIn ps cells rs → AreIn ps slots us
       → Comes (Timer SetPreset n) cells slots
   unfolding act
   comes-preset n [] us e (v ∷ cells) slots h k = absurd h
@@ -359,33 +368,34 @@ module _ (now next place : ℕ) (timers : List TimerState) (ts : List KnownTimer
         young = was.young;
       }) e (Span d ∷ cells) cells slots h.1 k
   comes-preset n rs us e cells slots h k =
-      next-timer n (state_of place cells slots timers) _ now next p (λ t at. tt)
+      next-timer ps n (state_of place cells slots timers) _ now next p (λ t at. tt)
 
   -- what is known of a timer is pushed
   comes-read : (n : ℕ) (rs us : List Range) (read : KnownTimer → Range) (f : TimerState → Value)
-      → ((t : TimerState) (u : KnownTimer) → IsTimerIn now t u → IsIn (f t) (read u))
+      → ((t : TimerState) (u : KnownTimer) → IsTimerIn ps now t u → IsIn ps (f t) (read u))
       → timer_of n ts (λ u. with_cells (read u ∷ rs) (plain_of rs us)) ≡ Some p
-      → (cells slots : List Value) → AreIn cells rs → AreIn slots us
-      → NextIs (machine.with_timer n (state_of place cells slots timers)
+      → (cells slots : List Value) → AreIn ps cells rs → AreIn ps slots us
+      → NextIs ps (machine.with_timer n (state_of place cells slots timers)
       (λ t. pushes (f t) next (state_of place cells slots timers))) now next p
   comes-read n rs us read f fits_in e cells slots h k =
       let g = has-timer n ts (λ u. with_cells (read u ∷ rs) (plain_of rs us)) p e in
-      next-timer n (state_of place cells slots timers) _ now next p
+      next-timer ps n (state_of place cells slots timers) _ now next p
       (λ t at. let done : Done (f t ∷ cells) slots =
       covers-along (read g.known ∷ rs) us (f t ∷ cells) slots g.gives
       (fits_in t g.known (timers-get n t g.known at g.at), h) k in
-      next-if (nat_lt (length cells) most_cells)
+      next-if ps (nat_lt (length cells) most_cells)
       (Goes (state_of next (f t ∷ cells) slots timers)) FullStack now next p (refl, done))
 
   comes-timer : (t : TimerUse) (n : ℕ) (rs us : List Range)
       → known_after (Timer t n) (plain_of rs us) ≡ Some p
-      → (cells slots : List Value) → AreIn cells rs → AreIn slots us → Comes (Timer t n) cells slots
+      → (cells slots : List Value) → AreIn ps cells rs → AreIn ps slots us
+      → Comes (Timer t n) cells slots
   unfolding act
   comes-timer SetInput n rs us e cells slots h k = comes-input n rs us e cells slots h k
   comes-timer SetPreset n rs us e cells slots h k = comes-preset n rs us e cells slots h k
   comes-timer Run n rs us e cells slots h k =
       comes-changed n rs us (λ t. after_call t now) timer_after_call
-      (λ t u is. timer-called t u now is) e
+      (λ t u is. timer-called ps t u now is) e
       cells
       cells slots h k
   comes-timer LoadOutput n rs us e cells slots h k =
@@ -397,13 +407,13 @@ module _ (now next place : ℕ) (timers : List TimerState) (ts : List KnownTimer
       slots h k
 
   comes : (i : Instr) (rs us : List Range) → known_after i (plain_of rs us) ≡ Some p
-      → (cells slots : List Value) → AreIn cells rs → AreIn slots us → Comes i cells slots
+      → (cells slots : List Value) → AreIn ps cells rs → AreIn ps slots us → Comes i cells slots
   unfolding act
   comes Halt rs us e cells slots h k = absurd (cc)
   comes (Push v) rs us e cells slots h k =
       let done : Done (v ∷ cells) slots =
-      covers-along (value_range v ∷ rs) us (v ∷ cells) slots e (in-exactly v, h) k in
-      next-if (nat_lt (length cells) most_cells) (Goes (state_of next (v ∷ cells) slots timers))
+      covers-along (value_range v ∷ rs) us (v ∷ cells) slots e (in-exactly ps v, h) k in
+      next-if ps (nat_lt (length cells) most_cells) (Goes (state_of next (v ∷ cells) slots timers))
       FullStack
       now next p (refl, done)
   comes Drop [] us e cells slots h k = absurd (cc)
@@ -418,7 +428,7 @@ module _ (now next place : ℕ) (timers : List TimerState) (ts : List KnownTimer
   comes Not (r ∷ rs) us e (Truth b ∷ cells) slots h k = (
     refl,
     covers-along (not_range r ∷ rs) us (Truth (not b) ∷ cells) slots e
-        (of-negated b r h.0, h.1) k,
+        (of-negated ps b r h.0, h.1) k,
   )
   comes Not (r ∷ rs) us e cells slots h k = tt
   comes (Combine c) rs us e cells slots h k = comes-combine c rs us e cells slots h k
@@ -429,12 +439,12 @@ module _ (now next place : ℕ) (timers : List TimerState) (ts : List KnownTimer
   comes (Timer t n) rs us e cells slots h k = comes-timer t n rs us e cells slots h k
 
 next-lands : (t : StepResult) (next end : ℕ) (h : Held) (p : Plain) (old new : List (Option Known))
-    → Arrives old new next p → NextIs t h.now next p → Lands t next end h new
+    → Arrives old new next p → NextIs h.switches t h.now next p → Lands t next end h new
 next-lands (Goes s) next end h p old new a is =
     let least : next ≤ s.place = (let at = is.0 in omega arith) in (
       least,
-      subst (λ (n : ℕ). CoversAt new n (held_by h.now s)) (sym is.0)
-          (a.brings (held_by h.now s) is.1),
+      subst (λ (n : ℕ). CoversAt new n (held_by h.now h.switches s)) (sym is.0)
+          (a.brings (held_by h.now h.switches s) is.1),
     )
 next-lands Halts next end h p old new a is = absurd is
 next-lands (Traps trap) next end h p old new a is = tt
@@ -444,8 +454,8 @@ pub step-moves : (instr : Instr) (next : ℕ) (come after : Plain) (old new : Li
     → Moves instr next come old new
 step-moves instr next come after old new e a = record {
   keeps = a.keeps;
-  lands = λ now end s c.
-      next-lands (act now instr next s) next end (held_by now s) after old new a
-      (comes now next s.place s.timers come.timers c.timers after instr come.cells come.slots e
+  lands = λ now end ps s c.
+      next-lands (act now instr next s) next end (held_by now ps s) after old new a
+      (comes ps now next s.place s.timers come.timers c.timers after instr come.cells come.slots e
       s.cells s.slots c.cells c.slots);
 }

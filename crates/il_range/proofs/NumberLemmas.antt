@@ -16,16 +16,16 @@ use Rattle.il_image.specs.Values.{number_of}
 use Rattle.il_range.specs.declared.range.Range.{Range}
 use Rattle.il_range.specs.declared.range.Range.TheVariants.{Between}
 use Rattle.il_range.specs.Effects.{full_range, compute_range, fits_in, greatest_of, least_of, wrap_range, wrapped_of}
-use Rattle.il_range.specs.Ranges.{IsIn}
+use Rattle.il_range.specs.Ranges.{IsIn, Switches}
 
 number-of-width : (w : Width) (z : ℤ) → number_of (value_of_width w z) ≡ z
 number-of-width width.Int z = refl
 number-of-width width.Dint z = refl
 number-of-width width.Lint z = refl
 
-in-between : (w : Width) (low high z : ℤ) → low ≤ℤ z → z ≤ℤ high
-    → IsIn (value_of_width w z) (Between low high)
-in-between w low high z h k =
+in-between : (ps : Switches) (w : Width) (low high z : ℤ) → low ≤ℤ z → z ≤ℤ high
+    → IsIn ps (value_of_width w z) (Between low high)
+in-between ps w low high z h k =
     subst (λ (n : ℤ). (low ≤ℤ n) × (n ≤ℤ high)) (sym (number-of-width w z)) (h, k)
 
 -- ---- the numbers of a width
@@ -41,42 +41,45 @@ fits-by width.Int z h k = omega (arith, ints)
 fits-by width.Dint z h k = omega (arith, ints)
 fits-by width.Lint z h k = omega (arith, ints)
 
-wrap-in : (w : Width) (z : ℤ) → IsIn (value_of_width w (wrap_to w z)) (full_range w)
-wrap-in w z =
+wrap-in : (ps : Switches) (w : Width) (z : ℤ)
+    → IsIn ps (value_of_width w (wrap_to w z)) (full_range w)
+wrap-in ps w z =
     let within = bounds w (wrap_to w z) (SFits-int_wrap (bits_of w) z) in
-    in-between w (least_of w) (greatest_of w) (wrap_to w z) within.0 within.1
+    in-between ps w (least_of w) (greatest_of w) (wrap_to w z) within.0 within.1
 
 fit-bounds : (w : Width) (z : ℤ) → fits_in w z ≡ true → (least_of w ≤ℤ z) × (z ≤ℤ greatest_of w)
 fit-bounds w z e = (grind (arith, ints, common_steps), grind (arith, ints, common_steps))
 
-wrapped-in : (w : Width) (low high z : ℤ) → low ≤ℤ z → z ≤ℤ high
-    → IsIn (value_of_width w (wrap_to w z)) (wrap_range w low high)
-wrapped-in w low high z h k = go (fits_in w low) (fits_in w high) refl refl
+wrapped-in : (ps : Switches) (w : Width) (low high z : ℤ) → low ≤ℤ z → z ≤ℤ high
+    → IsIn ps (value_of_width w (wrap_to w z)) (wrap_range w low high)
+wrapped-in ps w low high z h k = go (fits_in w low) (fits_in w high) refl refl
   where
     go : (b c : Bool) → fits_in w low ≡ b → fits_in w high ≡ c
-        → IsIn (value_of_width w (wrap_to w z)) (cond (b && c) (Between low high) (full_range w))
+        → IsIn ps (value_of_width w (wrap_to w z)) (cond (b && c) (Between low high) (full_range w))
     go true true e f =
         let least : least_of w ≤ℤ low = (fit-bounds w low e).0 in
         let most : high ≤ℤ greatest_of w = (fit-bounds w high f).1 in
         let above : least_of w ≤ℤ z = omega (arith, ints) in
         let below : z ≤ℤ greatest_of w = omega (arith, ints) in
-        subst (λ (n : ℤ). IsIn (value_of_width w n) (Between low high))
-        (sym (int_wrap_fits (bits_of w) z (fits-by w z above below))) (in-between w low high z h k)
-    go true false e f = wrap-in w z
-    go false c e f = wrap-in w z
+        subst (λ (n : ℤ). IsIn ps (value_of_width w n) (Between low high))
+        (sym (int_wrap_fits (bits_of w) z (fits-by w z above below)))
+        (in-between ps w low high z h k)
+    go true false e f = wrap-in ps w z
+    go false c e f = wrap-in ps w z
 
-pub of-computed : (o : ArithmeticOperation) (w : Width) (v u : Value) (a b : ℤ) (r s : Range)
-    → number_of v ≡ a → number_of u ≡ b → IsIn v r → IsIn u s
-    → IsIn (value_of_width w (computation_of o w a b)) (compute_range o w r s)
-of-computed Add w v u a b (Between l m) (Between c d) e f h k =
+pub of-computed : (ps : Switches) (o : ArithmeticOperation) (w : Width) (v u : Value) (a b : ℤ)
+    (r s : Range)
+    → number_of v ≡ a → number_of u ≡ b → IsIn ps v r → IsIn ps u s
+    → IsIn ps (value_of_width w (computation_of o w a b)) (compute_range o w r s)
+of-computed ps Add w v u a b (Between l m) (Between c d) e f h k =
     let least : l ≤ℤ number_of v = h.0 in let most : number_of v ≤ℤ m = h.1 in
     let lower : c ≤ℤ number_of u = k.0 in let upper : number_of u ≤ℤ d = k.1 in
-    wrapped-in w (l +ℤ c) (m +ℤ d) (a +ℤ b) (omega (arith, ints)) (omega (arith, ints))
-of-computed Sub w v u a b (Between l m) (Between c d) e f h k =
+    wrapped-in ps w (l +ℤ c) (m +ℤ d) (a +ℤ b) (omega (arith, ints)) (omega (arith, ints))
+of-computed ps Sub w v u a b (Between l m) (Between c d) e f h k =
     let least : l ≤ℤ number_of v = h.0 in let most : number_of v ≤ℤ m = h.1 in
     let lower : c ≤ℤ number_of u = k.0 in let upper : number_of u ≤ℤ d = k.1 in
-    wrapped-in w (l -ℤ d) (m -ℤ c) (a -ℤ b) (omega (arith, ints)) (omega (arith, ints))
-of-computed o w v u a b r s e f h k = wrap-in w (exact_result o a b)
+    wrapped-in ps w (l -ℤ d) (m -ℤ c) (a -ℤ b) (omega (arith, ints)) (omega (arith, ints))
+of-computed ps o w v u a b r s e f h k = wrap-in ps w (exact_result o a b)
 
 -- ---- numbers that 64 bits may not hold
 

@@ -15,7 +15,7 @@ use Rattle.il_image.specs.Reading.{instr_at}
 use Rattle.il_range.specs.declared.known.Known.{Known}
 use Rattle.il_range.specs.Effects.{Plain}
 use Rattle.il_range.specs.Outcomes.{Ends}
-use Rattle.il_range.specs.Ranges.{AreIn, AreTimersIn}
+use Rattle.il_range.specs.Ranges.{AreIn, AreTimersIn, Switches}
 use Rattle.il_range.specs.Pending.{Arrives, Covers, CoversAt, Lands, Held, Moves, Visits, held_by, known_view}
 use Rattle.il_range.proofs.PendingLemmas.{covers-elsewhere}
 
@@ -25,7 +25,7 @@ pub visits-none : (code : List ℕ) (place : ℕ) (old : List (Option Known))
     → slice_get old place ≡ Some None → Visits code place old (slice_set old place None)
 visits-none code place old was = record {
   keeps = λ q ne h c. covers-elsewhere old place q None h ne c;
-  lands = λ instr next now s at c. absurd (let here = c.here in cc);
+  lands = λ instr next now w s at c. absurd (let here = c.here in cc);
 }
 
 covers-there : (place : ℕ) (old : List (Option Known)) (here : Known) (h : Held)
@@ -52,15 +52,15 @@ pub visits-moves : (code : List ℕ) (instr : Instr) (place next : ℕ) (old new
     → Moves instr next (known_view here) (slice_set old place None) new → Visits code place old new
 visits-moves code instr place next old new here reads forward was m = record {
   keeps = λ q ne h c. m.keeps q h (covers-elsewhere old place q None h ne c);
-  lands = λ j to now s at c.
+  lands = λ j to now w s at c.
       let same = one-instr code place next to instr j reads at in
       let least : place + 1 ≤ next = omega arith in
       let mine =
-      lands-from (act now instr next s) (place + 1) next (length code) (held_by now s) new least
-      (m.lands now (length code) s (covers-there place old here (held_by now s) was c)) in
-      subst (λ (i : Instr). Lands (act now i to s) (place + 1) (length code) (held_by now s) new)
+      lands-from (act now instr next s) (place + 1) next (length code) (held_by now w s) new least
+      (m.lands now (length code) w s (covers-there place old here (held_by now w s) was c)) in
+      subst (λ (i : Instr). Lands (act now i to s) (place + 1) (length code) (held_by now w s) new)
       same.0
-      (subst (λ (n : ℕ). Lands (act now instr n s) (place + 1) (length code) (held_by now s) new)
+      (subst (λ (n : ℕ). Lands (act now instr n s) (place + 1) (length code) (held_by now w s) new)
       same.1
       mine);
 }
@@ -72,11 +72,11 @@ pub visits-halt : (code : List ℕ) (place next : ℕ) (old new : List (Option K
 unfolding act
 visits-halt code place next old new here reads was a = record {
   keeps = λ q ne h c. a.keeps q h (covers-elsewhere old place q None h ne c);
-  lands = λ j to now s at c.
+  lands = λ j to now w s at c.
       let same = one-instr code place next to Halt j reads at in
-      let mine : CoversAt new (length code) (held_by now s) =
-      a.brings (held_by now s) (covers-there place old here (held_by now s) was c) in
-      subst (λ (i : Instr). Lands (act now i to s) (place + 1) (length code) (held_by now s) new)
+      let mine : CoversAt new (length code) (held_by now w s) =
+      a.brings (held_by now w s) (covers-there place old here (held_by now w s) was c) in
+      subst (λ (i : Instr). Lands (act now i to s) (place + 1) (length code) (held_by now w s) new)
       same.0
       mine;
 }
@@ -84,14 +84,16 @@ visits-halt code place next old new here reads was a = record {
 -- ---- a run that halts
 
 -- It has halted with these slots and timers, which are covered at the end.
-pub record HasHalted (code : List ℕ) (now : ℕ) (after : List Value) (timers : List TimerState)
+pub record HasHalted (code : List ℕ) (w : Switches) (now : ℕ) (after : List Value)
+    (timers : List TimerState)
     (pending : List (Option Known)) : Type 0 where
   pub cells : List Value
   pub covers : CoversAt pending (length code)
-      (record { now = now; cells = cells; slots = after; timers = timers })
+      (record { now = now; switches = w; cells = cells; slots = after; timers = timers })
 
 -- It halts as it does from a state at a place from this one on, which is covered.
-pub record GoesOn (code : List ℕ) (now place : ℕ) (after : List Value) (timers : List TimerState)
+pub record GoesOn (code : List ℕ) (w : Switches) (now place : ℕ) (after : List Value)
+    (timers : List TimerState)
     (pending : List (Option Known)) : Type 0 where
   pub state : State
   pub most : ℕ
@@ -99,12 +101,13 @@ pub record GoesOn (code : List ℕ) (now place : ℕ) (after : List Value) (time
   pub steps_after : ℕ
   pub from : place ≤ state.place
   pub halts : run_from code now most state steps ≡ Halted after timers steps_after
-  pub covers : CoversAt pending state.place (held_by now state)
+  pub covers : CoversAt pending state.place (held_by now w state)
 
 -- the run has halted, or goes on below what is pending
-abbrev pub Follows : List ℕ → ℕ → List Value → List TimerState → ℕ → List (Option Known) → Type 0
-Follows code now after timers place pending =
-    HasHalted code now after timers pending ⊎ GoesOn code now place after timers pending
+abbrev pub Follows : List ℕ → Switches → ℕ → List Value → List TimerState → ℕ → List (Option Known)
+    → Type 0
+Follows code w now after timers place pending =
+    HasHalted code w now after timers pending ⊎ GoesOn code w now place after timers pending
 
 -- what stands at a place, where a step is no trap
 read-at : (code : List ℕ) (place : ℕ) → (begun_at code place ≡ None)
@@ -125,13 +128,14 @@ read-at code place = go (is_place code place) refl (instr_at code place) refl
     go true is (Some r) e = inr (r.0, r.1, refl, e, within is)
 
 -- the rest of the run, by its next step
-follows-turn : (code : List ℕ) (now least most steps steps_after : ℕ) (after : List Value)
+follows-turn : (code : List ℕ) (w : Switches) (now least most steps steps_after : ℕ)
+    (after : List Value)
     (timers_after : List TimerState) (s : State) (new : List (Option Known)) (t : StepResult)
     → ending_of t s (steps + 1) (λ to. run_from code now most to (steps + 1))
     ≡ Halted after timers_after steps_after
-    → Lands t least (length code) (held_by now s) new
-    → Follows code now after timers_after least new
-follows-turn code now least most steps steps_after after timers_after s new (Goes to) e l =
+    → Lands t least (length code) (held_by now w s) new
+    → Follows code w now after timers_after least new
+follows-turn code w now least most steps steps_after after timers_after s new (Goes to) e l =
     inr (record {
       state = to;
       most = most;
@@ -141,42 +145,46 @@ follows-turn code now least most steps steps_after after timers_after s new (Goe
       halts = e;
       covers = l.1;
     })
-follows-turn code now least most steps steps_after after timers_after s new Halts e l =
+follows-turn code w now least most steps steps_after after timers_after s new Halts e l =
     let same : s.slots ≡ after = cc in
     let same_timers : s.timers ≡ timers_after = cc in
     inl (record {
       cells = s.cells;
       covers = subst (λ (timers : List TimerState). CoversAt new (length code)
-          (record { now = now; cells = s.cells; slots = after; timers = timers })) same_timers
+          (record { now = now; switches = w; cells = s.cells; slots = after; timers = timers }))
+          same_timers
           (subst (λ (slots : List Value). CoversAt new (length code)
-          (record { now = now; cells = s.cells; slots = slots; timers = s.timers })) same l);
+          (record { now = now; switches = w; cells = s.cells; slots = slots; timers = s.timers }))
+          same l);
     })
-follows-turn code now least most steps steps_after after timers_after s new (Traps trap) e l =
+follows-turn code w now least most steps steps_after after timers_after s new (Traps trap) e l =
     absurd (cc)
 
-follows-step : (code : List ℕ) (now place : ℕ) (after : List Value) (old new : List (Option Known))
+follows-step : (code : List ℕ) (w : Switches) (now place : ℕ) (after : List Value)
+    (old new : List (Option Known))
     → Visits code place old new → (most steps steps_after : ℕ)
     (timers_after : List TimerState) (s : State)
     → run_from code now most s steps ≡ Halted after timers_after steps_after → s.place ≡ place
-    → CoversAt old place (held_by now s) → Follows code now after timers_after (place + 1) new
+    → CoversAt old place (held_by now w s) → Follows code w now after timers_after (place + 1) new
 unfolding run_from
-follows-step code now place after old new v zero steps steps_after timers_after s e at c =
+follows-step code w now place after old new v zero steps steps_after timers_after s e at c =
     absurd (cc)
-follows-step code now place after old new v (suc most) steps steps_after timers_after s e at c =
+follows-step code w now place after old new v (suc most) steps steps_after timers_after s e at c =
     elim (read-at code s.place) [
       | inl none ↦ absurd
           (let r = subst (λ (o : Option (Instr × ℕ)). ending_of (step_of_read now o s) s (steps + 1)
           (λ to. run_from code now most to (steps + 1)) ≡ Halted after timers_after steps_after)
           none e in
           cc)
-      | inr w ↦
+      | inr read ↦
           (let r = subst (λ (o : Option (Instr × ℕ)). ending_of (step_of_read now o s) s (steps + 1)
-          (λ to. run_from code now most to (steps + 1)) ≡ Halted after timers_after steps_after) w.2
+          (λ to. run_from code now most to (steps + 1)) ≡ Halted after timers_after steps_after)
+          read.2
           e in
-          follows-turn code now (place + 1) most steps steps_after after timers_after s new
-          (act now w.0 w.1 s) r
-          (v.lands w.0 w.1 now s
-          (subst (λ (n : ℕ). instr_at code n ≡ Some (w.0, w.1)) at w.3) c))
+          follows-turn code w now (place + 1) most steps steps_after after timers_after s new
+          (act now read.0 read.1 s) r
+          (v.lands read.0 read.1 now w s
+          (subst (λ (n : ℕ). instr_at code n ≡ Some (read.0, read.1)) at read.3) c))
     ]
 
 -- a run that halts stands within the code
@@ -193,24 +201,25 @@ halts-within code now (suc most) steps steps_after after timers_after s e =
           (λ to. run_from code now most to (steps + 1)) ≡ Halted after timers_after steps_after)
           none e in
           cc)
-      | inr w ↦ w.4
+      | inr read ↦ read.4
     ]
 
-pub follows-next : (code : List ℕ) (now place : ℕ) (after : List Value)
+pub follows-next : (code : List ℕ) (w : Switches) (now place : ℕ) (after : List Value)
     (timers : List TimerState) (old new : List (Option Known)) → place < length code
-    → Visits code place old new → Follows code now after timers place old
-    → Follows code now after timers (place + 1) new
-follows-next code now place after timers old new less v f = elim f [
+    → Visits code place old new → Follows code w now after timers place old
+    → Follows code w now after timers (place + 1) new
+follows-next code w now place after timers old new less v f = elim f [
   | inl e ↦ inl (record {
     cells = e.cells;
     covers = v.keeps (length code) (λ same. omega arith)
-        (record { now = now; cells = e.cells; slots = after; timers = timers }) e.covers;
+        (record { now = now; switches = w; cells = e.cells; slots = after; timers = timers })
+        e.covers;
   })
   | inr g ↦ elim (cases_eq g.state.place place) [
     | inl e ↦
-        follows-step code now place after old new v g.most g.steps g.steps_after
+        follows-step code w now place after old new v g.most g.steps g.steps_after
         timers g.state g.halts e
-        (subst (λ (n : ℕ). CoversAt old n (held_by now g.state)) e g.covers)
+        (subst (λ (n : ℕ). CoversAt old n (held_by now w g.state)) e g.covers)
     | inr ne ↦ inr (record {
       state = g.state;
       most = g.most;
@@ -218,37 +227,40 @@ follows-next code now place after timers old new less v f = elim f [
       steps_after = g.steps_after;
       from = (let least : place ≤ g.state.place = g.from in omega arith);
       halts = g.halts;
-      covers = v.keeps g.state.place ne (held_by now g.state) g.covers;
+      covers = v.keeps g.state.place ne (held_by now w g.state) g.covers;
     })
   ]
 ]
 
-pub follows-first : (code : List ℕ) (given after : List Value) (first : Plain)
-    (old new : List (Option Known)) → first.cells ≡ [] → AreIn given first.slots
+pub follows-first : (code : List ℕ) (w : Switches) (given after : List Value) (first : Plain)
+    (old new : List (Option Known)) → first.cells ≡ [] → AreIn w given first.slots
     → Arrives old new 0 first → (e : Ends code given after)
-    → AreTimersIn e.now e.timers first.timers
-    → Follows code e.now after e.timers_after 0 new
-follows-first code given after first old new empty h a e t = inr (record {
+    → AreTimersIn w e.now e.timers first.timers
+    → Follows code w e.now after e.timers_after 0 new
+follows-first code w given after first old new empty h a e t = inr (record {
   state = initial_state given e.timers;
   most = e.most;
   steps = 0;
   steps_after = e.steps;
   from = omega arith;
   halts = e.halts;
-  covers = a.brings (record { now = e.now; cells = []; slots = given; timers = e.timers })
-      (record { cells = subst (AreIn []) (sym empty) tt; slots = h; timers = t });
+  covers =
+      a.brings (record { now = e.now; switches = w; cells = []; slots = given; timers = e.timers })
+      (record { cells = subst (AreIn w []) (sym empty) tt; slots = h; timers = t });
 })
 
 -- what is known at the end stands for each run that halts
-pub follows-end : (code : List ℕ) (now : ℕ) (after : List Value) (timers : List TimerState)
+pub follows-end : (code : List ℕ) (w : Switches) (now : ℕ) (after : List Value)
+    (timers : List TimerState)
     (pending : List (Option Known)) (end : Known)
     → slice_get pending (length code) ≡ Some (Some end)
-    → Follows code now after timers (length code) pending
-    → AreIn after end.slots.items × AreTimersIn now timers end.timers.items
-follows-end code now after timers pending end was f = elim f [
+    → Follows code w now after timers (length code) pending
+    → AreIn w after end.slots.items × AreTimersIn w now timers end.timers.items
+follows-end code w now after timers pending end was f = elim f [
   | inl e ↦
       (let there = covers-there (length code) pending end
-      (record { now = now; cells = e.cells; slots = after; timers = timers }) was e.covers in
+      (record { now = now; switches = w; cells = e.cells; slots = after; timers = timers }) was
+      e.covers in
       (there.slots, there.timers))
   | inr g ↦ absurd
       (let less = halts-within code now g.most g.steps g.steps_after after timers g.state

@@ -14,7 +14,7 @@ use Rattle.il_range.specs.declared.known.Known.{Known}
 use Rattle.il_range.specs.declared.range.Range.{Range}
 use Rattle.il_range.specs.declared.range.Range.TheVariants.{No, Yes}
 use Rattle.il_range.specs.Effects.{Plain, join, join_timer, join_lists, not_range}
-use Rattle.il_range.specs.Ranges.{AreIn, AreTimersIn, IsIn, IsTimerIn}
+use Rattle.il_range.specs.Ranges.{AreIn, AreTimersIn, IsIn, IsTimerIn, Switches}
 use Rattle.il_range.specs.Pending.{Branches, Held, held_by, Covers, CoversAt, IsJoin, IsUnder, Arrives, Lands, Moves, known_view}
 use Rattle.il_range.proofs.RangeLemmas.{in-join_left, in-join_right, of-negated}
 use Rattle.il_range.proofs.ListLemmas.{each-left, each-right, joined-reverse}
@@ -37,13 +37,15 @@ cells-joined one other both j =
 pub under-left : (one other both : Known) → IsJoin one other both
     → IsUnder (known_view one) (known_view both)
 under-left one other both j h c = record {
-  cells = subst (AreIn h.cells) (sym (cells-joined one other both j))
-      (each-left IsIn join in-join_left h.cells (reverse one.cells.items)
+  cells = subst (AreIn h.switches h.cells) (sym (cells-joined one other both j))
+      (each-left (IsIn h.switches) join (in-join_left h.switches) h.cells (reverse one.cells.items)
       (reverse other.cells.items) c.cells);
-  slots = subst (AreIn h.slots) (sym j.slots)
-      (each-left IsIn join in-join_left h.slots one.slots.items other.slots.items c.slots);
-  timers = subst (AreTimersIn h.now h.timers) (sym j.timers)
-      (each-left (IsTimerIn h.now) join_timer (timer-join_left h.now) h.timers one.timers.items
+  slots = subst (AreIn h.switches h.slots) (sym j.slots)
+      (each-left (IsIn h.switches) join (in-join_left h.switches) h.slots one.slots.items
+      other.slots.items c.slots);
+  timers = subst (AreTimersIn h.switches h.now h.timers) (sym j.timers)
+      (each-left (IsTimerIn h.switches h.now) join_timer (timer-join_left h.switches h.now) h.timers
+      one.timers.items
       other.timers.items
       c.timers);
 }
@@ -51,14 +53,17 @@ under-left one other both j h c = record {
 pub under-right : (one other both : Known) → IsJoin one other both
     → IsUnder (known_view other) (known_view both)
 under-right one other both j h c = record {
-  cells = subst (AreIn h.cells) (sym (cells-joined one other both j))
-      (each-right IsIn join in-join_right h.cells (reverse one.cells.items)
+  cells = subst (AreIn h.switches h.cells) (sym (cells-joined one other both j))
+      (each-right (IsIn h.switches) join (in-join_right h.switches) h.cells
+      (reverse one.cells.items)
       (reverse other.cells.items)
       (length-reverse one.cells.items ∙ j.depth ∙ sym (length-reverse other.cells.items)) c.cells);
-  slots = subst (AreIn h.slots) (sym j.slots)
-      (each-right IsIn join in-join_right h.slots one.slots.items other.slots.items j.size c.slots);
-  timers = subst (AreTimersIn h.now h.timers) (sym j.timers)
-      (each-right (IsTimerIn h.now) join_timer (timer-join_right h.now) h.timers one.timers.items
+  slots = subst (AreIn h.switches h.slots) (sym j.slots)
+      (each-right (IsIn h.switches) join (in-join_right h.switches) h.slots one.slots.items
+      other.slots.items j.size c.slots);
+  timers = subst (AreTimersIn h.switches h.now h.timers) (sym j.timers)
+      (each-right (IsTimerIn h.switches h.now) join_timer (timer-join_right h.switches h.now)
+      h.timers one.timers.items
       other.timers.items j.count c.timers);
 }
 
@@ -109,45 +114,48 @@ pub always-moves : (distance next : ℕ) (come : Plain) (old new : List (Option 
 unfolding act
 always-moves distance next come old new a = record {
   keeps = a.keeps;
-  lands = λ now end s c.
-      let least : next ≤ next + distance = omega arith in (least, a.brings (held_by now s) c);
+  lands = λ now end w s c.
+      let least : next ≤ next + distance = omega arith in (least, a.brings (held_by now w s) c);
 }
 
 -- where a jump that depends on a truth lands
 lands-by : (jumps : Range) (distance next end place : ℕ) (come : Plain)
     (old new : List (Option Known)) (h : Held) → Branches jumps distance next come old new
-    → Covers come h → (j : Bool) → IsIn (Truth j) jumps
+    → Covers come h → (j : Bool) → IsIn h.switches (Truth j) jumps
     → place ≡ cond j (next + distance) next
     → Lands (Goes (record { place = place; cells = h.cells; slots = h.slots; timers = h.timers }))
     next end h new
 lands-by jumps distance next end place come old new h b c true may e =
     let least : next ≤ place = omega arith in
-    (least, subst (λ (n : ℕ). CoversAt new n h) (sym e) (b.far may h c))
+    (least, subst (λ (n : ℕ). CoversAt new n h) (sym e) (b.far h may c))
 lands-by jumps distance next end place come old new h b c false may e =
     let least : next ≤ place = omega arith in
-    (least, subst (λ (n : ℕ). CoversAt new n h) (sym e) (b.near may h c))
+    (least, subst (λ (n : ℕ). CoversAt new n h) (sym e) (b.near h may c))
 
 -- a jump where the top is this
-jump-lands : (to : Bool → ℕ) (jumps_of : Bool → Bool) (r jumps : Range) (distance next : ℕ)
+jump-lands : (w : Switches) (to : Bool → ℕ) (jumps_of : Bool → Bool) (r jumps : Range)
+    (distance next : ℕ)
     (below : List Range) (come : Plain) (old new : List (Option Known))
     → ((b : Bool) → to b ≡ cond (jumps_of b) (next + distance) next)
-    → ((b : Bool) → IsIn (Truth b) r → IsIn (Truth (jumps_of b)) jumps)
+    → ((b : Bool) → IsIn w (Truth b) r → IsIn w (Truth (jumps_of b)) jumps)
     → come.cells ≡ r ∷ below → Branches jumps distance next come old new
     → (now place end : ℕ) (cells slots : List Value) (timers : List TimerState)
-    → AreIn cells (r ∷ below)
-    → Covers come (record { now = now; cells = cells; slots = slots; timers = timers })
+    → AreIn w cells (r ∷ below)
+    → Covers come
+    (record { now = now; switches = w; cells = cells; slots = slots; timers = timers })
     → Lands (jumps_where to
     (record { place = place; cells = cells; slots = slots; timers = timers })) next end
-    (record { now = now; cells = cells; slots = slots; timers = timers }) new
-jump-lands to jumps_of r jumps distance next below come old new leads tells is b now place end []
+    (record { now = now; switches = w; cells = cells; slots = slots; timers = timers }) new
+jump-lands w to jumps_of r jumps distance next below come old new leads tells is b now place end []
     slots timers i c = tt
-jump-lands to jumps_of r jumps distance next below come old new leads tells is b now place end
+jump-lands w to jumps_of r jumps distance next below come old new leads tells is b now place end
     (Truth x ∷ cells) slots timers i c =
     lands-by jumps distance next end (to x) come old new
-    (record { now = now; cells = Truth x ∷ cells; slots = slots; timers = timers }) b c
+    (record { now = now; switches = w; cells = Truth x ∷ cells; slots = slots; timers = timers }) b
+    c
     (jumps_of x)
     (tells x i.0) (leads x)
-jump-lands to jumps_of r jumps distance next below come old new leads tells is b now place end
+jump-lands w to jumps_of r jumps distance next below come old new leads tells is b now place end
     (v ∷ cells) slots timers i c = tt
 
 same-if : (b : Bool) (m n : ℕ) → cond (not b) m n ≡ cond b n m
@@ -160,10 +168,11 @@ pub if-true-moves : (r : Range) (distance next : ℕ) (below : List Range) (come
 unfolding act
 if-true-moves r distance next below come old new is b = record {
   keeps = b.keeps;
-  lands = λ now end s c.
-      jump-lands (λ x. cond x (next + distance) next) (λ x. x) r r distance next below come old new
+  lands = λ now end w s c.
+      jump-lands w (λ x. cond x (next + distance) next) (λ x. x) r r distance next below come old
+      new
       (λ x. refl) (λ x h. h) is b now s.place end s.cells s.slots s.timers
-      (subst (AreIn s.cells) is c.cells) c;
+      (subst (AreIn w s.cells) is c.cells) c;
 }
 
 pub if-false-moves : (r : Range) (distance next : ℕ) (below : List Range) (come : Plain)
@@ -173,29 +182,29 @@ pub if-false-moves : (r : Range) (distance next : ℕ) (below : List Range) (com
 unfolding act
 if-false-moves r distance next below come old new is b = record {
   keeps = b.keeps;
-  lands = λ now end s c.
-      jump-lands (λ x. cond x next (next + distance)) not r (not_range r) distance next below come
+  lands = λ now end w s c.
+      jump-lands w (λ x. cond x next (next + distance)) not r (not_range r) distance next below come
       old
-      new (λ x. sym (same-if x (next + distance) next)) (λ x h. of-negated x r h) is b now s.place
+      new (λ x. sym (same-if x (next + distance) next)) (λ x h. of-negated w x r h) is b now s.place
       end
-      s.cells s.slots s.timers (subst (AreIn s.cells) is c.cells) c;
+      s.cells s.slots s.timers (subst (AreIn w s.cells) is c.cells) c;
 }
 
 pub branches-yes : (distance next : ℕ) (come : Plain) (old new : List (Option Known))
     → Arrives old new (next + distance) come → Branches Yes distance next come old new
 branches-yes distance next come old new a =
-    record { keeps = a.keeps; far = λ may. a.brings; near = λ may h c. absurd may }
+    record { keeps = a.keeps; far = λ h may. a.brings h; near = λ h may c. absurd may }
 
 pub branches-no : (distance next : ℕ) (come : Plain) (old new : List (Option Known))
     → Arrives old new next come → Branches No distance next come old new
 branches-no distance next come old new a =
-    record { keeps = a.keeps; far = λ may h c. absurd may; near = λ may. a.brings }
+    record { keeps = a.keeps; far = λ h may c. absurd may; near = λ h may. a.brings h }
 
 pub branches-both : (jumps : Range) (distance next : ℕ) (come : Plain)
     (old mid new : List (Option Known)) → Arrives old mid (next + distance) come
     → Arrives mid new next come → Branches jumps distance next come old new
 branches-both jumps distance next come old mid new a b = record {
   keeps = λ q h c. b.keeps q h (a.keeps q h c);
-  far = λ may h c. b.keeps (next + distance) h (a.brings h c);
-  near = λ may. b.brings;
+  far = λ h may c. b.keeps (next + distance) h (a.brings h c);
+  near = λ h may. b.brings h;
 }

@@ -15,7 +15,7 @@ use Rattle.il_range.specs.Effects.{are_within, value_range, join_lists, widen_ra
 use Rattle.il_range.specs.Foretold.{Foretells, IsMemory, IsReached, First, Next, Leaves, with_memory}
 use Rattle.il_range.specs.Laws.{DelaysContinue, ReachesByScan}
 use Rattle.il_range.specs.Outcomes.{Carries, Predicts, Tells}
-use Rattle.il_range.specs.Ranges.{AreIn, AreTimersIn, AreYoung, IsIn, IsYoung, kind_of}
+use Rattle.il_range.specs.Ranges.{AreIn, AreTimersIn, AreYoung, IsIn, IsYoung, Switches, kind_of}
 use Rattle.il_range.specs.Starts.{first_limit, known_of_kinds, range_of_point}
 use Rattle.il_range.proofs.KeepLemmas.{Keeps, run-keeps}
 use Rattle.il_range.proofs.ListLemmas.{each-left, each-size}
@@ -23,60 +23,61 @@ use Rattle.il_range.proofs.RangeLemmas.{are-within, in-exactly, in-widened}
 
 -- ---- the start of a scan
 
-first-in : (inputs : List Value) (given : List Range) (v : Value) (r : Range)
-    → AreIn inputs given → IsIn v r → IsIn (first_input inputs v) (first_input given r)
-first-in [] [] v r h k = k
-first-in [] (s ∷ given) v r h k = absurd h
-first-in (u ∷ inputs) [] v r h k = absurd h
-first-in (u ∷ inputs) (s ∷ given) v r h k = h.0
+first-in : (w : Switches) (inputs : List Value) (given : List Range) (v : Value) (r : Range)
+    → AreIn w inputs given → IsIn w v r → IsIn w (first_input inputs v) (first_input given r)
+first-in w [] [] v r h k = k
+first-in w [] (s ∷ given) v r h k = absurd h
+first-in w (u ∷ inputs) [] v r h k = absurd h
+first-in w (u ∷ inputs) (s ∷ given) v r h k = h.0
 
-behind-in : (inputs : List Value) (given : List Range) → AreIn inputs given
-    → AreIn (drop 1 inputs) (drop 1 given)
-behind-in [] [] h = tt
-behind-in [] (r ∷ given) h = absurd h
-behind-in (u ∷ inputs) [] h = absurd h
-behind-in (u ∷ inputs) (r ∷ given) h = h.1
+behind-in : (w : Switches) (inputs : List Value) (given : List Range) → AreIn w inputs given
+    → AreIn w (drop 1 inputs) (drop 1 given)
+behind-in w [] [] h = tt
+behind-in w [] (r ∷ given) h = absurd h
+behind-in w (u ∷ inputs) [] h = absurd h
+behind-in w (u ∷ inputs) (r ∷ given) h = h.1
 
-points-in : (points : List ImagePoint) (inputs : List Value) (given : List Range)
-    (slots : List Value) (memory : List Range) → AreIn inputs given → AreIn slots memory
-    → AreIn (with_inputs points inputs slots) (with_inputs points given memory)
-points-in [] inputs given slots memory h k = k
-points-in (p ∷ points) inputs given [] [] h k = tt
-points-in (p ∷ points) inputs given [] (r ∷ memory) h k = absurd k
-points-in (p ∷ points) inputs given (v ∷ slots) [] h k = absurd k
-points-in (p ∷ points) inputs given (v ∷ slots) (r ∷ memory) h k = (
+points-in : (w : Switches) (points : List ImagePoint) (inputs : List Value) (given : List Range)
+    (slots : List Value) (memory : List Range) → AreIn w inputs given → AreIn w slots memory
+    → AreIn w (with_inputs points inputs slots) (with_inputs points given memory)
+points-in w [] inputs given slots memory h k = k
+points-in w (p ∷ points) inputs given [] [] h k = tt
+points-in w (p ∷ points) inputs given [] (r ∷ memory) h k = absurd k
+points-in w (p ∷ points) inputs given (v ∷ slots) [] h k = absurd k
+points-in w (p ∷ points) inputs given (v ∷ slots) (r ∷ memory) h k = (
   now p.writable,
-  points-in points (cond p.writable inputs (drop 1 inputs))
+  points-in w points (cond p.writable inputs (drop 1 inputs))
       (cond p.writable given (drop 1 given)) slots memory (later p.writable) k.1,
 )
   where
-    now : (b : Bool) → IsIn (cond b v (first_input inputs v)) (cond b r (first_input given r))
+    now : (b : Bool) → IsIn w (cond b v (first_input inputs v)) (cond b r (first_input given r))
     now true = k.0
-    now false = first-in inputs given v r h k.0
+    now false = first-in w inputs given v r h k.0
 
-    later : (b : Bool) → AreIn (cond b inputs (drop 1 inputs)) (cond b given (drop 1 given))
+    later : (b : Bool) → AreIn w (cond b inputs (drop 1 inputs)) (cond b given (drop 1 given))
     later true = h
-    later false = behind-in inputs given h
+    later false = behind-in w inputs given h
 
 -- whatever the inputs are, where nothing is known of so many
-free-in : (points : List ImagePoint) (inputs : List Value) (n : ℕ) (slots : List Value)
-    (memory : List Range) → length points ≤ n → AreIn slots memory
-    → AreIn (with_inputs points inputs slots) (with_inputs points (replicate n Any) memory)
-free-in [] inputs n slots memory few k = k
-free-in (p ∷ points) inputs zero slots memory few k = absurd (omega arith)
-free-in (p ∷ points) inputs (suc n) [] [] few k = tt
-free-in (p ∷ points) inputs (suc n) [] (r ∷ memory) few k = absurd k
-free-in (p ∷ points) inputs (suc n) (v ∷ slots) [] few k = absurd k
-free-in (p ∷ points) inputs (suc n) (v ∷ slots) (r ∷ memory) few k =
-    go p.writable (free-in points inputs (suc n) slots memory (omega arith) k.1)
-    (free-in points (drop 1 inputs) n slots memory (omega arith) k.1)
+free-in : (w : Switches) (points : List ImagePoint) (inputs : List Value) (n : ℕ)
+    (slots : List Value)
+    (memory : List Range) → length points ≤ n → AreIn w slots memory
+    → AreIn w (with_inputs points inputs slots) (with_inputs points (replicate n Any) memory)
+free-in w [] inputs n slots memory few k = k
+free-in w (p ∷ points) inputs zero slots memory few k = absurd (omega arith)
+free-in w (p ∷ points) inputs (suc n) [] [] few k = tt
+free-in w (p ∷ points) inputs (suc n) [] (r ∷ memory) few k = absurd k
+free-in w (p ∷ points) inputs (suc n) (v ∷ slots) [] few k = absurd k
+free-in w (p ∷ points) inputs (suc n) (v ∷ slots) (r ∷ memory) few k =
+    go p.writable (free-in w points inputs (suc n) slots memory (omega arith) k.1)
+    (free-in w points (drop 1 inputs) n slots memory (omega arith) k.1)
   where
     go : (b : Bool)
-        → AreIn (with_inputs points inputs slots)
+        → AreIn w (with_inputs points inputs slots)
         (with_inputs points (replicate (suc n) Any) memory)
-        → AreIn (with_inputs points (drop 1 inputs) slots)
+        → AreIn w (with_inputs points (drop 1 inputs) slots)
         (with_inputs points (replicate n Any) memory)
-        → AreIn
+        → AreIn w
         (cond b v (first_input inputs v) ∷ with_inputs points (cond b inputs (drop 1 inputs)) slots)
         (cond b r (first_input (replicate (suc n) Any) r)
         ∷ with_inputs points (cond b (replicate (suc n) Any) (drop 1 (replicate (suc n) Any)))
@@ -94,13 +95,13 @@ later-young : (now : ℕ) (t : TimerState) (timers : List TimerState) (limits : 
 later-young now t timers [] y = tt
 later-young now t timers (below ∷ limits) y = y.1
 
-pub timers-start : (now : ℕ) (timers : List TimerState) (kinds : List TimerKind)
+pub timers-start : (w : Switches) (now : ℕ) (timers : List TimerState) (kinds : List TimerKind)
     (limits : List (Option ℕ)) → map kind_of timers ≡ kinds → AreYoung now timers limits
-    → AreTimersIn now timers (known_of_kinds kinds limits)
-timers-start now [] [] limits e y = tt
-timers-start now [] (k ∷ kinds) limits e y = absurd (cc)
-timers-start now (t ∷ timers) [] limits e y = absurd (cc)
-timers-start now (t ∷ timers) (k ∷ kinds) limits e y =
+    → AreTimersIn w now timers (known_of_kinds kinds limits)
+timers-start w now [] [] limits e y = tt
+timers-start w now [] (k ∷ kinds) limits e y = absurd (cc)
+timers-start w now (t ∷ timers) [] limits e y = absurd (cc)
+timers-start w now (t ∷ timers) (k ∷ kinds) limits e y =
     let is : t.kind ≡ k = cc in let are : map kind_of timers ≡ kinds = cc in (
       record {
         of_kind = is;
@@ -110,16 +111,16 @@ timers-start now (t ∷ timers) (k ∷ kinds) limits e y =
         in_elapsed = tt;
         young = first-young now t timers limits y;
       },
-      timers-start now timers kinds (drop 1 limits) are (later-young now t timers limits y),
+      timers-start w now timers kinds (drop 1 limits) are (later-young now t timers limits y),
     )
 
 -- what is known of the delays of timers
-pub limits-young : (now : ℕ) (timers : List TimerState) (known : List KnownTimer)
-    → AreTimersIn now timers known → AreYoung now timers (map (λ u. u.below) known)
-limits-young now [] [] h = tt
-limits-young now [] (u ∷ known) h = absurd h
-limits-young now (t ∷ timers) [] h = absurd h
-limits-young now (t ∷ timers) (u ∷ known) h = (h.0.young, limits-young now timers known h.1)
+pub limits-young : (w : Switches) (now : ℕ) (timers : List TimerState) (known : List KnownTimer)
+    → AreTimersIn w now timers known → AreYoung now timers (map (λ u. u.below) known)
+limits-young w now [] [] h = tt
+limits-young w now [] (u ∷ known) h = absurd h
+limits-young w now (t ∷ timers) [] h = absurd h
+limits-young w now (t ∷ timers) (u ∷ known) h = (h.0.young, limits-young w now timers known h.1)
 
 -- ---- what each scan keeps
 
@@ -174,7 +175,8 @@ first-size (p ∷ points) variables = let less = first-size points variables in 
 abbrev pub slot_count : Image → ℕ
 slot_count image = length image.points + length image.variables
 
-size-stays : (machine : MachineData) → IsReached machine → length machine.slots ≡ slot_count machine.image
+size-stays : (machine : MachineData) → IsReached machine
+    → length machine.slots ≡ slot_count machine.image
 size-stays machine (First image) = first-size image.points image.variables
 size-stays machine (Next before inputs now slots timers r l) =
     (leaves-keep before inputs now slots timers l).size
@@ -182,23 +184,24 @@ size-stays machine (Next before inputs now slots timers r l) =
 
 -- ---- what foretells a scan
 
-any-in : (slots : List Value) (n : ℕ) → length slots ≡ n → AreIn slots (replicate n Any)
-any-in [] zero e = tt
-any-in [] (suc n) e = absurd (omega arith)
-any-in (v ∷ slots) zero e = absurd (omega arith)
-any-in (v ∷ slots) (suc n) e = (tt, any-in slots n (omega arith))
+any-in : (w : Switches) (slots : List Value) (n : ℕ) → length slots ≡ n
+    → AreIn w slots (replicate n Any)
+any-in w [] zero e = tt
+any-in w [] (suc n) e = absurd (omega arith)
+any-in w (v ∷ slots) zero e = absurd (omega arith)
+any-in w (v ∷ slots) (suc n) e = (tt, any-in w slots n (omega arith))
 
 -- Nothing that is known holds of each machine that is reached.
 pub any-memory : (image : Image) → IsMemory image (replicate (slot_count image) Any)
-any-memory image machine is r =
-    any-in machine.slots (slot_count image) (size-stays machine r ∙ ap slot_count is)
+any-memory image w machine is r =
+    any-in w machine.slots (slot_count image) (size-stays machine r ∙ ap slot_count is)
 
 pub any-tells : (image : Image) (start : List Range) (limits last : List (Option ℕ))
     (result : List Range) → last ≡ [] → result ≡ replicate (slot_count image) Any
     → Tells image start limits last result
-any-tells image start limits last result none all machine inputs now slots timers is r h y l = (
-  subst (AreIn slots) (sym all)
-      (any-memory image (with_memory slots timers machine) is
+any-tells image start limits last result none all w machine inputs now slots timers is r h y l = (
+  subst (AreIn w slots) (sym all)
+      (any-memory image w (with_memory slots timers machine) is
       (Next machine inputs now slots timers r l)),
   subst (AreYoung now timers) (sym none) tt,
 )
@@ -208,14 +211,14 @@ pub pass-tells : (image : Image) (start : List Range) (limits : List (Option ℕ
     (last : List KnownTimer) (result : List Range)
     → Predicts image.code (known_of_kinds image.timers limits) start last result
     → Tells image start limits (map (λ u. u.below) last) result
-pass-tells image start limits last result p machine inputs now slots timers is r h y l =
+pass-tells image start limits last result p w machine inputs now slots timers is r h y l =
     let q : Predicts machine.image.code (known_of_kinds machine.image.timers limits) start last
     result =
     subst
     (λ (i : Image). Predicts i.code (known_of_kinds i.timers limits) start last result) (sym is)
     p in
     let end =
-    q (scan_start machine inputs).slots slots h
+    q w (scan_start machine inputs).slots slots h
     (record {
       timers = machine.timers;
       now = now;
@@ -224,62 +227,67 @@ pass-tells image start limits last result p machine inputs now slots timers is r
       steps = l.steps;
       halts = l.halts;
     })
-    (timers-start now machine.timers machine.image.timers limits (kinds-stay machine r) y) in
-    (end.0, limits-young now timers last end.1)
+    (timers-start w now machine.timers machine.image.timers limits (kinds-stay machine r) y) in
+    (end.0, limits-young w now timers last end.1)
 
 -- From given inputs.
 pub tells-given : (image : Image) (start memory : List Range) (limits : List (Option ℕ))
     (given : List Range) (last : List (Option ℕ)) (result : List Range)
     → start ≡ with_inputs image.points given memory → Tells image start limits last result
     → Foretells image memory limits given last result
-tells-given image start memory limits given last result at t machine inputs now slots timers is r k
+tells-given image start memory limits given last result at t w machine inputs now slots timers is r
+    k
     y
     h l =
-    t machine inputs now slots timers is r
-    (rw (at, ← is) (points-in machine.image.points inputs given machine.slots memory h k)) y l
+    t w machine inputs now slots timers is r
+    (rw (at, ← is) (points-in w machine.image.points inputs given machine.slots memory h k)) y l
 
 -- From any inputs.
 pub tells-any : (image : Image) (start memory : List Range) (last : List (Option ℕ))
     (result : List Range)
     → start ≡ with_inputs image.points (replicate (length image.points) Any) memory
     → Tells image start [] last result → Carries image memory result
-tells-any image start memory last result at t machine inputs now slots timers is r k l =
-    (t machine inputs now slots timers is r
-    (rw (at, ← is) (free-in machine.image.points inputs (length machine.image.points)
+tells-any image start memory last result at t w machine inputs now slots timers is r k l =
+    (t w machine inputs now slots timers is r
+    (rw (at, ← is) (free-in w machine.image.points inputs (length machine.image.points)
     machine.slots memory (omega arith) k)) tt l).0
 
 -- ---- what foretells a memory
 
 -- The first values are in their ranges.
-pub firsts-in : (points : List ImagePoint) (variables : List Value)
-    → AreIn (first_slots points variables) (map range_of_point points ++ map value_range variables)
-firsts-in (p ∷ points) variables =
-    (in-exactly (default_value p.elementary), firsts-in points variables)
-firsts-in [] [] = tt
-firsts-in [] (v ∷ variables) = (in-exactly v, firsts-in [] variables)
+pub firsts-in : (w : Switches) (points : List ImagePoint) (variables : List Value)
+    → AreIn w (first_slots points variables)
+    (map range_of_point points ++ map value_range variables)
+firsts-in w (p ∷ points) variables =
+    (in-exactly w (default_value p.elementary), firsts-in w points variables)
+firsts-in w [] [] = tt
+firsts-in w [] (v ∷ variables) = (in-exactly w v, firsts-in w [] variables)
 
 -- There is a range for each slot.
-pub firsts-size : (image : Image) (ranges : List Range) → AreIn (first_machine image).slots ranges
+pub firsts-size : (w : Switches) (image : Image) (ranges : List Range)
+    → AreIn w (first_machine image).slots ranges
     → length ranges ≡ slot_count image
-firsts-size image ranges h =
-    sym (each-size IsIn (first_machine image).slots ranges h)
+firsts-size w image ranges h =
+    sym (each-size (IsIn w) (first_machine image).slots ranges h)
     ∙ first-size image.points image.variables
 
 -- What ranges stand for, they stand for where they are widened.
-pub grows : (is_late : Bool) (slots : List Value) (ranges left : List Range) → AreIn slots ranges
-    → AreIn slots (join_lists (widen_range is_late) ranges left)
-grows is_late slots ranges left h =
-    each-left IsIn (widen_range is_late) (in-widened is_late) slots ranges left h
+pub grows : (w : Switches) (is_late : Bool) (slots : List Value) (ranges left : List Range)
+    → AreIn w slots ranges
+    → AreIn w slots (join_lists (widen_range is_late) ranges left)
+grows w is_late slots ranges left h =
+    each-left (IsIn w) (widen_range is_late) (in-widened w is_late) slots ranges left h
 
 -- Ranges of the first values, within which a scan stays, are those of the memory.
-pub settled : (image : Image) (ranges left : List Range) → AreIn (first_machine image).slots ranges
+pub settled : (image : Image) (ranges left : List Range)
+    → ((w : Switches) → AreIn w (first_machine image).slots ranges)
     → Carries image ranges left → are_within left ranges ≡ true → IsMemory image ranges
-settled image ranges left first carries inside machine is r = go machine r is
+settled image ranges left first carries inside w machine is r = go machine r is
   where
     go : (machine : MachineData) → IsReached machine → machine.image ≡ image
-        → AreIn machine.slots ranges
+        → AreIn w machine.slots ranges
     go machine (First i) is =
-        subst (λ (j : Image). AreIn (first_machine j).slots ranges) (sym is) first
+        subst (λ (j : Image). AreIn w (first_machine j).slots ranges) (sym is) (first w)
     go machine (Next before inputs now slots timers r l) is =
-        are-within slots left ranges inside
-        (carries before inputs now slots timers is r (go before r is) l)
+        are-within w slots left ranges inside
+        (carries w before inputs now slots timers is r (go before r is) l)

@@ -1,5 +1,6 @@
 -- Inner: the effect of an instruction without a jump on ranges.
-use Rattle.std.specs.Prelude.{ℕ, ℤ, pos, negsuc, ◌+ℤ◌, ◌-ℤ◌, max, Bool, true, false, List, [], ◌∷◌, ◌&&◌, ◌||◌, int_lt, int_le, slice_get, slice_set, Option, Some, None, option_and_then, option_map, if◌then◌else◌}
+use Rattle.std.specs.Bool.{beq}
+use Rattle.std.specs.Prelude.{ℕ, ℤ, pos, negsuc, ◌+ℤ◌, ◌-ℤ◌, max, Bool, true, false, List, [], ◌∷◌, not, ◌&&◌, ◌||◌, ◌==◌, int_lt, int_le, slice_get, slice_set, Option, Some, None, option_and_then, option_map, if◌then◌else◌}
 use Rattle.il_image.specs.declared.arithmetic.Comparison.{Comparison}
 use Rattle.il_image.specs.declared.arithmetic.Comparison.TheVariants.{Gt, Ge, Eq, Ne, Le, Lt}
 use Rattle.il_image.specs.declared.arithmetic.ArithmeticOperation.{ArithmeticOperation}
@@ -17,8 +18,10 @@ use Rattle.il_image.specs.declared.value.Value.TheVariants.{Truth, Short, Long, 
 use Rattle.bay_base.specs.declared.types.TimerKind.{TimerKind}
 use Rattle.bay_base.specs.declared.types.TimerKind.TheVariants.{OnDelay, OffDelay}
 use Rattle.il_range.specs.declared.timer.KnownTimer.{KnownTimer}
+use Rattle.il_range.specs.Ranges.{among}
 use Rattle.il_range.specs.declared.range.Range.{Range}
-use Rattle.il_range.specs.declared.range.Range.TheVariants.{Any, No, Yes, Either, Between}
+use Rattle.il_range.specs.declared.range.Positions.{Positions}
+use Rattle.il_range.specs.declared.range.Range.TheVariants.{Any, No, Yes, Either, Between, Among}
 
 abbrev pub value_range : Value → Range
 value_range (Truth true) = Yes
@@ -28,6 +31,31 @@ value_range (Long z) = Between z z
 value_range (Wide z) = Between z z
 value_range (Span n) = Between (pos n) (pos n)
 
+-- ---- sets of positions
+
+abbrev pub other_positions : Positions → Positions
+other_positions s = record {
+  intermediate = not s.intermediate;
+  off = not s.off;
+  on = not s.on;
+  bad = not s.bad;
+}
+
+abbrev pub common_positions : Positions → Positions → Positions
+common_positions s t = record {
+  intermediate = s.intermediate && t.intermediate;
+  off = s.off && t.off;
+  on = s.on && t.on;
+  bad = s.bad && t.bad;
+}
+
+-- two sets are the same
+abbrev pub same_positions : Positions → Positions → Bool
+same_positions s t =
+    beq s.intermediate t.intermediate && (beq s.off t.off && (beq s.on t.on && beq s.bad t.bad))
+
+-- ---- ranges
+
 abbrev pub lower : ℤ → ℤ → ℤ
 lower a b = if int_le a b then a else b
 
@@ -36,27 +64,37 @@ upper a b = if int_le a b then b else a
 
 -- a range that includes both
 abbrev pub join : Range → Range → Range
+join Any b = Any
 join No No = No
 join No Yes = Either
 join No Either = Either
 join No Any = Any
 join No (Between c d) = Any
+join No (Among k t) = Either
 join Yes Yes = Yes
 join Yes No = Either
 join Yes Either = Either
 join Yes Any = Any
 join Yes (Between c d) = Any
+join Yes (Among k t) = Either
 join Either No = Either
 join Either Yes = Either
 join Either Either = Either
 join Either Any = Any
 join Either (Between c d) = Any
+join Either (Among k t) = Either
 join (Between a b) (Between c d) = Between (lower a c) (upper b d)
 join (Between a b) No = Any
 join (Between a b) Yes = Any
 join (Between a b) Either = Any
 join (Between a b) Any = Any
-join Any b = Any
+join (Between a b) (Among k t) = Any
+join (Among j s) No = Either
+join (Among j s) Yes = Either
+join (Among j s) Either = Either
+join (Among j s) Any = Any
+join (Among j s) (Between c d) = Any
+join (Among j s) (Among k t) = if j == k && same_positions s t then Among j s else Either
 
 -- whether each value of the first range is one of the second
 abbrev pub is_within : Range → Range → Bool
@@ -66,7 +104,9 @@ is_within Yes Yes = true
 is_within No Either = true
 is_within Yes Either = true
 is_within Either Either = true
+is_within (Among j s) Either = true
 is_within (Between a b) (Between c d) = int_le c a && int_le b d
+is_within (Among j s) (Among k t) = j == k && same_positions s t
 is_within a b = false
 
 -- the same for lists, index by index
@@ -120,6 +160,7 @@ below_after (Some OnDelay) Yes below = option_map (max 1) below
 below_after (Some OnDelay) Either below = option_map (max 1) below
 below_after (Some OnDelay) Any below = option_map (max 1) below
 below_after (Some OnDelay) (Between l h) below = option_map (max 1) below
+below_after (Some OnDelay) (Among k s) below = option_map (max 1) below
 
 -- whether a delay that has run for less than `below` has run for less than PT
 abbrev pub is_short : Option ℕ → Range → Bool
@@ -141,6 +182,7 @@ up_to No = Any
 up_to Yes = Any
 up_to Either = Any
 up_to Any = Any
+up_to (Among k s) = Any
 
 -- ET after a call: 0 if no delay runs, and never more than PT
 abbrev pub elapsed_after : Option TimerKind → Range → Range → Range
@@ -174,6 +216,7 @@ not_range Yes = No
 not_range Any = Either
 not_range Either = Either
 not_range (Between low high) = Either
+not_range (Among k s) = Among k (other_positions s)
 
 abbrev pub and_ranges : Range → Range → Range
 and_ranges No b = No
@@ -182,21 +225,31 @@ and_ranges Yes Yes = Yes
 and_ranges Yes Any = Either
 and_ranges Yes Either = Either
 and_ranges Yes (Between c d) = Either
+and_ranges Yes (Among k t) = Among k t
 and_ranges Any No = No
 and_ranges Any Yes = Either
 and_ranges Any Any = Either
 and_ranges Any Either = Either
 and_ranges Any (Between c d) = Either
+and_ranges Any (Among k t) = Either
 and_ranges Either No = No
 and_ranges Either Yes = Either
 and_ranges Either Any = Either
 and_ranges Either Either = Either
 and_ranges Either (Between c d) = Either
+and_ranges Either (Among k t) = Either
 and_ranges (Between l h) No = No
 and_ranges (Between l h) Yes = Either
 and_ranges (Between l h) Any = Either
 and_ranges (Between l h) Either = Either
 and_ranges (Between l h) (Between c d) = Either
+and_ranges (Between l h) (Among k t) = Either
+and_ranges (Among j s) No = No
+and_ranges (Among j s) Yes = Among j s
+and_ranges (Among j s) Any = Either
+and_ranges (Among j s) Either = Either
+and_ranges (Among j s) (Between c d) = Either
+and_ranges (Among j s) (Among k t) = if j == k then among j (common_positions s t) else Either
 
 abbrev pub or_ranges : Range → Range → Range
 or_ranges a b = not_range (and_ranges (not_range a) (not_range b))
@@ -221,6 +274,7 @@ low_of No = Some (pos 0)
 low_of Yes = Some (pos 1)
 low_of Either = Some (pos 0)
 low_of (Between low high) = Some low
+low_of (Among k s) = Some (pos 0)
 
 abbrev pub high_of : Range → Option ℤ
 high_of Any = None
@@ -228,6 +282,7 @@ high_of No = Some (pos 0)
 high_of Yes = Some (pos 1)
 high_of Either = Some (pos 1)
 high_of (Between low high) = Some high
+high_of (Among k s) = Some (pos 1)
 
 abbrev pub holds_if_known : (ℤ → ℤ → Bool) → Option ℤ → Option ℤ → Bool
 holds_if_known test (Some a) (Some b) = test a b

@@ -8,7 +8,7 @@ use Rattle.il_scan.specs.Scans.{MachineData, scan_start}
 use Rattle.il_range.specs.declared.timer.KnownTimer.{KnownTimer}
 use Rattle.il_range.specs.declared.range.Range.{Range}
 use Rattle.il_range.specs.Foretold.{IsReached, Leaves}
-use Rattle.il_range.specs.Ranges.{AreIn, AreTimersIn, AreYoung}
+use Rattle.il_range.specs.Ranges.{AreIn, AreTimersIn, AreYoung, Switches}
 
 -- A run from the slots `given`, with some timers and at some moment, ends with the slots `after`.
 pub record Ends (code : List ℕ) (given after : List Value) : Type 0 where
@@ -24,23 +24,24 @@ pub record Ends (code : List ℕ) (given after : List Value) : Type 0 where
 -- `result`, and with timers that are in `timers_after`.
 abbrev pub Predicts : List ℕ → List KnownTimer → List Range → List KnownTimer → List Range → Type 0
 Predicts code timers slots timers_after result =
-    (given after : List Value) → AreIn given slots → (e : Ends code given after)
-    → AreTimersIn e.now e.timers timers
-    → AreIn after result × AreTimersIn e.now e.timers_after timers_after
+    (w : Switches) (given after : List Value) → AreIn w given slots → (e : Ends code given after)
+    → AreTimersIn w e.now e.timers timers
+    → AreIn w after result × AreTimersIn w e.now e.timers_after timers_after
 
 -- Take any reached machine with the image that starts a scan with slots in the ranges `start`, and
 -- with delays that have run for less than the limits. The scan leaves slots in `result`, and delays
 -- that have run for less than the limits `last`.
 abbrev pub Tells : Image → List Range → List (Option ℕ) → List (Option ℕ) → List Range → Type 0
 Tells image start limits last result =
-    (machine : MachineData) (inputs : List Value) (now : ℕ) (slots : List Value)
+    (w : Switches) (machine : MachineData) (inputs : List Value) (now : ℕ) (slots : List Value)
     (timers : List TimerState) → machine.image ≡ image → IsReached machine
-    → AreIn (scan_start machine inputs).slots start → AreYoung now machine.timers limits
-    → Leaves machine inputs now slots timers → AreIn slots result × AreYoung now timers last
+    → AreIn w (scan_start machine inputs).slots start → AreYoung now machine.timers limits
+    → Leaves machine inputs now slots timers → AreIn w slots result × AreYoung now timers last
 
 -- From slots in `memory` a scan leaves slots in `result`, with any inputs.
 abbrev pub Carries : Image → List Range → List Range → Type 0
 Carries image memory result =
-    (machine : MachineData) (inputs : List Value) (now : ℕ) (slots : List Value)
+    (w : Switches) (machine : MachineData) (inputs : List Value) (now : ℕ) (slots : List Value)
     (timers : List TimerState) → machine.image ≡ image → IsReached machine
-    → AreIn machine.slots memory → Leaves machine inputs now slots timers → AreIn slots result
+    → AreIn w machine.slots memory → Leaves machine inputs now slots timers
+    → AreIn w slots result

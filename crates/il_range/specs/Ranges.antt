@@ -1,15 +1,40 @@
 -- The values of a range.
-use Rattle.std.specs.Prelude.{ℕ, ◌≡◌, ◌-◌, ◌<◌, ◌≤ℤ◌, Option, Some, None, option_and_then, true, false, List, [], ◌∷◌, slice_get}
+use Rattle.std.specs.Prelude.{ℕ, ◌≡◌, ◌-◌, ◌<◌, ◌≤ℤ◌, Bool, ◌&&◌, ◌||◌, if◌then◌else◌, Option, Some, None, option_and_then, true, false, List, [], ◌∷◌, slice_get}
 use Rattle.il_image.specs.declared.value.Value.{Value}
 use Rattle.il_image.specs.declared.value.Value.TheVariants.{Truth, Short, Long, Wide, Span}
 use Rattle.il_image.specs.Values.{number_of}
 use Rattle.bay_base.specs.declared.types.TimerKind.{TimerKind}
+use Rattle.bay_base.specs.declared.position.Dbpos.{Dbpos}
+use Rattle.bay_base.specs.declared.position.Dbpos.TheVariants.{Intermediate, Off, On, Bad}
 use Rattle.il_image.specs.declared.timer.TimerPhase.{TimerPhase}
 use Rattle.il_image.specs.declared.timer.TimerPhase.TheVariants.{Idle, Held, Since}
 use Rattle.il_image.specs.declared.timer.TimerState.{TimerState}
 use Rattle.il_range.specs.declared.timer.KnownTimer.{KnownTimer}
 use Rattle.il_range.specs.declared.range.Range.{Range}
-use Rattle.il_range.specs.declared.range.Range.TheVariants.{Any, No, Yes, Either, Between}
+use Rattle.il_range.specs.declared.range.Positions.{Positions}
+use Rattle.il_range.specs.declared.range.Range.TheVariants.{Any, No, Yes, Either, Between, Among}
+
+-- the position of each switch
+abbrev pub Switches : Type 0
+Switches = ℕ → Dbpos
+
+-- the position is in the set
+abbrev pub has_position : Positions → Dbpos → Bool
+has_position s Intermediate = s.intermediate
+has_position s Off = s.off
+has_position s On = s.on
+has_position s Bad = s.bad
+
+-- the set has each position, and one position at least
+abbrev pub are_all : Positions → Bool
+are_all s = s.intermediate && (s.off && (s.on && s.bad))
+
+abbrev pub are_any : Positions → Bool
+are_any s = s.intermediate || (s.off || (s.on || s.bad))
+
+-- the range of whether a switch has one of these positions
+abbrev pub among : ℕ → Positions → Range
+among k s = if are_all s then Yes else (if are_any s then Among k s else No)
 
 -- The value is a BOOL.
 abbrev pub IsTruth : Value → Type 0
@@ -37,13 +62,15 @@ IsFalseValue (Long z) = ⊥
 IsFalseValue (Wide z) = ⊥
 IsFalseValue (Span n) = ⊥
 
--- The value is one of the range: its number is between both ends, or it is a BOOL.
-abbrev pub IsIn : Value → Range → Type 0
-IsIn v Any = Unit {0}
-IsIn v No = IsFalseValue v
-IsIn v Yes = IsTrueValue v
-IsIn v Either = IsTruth v
-IsIn v (Between low high) = (low ≤ℤ number_of v) × (number_of v ≤ℤ high)
+-- The value is one of the range, if the switches have these positions: its number is between both
+-- ends, or it is a BOOL; or it is whether a switch has one of some positions.
+abbrev pub IsIn : Switches → Value → Range → Type 0
+IsIn w v Any = Unit {0}
+IsIn w v No = IsFalseValue v
+IsIn w v Yes = IsTrueValue v
+IsIn w v Either = IsTruth v
+IsIn w v (Between low high) = (low ≤ℤ number_of v) × (number_of v ≤ℤ high)
+IsIn w v (Among k s) = v ≡ Truth (has_position s (w k))
 
 -- The lists have the same length, and each item has the relation to the other at the same index.
 abbrev pub AreEach : {A B : Type 0} → (A → B → Type 0) → List A → List B → Type 0
@@ -53,8 +80,8 @@ AreEach Fits [] (y ∷ ys) = ⊥
 AreEach Fits (x ∷ xs) [] = ⊥
 
 -- Each value is one of the range at the same index.
-abbrev pub AreIn : List Value → List Range → Type 0
-AreIn values ranges = AreEach IsIn values ranges
+abbrev pub AreIn : Switches → List Value → List Range → Type 0
+AreIn w values ranges = AreEach (IsIn w) values ranges
 
 -- The kind is the known one, if one is known.
 abbrev pub IsKind : TimerKind → Option TimerKind → Type 0
@@ -87,17 +114,17 @@ AreYoung now [] (below ∷ limits) = Unit {0}
 AreYoung now (t ∷ timers) (below ∷ limits) = IsYoung now t.phase below × AreYoung now timers limits
 
 -- At this moment, the timer is one of those that `u` describes.
-pub record IsTimerIn (now : ℕ) (t : TimerState) (u : KnownTimer) : Type 0 where
+pub record IsTimerIn (w : Switches) (now : ℕ) (t : TimerState) (u : KnownTimer) : Type 0 where
   pub of_kind : IsKind t.kind u.kind
-  pub in_input : IsIn (Truth t.input) u.input
-  pub in_preset : IsIn (Span t.preset) u.preset
-  pub in_output : IsIn (Truth t.output) u.output
-  pub in_elapsed : IsIn (Span t.elapsed) u.elapsed
+  pub in_input : IsIn w (Truth t.input) u.input
+  pub in_preset : IsIn w (Span t.preset) u.preset
+  pub in_output : IsIn w (Truth t.output) u.output
+  pub in_elapsed : IsIn w (Span t.elapsed) u.elapsed
   pub young : IsYoung now t.phase u.below
 
 -- Each timer is one of those at the same index.
-abbrev pub AreTimersIn : ℕ → List TimerState → List KnownTimer → Type 0
-AreTimersIn now timers known = AreEach (IsTimerIn now) timers known
+abbrev pub AreTimersIn : Switches → ℕ → List TimerState → List KnownTimer → Type 0
+AreTimersIn w now timers known = AreEach (IsTimerIn w now) timers known
 
 -- the kind of a timer
 abbrev pub kind_of : TimerState → TimerKind

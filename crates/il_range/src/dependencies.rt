@@ -38,7 +38,24 @@ fn is_known(range: Range) -> bool {
     match range {
         Range::No | Range::Yes => true,
         Range::Between(low, high) => low == high,
-        Range::Any | Range::Either => false,
+        Range::Any | Range::Either | Range::Among(_, _) => false,
+    }
+}
+
+// Returns what a value depends on: nothing if its range has one value; of the positions of switches
+// that are distinguished only those of the range, if it is one of a switch.
+fn settled(set: SourceSet, range: Range) -> SourceSet {
+    match range {
+        Range::Among(switch, positions) => set
+            .without_positions()
+            .or(SourceSet::of_positions(switch, positions)),
+        _ => {
+            if is_known(range) {
+                SourceSet::new()
+            } else {
+                set
+            }
+        }
     }
 }
 
@@ -65,11 +82,7 @@ fn join_sets<T: PartialEq>(
 fn slot_sets(alloc: Global, ranges: &[Range]) -> Result<Vec<SourceSet>, AllocError> {
     let mut sets = Vec::new(alloc);
     for n in 0..ranges.len() {
-        if is_known(ranges[n]) {
-            sets.push(SourceSet::new())?;
-        } else {
-            sets.push(SourceSet::of_slot(n))?;
-        }
+        sets.push(settled(SourceSet::of_slot(n), ranges[n]))?;
     }
     Ok(sets)
 }
@@ -165,17 +178,17 @@ impl Dependencies {
         }
     }
 
-    /// Clears the dependencies of the top and of a slot that was used, if its range has one value.
+    /// Updates the dependencies of the top and of a slot that was used, by their ranges.
     pub(crate) fn settle(&mut self, instr: Instr, cells: &[Range], slots: &[Range]) {
         if let Some(top) = cells.last() {
-            if is_known(*top) {
-                put(&mut self.cells, cells.len() - 1, SourceSet::new());
-            }
+            let set = settled(self.top(), *top);
+            put(&mut self.cells, cells.len() - 1, set);
         }
         if let Instr::Slot(_, n) = instr {
             let n = usize::from(n);
-            if n < slots.len() && is_known(slots[n]) {
-                put(&mut self.slots, n, SourceSet::new());
+            if n < slots.len() {
+                let set = settled(at(self.slots.as_slice(), n), slots[n]);
+                put(&mut self.slots, n, set);
             }
         }
     }

@@ -23,9 +23,10 @@ fn is_within(a: Range, b: Range) -> bool
 {
     match (a, b) {
         (_, Range::Any) => true,
-        (Range::No | Range::Yes | Range::Either, Range::Either) => true,
+        (Range::No | Range::Yes | Range::Either | Range::Among(_, _), Range::Either) => true,
         (Range::No, Range::No) | (Range::Yes, Range::Yes) => true,
         (Range::Between(a, b), Range::Between(c, d)) => c <= a && b <= d,
+        (Range::Among(j, s), Range::Among(k, t)) => j == k && s.is_same(t),
         _ => false,
     }
 }

@@ -1,10 +1,56 @@
 // What is known of a value.
 ghost use Rattle.std.specs.Prelude.{◌≡◌, ◌+ℤ◌, ◌-ℤ◌};
 ghost use Rattle.il_range.specs.Effects as spec;
+ghost use Rattle.il_range.specs.Ranges.{among};
 
 use il_image::arithmetic::{ArithmeticOperation, Comparison, Width};
 use il_image::opcode::Connective;
 use il_image::value::Value;
+
+/// A set of positions of a switch (IEC 61850-8-1, Dbpos).
+#[derive(Clone, Copy, Debug, PartialEq, Eq)]
+pub struct Positions {
+    pub intermediate: bool,
+    pub off: bool,
+    pub on: bool,
+    pub bad: bool,
+}
+
+impl Positions {
+    // Returns the positions that are not in the set.
+    fn others(self) -> Self
+        ensures { result ≡ spec.other_positions self }
+    {
+        Positions {
+            intermediate: !self.intermediate,
+            off: !self.off,
+            on: !self.on,
+            bad: !self.bad,
+        }
+    }
+
+    /// Returns whether the sets are the same.
+    pub(crate) fn is_same(self, other: Self) -> bool
+        ensures { result ≡ spec.same_positions self other }
+    {
+        self.intermediate == other.intermediate
+            && self.off == other.off
+            && self.on == other.on
+            && self.bad == other.bad
+    }
+
+    // Returns the positions that are in both sets.
+    fn and(self, other: Self) -> Self
+        ensures { result ≡ spec.common_positions self other }
+    {
+        Positions {
+            intermediate: self.intermediate && other.intermediate,
+            off: self.off && other.off,
+            on: self.on && other.on,
+            bad: self.bad && other.bad,
+        }
+    }
+}
 
 /// What is known of a value of an elementary type (IEC 61131-3:2003, table 10).
 #[derive(Clone, Copy, Debug, PartialEq, Eq)]
@@ -20,6 +66,22 @@ pub enum Range {
     /// Its number is between these two, both ends included. FALSE has the number 0 and TRUE 1, and
     /// a TIME has its milliseconds.
     Between(i64, i64),
+    /// It is TRUE if the switch with this index has one of these positions, and FALSE if it has
+    /// another.
+    Among(usize, Positions),
+}
+
+/// Returns the range of whether a switch has one of these positions.
+pub fn among(switch: usize, positions: Positions) -> Range
+    ensures { result ≡ among switch positions }
+{
+    if positions.intermediate && positions.off && positions.on && positions.bad {
+        Range::Yes
+    } else if positions.intermediate || positions.off || positions.on || positions.bad {
+        Range::Among(switch, positions)
+    } else {
+        Range::No
+    }
 }
 
 /// Returns the range of this value alone.
@@ -55,6 +117,7 @@ pub(crate) fn join(a: Range, b: Range) -> Range
         (Range::Between(_, _), _) | (_, Range::Between(_, _)) => Range::Any,
         (Range::No, Range::No) => Range::No,
         (Range::Yes, Range::Yes) => Range::Yes,
+        (Range::Among(j, s), Range::Among(k, t)) if j == k && s.is_same(t) => Range::Among(j, s),
         _ => Range::Either,
     }
 }
@@ -66,6 +129,7 @@ pub(crate) fn not_range(a: Range) -> Range
     match a {
         Range::No => Range::Yes,
         Range::Yes => Range::No,
+        Range::Among(switch, positions) => Range::Among(switch, positions.others()),
         _ => Range::Either,
     }
 }
@@ -77,6 +141,9 @@ pub(crate) fn and_ranges(a: Range, b: Range) -> Range
     match (a, b) {
         (Range::No, _) | (_, Range::No) => Range::No,
         (Range::Yes, Range::Yes) => Range::Yes,
+        (Range::Yes, Range::Among(k, t)) => Range::Among(k, t),
+        (Range::Among(j, s), Range::Yes) => Range::Among(j, s),
+        (Range::Among(j, s), Range::Among(k, t)) if j == k => among(j, s.and(t)),
         _ => Range::Either,
     }
 }
@@ -118,7 +185,7 @@ fn low_of(a: Range) -> Option<i64>
 {
     match a {
         Range::Any => None,
-        Range::No | Range::Either => Some(0),
+        Range::No | Range::Either | Range::Among(_, _) => Some(0),
         Range::Yes => Some(1),
         Range::Between(low, _) => Some(low),
     }
@@ -131,7 +198,7 @@ fn high_of(a: Range) -> Option<i64>
     match a {
         Range::Any => None,
         Range::No => Some(0),
-        Range::Yes | Range::Either => Some(1),
+        Range::Yes | Range::Either | Range::Among(_, _) => Some(1),
         Range::Between(_, high) => Some(high),
     }
 }

@@ -4,21 +4,22 @@ use Rattle.il_image.specs.Images.{Image}
 use Rattle.il_scan.specs.Scans.{first_machine}
 use Rattle.il_range.specs.declared.range.Range.{Range}
 use Rattle.il_range.specs.declared.range.Range.TheVariants.{Any}
+use Rattle.bay_base.specs.declared.position.Dbpos.TheVariants.{Off}
 use Rattle.il_range.specs.Effects.{are_within}
 use Rattle.il_range.specs.Foretold.{IsMemory}
 use Rattle.il_range.specs.Outcomes.{Carries}
-use Rattle.il_range.specs.Ranges.{AreIn}
+use Rattle.il_range.specs.Ranges.{AreIn, Switches}
 use Rattle.il_range.proofs.StartLemmas.{any-memory, firsts-in, firsts-size, grows, settled, slot_count}
 use Rattle.il_range.proofs.memory.memory_ranges.Goals as goal
 
 pub loop-round-init : goal.loop-round-init
-loop-round-init c =
+loop-round-init c w =
     let image = c.image-image.result.now in
-    subst (AreIn (first_machine image).slots) (sym c.in_ok-ranges.ensures)
-    (firsts-in image.points image.variables)
+    subst (AreIn w (first_machine image).slots) (sym c.in_ok-ranges.ensures)
+    (firsts-in w image.points image.variables)
 
 pub returns-then-are_within : goal.returns-then-are_within
-returns-then-are_within c machine is r =
+returns-then-are_within c w machine is r =
     let image = c.image-image.result.now in
     let left = c.in_ok-left.left.items in
     let inside : are_within left c.loop-round.ranges.items ≡ true =
@@ -27,19 +28,20 @@ returns-then-are_within c machine is r =
     let two = c.as_slice-in-loop-round-2.ensures.value in cc in
     settled image c.loop-round.ranges.items left c.loop-round.invariant
     (subst (λ (memory : List Range). Carries image memory left) c.as_slice.ensures.value
-    c.in_ok-left.ensures.carries) inside machine (is ∙ sym c.image-image.ensures.value) r
+    c.in_ok-left.ensures.carries) inside w machine (is ∙ sym c.image-image.ensures.value) r
 
 pub widen-requires : goal.widen-requires
 widen-requires c =
-    firsts-size c.image-image.result.now c.loop-round.ranges.items c.loop-round.invariant
+    firsts-size (λ k. Off) c.image-image.result.now c.loop-round.ranges.items
+    (c.loop-round.invariant (λ k. Off))
     ∙ sym (ap length c.as_slice-in-loop-round-3.ensures.value ∙ c.in_ok-left.ensures.size)
 
 pub loop-round-preserved : goal.loop-round-preserved
-loop-round-preserved c =
+loop-round-preserved c w =
     let slots = (first_machine c.image-image.result.now).slots in
-    subst (AreIn slots) (sym c.widen.ensures)
-    (grows _ slots c.loop-round.ranges.items c.as_slice-in-loop-round-3.result.now
-    c.loop-round.invariant)
+    subst (AreIn w slots) (sym c.widen.ensures)
+    (grows w _ slots c.loop-round.ranges.items c.as_slice-in-loop-round-3.result.now
+    (c.loop-round.invariant w))
 
 pub returns : goal.returns
 returns c =

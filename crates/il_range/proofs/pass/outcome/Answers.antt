@@ -6,8 +6,8 @@ use Rattle.il_range.proofs.pass.outcome.Goals as goal
 pub loop-place-init : goal.loop-place-init
 loop-place-init c = record {
   size = omega (arith, c.arrive.ensures.size, c.in_ok-pending.ensures);
-  follows = λ given after h e t.
-      follows-first c.args.code.now given after (known_view c.args.first)
+  follows = λ w given after h e t.
+      follows-first c.args.code.now w given after (known_view c.args.first)
       c.in_ok-pending.pending.items
       c.arrive.new.pending.items (ap reverse c.requires) h c.in_ok-arrive.ensures.ok e t;
 }
@@ -15,19 +15,19 @@ loop-place-init c = record {
 pub loop-place-preserved : goal.loop-place-preserved
 loop-place-preserved c = record {
   size = omega (arith, c.visit.ensures.size, c.loop-place.invariant.size);
-  follows = λ given after h e t.
+  follows = λ w given after h e t.
       let less : c.loop-place.place < length c.args.code.now = omega arith in
-      follows-next c.args.code.now e.now c.loop-place.place after e.timers_after
+      follows-next c.args.code.now w e.now c.loop-place.place after e.timers_after
       c.loop-place.pending.items
       c.visit.new.pending.items less c.in_ok-visit.ensures.ok
-      (c.loop-place.invariant.follows given after h e t);
+      (c.loop-place.invariant.follows w given after h e t);
 }
 
 pub returns-in-Some : goal.returns-in-Some
-returns-in-Some c given after h e t =
+returns-in-Some c w given after h e t =
     let code = c.args.code.now in
     let past : c.loop-place.place ≡ length code = omega arith in
-    follows-end code e.now after e.timers_after c.loop-place.pending.items c.in-Some.end
+    follows-end code w e.now after e.timers_after c.loop-place.pending.items c.in-Some.end
     c.in-Some.ensures.value
-    (subst (λ (n : ℕ). Follows code e.now after e.timers_after n c.loop-place.pending.items) past
-    (c.loop-place.invariant.follows given after h e t))
+    (subst (λ (n : ℕ). Follows code w e.now after e.timers_after n c.loop-place.pending.items) past
+    (c.loop-place.invariant.follows w given after h e t))
