@@ -12,6 +12,7 @@ from baytools.common.paths import TOP
 from baytools.wire.tls import CIPHERS
 from devtools import guarded
 from devtools.check import doors, reachable
+from devtools.commands import loaded
 
 PAGE_OF_ALL = TOP / 'packaging' / 'units' / 'bayctl-station.service'
 PAGE = TOP / 'examples' / '11_networked' / 'README.md'
@@ -92,13 +93,15 @@ class Used(unittest.TestCase):
         with self.assertRaisesRegex(ValueError, 'no one line `define clients`'):
             reachable.with_users('')
 
-    def test_what_is_not_installed_is_told(self):
+    def test_what_is_not_installed_is_told_and_counted(self):
+        checks = loaded('check').Checks(None, None)
         with mock.patch('shutil.which', lambda name: None), \
                 contextlib.redirect_stdout(io.StringIO()) as told:
-            doors.all_of(mock.Mock(goes=lambda part: part(None)))
+            doors.all_of(checks)
         self.assertEqual(told.getvalue(), (
             'left out, since nftables is not installed or may not be asked: who reaches the ports\n'
             'left out, since openssl and stunnel are not installed: a bay behind stunnel\n'))
+        self.assertEqual((checks.left, checks.count, checks.failed), (2, 0, 0))
 
 
 if __name__ == '__main__':
