@@ -68,7 +68,14 @@ memory-said now event r lt = by_test (nat_lt r.room (count_of event)) refl
 
 -- ---- the last line of a trace
 
--- the report could not be flushed
+-- it is logged where it can't be read
+pub last-log : (k : ℕ) (line : List ℕ) (read : Option TraceLine)
+    → option_map line_view read ≡ trace_line_of line
+    → last_log k line ≡ (if is_none read then Some (unreadable_line k line) else None)
+last-log k line None e = rw (sym e) refl
+last-log k line (Some read) e = rw (sym e) refl
+
+-- what is behind it could not be flushed
 pub FinishesLogs-cut : {W : Type 0} {contents : W → Option (List ℕ)}
     {asks : W → WriteCall → W → Type 0} {status : ℕ} {line : Option (List ℕ)} {old new : Writing W}
     (fault : WriteFault) (r : Result ℕ WriteFault) → IsErr r

@@ -17,7 +17,7 @@ loop-rest-init g c = record {
 
 pub returns-then-replay_line : goal.returns-then-replay_line
 returns-then-replay_line g c =
-    let said = c.replay_line.ensures.answers in
+    let said = c.replay_line.ensures in
     let cut = lines-cut _ _ _ c.split_line.ensures.cuts in
     Progress-logged c.loop-rest.invariant.progress _ 3 c.end_at.result
     (Progress-fault c.loop-rest.invariant.progress said.choice _ _ cut
@@ -25,7 +25,7 @@ returns-then-replay_line g c =
 
 pub returns-then-has_failed : goal.returns-then-has_failed
 returns-then-has_failed g c =
-    let said = c.replay_line.ensures.answers in
+    let said = c.replay_line.ensures in
     let cut = lines-cut _ _ _ c.split_line.ensures.cuts in
     Progress-cut (Progress-step c.loop-rest.invariant.progress said.choice _ _ cut
     (sym said.last ∙ c.if-replay_line.false) said.text) _
@@ -33,7 +33,7 @@ returns-then-has_failed g c =
 
 pub loop-rest-preserved : goal.loop-rest-preserved
 loop-rest-preserved g c =
-    let said = c.replay_line.ensures.answers in
+    let said = c.replay_line.ensures in
     let cut = lines-cut _ _ _ c.split_line.ensures.cuts in
     record {
       progress = rw (said.left_is c.if-replay_line.false)
