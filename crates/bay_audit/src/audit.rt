@@ -128,6 +128,23 @@ fn answers(
     Ok(answers)
 }
 
+/// Answers the rules of a bay's program, without its releases. Uses at most `most` passes over the
+/// code for each rule. Fails only if an allocation fails.
+pub fn answer_rules(
+    alloc: Global,
+    bay: &Bay,
+    verified: &Verified,
+    rules: &[Rule],
+    most: u32,
+) -> Result<Vec<RuleAnswer>, AllocError>
+    // Each answer is right, as `audit` requires.
+    ensures { IfOk result
+        (λ answers. AreRight (program_of bay.now verified.now) rules.now answers.items) }
+{
+    let program = AuditedProgram::new(alloc, bay, verified)?;
+    answers(alloc, &program, rules, most)
+}
+
 /// Answers the rules of a bay's program, and returns in which cases each switch is released. Uses
 /// at most `most` passes over the code for each rule and each release. Fails only if an allocation
 /// fails.
