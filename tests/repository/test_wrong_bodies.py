@@ -53,6 +53,17 @@ class Copy(Tools):
     def test_a_crate_that_is_not_named(self) -> None:
         self.assertEqual(self.copied([], True), {'src/lib.rt', 'out/rlib/stamp'})
 
+    def test_a_twin_stands_where_the_gates_edits_did(self) -> None:
+        tool = loaded('wrong_bodies')
+        self.assertEqual(tool.crates_with_twins(self.crates), [])
+        (self.crates / 'low' / 'wrong-bodies' / 'b.twin').write_text('harmless')
+        self.assertEqual(tool.crates_with_twins(self.crates), ['low'])
+        tool.copy_with_twins(self.crates, self.room, ['low'], {'rlib'})
+        top = self.room / 'crates' / 'low'
+        self.assertEqual({str(it.relative_to(top)) for it in top.rglob('*') if it.is_file()},
+                         {'src/lib.rt', 'out/rlib/stamp', 'must-fail/b.edit'})
+        self.assertEqual((top / 'must-fail' / 'b.edit').read_text(), 'harmless')
+
     def test_an_edit_is_taken_back(self) -> None:
         crate = self.crates / 'low'
         with edited(crate, 'file: src/lib.rt\nold: lib\nnew: other\n'):
@@ -73,6 +84,48 @@ class Tried(Tools):
                 contextlib.redirect_stdout(io.StringIO()):
             self.assertEqual(loaded('wrong_bodies').tried('ci', ['low'], self.folder),
                              (0, ' ci low\n'))
+
+
+class Twins(Tools):
+    """A twin passes if the kit says that it is not refused."""
+
+    def tried(self, *answers: str) -> tuple[int, str]:
+        """The exit status and the last line for one twin and these answers of the kit."""
+        folder = self.folder / 'crates' / 'low' / 'must-fail'
+        folder.mkdir(parents=True, exist_ok=True)
+        (folder / 'a.edit').write_text('file: src/lib.rt\n')
+        rt = pathlib.Path(self.file('rt', '#!/bin/sh\n' + ''.join(f"echo '{it}'\n"
+                                                                  for it in answers)))
+        rt.chmod(0o755)
+        printed = io.StringIO()
+        with mock.patch.dict(os.environ, PATH=f'{self.folder}:{os.environ["PATH"]}'), \
+                contextlib.redirect_stdout(printed):
+            status = loaded('wrong_bodies').tried_twins('must-fail', ['low'], self.folder)
+        return status, printed.getvalue().splitlines()[-1]
+
+    def test_one_that_is_proved(self) -> None:
+        self.assertEqual(self.tried('must-fail low/a.edit: NOT REFUSED: the crate is still proved'),
+                         (0, '1 passed, 0 failed'))
+
+    def test_one_that_is_refused(self) -> None:
+        self.assertEqual(self.tried('must-fail low/a.edit: refused, as it must be: src/lib.rt:1:1'),
+                         (1, '0 passed, 1 failed'))
+
+    def test_one_that_was_not_tried(self) -> None:
+        self.assertEqual(self.tried('must-fail low/a.edit: BAD EDIT: it is no edit'),
+                         (1, '0 passed, 1 failed'))
+        self.assertEqual(self.tried('rt: the library low did not build'), (1, '0 passed, 1 failed'))
+
+    def test_each_has_its_edit_of_the_same_text(self) -> None:
+        def changed(path: pathlib.Path) -> list[str]:
+            lines = path.read_text(encoding='utf-8').splitlines()
+            return [it for it in lines if not it.startswith('new:')]
+        for twin in CRATES.glob('*/*/*.twin'):
+            with self.subTest(twin.relative_to(CRATES)):
+                edit = twin.with_suffix('.edit')
+                self.assertEqual(changed(twin), changed(edit))
+                self.assertNotEqual(twin.read_text(), edit.read_text())
+                self.assertNotIn('file: specs', twin.read_text())
 
 
 class Answers(unittest.TestCase):
