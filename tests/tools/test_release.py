@@ -130,9 +130,21 @@ class Completions(Tools):
 class Evidence(Tools):
     def test_a_count(self):
         log = '1 passed, 0 failed\nci: 3 passed, 1 failed\n12 passed, 0 failed\n'
-        self.assertEqual(evidence.counted(log), (12, 0, 0))
-        self.assertEqual(evidence.counted('no count\n'), (0, 0, 0))
-        self.assertEqual(evidence.counted('9 passed, 0 failed, 4 not tried\n'), (9, 0, 4))
+        self.assertEqual(evidence.counted(log), (12, 0, 0, 0, 0))
+        self.assertEqual(evidence.counted('no count\n'), (0, 0, 0, 0, 0))
+        self.assertEqual(evidence.counted('9 passed, 0 failed, 4 not tried\n'), (9, 0, 4, 0, 0))
+
+    def test_a_row_says_what_was_proved_anew(self):
+        log = ('rt: low is kept: an earlier run on this machine proved the same files\n'
+               'rt: mid proved\nrt: top: trying its must-fail edits (2)\nrt: top proved\n'
+               'rt: mid is kept: an earlier run on this machine proved the same files\n'
+               '9 passed, 0 failed\n')
+        self.assertEqual(evidence.counted(log), (9, 0, 0, 2, 1))
+        gate = evidence.Run(0, 3.4, *evidence.counted(log))
+        with mock.patch.object(evidence, 'output_of', return_value='x'):
+            row = evidence.summary('1.2.3', gate, None)
+        self.assertTrue(row.endswith('| 9 passed, 0 failed, 3 minutes, 2 crates proved and 1 taken '
+                                     'from earlier runs | not run |'), row)
 
     def test_a_run(self):
         found = evidence.run(['sh', '-c', 'echo "7 passed, 0 failed"'], self.folder,

@@ -16,17 +16,22 @@ from devtools.figures.stamps import machine, output_of
 
 PASSED = re.compile(r'^(?:\w+: )?(\d+) passed, (\d+) failed(?:, (\d+) not tried)?$', re.M)
 GATE, BODIES = 'gate.log', 'wrong_bodies.log'
+# A crate that a gate proved, and one whose proof it took from an earlier run on the machine.
+PROVED, TAKEN = re.compile(r'^rt: (\w+) proved$', re.M), re.compile(r'^rt: (\w+) is kept: ', re.M)
 
 
 @dataclasses.dataclass(frozen=True)
 class Run:
     """What a command came to: its status, its minutes, and its last count, of which those that were
-    not tried are parts of checks for which a package is missing."""
+    not tried are parts of checks for which a package is missing; of a gate also the crates that it
+    proved, and those whose proofs it took from an earlier run."""
     status: int
     minutes: float
     passed: int
     failed: int
     untried: int = 0
+    proved: int = 0
+    taken: int = 0
 
     @property
     def is_good(self) -> bool:
@@ -49,11 +54,14 @@ def clone(folder: pathlib.Path) -> pathlib.Path:
     return path
 
 
-def counted(log: str) -> tuple[int, int, int]:
-    """The last count of a log: how many passed, failed, and were not tried."""
+def counted(log: str) -> tuple[int, int, int, int, int]:
+    """The last count of a log: how many passed, failed, and were not tried; how many crates it
+    proved, and how many it took from an earlier run."""
     found = PASSED.findall(log)
     passed, failed, untried = found[-1] if found else ('0', '0', '')
-    return int(passed), int(failed), int(untried or '0')
+    proved = set(PROVED.findall(log))
+    return (int(passed), int(failed), int(untried or '0'), len(proved),
+            len(set(TAKEN.findall(log)) - proved))
 
 
 def run(words: list[str], place: pathlib.Path, log: pathlib.Path) -> Run:
@@ -76,8 +84,9 @@ def measured_minutes() -> float:
 
 def kept(log: pathlib.Path, minutes: float = 0.0) -> Run:
     """What a log of an earlier run says, which took so many minutes, or 0 for nobody knows."""
-    passed, failed, untried = counted(log.read_text(encoding='utf-8', errors='replace'))
-    return Run(0 if passed and not failed else 1, minutes, passed, failed, untried)
+    counts = counted(log.read_text(encoding='utf-8', errors='replace'))
+    passed, failed, *_ = counts
+    return Run(0 if passed and not failed else 1, minutes, *counts)
 
 
 def sums(folder: pathlib.Path) -> str:
@@ -89,13 +98,15 @@ def sums(folder: pathlib.Path) -> str:
 
 def summary(version: str, gate: Run | None, bodies: Run | None) -> str:
     """The row of bench/RELEASE.md."""
-    def told(it: Run | None) -> str:
+    def told(it: Run | None, is_gate: bool = False) -> str:
         if it is None:
             return 'not run'
         minutes = f', {it.minutes:.0f} minutes' if it.minutes else ''
         untried = f', {it.untried} not tried' if it.untried else ''
-        return f'{it.passed} passed, {it.failed} failed{untried}{minutes}'
+        proofs = (f', {it.proved} crates proved and {it.taken} taken from earlier runs'
+                  if is_gate else '')
+        return f'{it.passed} passed, {it.failed} failed{untried}{minutes}{proofs}'
     day = datetime.datetime.now(datetime.UTC).date()
     commit = output_of('git', 'rev-parse', '--short', 'HEAD')
     return (f'| {version} | {day} | {commit} | {output_of("rt", "version")} | {machine()} | '
-            f'{told(gate)} | {told(bodies)} |')
+            f'{told(gate, True)} | {told(bodies)} |')
