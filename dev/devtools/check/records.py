@@ -156,6 +156,7 @@ def sent_by(tap: Tap) -> bytes:
     return b''.join(octets for _, side, _, octets in tap.seen if side == 1)
 
 
+# Shows P-097.
 def session(checks) -> None:
     """A record is replayed as the session was, and a record that lacks lines is not."""
     path = checks.folder / 'record'

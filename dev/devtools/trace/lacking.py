@@ -51,8 +51,6 @@ NO_EDIT = {
         'edits of reading are at `read_rules`',
     'bay_server_turn Server::new': 'its clause has the whole value, a device and eight empty '
                                    'queues, and no edit is spent on it',
-    'bay_server_turn_laws queues_stay_in_their_room': 'a queue is a buffer whose room is part '
-        'of its type, so no body can exceed it; the edits of closings are at the turns',
     'cmd_audit_laws the_last_scan_releases_a_command': DEFINITIONS,
     'il_compile programs_have_a_meaning': DEFINITIONS}
 
