@@ -1,5 +1,5 @@
 -- What a pass tells of a rule.
-use Rattle.std.proofs.Common.{◌≡◌, ◌⊎◌, inl, inr, ℕ, zero, suc, Bool, true, false, not, ◌&&◌, ◌||◌, cond, List, [], ◌∷◌, map, slice_get, Option, Some, None, refl, sym, ap, subst, ◌∙◌, arith}
+use Rattle.std.proofs.Common.{◌≡◌, ◌⊎◌, inl, inr, ℕ, zero, suc, Bool, true, false, not, ◌&&◌, ◌||◌, cond, List, [], ◌∷◌, ◌++◌, map, replicate, slice_get, Option, Some, None, refl, sym, ap, subst, ◌∙◌, arith}
 use Rattle.std.specs.Prelude.{is_none, position}
 use Rattle.bay_process.specs.Values.{is_point, output_at}
 use Rattle.bay_audit_rules.specs.Process.{Process, holds}
@@ -9,19 +9,26 @@ use Rattle.il_image.specs.declared.image.ImagePoint.{ImagePoint}
 use Rattle.il_image.specs.declared.timer.TimerPhase.{TimerPhase}
 use Rattle.il_image.specs.declared.timer.TimerPhase.TheVariants.{Idle, Held, Since}
 use Rattle.il_image.specs.declared.timer.TimerState.{TimerState}
+use Rattle.il_image.specs.Timers.{first_state}
+use Rattle.bay_base.specs.declared.types.TimerKind.{TimerKind}
+use Rattle.bay_base.specs.declared.switch.Operation.{Operation}
+use Rattle.bay_audit.specs.declared.answer.CaseRelease.TheVariants.{Released, Refused}
 use Rattle.il_image.specs.declared.value.Value.{Value}
 use Rattle.il_image.specs.declared.value.Value.TheVariants.{Truth, Short, Long, Wide, Span}
-use Rattle.il_range.specs.Foretold.{AreYoung, Foretells, IsMemory, IsReached, Leaves, delay_start, delay_start_at}
+use Rattle.il_range.specs.Foretold.{AreYoung, First, Foretells, IsMemory, IsReached, Leaves, delay_start, delay_start_at}
+use Rattle.il_range.specs.Effects.{value_range}
+use Rattle.il_range.specs.Starts.{range_of_point}
+use Rattle.il_range.proofs.StartLemmas.{firsts-in}
 use Rattle.il_range.specs.Ranges.{AreIn, IsIn, IsYoung, Switches}
 use Rattle.il_range.specs.declared.range.Range.{Range}
 use Rattle.il_range.specs.declared.range.Range.TheVariants.{Any, No, Yes, Either, Between, Among}
 use Rattle.il_scan.specs.Places.{is_true}
-use Rattle.il_scan.specs.Scans.{outputs_of}
+use Rattle.il_scan.specs.Scans.{first_machine, outputs_of}
 use Rattle.il_scan.specs.Scans as scans
 use Rattle.bay_audit.specs.Cases.{is_in, range_of}
 use Rattle.bay_audit.specs.Conditions.{rule_truths, includes, negate_truths, condition_truths}
 use Rattle.bay_audit.specs.Process.{IsProcess, process_value}
-use Rattle.bay_audit.specs.Rules.{Comes, Foresees, IsMissed, IsDecision, BoundProgram, decide, goal_range, idle_range, is_covered, is_surely_obeyed, is_surely_missed, is_obeyed, range_at, range_there, reaches, releasing_point}
+use Rattle.bay_audit.specs.Rules.{Comes, Foresees, ForeseesFirst, IsMissed, IsDecision, IsStart, BoundProgram, decide, goal_range, idle_range, is_covered, is_surely_obeyed, is_surely_missed, is_obeyed, range_at, range_there, reaches, release_range, releases, releasing_point}
 use Rattle.bay_audit.specs.declared.demand.Demand.{Demand}
 use Rattle.bay_audit.specs.declared.demand.Goal.{Goal}
 use Rattle.bay_audit.specs.declared.demand.Goal.TheVariants as goals
@@ -262,6 +269,50 @@ module _ (g : BoundProgram) (d : Demand) (case : List TestAnswer) (ranges : List
   decision-by Obeyed e = obeyed-by (sym e)
   decision-by Missed e = broken-by (sym e)
   decision-by Unknown e = tt
+
+-- ---- the first scan
+
+module _ (g : BoundProgram) (k : ℕ) (operation : Operation) (ranges : List Range)
+    (foresees : ForeseesFirst g (map (range_of []) g.reads) ranges) where
+  start-told : (r : Range) → r ≡ release_range g.image.points g.writes ranges k operation
+      → (p : Process) (now : ℕ) (slots : List Value) (timers : List TimerState) → IsProcess p
+      → Leaves (first_machine g.image) (map (process_value p) g.reads) now slots timers
+      → Told r (releases g k operation slots)
+  start-told r is p now slots timers ip leaves =
+      subst (λ (x : Range). Told x (releases g k operation slots)) (sym is)
+      (place-told p.position (outputs_of g.image.points slots) (outputs_of g.image.points ranges)
+      (position (is_point k (releasing_point operation)) g.writes)
+      (outputs-in p.position g.image.points slots ranges
+      (foresees p.position (map (process_value p) g.reads) now slots timers
+      (ranges-have p ip [] refl g.reads) leaves)))
+
+  pub start-released : (r : Range) → r ≡ release_range g.image.points g.writes ranges k operation
+      → r ≡ Yes → IsStart g k operation Released
+  start-released r is e p now slots timers ip leaves =
+      start-told Yes (sym e ∙ is) p now slots timers ip leaves
+
+  pub start-refused : (r : Range) → r ≡ release_range g.image.points g.writes ranges k operation
+      → r ≡ No → IsStart g k operation Refused
+  start-refused r is e p now slots timers ip leaves =
+      start-told No (sym e ∙ is) p now slots timers ip leaves
+
+-- no delay runs before the first scan
+first-young : (now : ℕ) (kinds : List TimerKind) (n : ℕ)
+    → AreYoung now (map first_state kinds) (replicate n (Some 0))
+first-young now kinds zero = tt
+first-young now [] (suc n) = tt
+first-young now (kind ∷ kinds) (suc n) = (tt, first-young now kinds n)
+
+pub foresees-first : (g : BoundProgram) (memory : List Range) (n : ℕ) (given : List Range)
+    (last : List (Option ℕ)) (result : List Range)
+    → memory ≡ map range_of_point g.image.points ++ map value_range g.image.variables
+    → Foretells g.image memory (replicate n (Some 0)) given last result
+    → ForeseesFirst g given result
+foresees-first g memory n given last result is foretells w inputs now slots timers inside leaves =
+    (foretells w (first_machine g.image) inputs now slots timers refl (First g.image)
+    (subst (AreIn w (first_machine g.image).slots) (sym is)
+    (firsts-in w g.image.points g.image.variables))
+    (first-young now g.image.timers n) inside leaves).0
 
 -- a demand is met where nothing is asked
 idle-so : (kind : RuleKind) (o : TruthSet) (c b : Bool) → o.yes ≡ false → includes o c ≡ true

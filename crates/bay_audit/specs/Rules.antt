@@ -300,14 +300,30 @@ reported_count cases p = count_by (λ c. is_in c.case p) cases
 abbrev pub case_count : List (List TestAnswer) → Process → ℕ
 case_count cases p = count_by (λ case. is_in case p) cases
 
+-- Each first scan of the program, with any process and at any time, releases the switch in this
+-- direction if b is true, and does not if b is false.
+abbrev pub Starts : Bool → BoundProgram → ℕ → Operation → Type 0
+Starts b g k operation =
+    (p : Process) (now : ℕ) (slots : List Value) (timers : List TimerState) → IsProcess p
+    → Leaves (first_machine g.image) (map (process_value p) g.reads) now slots timers
+    → releases g k operation slots ≡ b
+
+-- The release by the first scan is right.
+abbrev pub IsStart : BoundProgram → ℕ → Operation → CaseRelease → Type 0
+IsStart g k operation Released = Starts true g k operation
+IsStart g k operation Refused = Starts false g k operation
+IsStart g k operation (Hangs kept) = Unit {0}
+
 -- The release in each case is right, each case has a process, and each process is in exactly one of
--- the cases and of those that are left. The release while the process is lost is right too.
+-- the cases and of those that are left. The release while the process is lost is right too, and so
+-- is that by the first scan.
 pub record IsRelease (bay : Bay) (g : BoundProgram) (r : Release) : Type 0 where
   pub told : AreReported g r.switch r.operation r.cases.items
   pub full : All (λ c. HasProcess c.case) r.cases.items
   pub one : (p : Process) → IsProcess p
       → reported_count r.cases.items p + case_count r.left.items p ≡ 1
   pub lost : IsReportedFor (IsLost bay) g r.switch r.operation r.lost
+  pub start : IsStart g r.switch r.operation r.start
 
 -- Each of the releases is so.
 abbrev pub AreReleases : Bay → BoundProgram → List Release → Type 0
@@ -344,6 +360,14 @@ Foresees g limits given last result =
     (timers : List TimerState) → machine.image ≡ g.image → IsReached machine
     → AreYoung now machine.timers limits → AreIn w inputs given
     → Leaves machine inputs now slots timers → AreIn w slots result × AreYoung now timers last
+
+-- With the switches in any positions, the first scan, with inputs in the given ranges, leaves slots
+-- in the resulting ranges.
+abbrev pub ForeseesFirst : BoundProgram → List Range → List Range → Type 0
+ForeseesFirst g given result =
+    (w : Switches) (inputs : List Value) (now : ℕ) (slots : List Value) (timers : List TimerState)
+    → AreIn w inputs given → Leaves (first_machine g.image) inputs now slots timers
+    → AreIn w slots result
 
 -- the verdict on a demand in a case is right
 abbrev pub IsVerdict : BoundProgram → Demand → List TestAnswer → Verdict → Type 0

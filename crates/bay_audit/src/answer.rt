@@ -56,6 +56,8 @@ pub struct Release {
     pub left: Vec<Case>,
     /// The release while the process is lost: each position is bad, and each input FALSE.
     pub lost: CaseRelease,
+    /// The release by the first scan after a load, whatever the process reports by then.
+    pub start: CaseRelease,
 }
 
 /// The answers to rules, and the releases.

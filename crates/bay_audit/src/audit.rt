@@ -1,5 +1,6 @@
 // Finds which rules a program obeys, and in which cases it breaks the others.
 ghost use Rattle.std.specs.Prelude.{◌≡◌, ◌++◌, length, map, IfOk, OnOk};
+ghost use Rattle.bay_audit.specs.Effort.{IsSpent};
 ghost use Rattle.bay_audit.specs.Rules.{AreReleases, IsAnswer, program_of, way_of, ways};
 ghost use Rattle.bay_audit.specs.Rules.{AreRight, IsRight};
 ghost use Rattle.bay_audit.specs.Rules as spec;
@@ -7,6 +8,7 @@ ghost use Rattle.bay_audit.specs.Rules as spec;
 use crate::answer::{Audit, RuleAnswer, Verdict};
 use crate::case::{Case, Test};
 use crate::demand::{Demand, Goal};
+use crate::effort::PassBudget;
 use crate::program::AuditedProgram;
 use crate::release::releases;
 use crate::until::until;
@@ -16,9 +18,6 @@ use bay_base::listing::Listing;
 use bay_config::bay::Bay;
 use il_verify::verify::Verified;
 use std::alloc::{AllocError, Global};
-
-/// The maximum number of passes over the code for one rule or one release.
-pub const PASSES: u32 = 10_000;
 
 // Appends a case to those that are left, if it has a process.
 fn keep(left: &mut Vec<Case>, case: Case) -> Result<(), AllocError>
@@ -92,23 +91,42 @@ pub(crate) fn plain_demand(alloc: Global, rule: &Rule) -> Result<Demand, AllocEr
     })
 }
 
-// Answers a rule in at most `most` passes.
-fn answer_to(
+// Answers a rule in at most `passes` passes, and subtracts those that it needed.
+fn answer_within(
     alloc: Global,
     program: &AuditedProgram<'_>,
     rule: &Rule,
-    most: u32,
+    passes: &mut u32,
 ) -> Result<RuleAnswer, AllocError>
     ensures { IfOk result (IsRight program.now rule.now) }
 {
-    let mut passes = most;
     match &rule.timed {
-        Some(timing) => until(alloc, program, rule, timing, &mut passes),
+        Some(timing) => until(alloc, program, rule, timing, passes),
         None => {
             let demand = plain_demand(alloc, rule)?;
-            answer(alloc, program, &demand, &mut passes)
+            answer(alloc, program, &demand, passes)
         }
     }
+}
+
+/// Answers a rule in its share of the passes that are left, and leaves those that it did not need
+/// to the answers after it. Fails only if an allocation fails.
+pub fn answer_rule(
+    alloc: Global,
+    program: &AuditedProgram<'_>,
+    rule: &Rule,
+    budget: &mut PassBudget,
+) -> Result<RuleAnswer, AllocError>
+    // The answer is right, as `audit` requires;
+    ensures right { IfOk result (IsRight program.now rule.now) }
+    // It made at most its share of the passes, and one answer less shares the others.
+    ensures shared { OnOk result (IsSpent budget.old budget.new) }
+{
+    let share = budget.share();
+    let mut passes = share;
+    let found = answer_within(alloc, program, rule, &mut passes)?;
+    budget.spend(share.saturating_sub(passes));
+    Ok(found)
 }
 
 // Answers a list of rules.
@@ -116,44 +134,51 @@ fn answers(
     alloc: Global,
     program: &AuditedProgram<'_>,
     rules: &[Rule],
-    most: u32,
+    budget: &mut PassBudget,
 ) -> Result<Vec<RuleAnswer>, AllocError>
     ensures { IfOk result
         (λ answers. AreRight program.now rules.now answers.items) }
 {
     let mut answers = Vec::new(alloc);
     for rule in rules {
-        answers.push(answer_to(alloc, program, rule, most)?)?;
+        answers.push(answer_rule(alloc, program, rule, budget)?)?;
     }
     Ok(answers)
 }
 
-/// Answers the rules of a bay's program, without its releases. Uses at most `most` passes over the
-/// code for each rule. Fails only if an allocation fails.
+/// Answers the rules of a bay's program, without its releases. Looks at about `effort` million
+/// octets of code, which the rules share. Fails only if an allocation fails.
 pub fn answer_rules(
     alloc: Global,
     bay: &Bay,
     verified: &Verified,
     rules: &[Rule],
-    most: u32,
+    effort: u32,
 ) -> Result<Vec<RuleAnswer>, AllocError>
     // Each answer is right, as `audit` requires.
     ensures { IfOk result
         (λ answers. AreRight (program_of bay.now verified.now) rules.now answers.items) }
 {
     let program = AuditedProgram::new(alloc, bay, verified)?;
-    answers(alloc, &program, rules, most)
+    let mut budget = PassBudget::new(verified.image(), effort, rules.len());
+    answers(alloc, &program, rules, &mut budget)
 }
 
-/// Answers the rules of a bay's program, and returns in which cases each switch is released. Uses
-/// at most `most` passes over the code for each rule and each release. Fails only if an allocation
-/// fails.
+/// Returns the number of answers of an audit: one for each rule, and one for each release.
+pub fn answer_count(bay: &Bay, rules: &[Rule]) -> usize {
+    let ways = bay.switches.as_slice().len().saturating_mul(2);
+    rules.len().saturating_add(ways)
+}
+
+/// Answers the rules of a bay's program, and returns in which cases each switch is released. Looks
+/// at about `effort` million octets of code, which the rules and the releases share. Fails only if
+/// an allocation fails.
 pub fn audit(
     alloc: Global,
     bay: &Bay,
     verified: &Verified,
     rules: &[Rule],
-    most: u32,
+    effort: u32,
 ) -> Result<Audit, AllocError>
     // Each answer is right. A rule that holds does so for every process, in each state that the
     // program can reach from its first values. A rule that is broken is so by each process of its
@@ -163,9 +188,10 @@ pub fn audit(
     ensures answers { IfOk result (λ audit. AreRight (program_of bay.now verified.now) rules.now
         audit.answers.items) }
     // The cases of each release are right and disjoint, each has a process, and together with those
-    // that are left they cover all processes; the release while the process is lost is right. If a
-    // case is released, each scan from such a process leaves the release TRUE, in each state that
-    // the program can reach; if it is refused, FALSE;
+    // that are left they cover all processes; the release while the process is lost is right, and
+    // so is that by the first scan after a load. If a case is released, each scan from such a
+    // process leaves the release TRUE, in each state that the program can reach; if it is refused,
+    // FALSE;
     ensures releases { IfOk result (λ audit. AreReleases bay.now (program_of bay.now verified.now)
         audit.releases.items) }
     // There is one release for each switch and direction.
@@ -173,8 +199,9 @@ pub fn audit(
         ≡ ways (length bay.now.switches)) }
 {
     let program = AuditedProgram::new(alloc, bay, verified)?;
+    let mut budget = PassBudget::new(verified.image(), effort, answer_count(bay, rules));
     Ok(Audit {
-        answers: answers(alloc, &program, rules, most)?,
-        releases: releases(alloc, bay, &program, most)?,
+        answers: answers(alloc, &program, rules, &mut budget)?,
+        releases: releases(alloc, bay, &program, &mut budget)?,
     })
 }

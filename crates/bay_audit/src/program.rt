@@ -1,8 +1,9 @@
 // A program on a bay, and the states that its scans can reach.
 ghost use Rattle.std.specs.Prelude.{◌≡◌, ◌+◌, IfOk, IfSome, length};
 ghost use Rattle.il_scan.specs.Scans.{first_machine};
-ghost use Rattle.bay_audit.specs.Rules.{Foresees, program_of};
+ghost use Rattle.bay_audit.specs.Rules.{Foresees, ForeseesFirst, program_of};
 
+use crate::start::{first_ranges, no_delays};
 use bay_base::listing::Listing;
 use bay_base::text::Text;
 use bay_config::bay::{Bay, Point, Source};
@@ -123,6 +124,27 @@ impl<'a> AuditedProgram<'a> {
     {
         let memory = self.memory.as_slice();
         let found = scan_ranges(alloc, self.verified, memory, limits, given)?;
+        Ok(found)
+    }
+
+    /// Predicts the first scan after a load, with inputs in these ranges: the program's slots have
+    /// their first values, and no delay runs. Fails only if an allocation fails.
+    pub fn first_scan(&self, alloc: Global, given: &[Range]) -> Result<ScanPrediction, AllocError>
+        ensures size { IfOk result
+            (λ f. length f.ranges.items ≡ length self.now.image.points
+            + length self.now.image.variables) }
+        ensures foretells { IfOk result
+            (λ f. ForeseesFirst self.now given.now f.ranges.items) }
+    {
+        let memory = first_ranges(alloc, self.image())?;
+        let limits = no_delays(alloc, self.image().timers().len())?;
+        let found = scan_ranges(
+            alloc,
+            self.verified,
+            memory.as_slice(),
+            limits.as_slice(),
+            given,
+        )?;
         Ok(found)
     }
 

@@ -1,21 +1,24 @@
 // The cases in which each switch is released, in each direction.
-ghost use Rattle.std.specs.Prelude.{◌≡◌, IfOk, length, map};
+ghost use Rattle.std.specs.Prelude.{◌≡◌, IfOk, OnOk, length, map};
+ghost use Rattle.bay_audit.specs.Effort.{IsSpent};
 ghost use Rattle.bay_audit.specs.Process.{IsLost};
-ghost use Rattle.bay_audit.specs.Rules.{AreReleases, IsRelease, IsReportedFor, IsTurn, way_of, ways};
+ghost use Rattle.bay_audit.specs.Rules.{AreReleases, IsRelease, IsReportedFor, IsStart, IsTurn, way_of, ways};
 ghost use Rattle.bay_audit.specs.Rules as spec;
 
 use crate::answer::{CaseRelease, Release, ReportedCase, RuleVerdict, Verdict};
 use crate::audit::split;
 use crate::case::{Case, Test};
 use crate::demand::{Demand, Goal};
+use crate::effort::PassBudget;
 use crate::program::AuditedProgram;
 use crate::split::dependencies_of;
 use crate::truth_set::TruthSet;
-use crate::verdict::{pass, verdict};
+use crate::verdict::{input_ranges, pass, release_range, verdict};
 use bay_audit_rules::rule::{ConditionItem, RuleKind};
 use bay_base::listing::Listing;
 use bay_base::switch::Operation;
 use bay_config::bay::Bay;
+use il_range::range::Range;
 use std::alloc::{AllocError, Global};
 
 // Returns the demand that a switch is always released in a direction.
@@ -75,46 +78,83 @@ fn lost_release(
     }
 }
 
-// Returns the cases in which a switch is released in a direction, in at most `most` passes.
-fn release(
+// Returns the release by the first scan, by one pass with any process.
+fn start_release(
+    alloc: Global,
+    program: &AuditedProgram<'_>,
+    switch: usize,
+    operation: Operation,
+) -> Result<CaseRelease, AllocError>
+    ensures { IfOk result (IsStart program.now switch operation) }
+{
+    let case = Case::new(alloc);
+    let given = input_ranges(alloc, &case, program.reads())?;
+    let forecast = program.first_scan(alloc, given.as_slice())?;
+    let ranges = forecast.ranges.as_slice();
+    match release_range(alloc, program, switch, operation, ranges)? {
+        Range::Yes => Ok(CaseRelease::Released),
+        Range::No => Ok(CaseRelease::Refused),
+        _ => {
+            let goal = Goal::Release { switch, operation };
+            let kept = dependencies_of(alloc, program, goal, &forecast)?;
+            Ok(CaseRelease::Hangs(kept))
+        }
+    }
+}
+
+/// Returns the cases in which a switch is released in a direction, in its share of the passes that
+/// are left. Leaves the passes that it did not need to the answers after it. Fails only if an
+/// allocation fails.
+pub fn release(
     alloc: Global,
     bay: &Bay,
     program: &AuditedProgram<'_>,
     switch: usize,
     operation: Operation,
-    most: u32,
+    budget: &mut PassBudget,
 ) -> Result<Release, AllocError>
+    // The cases are right and disjoint, each has a process, and together with those that are left
+    // they cover all processes; the release while the process is lost is right, and so is that by
+    // the first scan;
     ensures right { IfOk result (IsRelease bay.now program.now) }
+    // It is the release of this switch in this direction;
     ensures way { IfOk result (λ r. way_of r ≡ record { 0 = switch; 1 = operation }) }
+    // It made at most its share of the passes, and one answer less shares the others.
+    ensures shared { OnOk result (IsSpent budget.old budget.new) }
 {
     let demand = demand(alloc, switch, operation)?;
     let mut left = Case::all(alloc)?;
     let mut cases = Vec::new(alloc);
-    for _ in 0..most {
+    let share = budget.share();
+    let mut passes = share;
+    for _ in 0..share {
         let Some(case) = left.pop() else {
             break;
         };
+        passes = passes.saturating_sub(1);
         match told_by(verdict(alloc, program, &demand, &case)?) {
             Ok(told) => cases.push(ReportedCase { case, told })?,
             Err(test) => split(alloc, &mut left, &case, test)?,
         }
     }
+    budget.spend(share.saturating_sub(passes));
     Ok(Release {
         switch,
         operation,
         cases,
         left,
         lost: lost_release(alloc, bay, program, switch, operation)?,
+        start: start_release(alloc, program, switch, operation)?,
     })
 }
 
-/// Returns the cases in which each switch of a bay is released, opening first, each in at most
-/// `most` passes. Fails only if an allocation fails.
+/// Returns the cases in which each switch of a bay is released, opening first, each in its share of
+/// the passes that are left. Fails only if an allocation fails.
 pub fn releases(
     alloc: Global,
     bay: &Bay,
     program: &AuditedProgram<'_>,
-    most: u32,
+    budget: &mut PassBudget,
 ) -> Result<Vec<Release>, AllocError>
     ensures right { IfOk result
         (λ releases. AreReleases bay.now program.now releases.items) }
@@ -123,8 +163,8 @@ pub fn releases(
 {
     let mut releases = Vec::new(alloc);
     for switch in 0..bay.switches.as_slice().len() {
-        releases.push(release(alloc, bay, program, switch, Operation::Open, most)?)?;
-        releases.push(release(alloc, bay, program, switch, Operation::Close, most)?)?;
+        releases.push(release(alloc, bay, program, switch, Operation::Open, budget)?)?;
+        releases.push(release(alloc, bay, program, switch, Operation::Close, budget)?)?;
     }
     Ok(releases)
 }

@@ -4,7 +4,7 @@ ghost use Rattle.std.specs.Prelude.{IfOk};
 ghost use Rattle.bay_audit.specs.Rules.{IsUndecided};
 
 use crate::answer::{StateDependencies, Verdict};
-use crate::case::{Case, Test, has_position, only};
+use crate::case::{Case, Test, only};
 use crate::demand::{Demand, Goal};
 use crate::program::AuditedProgram;
 use crate::verdict::release_place;
@@ -21,22 +21,56 @@ use std::alloc::{AllocError, Global};
 
 const POSITIONS: [Dbpos; 4] = [Dbpos::Off, Dbpos::On, Dbpos::Intermediate, Dbpos::Bad];
 
-// Returns whether a case has both a process with the switch at this position and one with the
-// switch at another.
-fn is_open_at(case: &Case, switch: usize, position: Dbpos) -> bool {
-    case.may_be(switch, position)
-        && POSITIONS
-            .iter()
-            .any(|other| *other != position && case.may_be(switch, *other))
+// Returns the positions that a case allows a switch.
+fn allowed_positions(case: &Case, switch: usize) -> Positions {
+    Positions {
+        intermediate: case.may_be(switch, Dbpos::Intermediate),
+        off: case.may_be(switch, Dbpos::Off),
+        on: case.may_be(switch, Dbpos::On),
+        bad: case.may_be(switch, Dbpos::Bad),
+    }
 }
 
-// Returns the test of a switch's position; `None` if the case decides it.
-fn position_test(case: &Case, switch: usize, position: Dbpos) -> Option<Test> {
-    if is_open_at(case, switch, position) {
-        Some(Test::Position {
-            switch,
-            positions: only(position),
-        })
+// Returns the positions of the first set that are in the second, or those that are not.
+fn part_of(one: Positions, other: Positions, is_in: bool) -> Positions {
+    Positions {
+        intermediate: one.intermediate && other.intermediate == is_in,
+        off: one.off && other.off == is_in,
+        on: one.on && other.on == is_in,
+        bad: one.bad && other.bad == is_in,
+    }
+}
+
+// Returns the positions that are in one of the sets alone.
+fn differing(one: Positions, other: Positions) -> Positions {
+    Positions {
+        intermediate: one.intermediate != other.intermediate,
+        off: one.off != other.off,
+        on: one.on != other.on,
+        bad: one.bad != other.bad,
+    }
+}
+
+// Returns whether a set has a position.
+fn has_any(positions: Positions) -> bool {
+    positions.intermediate || positions.off || positions.on || positions.bad
+}
+
+// Returns whether a set parts the positions that a case allows in two.
+fn parts(allowed: Positions, positions: Positions) -> bool {
+    has_any(part_of(allowed, positions, true)) && has_any(part_of(allowed, positions, false))
+}
+
+// Returns whether two sets part the positions that a case allows in the same way.
+fn part_alike(allowed: Positions, one: Positions, other: Positions) -> bool {
+    let differs = differing(one, other);
+    !has_any(part_of(allowed, differs, true)) || !has_any(part_of(allowed, differs, false))
+}
+
+// Returns the test of a set of positions; `None` if the case decides it.
+fn set_part(allowed: Positions, switch: usize, positions: Positions) -> Option<Test> {
+    if parts(allowed, positions) {
+        Some(Test::Position { switch, positions })
     } else {
         None
     }
@@ -44,13 +78,10 @@ fn position_test(case: &Case, switch: usize, position: Dbpos) -> Option<Test> {
 
 // Returns the test of the first position of a switch that the case leaves open.
 fn any_position_test(case: &Case, switch: usize) -> Option<Test> {
+    let allowed = allowed_positions(case, switch);
     POSITIONS
         .iter()
-        .find(|position| is_open_at(case, switch, **position))
-        .map(|position| Test::Position {
-            switch,
-            positions: only(*position),
-        })
+        .find_map(|position| set_part(allowed, switch, only(*position)))
 }
 
 // The sets of positions by which a test parts the four positions in two, those of one position
@@ -65,49 +96,24 @@ const SETS: [[Dbpos; 2]; 7] = [
     [Dbpos::Intermediate, Dbpos::On],
 ];
 
-// Returns the set of two positions.
-fn either(two: [Dbpos; 2]) -> Positions {
-    let first = only(two[0]);
-    let second = only(two[1]);
+// Returns a set with the positions of another.
+fn joined(one: Positions, other: Positions) -> Positions {
     Positions {
-        intermediate: first.intermediate || second.intermediate,
-        off: first.off || second.off,
-        on: first.on || second.on,
-        bad: first.bad || second.bad,
+        intermediate: one.intermediate || other.intermediate,
+        off: one.off || other.off,
+        on: one.on || other.on,
+        bad: one.bad || other.bad,
     }
 }
 
-// Returns whether a case has both a process with the switch at one of these positions and one with
-// the switch at another.
-fn parts(case: &Case, switch: usize, positions: Positions) -> bool {
-    let may = [
-        (
-            positions.intermediate,
-            case.may_be(switch, Dbpos::Intermediate),
-        ),
-        (positions.off, case.may_be(switch, Dbpos::Off)),
-        (positions.on, case.may_be(switch, Dbpos::On)),
-        (positions.bad, case.may_be(switch, Dbpos::Bad)),
-    ];
-    may.iter().any(|one| one.0 && one.1) && may.iter().any(|one| !one.0 && one.1)
-}
-
-// Returns whether two sets part the positions that a case allows a switch in the same way.
-fn part_alike(case: &Case, switch: usize, one: Positions, other: Positions) -> bool {
-    let is_same = POSITIONS.iter().all(|position| {
-        !case.may_be(switch, *position)
-            || has_position(one, *position) == has_position(other, *position)
-    });
-    let is_opposite = POSITIONS.iter().all(|position| {
-        !case.may_be(switch, *position)
-            || has_position(one, *position) != has_position(other, *position)
-    });
-    is_same || is_opposite
+// Returns the set of two positions.
+fn either(two: [Dbpos; 2]) -> Positions {
+    joined(only(two[0]), only(two[1]))
 }
 
 // Returns whether a goal distinguishes these positions of a switch from the others.
 fn is_told_apart(
-    case: &Case,
+    allowed: Positions,
     switch: usize,
     positions: Positions,
     forecast: &ScanPrediction,
@@ -115,8 +121,8 @@ fn is_told_apart(
 ) -> bool {
     for two in SETS {
         let told = either(two);
-        if forecast.sources.depends_on_positions(goal, switch, told)
-            && part_alike(case, switch, told, positions)
+        if part_alike(allowed, told, positions)
+            && forecast.sources.depends_on_positions(goal, switch, told)
         {
             return true;
         }
@@ -126,12 +132,15 @@ fn is_told_apart(
 
 // Returns the test of a set of positions of a switch that the goal distinguishes and that the case
 // leaves open.
-fn set_test(case: &Case, switch: usize, forecast: &ScanPrediction, goal: usize) -> Option<Test> {
+fn set_test(
+    allowed: Positions,
+    switch: usize,
+    forecast: &ScanPrediction,
+    goal: usize,
+) -> Option<Test> {
     for two in SETS {
         let positions = either(two);
-        if parts(case, switch, positions)
-            && is_told_apart(case, switch, positions, forecast, goal)
-        {
+        if parts(allowed, positions) && is_told_apart(allowed, switch, positions, forecast, goal) {
             return Some(Test::Position { switch, positions });
         }
     }
@@ -147,13 +156,12 @@ fn point_test(
     forecast: &ScanPrediction,
     goal: usize,
 ) -> Option<Test> {
-    if is_told_apart(case, switch, only(position), forecast, goal) {
-        let test = position_test(case, switch, position);
-        if test.is_some() {
-            return test;
-        }
+    let allowed = allowed_positions(case, switch);
+    let test = set_part(allowed, switch, only(position));
+    if test.is_some() && is_told_apart(allowed, switch, only(position), forecast, goal) {
+        return test;
     }
-    set_test(case, switch, forecast, goal).or_else(|| position_test(case, switch, position))
+    set_test(allowed, switch, forecast, goal).or(test)
 }
 
 // Returns the test of an input; `None` if the case decides it.
@@ -200,24 +208,75 @@ fn relation_test(
     }
 }
 
-// Returns the test of an item of a condition; `None` if the case decides it.
-fn item_test(case: &Case, item: ConditionItem) -> Option<Test> {
-    match item {
-        ConditionItem::Position { switch, position } => position_test(case, switch, position),
-        ConditionItem::Input { input } => input_test(case, input),
+// Returns the set of positions of a switch which the items from an index on add to another by OR,
+// and the index of the item after them.
+fn joined_items(
+    items: &[ConditionItem],
+    first: usize,
+    switch: usize,
+    positions: Positions,
+) -> (Positions, usize) {
+    let mut positions = positions;
+    let mut next = first;
+    for _ in 0..3 {
+        match (items.get(next), items.get(next.saturating_add(1))) {
+            (
+                Some(
+                    ConditionItem::Position {
+                        switch: at,
+                        position,
+                    },
+                ),
+                Some(ConditionItem::Or),
+            ) if *at == switch => {
+                positions = joined(positions, only(*position));
+                next = next.saturating_add(2);
+            }
+            _ => return (positions, next),
+        }
+    }
+    (positions, next)
+}
+
+// Returns the test of the item of a condition at an index, and the index of the next item. The
+// positions of a switch that are joined by OR are one test. `None` if the case decides it.
+fn item_test(case: &Case, items: &[ConditionItem], place: usize) -> (Option<Test>, usize) {
+    let after = place.saturating_add(1);
+    let Some(item) = items.get(place) else {
+        return (None, after);
+    };
+    match *item {
+        ConditionItem::Position { switch, position } => {
+            let (positions, next) = joined_items(items, after, switch, only(position));
+            let allowed = allowed_positions(case, switch);
+            (set_part(allowed, switch, positions), next)
+        }
+        ConditionItem::Input { input } => (input_test(case, input), after),
         ConditionItem::Measure {
             meter,
             field,
             relation,
             value,
-        } => relation_test(case, meter, field, relation, value),
-        ConditionItem::True | ConditionItem::Not | ConditionItem::And | ConditionItem::Or => None,
+        } => (relation_test(case, meter, field, relation, value), after),
+        ConditionItem::True | ConditionItem::Not | ConditionItem::And | ConditionItem::Or => {
+            (None, after)
+        }
     }
 }
 
 // Returns the first test of a condition that the case leaves open.
 fn condition_split(case: &Case, items: &[ConditionItem]) -> Option<Test> {
-    items.iter().find_map(|item| item_test(case, *item))
+    let mut next = 0;
+    for place in 0..items.len() {
+        if place == next {
+            let (test, after) = item_test(case, items, place);
+            if test.is_some() {
+                return test;
+            }
+            next = after;
+        }
+    }
+    None
 }
 
 // Returns the test of a measured value at the first constant of the program for which the case

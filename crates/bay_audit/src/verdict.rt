@@ -23,8 +23,12 @@ use il_range::range::Range;
 use il_range::scan::ScanPrediction;
 use std::alloc::{AllocError, Global};
 
-// Returns the ranges of the points that the program only reads.
-fn input_ranges(alloc: Global, case: &Case, reads: &[Source]) -> Result<Vec<Range>, AllocError>
+/// Returns the ranges of the points that the program only reads. Fails only if an allocation fails.
+pub(crate) fn input_ranges(
+    alloc: Global,
+    case: &Case,
+    reads: &[Source],
+) -> Result<Vec<Range>, AllocError>
     ensures { IfOk result (λ ranges. ranges.items ≡ map (spec_cases.range_of case.now) reads.now) }
 {
     reads
@@ -115,8 +119,8 @@ fn decide(kind: RuleKind, when: TruthSet, release: Range) -> RuleVerdict
     }
 }
 
-// Returns the range of a release.
-fn release_range(
+/// Returns the range of a release. Fails only if an allocation fails.
+pub(crate) fn release_range(
     alloc: Global,
     program: &AuditedProgram<'_>,
     switch: usize,

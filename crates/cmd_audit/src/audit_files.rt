@@ -8,7 +8,8 @@ ghost use Rattle.cmd_audit.specs.Auditing.{Answers, Audits, SaysFor, SaysRefused
 
 use crate::state_names::names_of;
 use crate::text::{are_passed, fault_words, put_answers, put_refused, put_releases};
-use bay_audit::audit::{PASSES, audit};
+use bay_audit::audit::audit;
+use bay_audit::effort::EFFORT;
 use bay_audit_rules::fault::RuleFault;
 use bay_audit_rules::read::read_rules;
 use bay_audit_rules::rule::Rule;
@@ -51,7 +52,7 @@ fn audit_output(
     ensures taken { IfOk result (λ said. said.refused ≡ None) }
 {
     let names = names_of(alloc, verified.image().points(), form, program)?;
-    let found = audit(alloc, bay, verified, rules, PASSES)?;
+    let found = audit(alloc, bay, verified, rules, EFFORT)?;
     let answers = found.answers.as_slice();
     let mut text = Vec::new(alloc);
     put_answers(&mut text, bay, &names, rules, answers)?;

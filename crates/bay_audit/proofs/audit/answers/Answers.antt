@@ -18,4 +18,4 @@ loop-rule-preserved c =
     (take i c.args.rules.now ++ c.rule-item.result ∷ []) answers)
     (sym c.in_ok-push.ensures.items)
     (right-more g (take i c.args.rules.now) c.loop-rule.answers.items c.rule-item.result
-    c.in_ok-answer_to.field-0 c.loop-rule.invariant c.in_ok-answer_to.ensures))
+    c.in_ok-answer_rule.field-0 c.loop-rule.invariant c.in_ok-answer_rule.ensures.right))

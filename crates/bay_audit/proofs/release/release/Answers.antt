@@ -100,4 +100,5 @@ returns-clause-right c =
       one = λ p is. subst (λ (cs : List (List TestAnswer)). reported_count c.loop.cases.items p
           + case_count cs p ≡ 1) left (c.loop.invariant.one p is);
       lost = c.in_ok-lost_release.ensures;
+      start = c.in_ok-start_release.ensures;
     }
