@@ -21,7 +21,7 @@ use Rattle.bay_base.specs.declared.position.Dbpos.{Dbpos}
 use Rattle.bay_base.specs.declared.position.Dbpos.TheVariants.{Intermediate, Off, On, Bad}
 use Rattle.bay_tree.specs.declared.leaf.Leaf.TheVariants as leaf
 use Rattle.il_image.specs.declared.value.Value.TheVariants.{Truth}
-use Rattle.il_range.specs.Ranges.{AreIn, IsIn, Switches, has_position}
+use Rattle.il_range.specs.Ranges.{AreIn, IsIn, Setting, has_position}
 use Rattle.il_range.specs.declared.range.Positions.{Positions}
 use Rattle.il_range.proofs.RangeLemmas.{in-among}
 use Rattle.bay_audit.specs.Cases.{allows_position, answer_of, bad_positions, example_of, false_inputs, allows_input, high_after, high_by, high_of, input_may, is_in, is_of_field, lost_case, low_after, low_by, low_of, lesser_int, may_be, meets, position_range, greater_int, first_position, has_at, only, told_positions, range_of, same_field, test_allows_position, test_allows_input, truth_range}
@@ -182,7 +182,11 @@ module _ (p : Process) where
 
 -- ---- the points
 
-truth-in : (w : Switches) (b t f : Bool) → cond b t f ≡ true → IsIn w (Truth b) (truth_range t f)
+-- the process with a mark
+abbrev pub setting_of : Process → ℕ → Setting
+setting_of p mark = record { position = p.position; mark = mark }
+
+truth-in : (w : Setting) (b t f : Bool) → cond b t f ≡ true → IsIn w (Truth b) (truth_range t f)
 truth-in w true true true h = tt
 truth-in w true true false h = tt
 truth-in w true false f h = absurd cc
@@ -190,7 +194,7 @@ truth-in w false true true h = tt
 truth-in w false false true h = tt
 truth-in w false t false h = absurd cc
 
-module _ (w : Switches) (k : ℕ) (i o n b : Bool) where
+module _ (w : Setting) (k : ℕ) (i o n b : Bool) where
   abbrev Allowed : Dbpos → Type 0
   Allowed Intermediate = i ≡ true
   Allowed Off = o ≡ true
@@ -213,7 +217,7 @@ module _ (w : Switches) (k : ℕ) (i o n b : Bool) where
   told-at which On h = sym (ap (λ may. has_at which (first_position i o n) may On) h)
   told-at which Bad h = sym (ap (λ may. has_at which (first_position i o n) may Bad) h)
 
-  position-in : (d : Dbpos) → w k ≡ d → Allowed d → (point : SwitchPoint)
+  position-in : (d : Dbpos) → w.position k ≡ d → Allowed d → (point : SwitchPoint)
       → IsIn w (position_value point (Some (leaf.Dbpos d))) (position_range k point i o n b)
   position-in d is h Position = position-number d h
   position-in d is h Open =
@@ -225,7 +229,7 @@ module _ (w : Switches) (k : ℕ) (i o n b : Bool) where
   position-in d is h EnableOpen = tt
   position-in d is h EnableClose = tt
 
-allowed : (w : Switches) (case : List TestAnswer) (k : ℕ) (d : Dbpos) → may_be case k d ≡ true
+allowed : (w : Setting) (case : List TestAnswer) (k : ℕ) (d : Dbpos) → may_be case k d ≡ true
     → Allowed w k (may_be case k Intermediate) (may_be case k Off) (may_be case k On)
     (may_be case k Bad) d
 allowed w case k Intermediate h = h
@@ -245,18 +249,20 @@ module _ (p : Process) (is : IsProcess p) (case : List TestAnswer) (h : is_in ca
   pub high-of : (k : ℕ) (field : MeterField) → p.measure k field ≤ℤ high_of case k field
   high-of k field = high-all p k field case (pos 2147483647) h (is.greatest k field)
 
-  range-has : (s : Source) → IsIn p.position (process_value p s) (range_of case s)
+module _ (p : Process) (mark : ℕ) (is : IsProcess p) (case : List TestAnswer)
+    (h : is_in case p ≡ true) where
+  range-has : (s : Source) → IsIn (setting_of p mark) (process_value p s) (range_of case s)
   range-has (source.Switch k point) =
-      position-in p.position k (may_be case k Intermediate) (may_be case k Off) (may_be case k On)
-      (may_be case k Bad) (p.position k) refl
-      (allowed p.position case k (p.position k) (position-may p case h k)) point
+      position-in (setting_of p mark) k (may_be case k Intermediate) (may_be case k Off)
+      (may_be case k On) (may_be case k Bad) (p.position k) refl
+      (allowed (setting_of p mark) case k (p.position k) (position-may p case h k)) point
   range-has (source.Input k) =
-      truth-in p.position (p.input k) (input_may case k true) (input_may case k false)
+      truth-in (setting_of p mark) (p.input k) (input_may case k true) (input_may case k false)
       (granted case k (p.input k) (input-may p case h k))
-  range-has (source.Meter k field) = (low-of k field, high-of k field)
+  range-has (source.Meter k field) = (low-of p is case h k field, high-of p is case h k field)
 
   pub ranges-have : (reads : List Source)
-      → AreIn p.position (map (process_value p) reads) (map (range_of case) reads)
+      → AreIn (setting_of p mark) (map (process_value p) reads) (map (range_of case) reads)
   ranges-have [] = tt
   ranges-have (s ∷ reads) = (range-has s, ranges-have reads)
 

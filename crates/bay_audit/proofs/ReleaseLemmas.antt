@@ -35,11 +35,11 @@ module _ (g : BoundProgram) (k : ℕ) (operation : Operation) where
   verdict-told case verdict.Obeyed told is turn =
       let same : told ≡ Released = cc in subst (IsReportedOf g k operation case) (sym same)
       (λ p ip inside machine now slots timers image kept leaves.
-      is p ip inside machine now slots timers image kept tt leaves)
+      is p ip inside 0 machine now slots timers image kept tt leaves)
   verdict-told case verdict.Broken told is turn =
       let same : told ≡ Refused = cc in subst (IsReportedOf g k operation case) (sym same)
       (λ p ip inside machine now slots timers image kept leaves.
-      is p ip inside machine now slots timers image kept tt leaves)
+      is p ip inside 0 machine now slots timers image kept tt leaves)
   verdict-told case (verdict.Open kept) told is turn =
       let same : told ≡ Hangs kept = cc in subst (IsReportedOf g k operation case) (sym same) tt
   verdict-told case (verdict.Split test) told is turn = absurd cc
@@ -60,11 +60,11 @@ module _ (g : BoundProgram) (k : ℕ) (operation : Operation) where
 
     pub lost-released : x ≡ Obeyed → IsReportedFor (IsLost bay) g k operation Released
     lost-released e p ip gone machine now slots timers image kept leaves =
-        decided Obeyed e p ip (inside p gone) machine now slots timers image kept tt leaves
+        decided Obeyed e p ip (inside p gone) 0 machine now slots timers image kept tt leaves
 
     pub lost-refused : x ≡ Missed → IsReportedFor (IsLost bay) g k operation Refused
     lost-refused e p ip gone machine now slots timers image kept leaves =
-        decided Missed e p ip (inside p gone) machine now slots timers image kept tt leaves
+        decided Missed e p ip (inside p gone) 0 machine now slots timers image kept tt leaves
 
   pub told-more : (cases : List ReportedCase) (c : ReportedCase) → AreReported g k operation cases
       → IsReportedOf g k operation c.case c.told → AreReported g k operation (cases ++ c ∷ [])

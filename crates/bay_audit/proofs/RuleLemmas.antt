@@ -1,25 +1,30 @@
 -- What a pass tells of a rule.
 use Rattle.std.proofs.Common.{◌≡◌, ◌⊎◌, inl, inr, ℕ, zero, suc, Bool, true, false, not, ◌&&◌, ◌||◌, cond, List, [], ◌∷◌, ◌++◌, map, replicate, slice_get, Option, Some, None, refl, sym, ap, subst, ◌∙◌, arith}
-use Rattle.std.specs.Prelude.{is_none, position}
+use Rattle.std.specs.Prelude.{is_none, is_some, position}
 use Rattle.bay_process.specs.Values.{is_point, output_at}
 use Rattle.bay_audit_rules.specs.Process.{Process, holds}
+use Rattle.bay_audit_rules.specs.declared.rule.Rule.{Rule}
 use Rattle.bay_audit_rules.specs.declared.rule.RuleKind.{RuleKind}
 use Rattle.bay_audit_rules.specs.declared.rule.RuleKind.TheVariants.{Never, Always}
+use Rattle.bay_audit_rules.specs.declared.rule.Timing.{Timing}
 use Rattle.il_image.specs.declared.image.ImagePoint.{ImagePoint}
 use Rattle.il_image.specs.declared.timer.TimerPhase.{TimerPhase}
-use Rattle.il_image.specs.declared.timer.TimerPhase.TheVariants.{Idle, Held, Since}
+use Rattle.il_image.specs.declared.timer.TimerPhase.TheVariants as phases
 use Rattle.il_image.specs.declared.timer.TimerState.{TimerState}
 use Rattle.il_image.specs.Timers.{first_state}
-use Rattle.bay_base.specs.declared.types.TimerKind.{TimerKind}
 use Rattle.bay_base.specs.declared.switch.Operation.{Operation}
 use Rattle.bay_audit.specs.declared.answer.CaseRelease.TheVariants.{Released, Refused}
 use Rattle.il_image.specs.declared.value.Value.{Value}
 use Rattle.il_image.specs.declared.value.Value.TheVariants.{Truth, Short, Long, Wide, Span}
-use Rattle.il_range.specs.Foretold.{AreYoung, First, Foretells, IsMemory, IsReached, Leaves, delay_start, delay_start_at}
+use Rattle.bay_base.specs.declared.types.TimerKind.{TimerKind}
+use Rattle.bay_base.specs.declared.types.TimerKind.TheVariants.{OnDelay}
 use Rattle.il_range.specs.Effects.{value_range}
+use Rattle.il_range.specs.Foretold.{AreDelays, First, Foretells, IsMemory, IsReached, Leaves, delay_start, delay_start_at}
 use Rattle.il_range.specs.Starts.{range_of_point}
 use Rattle.il_range.proofs.StartLemmas.{firsts-in}
-use Rattle.il_range.specs.Ranges.{AreIn, IsIn, IsYoung, Switches}
+use Rattle.il_range.specs.Ranges.{AreIn, IsDelay, IsIn, Setting, delay_onset, delay_onset_at, is_by}
+use Rattle.il_range.specs.declared.delay.KnownDelay.{KnownDelay}
+use Rattle.il_range.specs.declared.delay.KnownDelay.TheVariants.{Unknown, Below, Begun, AtLeast}
 use Rattle.il_range.specs.declared.range.Range.{Range}
 use Rattle.il_range.specs.declared.range.Range.TheVariants.{Any, No, Yes, Either, Between, Among}
 use Rattle.il_scan.specs.Places.{is_true}
@@ -28,26 +33,28 @@ use Rattle.il_scan.specs.Scans as scans
 use Rattle.bay_audit.specs.Cases.{is_in, range_of}
 use Rattle.bay_audit.specs.Conditions.{rule_truths, includes, negate_truths, condition_truths}
 use Rattle.bay_audit.specs.Process.{IsProcess, process_value}
-use Rattle.bay_audit.specs.Rules.{Comes, Foresees, ForeseesFirst, IsMissed, IsDecision, IsStart, BoundProgram, decide, goal_range, idle_range, is_covered, is_surely_obeyed, is_surely_missed, is_obeyed, range_at, range_there, reaches, release_range, releases, releasing_point}
+use Rattle.bay_audit.specs.Rules.{BoundProgram, Comes, Foresees, ForeseesFirst, IsAnswer, IsDecision, IsMissed, IsRequired, IsStart, begun_range, decide, goal_range, idle_range, is_covered, is_obeyed, is_surely_missed, is_surely_obeyed, lasting_range, range_at, range_there, reaches, release_range, releases, releasing_point, sufficient_demand}
 use Rattle.bay_audit.specs.declared.demand.Demand.{Demand}
 use Rattle.bay_audit.specs.declared.demand.Goal.{Goal}
 use Rattle.bay_audit.specs.declared.demand.Goal.TheVariants as goals
 use Rattle.bay_audit.specs.declared.case.TestAnswer.{TestAnswer}
 use Rattle.bay_audit.specs.declared.truth_set.TruthSet.{TruthSet}
+use Rattle.bay_audit.specs.declared.answer.RuleAnswer.{RuleAnswer}
+use Rattle.bay_audit.specs.declared.answer.RuleAnswer.TheVariants.{Broken, Holds, Open, Since, TooMany}
 use Rattle.bay_audit.specs.declared.answer.RuleVerdict.{RuleVerdict}
-use Rattle.bay_audit.specs.declared.answer.RuleVerdict.TheVariants.{Obeyed, Missed, Unknown}
-use Rattle.bay_audit.proofs.CaseLemmas.{ranges-have}
+use Rattle.bay_audit.specs.declared.answer.RuleVerdict.TheVariants as decision
+use Rattle.bay_audit.proofs.CaseLemmas.{ranges-have, setting_of}
 use Rattle.bay_audit.proofs.OutlookLemmas.{condition-included, of-both, of-opposite}
 
 -- ---- outputs
 
-in-if : (w : Switches) (b : Bool) (v : Value) (r : Range) (values : List Value)
+in-if : (w : Setting) (b : Bool) (v : Value) (r : Range) (values : List Value)
     (ranges : List Range) → IsIn w v r → AreIn w values ranges
     → AreIn w (cond b (v ∷ values) values) (cond b (r ∷ ranges) ranges)
 in-if w true v r values ranges h k = (h, k)
 in-if w false v r values ranges h k = k
 
-outputs-in : (w : Switches) (points : List ImagePoint) (slots : List Value) (ranges : List Range)
+outputs-in : (w : Setting) (points : List ImagePoint) (slots : List Value) (ranges : List Range)
     → AreIn w slots ranges → AreIn w (outputs_of points slots) (outputs_of points ranges)
 outputs-in w [] slots ranges h = tt
 outputs-in w (p ∷ points) [] [] h = tt
@@ -66,7 +73,7 @@ Told Either b = Unit {0}
 Told (Between low high) b = Unit {0}
 Told (Among k s) b = Unit {0}
 
-value-told : (w : Switches) (v : Value) (r : Range) → IsIn w v r → Told r (is_true (Some v))
+value-told : (w : Setting) (v : Value) (r : Range) → IsIn w v r → Told r (is_true (Some v))
 value-told w (Truth false) No h = refl
 value-told w (Truth true) No h = absurd h
 value-told w (Truth true) Yes h = refl
@@ -84,7 +91,7 @@ value-told w v Either h = tt
 value-told w v (Between low high) h = tt
 value-told w v (Among k s) h = tt
 
-there-told : (w : Switches) (values : List Value) (ranges : List Range) (n : ℕ)
+there-told : (w : Setting) (values : List Value) (ranges : List Range) (n : ℕ)
     → AreIn w values ranges
     → Told (range_there (slice_get ranges n)) (is_true (slice_get values n))
 there-told w [] [] n h = refl
@@ -93,25 +100,41 @@ there-told w (v ∷ values) (r ∷ ranges) (suc n) h = there-told w values range
 there-told w [] (r ∷ ranges) n h = absurd h
 there-told w (v ∷ values) [] n h = absurd h
 
-place-told : (w : Switches) (values : List Value) (ranges : List Range) (place : Option ℕ)
+place-told : (w : Setting) (values : List Value) (ranges : List Range) (place : Option ℕ)
     → AreIn w values ranges → Told (range_at ranges place) (is_true (output_at place values))
 place-told w values ranges None h = refl
 place-told w values ranges (Some n) h = there-told w values ranges n h
 
--- a limit tells of a delay only that none runs
-young-told : (now : ℕ) (phase : TimerPhase) (below : Option ℕ) → IsYoung now phase below
-    → Told (idle_range (Some below)) (is_none (delay_start phase))
-young-told now phase None y = tt
-young-told now phase (Some (suc n)) y = tt
-young-told now Idle (Some zero) y = refl
-young-told now Held (Some zero) y = refl
-young-told now (Since start) (Some zero) y = absurd (omega (arith, y))
+-- what is known of a delay tells of whether one runs, has begun, and began by the mark
+idle-phase : (mark now : ℕ) (kind : TimerKind) (phase : TimerPhase) (d : KnownDelay)
+    → IsDelay mark now kind phase d → Told (idle_range (Some d)) (is_none (delay_start phase))
+idle-phase mark now kind phase Unknown y = tt
+idle-phase mark now kind phase Begun y = tt
+idle-phase mark now kind phase (AtLeast n) y = tt
+idle-phase mark now kind phase (Below (suc n)) y = tt
+idle-phase mark now kind phases.Idle (Below zero) y = refl
+idle-phase mark now kind phases.Held (Below zero) y = refl
+idle-phase mark now kind (phases.Since start) (Below zero) y = absurd (omega (arith, y))
 
-none-told : (o : Option (Option ℕ)) → Told (idle_range o) true
-none-told None = tt
-none-told (Some None) = tt
-none-told (Some (Some zero)) = refl
-none-told (Some (Some (suc n))) = tt
+by-some : (mark : ℕ) (o : Option ℕ) → is_by mark o ≡ true → is_some o ≡ true
+by-some mark None h = absurd cc
+by-some mark (Some start) h = refl
+
+begun-phase : (mark now : ℕ) (kind : TimerKind) (phase : TimerPhase) (d : KnownDelay)
+    → IsDelay mark now kind phase d
+    → Told (begun_range (Some d)) (is_some (delay_onset kind phase))
+begun-phase mark now kind phase Unknown y = tt
+begun-phase mark now kind phase (Below n) y = tt
+begun-phase mark now kind phase Begun y = y
+begun-phase mark now kind phase (AtLeast n) y = by-some mark (delay_onset kind phase) y.0
+
+lasting-phase : (mark now : ℕ) (kind : TimerKind) (phase : TimerPhase) (d : KnownDelay)
+    → IsDelay mark now kind phase d
+    → Told (lasting_range (Some d)) (is_by mark (delay_onset kind phase))
+lasting-phase mark now kind phase Unknown y = tt
+lasting-phase mark now kind phase (Below n) y = tt
+lasting-phase mark now kind phase Begun y = tt
+lasting-phase mark now kind phase (AtLeast n) y = y.0
 
 -- ---- decisions
 
@@ -147,7 +170,8 @@ missed-broken Always (Among k s) b e told = absurd cc
 
 -- what each decision says of its tests
 is-obeyed : (kept t missed f : Bool)
-    → cond (kept || not t) Obeyed (cond (missed && not f) Missed Unknown) ≡ Obeyed
+    → cond (kept || not t) decision.Obeyed (cond (missed && not f) decision.Missed decision.Unknown)
+    ≡ decision.Obeyed
     → (kept ≡ true) ⊎ (t ≡ false)
 is-obeyed true t missed f h = inl refl
 is-obeyed false false missed f h = inr refl
@@ -156,7 +180,8 @@ is-obeyed false true true false h = absurd cc
 is-obeyed false true false f h = absurd cc
 
 is-missed : (kept t missed f : Bool)
-    → cond (kept || not t) Obeyed (cond (missed && not f) Missed Unknown) ≡ Missed
+    → cond (kept || not t) decision.Obeyed (cond (missed && not f) decision.Missed decision.Unknown)
+    ≡ decision.Missed
     → (missed ≡ true) × (f ≡ false)
 is-missed true t missed f h = absurd cc
 is-missed false false missed f h = absurd cc
@@ -165,7 +190,7 @@ is-missed false true true false h = (refl, refl)
 is-missed false true false f h = absurd cc
 
 module _ (kind : RuleKind) (o : TruthSet) (r : Range) (b : Bool) (told : Told r b) where
-  obeyed-so : (c : Bool) → includes o c ≡ true → decide kind o r ≡ Obeyed
+  obeyed-so : (c : Bool) → includes o c ≡ true → decide kind o r ≡ decision.Obeyed
       → is_obeyed kind c b ≡ true
   obeyed-so false one e = refl
   obeyed-so true one e =
@@ -174,7 +199,7 @@ module _ (kind : RuleKind) (o : TruthSet) (r : Range) (b : Bool) (told : Told r 
         | inr never ↦ absurd (let f : true ≡ false = sym one ∙ never in cc)
       ]
 
-  broken-so : (c : Bool) → includes o c ≡ true → decide kind o r ≡ Missed
+  broken-so : (c : Bool) → includes o c ≡ true → decide kind o r ≡ decision.Missed
       → is_obeyed kind c b ≡ false
   broken-so true one e =
       missed-broken kind r b (is-missed (is_surely_obeyed kind r) o.yes (is_surely_missed kind r)
@@ -186,25 +211,56 @@ module _ (kind : RuleKind) (o : TruthSet) (r : Range) (b : Bool) (told : Told r 
 
 -- ---- goals
 
--- what the limit tells of a timer at a place
-idle-told : (now : ℕ) (timers : List TimerState) (limits : List (Option ℕ)) (n : ℕ)
-    → AreYoung now timers limits
-    → Told (idle_range (slice_get limits n)) (is_none (delay_start_at n timers))
-idle-told now timers [] n y = tt
-idle-told now [] (below ∷ limits) n y = none-told (slice_get (below ∷ limits) n)
-idle-told now (t ∷ timers) (below ∷ limits) zero y = young-told now t.phase below y.0
-idle-told now (t ∷ timers) (below ∷ limits) (suc n) y = idle-told now timers limits n y.1
+-- the same of a timer at a place
+idle-told : (mark now : ℕ) (timers : List TimerState) (delays : List KnownDelay) (n : ℕ)
+    → AreDelays mark now timers delays
+    → Told (idle_range (slice_get delays n)) (is_none (delay_start_at n timers))
+idle-told mark now timers [] n y = tt
+idle-told mark now [] (d ∷ delays) zero y = idle-phase mark now OnDelay phases.Idle d y.0
+idle-told mark now [] (d ∷ delays) (suc n) y = idle-told mark now [] delays n y.1
+idle-told mark now (t ∷ timers) (d ∷ delays) zero y =
+    idle-phase mark now t.kind t.phase d y.0
+idle-told mark now (t ∷ timers) (d ∷ delays) (suc n) y =
+    idle-told mark now timers delays n y.1
+
+begun-told : (mark now : ℕ) (timers : List TimerState) (delays : List KnownDelay) (n : ℕ)
+    → AreDelays mark now timers delays
+    → Told (begun_range (slice_get delays n)) (is_some (delay_onset_at n timers))
+begun-told mark now timers [] n y = tt
+begun-told mark now [] (d ∷ delays) zero y = begun-phase mark now OnDelay phases.Idle d y.0
+begun-told mark now [] (d ∷ delays) (suc n) y = begun-told mark now [] delays n y.1
+begun-told mark now (t ∷ timers) (d ∷ delays) zero y =
+    begun-phase mark now t.kind t.phase d y.0
+begun-told mark now (t ∷ timers) (d ∷ delays) (suc n) y =
+    begun-told mark now timers delays n y.1
+
+lasting-told : (mark now : ℕ) (timers : List TimerState) (delays : List KnownDelay) (n : ℕ)
+    → AreDelays mark now timers delays
+    → Told (lasting_range (slice_get delays n)) (is_by mark (delay_onset_at n timers))
+lasting-told mark now timers [] n y = tt
+lasting-told mark now [] (d ∷ delays) zero y = lasting-phase mark now OnDelay phases.Idle d y.0
+lasting-told mark now [] (d ∷ delays) (suc n) y = lasting-told mark now [] delays n y.1
+lasting-told mark now (t ∷ timers) (d ∷ delays) zero y =
+    lasting-phase mark now t.kind t.phase d y.0
+lasting-told mark now (t ∷ timers) (d ∷ delays) (suc n) y =
+    lasting-told mark now timers delays n y.1
 
 -- what is known of whether a goal is reached tells it
-pub goal-told : (w : Switches) (g : BoundProgram) (goal : Goal) (now : ℕ) (slots : List Value)
-    (timers : List TimerState) (ranges : List Range) (limits : List (Option ℕ))
-    → AreIn w slots ranges → AreYoung now timers limits
-    → Told (goal_range g.image.points g.writes ranges limits goal) (reaches g goal slots timers)
-goal-told w g (goals.Release k operation) now slots timers ranges limits h y =
+pub goal-told : (w : Setting) (g : BoundProgram) (goal : Goal) (now : ℕ) (slots : List Value)
+    (timers : List TimerState) (ranges : List Range) (delays : List KnownDelay)
+    → AreIn w slots ranges → AreDelays w.mark now timers delays
+    → Told (goal_range g.image.points g.writes ranges delays goal)
+    (reaches g goal w.mark slots timers)
+goal-told w g (goals.Release k operation) now slots timers ranges delays h y =
     place-told w (outputs_of g.image.points slots) (outputs_of g.image.points ranges)
     (position (is_point k (releasing_point operation)) g.writes)
     (outputs-in w g.image.points slots ranges h)
-goal-told w g (goals.Idle n) now slots timers ranges limits h y = idle-told now timers limits n y
+goal-told w g (goals.Idle n) now slots timers ranges delays h y =
+    idle-told w.mark now timers delays n y
+goal-told w g (goals.Begun n) now slots timers ranges delays h y =
+    begun-told w.mark now timers delays n y
+goal-told w g (goals.Lasting n) now slots timers ranges delays h y =
+    lasting-told w.mark now timers delays n y
 
 -- ---- what is asked
 
@@ -220,8 +276,8 @@ asked-included d p is case inside =
 -- ---- a pass
 
 -- What is foretold of all that the ranges of a program's memory hold is so of what it reaches.
-pub foresees-by : (g : BoundProgram) (memory : List Range) (limits : List (Option ℕ))
-    (given : List Range) (last : List (Option ℕ)) (result : List Range) → IsMemory g.image memory
+pub foresees-by : (g : BoundProgram) (memory : List Range) (limits : List KnownDelay)
+    (given : List Range) (last : List KnownDelay) (result : List Range) → IsMemory g.image memory
     → Foretells g.image memory limits given last result → Foresees g limits given last result
 foresees-by g memory limits given last result is foretells w machine inputs now slots timers image
     reached young inside leaves =
@@ -229,46 +285,47 @@ foresees-by g memory limits given last result is foretells w machine inputs now 
     inside leaves
 
 module _ (g : BoundProgram) (d : Demand) (case : List TestAnswer) (ranges : List Range)
-    (limits : List (Option ℕ))
+    (limits : List KnownDelay)
     (foresees : Foresees g d.limits (map (range_of case) g.reads) limits ranges)
     (asked : TruthSet) (r : Range) (is-asked : asked ≡ rule_truths case d.when d.unless)
     (is-range : r ≡ goal_range g.image.points g.writes ranges limits d.goal) where
   module _ (p : Process) (is : IsProcess p) (inside : is_in case p ≡ true)
-      (machine : scans.MachineData)
+      (mark : ℕ) (machine : scans.MachineData)
       (now : ℕ) (slots : List Value) (timers : List TimerState) (image : machine.image ≡ g.image)
-      (kept : IsReached machine) (young : AreYoung now machine.timers d.limits)
+      (kept : IsReached machine) (young : AreDelays mark now machine.timers d.limits)
       (leaves : Leaves machine (map (process_value p) g.reads) now slots timers)
     where
-      told : Told r (reaches g d.goal slots timers)
+      told : Told r (reaches g d.goal mark slots timers)
       told =
           let end =
-          foresees p.position machine (map (process_value p) g.reads) now slots timers image kept
+          foresees (setting_of p mark) machine (map (process_value p) g.reads) now slots timers
+          image kept
           young
-          (ranges-have p is case inside g.reads) leaves in
-          subst (λ (x : Range). Told x (reaches g d.goal slots timers)) (sym is-range)
-          (goal-told p.position g d.goal now slots timers ranges limits end.0 end.1)
+          (ranges-have p mark is case inside g.reads) leaves in
+          subst (λ (x : Range). Told x (reaches g d.goal mark slots timers)) (sym is-range)
+          (goal-told (setting_of p mark) g d.goal now slots timers ranges limits end.0 end.1)
 
       included : includes asked (is_covered d p) ≡ true
       included = ap (λ (o : TruthSet). includes o (is_covered d p)) is-asked
           ∙ asked-included d p is case inside
 
-  obeyed-by : decide d.kind asked r ≡ Obeyed
+  obeyed-by : decide d.kind asked r ≡ decision.Obeyed
       → (p : Process) → IsProcess p → is_in case p ≡ true → Comes true g d p
-  obeyed-by e p is inside machine now slots timers image kept young leaves =
-      obeyed-so d.kind asked r (reaches g d.goal slots timers)
-      (told p is inside machine now slots timers image kept young leaves) (is_covered d p)
-      (included p is inside machine now slots timers image kept young leaves) e
+  obeyed-by e p is inside mark machine now slots timers image kept young leaves =
+      obeyed-so d.kind asked r (reaches g d.goal mark slots timers)
+      (told p is inside mark machine now slots timers image kept young leaves) (is_covered d p)
+      (included p is inside mark machine now slots timers image kept young leaves) e
 
-  broken-by : decide d.kind asked r ≡ Missed → IsMissed g d case
-  broken-by e p is inside machine now slots timers image kept young leaves =
-      broken-so d.kind asked r (reaches g d.goal slots timers)
-      (told p is inside machine now slots timers image kept young leaves) (is_covered d p)
-      (included p is inside machine now slots timers image kept young leaves) e
+  broken-by : decide d.kind asked r ≡ decision.Missed → IsMissed g d case
+  broken-by e p is inside mark machine now slots timers image kept young leaves =
+      broken-so d.kind asked r (reaches g d.goal mark slots timers)
+      (told p is inside mark machine now slots timers image kept young leaves) (is_covered d p)
+      (included p is inside mark machine now slots timers image kept young leaves) e
 
   pub decision-by : (x : RuleVerdict) → x ≡ decide d.kind asked r → IsDecision g d case x
-  decision-by Obeyed e = obeyed-by (sym e)
-  decision-by Missed e = broken-by (sym e)
-  decision-by Unknown e = tt
+  decision-by decision.Obeyed e = obeyed-by (sym e)
+  decision-by decision.Missed e = broken-by (sym e)
+  decision-by decision.Unknown e = tt
 
 -- ---- the first scan
 
@@ -280,11 +337,12 @@ module _ (g : BoundProgram) (k : ℕ) (operation : Operation) (ranges : List Ran
       → Told r (releases g k operation slots)
   start-told r is p now slots timers ip leaves =
       subst (λ (x : Range). Told x (releases g k operation slots)) (sym is)
-      (place-told p.position (outputs_of g.image.points slots) (outputs_of g.image.points ranges)
+      (place-told (setting_of p 0) (outputs_of g.image.points slots)
+      (outputs_of g.image.points ranges)
       (position (is_point k (releasing_point operation)) g.writes)
-      (outputs-in p.position g.image.points slots ranges
-      (foresees p.position (map (process_value p) g.reads) now slots timers
-      (ranges-have p ip [] refl g.reads) leaves)))
+      (outputs-in (setting_of p 0) g.image.points slots ranges
+      (foresees (setting_of p 0) (map (process_value p) g.reads) now slots timers
+      (ranges-have p 0 ip [] refl g.reads) leaves)))
 
   pub start-released : (r : Range) → r ≡ release_range g.image.points g.writes ranges k operation
       → r ≡ Yes → IsStart g k operation Released
@@ -297,22 +355,22 @@ module _ (g : BoundProgram) (k : ℕ) (operation : Operation) (ranges : List Ran
       start-told No (sym e ∙ is) p now slots timers ip leaves
 
 -- no delay runs before the first scan
-first-young : (now : ℕ) (kinds : List TimerKind) (n : ℕ)
-    → AreYoung now (map first_state kinds) (replicate n (Some 0))
-first-young now kinds zero = tt
-first-young now [] (suc n) = tt
-first-young now (kind ∷ kinds) (suc n) = (tt, first-young now kinds n)
+first-young : (mark now : ℕ) (kinds : List TimerKind) (n : ℕ)
+    → AreDelays mark now (map first_state kinds) (replicate n (Below 0))
+first-young mark now kinds zero = tt
+first-young mark now [] (suc n) = (tt, first-young mark now [] n)
+first-young mark now (kind ∷ kinds) (suc n) = (tt, first-young mark now kinds n)
 
 pub foresees-first : (g : BoundProgram) (memory : List Range) (n : ℕ) (given : List Range)
-    (last : List (Option ℕ)) (result : List Range)
+    (last : List KnownDelay) (result : List Range)
     → memory ≡ map range_of_point g.image.points ++ map value_range g.image.variables
-    → Foretells g.image memory (replicate n (Some 0)) given last result
+    → Foretells g.image memory (replicate n (Below 0)) given last result
     → ForeseesFirst g given result
 foresees-first g memory n given last result is foretells w inputs now slots timers inside leaves =
     (foretells w (first_machine g.image) inputs now slots timers refl (First g.image)
     (subst (AreIn w (first_machine g.image).slots) (sym is)
     (firsts-in w g.image.points g.image.variables))
-    (first-young now g.image.timers n) inside leaves).0
+    (first-young w.mark now g.image.timers n) inside leaves).0
 
 -- a demand is met where nothing is asked
 idle-so : (kind : RuleKind) (o : TruthSet) (c b : Bool) → o.yes ≡ false → includes o c ≡ true
@@ -323,7 +381,18 @@ idle-so kind o true b never one = absurd (let f : true ≡ false = sym one ∙ n
 pub idle-in : (g : BoundProgram) (d : Demand) (case : List TestAnswer)
     → (rule_truths case d.when d.unless).yes ≡ false → (p : Process) → IsProcess p
     → is_in case p ≡ true → Comes true g d p
-idle-in g d case never p is inside machine now slots timers image kept young leaves =
+idle-in g d case never p is inside mark machine now slots timers image kept young leaves =
     idle-so d.kind (rule_truths case d.when d.unless) (is_covered d p)
-    (reaches g d.goal slots timers)
+    (reaches g d.goal mark slots timers)
     never (asked-included d p is case inside)
+
+-- ---- rules with a time
+
+-- the answer to the demand that the condition alone releases the switch is one to the rule
+pub required-plain : (g : BoundProgram) (rule : Rule) (timing : Timing) (a : RuleAnswer)
+    → IsAnswer g (sufficient_demand rule timing.condition) a → IsRequired g rule timing a
+required-plain g rule timing (Holds cases) h = h
+required-plain g rule timing (Broken case) h = h
+required-plain g rule timing (Open case kept) h = h
+required-plain g rule timing TooMany h = tt
+required-plain g rule timing (Since n cases) h = absurd h

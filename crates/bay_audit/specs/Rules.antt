@@ -1,5 +1,5 @@
 -- Which rules a program obeys, in every state that it can reach and for every process.
-use Rattle.std.specs.Prelude.{ℕ, zero, suc, ◌+◌, ◌++◌, ◌≡◌, Bool, true, false, not, ◌&&◌, ◌||◌, ◌<◌, ◌⊎◌, All, List, [], ◌∷◌, map, position, replicate, MatchOption, Option, None, Some, is_none, slice_get, Result, Ok, Err, if◌then◌else◌}
+use Rattle.std.specs.Prelude.{ℕ, zero, suc, ◌+◌, ◌++◌, ◌≡◌, Bool, true, false, not, ◌&&◌, ◌||◌, ◌<◌, ◌⊎◌, All, List, [], ◌∷◌, map, position, replicate, MatchOption, Option, None, Some, is_none, is_some, slice_get, Result, Ok, Err, if◌then◌else◌}
 use Rattle.std.specs.List.{count_by}
 use Rattle.bay_config.specs.declared.bay.Bay.{Bay}
 use Rattle.bay_base.specs.declared.point.Source.{Source}
@@ -20,8 +20,10 @@ use Rattle.il_image.specs.declared.image.ImagePoint.{ImagePoint}
 use Rattle.il_image.specs.declared.timer.TimerState.{TimerState}
 use Rattle.il_image.specs.declared.value.Value.{Value}
 use Rattle.il_image.specs.Images.{Image}
-use Rattle.il_range.specs.Foretold.{AreYoung, IsReached, Leaves, delay_start_at}
-use Rattle.il_range.specs.Ranges.{AreIn, Switches}
+use Rattle.il_range.specs.Foretold.{AreDelays, IsReached, Leaves, delay_start_at}
+use Rattle.il_range.specs.Ranges.{AreIn, Setting, delay_onset_at, is_by}
+use Rattle.il_range.specs.declared.delay.KnownDelay.{KnownDelay}
+use Rattle.il_range.specs.declared.delay.KnownDelay.TheVariants as delays
 use Rattle.il_range.specs.declared.range.Range.{Range}
 use Rattle.il_range.specs.declared.range.Range.TheVariants as range
 use Rattle.il_scan.specs.Scans.{MachineData, first_machine, outputs_of}
@@ -81,27 +83,31 @@ is_obeyed kind false release = true
 is_obeyed Never true release = not release
 is_obeyed Always true release = release
 
--- the slots and timers reach the goal: the switch is released, or no delay of the timer runs
-abbrev pub reaches : BoundProgram → Goal → List Value → List TimerState → Bool
-reaches g (goals.Release k operation) slots timers = releases g k operation slots
-reaches g (goals.Idle n) slots timers = is_none (delay_start_at n timers)
+-- the slots and timers reach the goal: the switch is released; no delay of the timer runs; the
+-- timer's delay has begun; or it began no later than a moment, the mark
+abbrev pub reaches : BoundProgram → Goal → ℕ → List Value → List TimerState → Bool
+reaches g (goals.Release k operation) mark slots timers = releases g k operation slots
+reaches g (goals.Idle n) mark slots timers = is_none (delay_start_at n timers)
+reaches g (goals.Begun n) mark slots timers = is_some (delay_onset_at n timers)
+reaches g (goals.Lasting n) mark slots timers = is_by mark (delay_onset_at n timers)
 
 -- the demand covers this process
 abbrev pub is_covered : Demand → Process → Bool
 is_covered d p = holds d.when p && not (holds d.unless p)
 
--- the slots and timers meet a demand, for this process
-abbrev pub obeys : BoundProgram → Demand → Process → List Value → List TimerState → Bool
-obeys g d p slots timers = is_obeyed d.kind (is_covered d p) (reaches g d.goal slots timers)
+-- the slots and timers meet a demand, for this process and this mark
+abbrev pub obeys : BoundProgram → Demand → Process → ℕ → List Value → List TimerState → Bool
+obeys g d p mark slots timers =
+    is_obeyed d.kind (is_covered d p) (reaches g d.goal mark slots timers)
 
--- Every scan that the demand covers, for this process, at any time and from any state that the
--- program can reach, meets the demand if b is true, and misses it if b is false.
+-- Every scan that the demand covers, for this process and each mark, at any time and from any state
+-- that the program can reach, meets the demand if b is true, and misses it if b is false.
 abbrev pub Comes : Bool → BoundProgram → Demand → Process → Type 0
 Comes b g d p =
-    (machine : MachineData) (now : ℕ) (slots : List Value) (timers : List TimerState)
-    → machine.image ≡ g.image → IsReached machine → AreYoung now machine.timers d.limits
+    (mark : ℕ) (machine : MachineData) (now : ℕ) (slots : List Value) (timers : List TimerState)
+    → machine.image ≡ g.image → IsReached machine → AreDelays mark now machine.timers d.limits
     → Leaves machine (map (process_value p) g.reads) now slots timers
-    → obeys g d p slots timers ≡ b
+    → obeys g d p mark slots timers ≡ b
 
 -- A demand is met: for every process, in each state.
 abbrev pub IsMet : BoundProgram → Demand → Type 0
@@ -131,9 +137,9 @@ IsBroken g rule case = IsMissed g (plain_demand rule) case
 
 -- ---- rules with a time
 
--- the limit of one timer
-abbrev pub limit_of : ℕ → ℕ → List (Option ℕ)
-limit_of n time = replicate n None ++ Some time ∷ []
+-- the limit of the delay of one timer
+abbrev pub limit_of : ℕ → KnownDelay → List KnownDelay
+limit_of n delay = replicate n delays.Unknown ++ delay ∷ []
 
 -- the switch is not released unless a delay of the timer runs that began at least `time` ago
 abbrev pub delay_demand : Rule → ℕ → ℕ → Demand
@@ -142,7 +148,7 @@ delay_demand rule time n = record {
   goal = goals.Release rule.switch rule.operation;
   when = rule.when;
   unless = [];
-  limits = limit_of n time;
+  limits = limit_of n (delays.Below time);
 }
 
 -- the switch is not released while the condition is FALSE
@@ -165,15 +171,43 @@ idle_timer_demand condition n = record {
   limits = [];
 }
 
--- the switch is released while the condition is TRUE
-abbrev pub sufficient_demand : Rule → List ConditionItem → Demand
-sufficient_demand rule condition = record {
+-- the switch is released while the condition is TRUE, in scans before which delays are so
+abbrev pub release_demand_within : Rule → List ConditionItem → List KnownDelay → Demand
+release_demand_within rule condition limits = record {
   kind = Always;
   goal = goals.Release rule.switch rule.operation;
   when = rule.when;
   unless = condition ++ items.Not ∷ [];
-  limits = [];
+  limits = limits;
 }
+
+-- the same in each scan
+abbrev pub sufficient_demand : Rule → List ConditionItem → Demand
+sufficient_demand rule condition = release_demand_within rule condition []
+
+-- the same, if the delay of the timer began at least `time` ago
+abbrev pub due_demand : Rule → Timing → ℕ → Demand
+due_demand rule timing n =
+    release_demand_within rule timing.condition (limit_of n (delays.AtLeast timing.time))
+
+-- a scan with the condition TRUE reaches the goal, in scans before which delays are so
+abbrev pub running_demand : List ConditionItem → Goal → List KnownDelay → Demand
+running_demand condition goal limits = record {
+  kind = Always;
+  goal = goal;
+  when = condition;
+  unless = [];
+  limits = limits;
+}
+
+-- the delay of the timer has begun whenever the condition is TRUE
+abbrev pub begun_demand : List ConditionItem → ℕ → Demand
+begun_demand condition n = running_demand condition (goals.Begun n) []
+
+-- whenever the condition is TRUE, a delay of the timer that began by a moment has still begun by it
+abbrev pub lasting_demand : List ConditionItem → ℕ → Demand
+lasting_demand condition n =
+    running_demand condition (goals.Lasting n) (limit_of n (delays.AtLeast 0))
 
 -- A timer establishes the rule that a switch is not released until a condition has held for a time:
 -- its delay runs only while the condition is TRUE, and a release waits for it.
@@ -181,6 +215,15 @@ pub record IsByTimer (g : BoundProgram) (rule : Rule) (timing : Timing) (n : ℕ
   pub late_so : IsMet g (delay_demand rule timing.time n)
   pub there_so : IsMet g (necessary_demand rule timing.condition)
   pub idle_so : IsMet g (idle_timer_demand timing.condition n)
+
+-- A timer establishes the rule that a switch is released after a condition has held for a time: its
+-- delay begins and lasts while the condition is TRUE, and lets the release through once it has
+-- lasted for the time.
+pub record IsDueByTimer (g : BoundProgram) (rule : Rule) (timing : Timing) (n : ℕ) : Type 0 where
+  pub long : 0 < timing.time
+  pub begun_so : IsMet g (begun_demand timing.condition n)
+  pub lasts_so : IsMet g (lasting_demand timing.condition n)
+  pub due_so : IsMet g (due_demand rule timing n)
 
 -- ---- answers
 
@@ -242,12 +285,21 @@ IsForbidden g rule timing (Broken case) =
 IsForbidden g rule timing (Open case kept) = HasProcess case
 IsForbidden g rule timing TooMany = Unit {0}
 
--- The same of a rule of either kind. A rule that requires a release after a condition has held for
--- a time holds if the switch is released whenever the condition is TRUE, and is broken if it never
--- is.
+-- The answer to a rule that requires a release after a condition has held for a time is right. It
+-- holds if the switch is released whenever the condition is TRUE, or if a timer establishes it; it
+-- is broken if the switch is never released while the condition is TRUE.
+abbrev pub IsRequired : BoundProgram → Rule → Timing → RuleAnswer → Type 0
+IsRequired g rule timing (Holds cases) = IsMet g (sufficient_demand rule timing.condition)
+IsRequired g rule timing (Since n cases) = IsDueByTimer g rule timing n
+IsRequired g rule timing (Broken case) =
+    IsMissed g (sufficient_demand rule timing.condition) case × HasProcess case
+IsRequired g rule timing (Open case kept) = HasProcess case
+IsRequired g rule timing TooMany = Unit {0}
+
+-- the same of a rule of either kind
 abbrev pub IsTimely : RuleKind → BoundProgram → Rule → Timing → RuleAnswer → Type 0
 IsTimely Never g rule timing answer = IsForbidden g rule timing answer
-IsTimely Always g rule timing answer = IsAnswer g (sufficient_demand rule timing.condition) answer
+IsTimely Always g rule timing answer = IsRequired g rule timing answer
 
 abbrev pub IsUntil : BoundProgram → Rule → Timing → RuleAnswer → Type 0
 IsUntil g rule timing answer = IsTimely rule.kind g rule timing answer
@@ -350,22 +402,23 @@ release_demand k operation = record {
 
 -- ---- verdicts
 
--- With the switches in any positions, from every state that the program can reach, a scan with
--- inputs in the given ranges, and with timers whose delays have run for less than the limits,
--- leaves slots in the resulting ranges, and timers with the resulting limits.
-abbrev pub Foresees : BoundProgram → List (Option ℕ) → List Range → List (Option ℕ) → List Range
+-- In any setting, from every state that the program can reach, a scan with inputs in the given
+-- ranges, and with delays of timers as `limits` says, leaves slots in the resulting ranges, and
+-- delays as `last` says.
+abbrev pub Foresees : BoundProgram → List KnownDelay → List Range → List KnownDelay → List Range
     → Type 0
 Foresees g limits given last result =
-    (w : Switches) (machine : MachineData) (inputs : List Value) (now : ℕ) (slots : List Value)
+    (w : Setting) (machine : MachineData) (inputs : List Value) (now : ℕ) (slots : List Value)
     (timers : List TimerState) → machine.image ≡ g.image → IsReached machine
-    → AreYoung now machine.timers limits → AreIn w inputs given
-    → Leaves machine inputs now slots timers → AreIn w slots result × AreYoung now timers last
+    → AreDelays w.mark now machine.timers limits → AreIn w inputs given
+    → Leaves machine inputs now slots timers
+    → AreIn w slots result × AreDelays w.mark now timers last
 
--- With the switches in any positions, the first scan, with inputs in the given ranges, leaves slots
--- in the resulting ranges.
+-- In any setting, the first scan, with inputs in the given ranges, leaves slots in the resulting
+-- ranges.
 abbrev pub ForeseesFirst : BoundProgram → List Range → List Range → Type 0
 ForeseesFirst g given result =
-    (w : Switches) (inputs : List Value) (now : ℕ) (slots : List Value) (timers : List TimerState)
+    (w : Setting) (inputs : List Value) (now : ℕ) (slots : List Value) (timers : List TimerState)
     → AreIn w inputs given → Leaves (first_machine g.image) inputs now slots timers
     → AreIn w slots result
 
@@ -422,18 +475,38 @@ abbrev pub release_range : List ImagePoint → List Source → List Range → �
 release_range points writes ranges k operation =
     range_at (outputs_of points ranges) (position (is_point k (releasing_point operation)) writes)
 
--- the range of whether no delay runs, from the limit: no delay can have begun less than 0 ms ago
-abbrev pub idle_range : Option (Option ℕ) → Range
+-- the range of whether no delay runs: no delay can have begun less than 0 ms ago
+abbrev pub idle_range : Option KnownDelay → Range
 idle_range None = range.Either
-idle_range (Some None) = range.Either
-idle_range (Some (Some zero)) = range.Yes
-idle_range (Some (Some (suc n))) = range.Either
+idle_range (Some delays.Unknown) = range.Either
+idle_range (Some (delays.Below zero)) = range.Yes
+idle_range (Some (delays.Below (suc n))) = range.Either
+idle_range (Some delays.Begun) = range.Either
+idle_range (Some (delays.AtLeast n)) = range.Either
+
+-- the range of whether the delay has begun
+abbrev pub begun_range : Option KnownDelay → Range
+begun_range None = range.Either
+begun_range (Some delays.Unknown) = range.Either
+begun_range (Some (delays.Below n)) = range.Either
+begun_range (Some delays.Begun) = range.Yes
+begun_range (Some (delays.AtLeast n)) = range.Yes
+
+-- the range of whether the delay began no later than the mark
+abbrev pub lasting_range : Option KnownDelay → Range
+lasting_range None = range.Either
+lasting_range (Some delays.Unknown) = range.Either
+lasting_range (Some (delays.Below n)) = range.Either
+lasting_range (Some delays.Begun) = range.Either
+lasting_range (Some (delays.AtLeast n)) = range.Yes
 
 -- the range of whether a scan reaches a goal
-abbrev pub goal_range : List ImagePoint → List Source → List Range → List (Option ℕ) → Goal → Range
+abbrev pub goal_range : List ImagePoint → List Source → List Range → List KnownDelay → Goal → Range
 goal_range points writes ranges limits (goals.Release k operation) =
     release_range points writes ranges k operation
 goal_range points writes ranges limits (goals.Idle n) = idle_range (slice_get limits n)
+goal_range points writes ranges limits (goals.Begun n) = begun_range (slice_get limits n)
+goal_range points writes ranges limits (goals.Lasting n) = lasting_range (slice_get limits n)
 
 -- the case, if it has a process
 abbrev pub if_any : List TestAnswer → List (List TestAnswer)

@@ -17,9 +17,10 @@ pub enum RuleAnswer {
     Open { case: Case, kept: StateDependencies },
     /// The rule needs more passes than allowed.
     TooMany,
-    /// The rule has a time and holds; the proof needed this number of cases. The timer with this
-    /// index in the image runs only while the rule's condition holds, and has expired before the
-    /// switch is released.
+    /// The rule has a time and holds; the proof needed this number of cases. For `never`, the timer
+    /// with this index in the image runs only while the rule's condition holds, and has expired
+    /// before the switch is released; for `always`, it runs whenever the condition holds, and the
+    /// switch is released once it has expired.
     Since { timer: usize, cases: u32 },
 }
 

@@ -2,6 +2,7 @@
 use bay_audit_rules::rule::{ConditionItem, RuleKind};
 use bay_base::listing::Listing;
 use bay_base::switch::Operation;
+use il_range::delay::KnownDelay;
 
 /// A result of a scan.
 #[derive(Clone, Copy)]
@@ -10,6 +11,10 @@ pub enum Goal {
     Release { switch: usize, operation: Operation },
     /// No delay of the timer with this index in the image is running.
     Idle { timer: usize },
+    /// The delay of this timer has begun, and IN has not cut it off.
+    Begun { timer: usize },
+    /// The same, and it began no later than the mark.
+    Lasting { timer: usize },
 }
 
 /// A demand on each scan that it covers.
@@ -23,7 +28,7 @@ pub struct Demand {
     /// The exception, in postfix order: the demand covers no process for which it is TRUE. An empty
     /// list is no exception.
     pub unless: Listing<ConditionItem>,
-    /// For each timer, in their order, an optional limit in milliseconds: the demand covers only
-    /// scans in which the timer's delay began less than the limit ago, if it is running.
-    pub limits: Listing<Option<u32>>,
+    /// For the first timers, in their order: the demand covers only scans before which the timer's
+    /// delay is so, at the moment of the scan.
+    pub limits: Listing<KnownDelay>,
 }

@@ -9,6 +9,7 @@ use bay_base::text::Text;
 use bay_config::bay::{Bay, Point, Source};
 use bay_process::bind::sources_of;
 use il_image::image::{Image, ImagePoint};
+use il_range::delay::KnownDelay;
 use il_range::memory::memory_ranges;
 use il_range::range::Range;
 use il_range::scan::{ScanPrediction, scan_ranges};
@@ -108,18 +109,17 @@ impl<'a> AuditedProgram<'a> {
     }
 
     /// Predicts a scan from every state that the program can reach, with inputs in these ranges and
-    /// with timers whose delays have run for less than the limits. Fails only if an allocation
-    /// fails.
+    /// with delays of timers within the limits. Fails only if an allocation fails.
     pub fn scan(
         &self,
         alloc: Global,
-        limits: &[Option<u32>],
+        limits: &[KnownDelay],
         given: &[Range],
     ) -> Result<ScanPrediction, AllocError>
         ensures size { IfOk result
             (λ f. length f.ranges.items ≡ length self.now.image.points
             + length self.now.image.variables) }
-        ensures foretells { IfOk result (λ f. Foresees self.now limits.now given.now f.limits.items
+        ensures foretells { IfOk result (λ f. Foresees self.now limits.now given.now f.delays.items
             f.ranges.items) }
     {
         let memory = self.memory.as_slice();

@@ -363,7 +363,9 @@ fn goal_slot(program: &AuditedProgram<'_>, goal: Goal, forecast: &ScanPrediction
         Goal::Release { switch, operation } => release_place(program.writes(), switch, operation)
             .and_then(|place| slot_of(program.image().points(), place))
             .unwrap_or(0),
-        Goal::Idle { timer } => forecast.ranges.len().saturating_add(timer),
+        Goal::Idle { timer } | Goal::Begun { timer } | Goal::Lasting { timer } => {
+            forecast.ranges.len().saturating_add(timer)
+        }
     }
 }
 

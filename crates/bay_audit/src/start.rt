@@ -1,10 +1,12 @@
 // The ranges of a program's slots before its first scan, and the limits of its timers.
-ghost use Rattle.std.specs.Prelude.{◌≡◌, ◌++◌, IfOk, Some, map, replicate};
+ghost use Rattle.std.specs.Prelude.{◌≡◌, ◌++◌, IfOk, map, replicate};
 ghost use Rattle.il_range.specs.Effects as spec;
 ghost use Rattle.il_range.specs.Starts.{range_of_point};
+ghost use Rattle.il_range.specs.declared.delay.KnownDelay.TheVariants.{Below};
 
 use il_image::image::{Image, ImagePoint};
 use il_image::value::Value;
+use il_range::delay::KnownDelay;
 use il_range::range::Range;
 use std::alloc::{AllocError, Global};
 
@@ -43,9 +45,9 @@ pub(crate) fn first_ranges(alloc: Global, image: &Image) -> Result<Vec<Range>, A
 }
 
 /// Returns the limits of timers of which no delay runs. Fails only if an allocation fails.
-pub(crate) fn no_delays(alloc: Global, timers: usize) -> Result<Vec<Option<u32>>, AllocError>
-    ensures { IfOk result (λ limits. limits.items ≡ replicate timers (Some 0)) }
+pub(crate) fn no_delays(alloc: Global, timers: usize) -> Result<Vec<KnownDelay>, AllocError>
+    ensures { IfOk result (λ limits. limits.items ≡ replicate timers (Below 0)) }
 {
-    let limits = vec![in alloc; Some(0); timers]?;
+    let limits = vec![in alloc; KnownDelay::Below(0); timers]?;
     Ok(limits)
 }

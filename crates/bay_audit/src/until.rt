@@ -1,7 +1,7 @@
 // Rules with a time: a switch is not released until a condition has held for a time, or is released
 // after that.
 ghost use Rattle.std.specs.Prelude.{◌≡◌, IfOk, IfSome, IsSome};
-ghost use Rattle.bay_audit.specs.Rules.{IsForbidden, IsMet, IsUntil};
+ghost use Rattle.bay_audit.specs.Rules.{IsDueByTimer, IsForbidden, IsMet, IsRequired, IsUntil};
 ghost use Rattle.bay_audit.specs.Rules as spec;
 
 use crate::answer::RuleAnswer;
@@ -11,6 +11,7 @@ use crate::early::early_case;
 use crate::program::AuditedProgram;
 use bay_audit_rules::rule::{ConditionItem, Rule, RuleKind, Timing};
 use bay_base::listing::Listing;
+use il_range::delay::KnownDelay;
 use std::alloc::{AllocError, Global};
 
 // Returns a copy of a condition.
@@ -21,12 +22,16 @@ fn copy_of(alloc: Global, items: &[ConditionItem]) -> Result<Listing<ConditionIt
     Ok(Listing::new(items))
 }
 
-// Returns the limit of one timer.
-fn limit_of(alloc: Global, timer: usize, time: u32) -> Result<Listing<Option<u32>>, AllocError>
-    ensures { IfOk result (λ limits. limits ≡ spec.limit_of timer time) }
+// Returns the limit of the delay of one timer.
+fn limit_of(
+    alloc: Global,
+    timer: usize,
+    delay: KnownDelay,
+) -> Result<Listing<KnownDelay>, AllocError>
+    ensures { IfOk result (λ limits. limits ≡ spec.limit_of timer delay) }
 {
-    let mut limits = vec![in alloc; None; timer]?;
-    limits.push(Some(time))?;
+    let mut limits = vec![in alloc; KnownDelay::Unknown; timer]?;
+    limits.push(delay)?;
     Ok(Listing::new(limits))
 }
 
@@ -36,7 +41,7 @@ fn late_demand(alloc: Global, rule: &Rule, time: u32, timer: usize) -> Result<De
     ensures { IfOk result (λ demand. demand ≡ spec.delay_demand rule.now time timer) }
 {
     let when = copy_of(alloc, rule.when.as_slice())?;
-    let limits = limit_of(alloc, timer, time)?;
+    let limits = limit_of(alloc, timer, KnownDelay::Below(time))?;
     Ok(Demand {
         kind: RuleKind::Never,
         goal: Goal::Release {
@@ -90,13 +95,16 @@ fn idle_demand(
     })
 }
 
-// Returns the demand that the switch is released while the condition is TRUE.
-fn later_demand(
+// Returns the demand that the switch is released while the condition is TRUE, in scans before
+// which the delays of timers are within the limits.
+fn release_demand(
     alloc: Global,
     rule: &Rule,
     condition: &[ConditionItem],
+    limits: Listing<KnownDelay>,
 ) -> Result<Demand, AllocError>
-    ensures { IfOk result (λ demand. demand ≡ spec.sufficient_demand rule.now condition.now) }
+    ensures { IfOk result
+        (λ demand. demand ≡ spec.release_demand_within rule.now condition.now limits) }
 {
     let when = copy_of(alloc, rule.when.as_slice())?;
     let mut unless = Vec::from_slice(alloc, condition)?;
@@ -109,7 +117,27 @@ fn later_demand(
         },
         when,
         unless: Listing::new(unless),
-        limits: Listing::new(Vec::new(alloc)),
+        limits,
+    })
+}
+
+// Returns the demand that a scan with the condition TRUE reaches a goal, in scans before which the
+// delays of timers are within the limits.
+fn running_demand(
+    alloc: Global,
+    condition: &[ConditionItem],
+    goal: Goal,
+    limits: Listing<KnownDelay>,
+) -> Result<Demand, AllocError>
+    ensures { IfOk result (λ demand. demand ≡ spec.running_demand condition.now goal limits) }
+{
+    let when = copy_of(alloc, condition)?;
+    Ok(Demand {
+        kind: RuleKind::Always,
+        goal,
+        when,
+        unless: Listing::new(Vec::new(alloc)),
+        limits,
     })
 }
 
@@ -229,6 +257,107 @@ fn answer_forbidden(
     answer_by_dependency(alloc, program, rule, timing, passes)
 }
 
+// Returns the number of cases by which a timer's delay begins and lasts while a condition is TRUE;
+// `None` if that is not proved.
+fn lasts_by_timer(
+    alloc: Global,
+    program: &AuditedProgram<'_>,
+    condition: &[ConditionItem],
+    timer: usize,
+    passes: &mut u32,
+) -> Result<Option<u32>, AllocError>
+    ensures { IfOk result (λ cases. IsSome cases
+        → IsMet program.now (spec.begun_demand condition.now timer)
+        × IsMet program.now (spec.lasting_demand condition.now timer)) }
+{
+    let none = Listing::new(Vec::new(alloc));
+    let demand = running_demand(alloc, condition, Goal::Begun { timer }, none)?;
+    let Some(begun_cases) = cases_needed(alloc, program, &demand, passes)? else {
+        return Ok(None);
+    };
+    let limits = limit_of(alloc, timer, KnownDelay::AtLeast(0))?;
+    let demand = running_demand(alloc, condition, Goal::Lasting { timer }, limits)?;
+    let Some(lasting_cases) = cases_needed(alloc, program, &demand, passes)? else {
+        return Ok(None);
+    };
+    Ok(Some(begun_cases.saturating_add(lasting_cases)))
+}
+
+// Returns the number of cases by which a timer's delay lasts while a condition is TRUE, and the
+// switch is released once it has lasted for the time; `None` if that is not proved.
+fn due_by_timer(
+    alloc: Global,
+    program: &AuditedProgram<'_>,
+    rule: &Rule,
+    timing: &Timing,
+    timer: usize,
+    passes: &mut u32,
+) -> Result<Option<u32>, AllocError>
+    ensures { IfOk result (λ cases. IsSome cases
+        → IsDueByTimer program.now rule.now timing.now timer) }
+{
+    if timing.time == 0 {
+        return Ok(None);
+    }
+    let condition = timing.condition.as_slice();
+    let Some(lasting_cases) = lasts_by_timer(alloc, program, condition, timer, passes)? else {
+        return Ok(None);
+    };
+    let limits = limit_of(alloc, timer, KnownDelay::AtLeast(timing.time))?;
+    let demand = release_demand(alloc, rule, condition, limits)?;
+    let Some(release_cases) = cases_needed(alloc, program, &demand, passes)? else {
+        return Ok(None);
+    };
+    Ok(Some(lasting_cases.saturating_add(release_cases)))
+}
+
+// Returns the answer that a timer establishes a rule that requires a release after a condition has
+// held for a time; `None` if none does.
+fn answer_by_expiring_timer(
+    alloc: Global,
+    program: &AuditedProgram<'_>,
+    rule: &Rule,
+    timing: &Timing,
+    passes: &mut u32,
+) -> Result<Option<RuleAnswer>, AllocError>
+    ensures { IfOk result
+        (λ found. IfSome found (IsRequired program.now rule.now timing.now)) }
+{
+    for timer in 0..program.image().timers().len() {
+        if let Some(cases) = due_by_timer(alloc, program, rule, timing, timer, passes)? {
+            return Ok(Some(RuleAnswer::Since { timer, cases }));
+        }
+    }
+    Ok(None)
+}
+
+// Answers a rule that requires a release after a condition has held for a time: it holds if the
+// condition alone releases the switch, or if one of the program's timers establishes it.
+fn answer_required(
+    alloc: Global,
+    program: &AuditedProgram<'_>,
+    rule: &Rule,
+    timing: &Timing,
+    passes: &mut u32,
+) -> Result<RuleAnswer, AllocError>
+    ensures { IfOk result (IsRequired program.now rule.now timing.now) }
+{
+    let none = Listing::new(Vec::new(alloc));
+    let demand = release_demand(alloc, rule, timing.condition.as_slice(), none)?;
+    let found = answer(alloc, program, &demand, passes)?;
+    let RuleAnswer::Open { case, kept } = found else {
+        return Ok(found);
+    };
+    if let Some(by) = answer_by_expiring_timer(alloc, program, rule, timing, passes)? {
+        return Ok(by);
+    }
+    if *passes > 0 {
+        Ok(RuleAnswer::Open { case, kept })
+    } else {
+        Ok(RuleAnswer::TooMany)
+    }
+}
+
 /// Answers a rule with a time in at most `passes` passes, and subtracts those that it needed. Fails
 /// only if an allocation fails.
 pub(crate) fn until(
@@ -242,9 +371,6 @@ pub(crate) fn until(
 {
     match rule.kind {
         RuleKind::Never => answer_forbidden(alloc, program, rule, timing, passes),
-        RuleKind::Always => {
-            let demand = later_demand(alloc, rule, timing.condition.as_slice())?;
-            answer(alloc, program, &demand, passes)
-        }
+        RuleKind::Always => answer_required(alloc, program, rule, timing, passes),
     }
 }

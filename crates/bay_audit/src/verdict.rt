@@ -19,6 +19,7 @@ use bay_base::switch::Operation;
 use bay_config::bay::{Source, SwitchPoint};
 use bay_process::bind::output_place;
 use il_image::image::ImagePoint;
+use il_range::delay::KnownDelay;
 use il_range::range::Range;
 use il_range::scan::ScanPrediction;
 use std::alloc::{AllocError, Global};
@@ -136,13 +137,33 @@ pub(crate) fn release_range(
     Ok(range_at(outputs.as_slice(), place))
 }
 
-// Returns the range of whether no delay of a timer runs, from the limits of all timers; TRUE if
+// Returns the range of whether no delay of a timer runs, from what is known of its delay; TRUE if
 // that is known.
-fn idle_range(limits: &[Option<u32>], timer: usize) -> Range
-    ensures { result ≡ spec.idle_range (slice_get limits.now timer) }
+fn idle_range(delay: Option<KnownDelay>) -> Range
+    ensures { result ≡ spec.idle_range delay }
 {
-    match limits.get(timer).copied() {
-        Some(Some(0)) => Range::Yes,
+    match delay {
+        Some(KnownDelay::Below(0)) => Range::Yes,
+        _ => Range::Either,
+    }
+}
+
+// Returns the range of whether the delay of a timer has begun.
+fn begun_range(delay: Option<KnownDelay>) -> Range
+    ensures { result ≡ spec.begun_range delay }
+{
+    match delay {
+        Some(KnownDelay::Begun | KnownDelay::AtLeast(_)) => Range::Yes,
+        _ => Range::Either,
+    }
+}
+
+// Returns the range of whether the delay of a timer began no later than the mark.
+fn lasting_range(delay: Option<KnownDelay>) -> Range
+    ensures { result ≡ spec.lasting_range delay }
+{
+    match delay {
+        Some(KnownDelay::AtLeast(_)) => Range::Yes,
         _ => Range::Either,
     }
 }
@@ -156,8 +177,9 @@ fn range_of_goal(
 ) -> Result<Range, AllocError>
     requires { length program.now.image.points ≤ length forecast.now.ranges.items }
     ensures { IfOk result (λ r. r ≡ goal_range program.now.image.points program.now.writes
-        forecast.now.ranges.items forecast.now.limits.items goal) }
+        forecast.now.ranges.items forecast.now.delays.items goal) }
 {
+    let delays = forecast.delays.as_slice();
     match goal {
         Goal::Release { switch, operation } => {
             release_range(
@@ -168,7 +190,9 @@ fn range_of_goal(
                 forecast.ranges.as_slice(),
             )
         }
-        Goal::Idle { timer } => Ok(idle_range(forecast.limits.as_slice(), timer)),
+        Goal::Idle { timer } => Ok(idle_range(delays.get(timer).copied())),
+        Goal::Begun { timer } => Ok(begun_range(delays.get(timer).copied())),
+        Goal::Lasting { timer } => Ok(lasting_range(delays.get(timer).copied())),
     }
 }
 

@@ -15,7 +15,7 @@ use Rattle.il_range.specs.Foretold.{First}
 use Rattle.il_scan.specs.Scans.{first_machine}
 
 pub keeps-never : IsRule halting_program (at_all_times Never)
-keeps-never p is machine now slots timers image reached young leaves = refl
+keeps-never p is mark machine now slots timers image reached young leaves = refl
 
 abbrev silent : Process
 silent = record { position = λ k. Bad; input = λ k. false; measure = λ k field. pos 0 }
@@ -30,7 +30,7 @@ pub breaks-always : IsRule halting_program (at_all_times Always) → ⊥
 unfolding run_from act is_place instr_at instr_from opcode_of
 breaks-always h =
     let no : false ≡ true =
-    h silent is-silent (first_machine halting_program.image) 0 [] [] refl
+    h silent is-silent 0 (first_machine halting_program.image) 0 [] [] refl
     (First halting_program.image)
     tt
     (record { most = 1; steps = 1; halts = refl }) in

@@ -292,7 +292,7 @@ module _ (bay : Bay) (image : Image) (rule : Rule) (is_bay : IsBay bay)
       scanned-obeys : RowsObey rule scanned
       scanned-obeys =
           ap₂ (is_obeyed rule.kind) (scanned-holds rule.when ∙ sym (and-true _)) scanned-releases
-          ∙ holds_so (process_of s) (process-so s o) s.machine now scanned.machine.slots
+          ∙ holds_so (process_of s) (process-so s o) 0 s.machine now scanned.machine.slots
           scanned.machine.timers
           o.image_is o.reached tt read
 

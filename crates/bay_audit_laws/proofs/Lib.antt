@@ -1,10 +1,12 @@
 pub mod BadLemmas
 pub mod BlindLemmas
 pub mod DeviceLemmas
+pub mod DueLemmas
 pub mod ExampleLemmas
 pub mod LawLemmas
 pub mod LoadLemmas
 pub mod MeasureLemmas
+pub mod MomentLemmas
 pub mod ProcessLemmas
 pub mod RowLemmas
 pub mod WaitLemmas

@@ -5,6 +5,7 @@ use Rattle.std.proofs.lemmas.Bool.{and_parts}
 use Rattle.bay_config.specs.Laws.{IsBay}
 use Rattle.bay_config.specs.declared.bay.Bay.{Bay}
 use Rattle.bay_audit_rules.specs.Process.{holds}
+use Rattle.bay_audit_rules.specs.declared.rule.ConditionItem.{ConditionItem}
 use Rattle.bay_audit_rules.specs.declared.rule.Rule.{Rule}
 use Rattle.bay_audit_rules.specs.declared.rule.RuleKind.TheVariants.{Always, Never}
 use Rattle.bay_audit_rules.specs.declared.rule.Timing.{Timing}
@@ -18,8 +19,9 @@ use Rattle.il_image.specs.declared.timer.TimerPhase.TheVariants.{Idle, Held, Sin
 use Rattle.il_image.specs.declared.timer.TimerState.{TimerState}
 use Rattle.il_image.specs.Timers.{first_state}
 use Rattle.bay_base.specs.declared.types.TimerKind.{TimerKind}
-use Rattle.il_range.specs.Foretold.{AreYoung, delay_start, delay_start_at}
-use Rattle.il_range.specs.Ranges.{IsYoung}
+use Rattle.il_range.specs.Foretold.{AreDelays, delay_start, delay_start_at}
+use Rattle.il_range.specs.Ranges.{IsDelay}
+use Rattle.il_range.specs.declared.delay.KnownDelay.TheVariants.{Below}
 use Rattle.il_range.proofs.StartLemmas.{delays-continue}
 use Rattle.bay_device.specs.Commands.{AreCommanded, IsReleasedAt}
 use Rattle.bay_device.specs.Device.{State, after_scan, device_at, inputs_of, is_recent}
@@ -39,23 +41,25 @@ use Rattle.bay_audit_laws.proofs.LawLemmas.{Obeying, Turned, halts-of, leaves, l
 -- ---- timers
 
 -- a timer whose delay began less than the time ago is within its limit
-young-limit : (now time : ℕ) (n : ℕ) (timers : List TimerState)
+young-limit : (mark now time : ℕ) (n : ℕ) (timers : List TimerState)
     → ((start : ℕ) → delay_start_at n timers ≡ Some start → now - start < time)
-    → AreYoung now timers (limit_of n time)
-young-limit now time zero [] less = tt
-young-limit now time (suc n) [] less = tt
-young-limit now time zero (t ∷ timers) less = (young t.phase less, tt)
+    → AreDelays mark now timers (limit_of n (Below time))
+young-limit mark now time zero [] less = (tt, tt)
+young-limit mark now time (suc n) [] less =
+    (tt, young-limit mark now time n [] (λ start is. absurd cc))
+young-limit mark now time zero (t ∷ timers) less = (young t.phase less, tt)
   where
     young : (phase : TimerPhase)
         → ((start : ℕ) → delay_start phase ≡ Some start → now - start < time)
-        → IsYoung now phase (Some time)
+        → IsDelay mark now t.kind phase (Below time)
     young Idle h = tt
     young Held h = tt
     young (Since start) h = h start refl
-young-limit now time (suc n) (t ∷ timers) less = (tt, young-limit now time n timers less)
+young-limit mark now time (suc n) (t ∷ timers) less =
+    (tt, young-limit mark now time n timers less)
 
 -- no delay runs before the first scan
-first-began : (kinds : List TimerKind) (n start : ℕ)
+pub first-began : (kinds : List TimerKind) (n start : ℕ)
     → delay_start_at n (map first_state kinds) ≡ Some start → ⊥
 first-began [] n start is = absurd cc
 first-began (k ∷ kinds) zero start is = absurd cc
@@ -68,7 +72,7 @@ none-some (Some x) start none is = absurd cc
 -- ---- scans
 
 -- The condition has held at the last scan, and at each before it up to one at this moment.
-abbrev RunsFrom : ℕ → List (ℕ × Bool) → Type 0
+abbrev pub RunsFrom : ℕ → List (ℕ × Bool) → Type 0
 RunsFrom start [] = ⊥
 RunsFrom start (scan ∷ scans) =
     (scan.1 ≡ true) × ((scan.0 ≡ start) ⊎ RunsFrom start scans)
@@ -96,6 +100,35 @@ always-so : (b r : Bool) → is_obeyed Always (true && b) r ≡ true → b ≡ t
 always-so true r h b = h
 always-so false r h b = absurd cc
 
+-- ---- what is noted of scans
+
+-- the scans stay where none is done
+pub scans-same : (condition : List ConditionItem) (now : ℕ) (event : Event) (s : State)
+    (answer : Result Step StepFault) (scans : List (ℕ × Bool)) → (event ≡ Scan → ⊥)
+    → scans_after condition now event s answer scans ≡ scans
+scans-same condition now (Open a) s answer scans other = refl
+scans-same condition now (Recv a octets) s answer scans other = refl
+scans-same condition now (Close a) s answer scans other = refl
+scans-same condition now (Contact k position) s answer scans other = refl
+scans-same condition now (Input k value) s answer scans other = refl
+scans-same condition now (Measure k field value) s answer scans other = refl
+scans-same condition now (BadMeasure k field) s answer scans other = refl
+scans-same condition now Lost s answer scans other = refl
+scans-same condition now Scan s answer scans other = absurd (other refl)
+
+pub scans-refused : (condition : List ConditionItem) (now : ℕ) (event : Event) (s : State)
+    (fault : StepFault) (scans : List (ℕ × Bool))
+    → scans_after condition now event s (Err fault) scans ≡ scans
+scans-refused condition now (Open a) s fault scans = refl
+scans-refused condition now (Recv a octets) s fault scans = refl
+scans-refused condition now (Close a) s fault scans = refl
+scans-refused condition now (Contact k position) s fault scans = refl
+scans-refused condition now (Input k value) s fault scans = refl
+scans-refused condition now (Measure k field value) s fault scans = refl
+scans-refused condition now (BadMeasure k field) s fault scans = refl
+scans-refused condition now Lost s fault scans = refl
+scans-refused condition now Scan s fault scans = refl
+
 -- ---- what is kept along the events
 
 module _ (bay : Bay) (image : Image) (rule : Rule) (timing : Timing) (n : ℕ) (is_bay : IsBay bay)
@@ -113,7 +146,7 @@ module _ (bay : Bay) (image : Image) (rule : Rule) (timing : Timing) (n : ℕ) (
   }
 
   pub no-rule-holds : IsRule (program_of bay image) no_rule
-  no-rule-holds p is machine now slots timers same kept young leaves = refl
+  no-rule-holds p is mark machine now slots timers same kept young leaves = refl
 
   abbrev pub Stands : State → Type 0
   Stands s = Obeying bay image no_rule s
@@ -158,8 +191,9 @@ module _ (bay : Bay) (image : Image) (rule : Rule) (timing : Timing) (n : ℕ) (
     idle-told none start is =
         let none_runs : is_none (delay_start_at n scanned.machine.timers) ≡ true =
         always-so (not held) (is_none (delay_start_at n scanned.machine.timers))
-        (bears.idle_so (process_of s) (process-so bay image no_rule is_bay there no-rule-holds s o)
-        s.machine now scanned.machine.slots scanned.machine.timers o.image_is o.reached tt
+        (bears.idle_so (process_of s)
+        (process-so bay image no_rule is_bay there no-rule-holds s o) 0 s.machine now
+        scanned.machine.slots scanned.machine.timers o.image_is o.reached tt
         (read bay image no_rule is_bay there no-rule-holds now s o steps halts)) (ap not none) in
         none-some (delay_start_at n scanned.machine.timers) start none_runs is
 
@@ -195,7 +229,7 @@ module _ (bay : Bay) (image : Image) (rule : Rule) (timing : Timing) (n : ℕ) (
             (let none : g_releases ≡ false =
             never-so (holds rule.when (process_of s)) (not held) g_releases
             (bears.there_so (process_of s)
-            (process-so bay image no_rule is_bay there no-rule-holds s o) s.machine now
+            (process-so bay image no_rule is_bay there no-rule-holds s o) 0 s.machine now
             scanned.machine.slots scanned.machine.timers o.image_is o.reached tt
             (read bay image no_rule is_bay there no-rule-holds now s o steps halts)) asked
             (ap not e) in
@@ -203,12 +237,12 @@ module _ (bay : Bay) (image : Image) (rule : Rule) (timing : Timing) (n : ℕ) (
 
     -- a delay that is short lets no release through
     not-young : holds rule.when (process_of s) ≡ true → g_releases ≡ true
-        → AreYoung now s.machine.timers (limit_of n timing.time) → ⊥
+        → AreDelays 0 now s.machine.timers (limit_of n (Below timing.time)) → ⊥
     not-young asked released young =
         let none : g_releases ≡ false =
         never-so (holds rule.when (process_of s)) true g_releases
         (bears.late_so (process_of s)
-        (process-so bay image no_rule is_bay there no-rule-holds s o) s.machine now
+        (process-so bay image no_rule is_bay there no-rule-holds s o) 0 s.machine now
         scanned.machine.slots scanned.machine.timers o.image_is o.reached young
         (read bay image no_rule is_bay there no-rule-holds now s o steps halts)) asked refl in
         absurd (cc)
@@ -221,7 +255,7 @@ module _ (bay : Bay) (image : Image) (rule : Rule) (timing : Timing) (n : ℕ) (
         long : (start : ℕ) (b : Bool) → delay_start_at n s.machine.timers ≡ Some start
             → nat_lt (now - start) timing.time ≡ b → HasHeld timing.time now scans
         long start true is less = absurd (not-young asked released
-            (young-limit now timing.time n s.machine.timers
+            (young-limit 0 now timing.time n s.machine.timers
             (λ other began. let same : other ≡ start = cc in
             subst (λ (m : ℕ). now - m < timing.time) (sym same) (grind (arith, less)))))
         long start false is less =
@@ -229,7 +263,7 @@ module _ (bay : Bay) (image : Image) (rule : Rule) (timing : Timing) (n : ℕ) (
 
         go : (b : Option ℕ) → delay_start_at n s.machine.timers ≡ b → HasHeld timing.time now scans
         go None is = absurd (not-young asked released
-            (young-limit now timing.time n s.machine.timers (λ start began. absurd (cc))))
+            (young-limit 0 now timing.time n s.machine.timers (λ start began. absurd (cc))))
         go (Some start) is = long start (nat_lt (now - start) timing.time) is refl
 
     -- what is told after the scan is what its slots release
@@ -260,33 +294,6 @@ module _ (bay : Bay) (image : Image) (rule : Rule) (timing : Timing) (n : ℕ) (
     pub goes_on : Waiting (scans_after timing.condition now event s answer scans) new
     scan_waits : ScanWaitsAt rule timing scans now event s answer new
 
-  -- the scans stay where none is done
-  scans-same : (now : ℕ) (event : Event) (s : State) (answer : Result Step StepFault)
-      (scans : List (ℕ × Bool)) → (event ≡ Scan → ⊥)
-      → scans_after timing.condition now event s answer scans ≡ scans
-  scans-same now (Open a) s answer scans other = refl
-  scans-same now (Recv a octets) s answer scans other = refl
-  scans-same now (Close a) s answer scans other = refl
-  scans-same now (Contact k position) s answer scans other = refl
-  scans-same now (Input k value) s answer scans other = refl
-  scans-same now (Measure k field value) s answer scans other = refl
-  scans-same now (BadMeasure k field) s answer scans other = refl
-  scans-same now Lost s answer scans other = refl
-  scans-same now Scan s answer scans other = absurd (other refl)
-
-  scans-refused : (now : ℕ) (event : Event) (s : State) (fault : StepFault)
-      (scans : List (ℕ × Bool))
-      → scans_after timing.condition now event s (Err fault) scans ≡ scans
-  scans-refused now (Open a) s fault scans = refl
-  scans-refused now (Recv a octets) s fault scans = refl
-  scans-refused now (Close a) s fault scans = refl
-  scans-refused now (Contact k position) s fault scans = refl
-  scans-refused now (Input k value) s fault scans = refl
-  scans-refused now (Measure k field value) s fault scans = refl
-  scans-refused now (BadMeasure k field) s fault scans = refl
-  scans-refused now Lost s fault scans = refl
-  scans-refused now Scan s fault scans = refl
-
   led-refused : (scans : List (ℕ × Bool)) (now : ℕ) (event : Event) (s : State)
       (fault : StepFault) (answer : Result Step StepFault) (new : State) → Waiting scans s
       → answer ≡ Err fault → new ≡ s → Led scans now event s answer new
@@ -294,7 +301,7 @@ module _ (bay : Bay) (image : Image) (rule : Rule) (timing : Timing) (n : ℕ) (
       subst (λ (a : Result Step StepFault). Led scans now event s a new) (sym refused)
       (record {
         goes_on = subst (λ (l : List (ℕ × Bool)). Waiting l new)
-            (sym (scans-refused now event s fault scans))
+            (sym (scans-refused timing.condition now event s fault scans))
             (subst (Waiting scans) (sym same) w);
         scan_waits = λ is. tt;
       })
@@ -304,7 +311,8 @@ module _ (bay : Bay) (image : Image) (rule : Rule) (timing : Timing) (n : ℕ) (
       → Quiet s new → Led scans now event s answer new
   led-quiet scans now event s answer new w other q = record {
     goes_on = subst (λ (l : List (ℕ × Bool)). Waiting l new)
-        (sym (scans-same now event s answer scans other)) (waiting-quiet scans s new w q);
+        (sym (scans-same timing.condition now event s answer scans other))
+        (waiting-quiet scans s new w q);
     scan_waits = λ is. absurd (other is);
   }
 
@@ -415,13 +423,13 @@ module _ (bay : Bay) (image : Image) (rule : Rule) (timing : Timing) (n : ℕ) (
   stands-first = obeying-first bay image no_rule is_bay there no-rule-holds
 
 pub scans-wait : ScansWait
-scans-wait bay image rule timing n is_bay there bears events answers last typed each =
+scans-wait n bay image rule timing is_bay there bears events answers last typed each =
     each-wait bay image rule timing n is_bay there bears events [] (initial_device bay image)
     answers last typed (stands-first bay image rule timing n is_bay there bears)
     (waiting-first bay image rule timing n is_bay there bears) each
 
 pub commands-wait-all : CommandsWait
-commands-wait-all bay image rule timing n is_bay there bears events answers last typed each =
+commands-wait-all n bay image rule timing is_bay there bears events answers last typed each =
     each-command-wait bay image rule timing n is_bay there bears events []
     (initial_device bay image) answers last typed
     (stands-first bay image rule timing n is_bay there bears)

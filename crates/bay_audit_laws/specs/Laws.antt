@@ -22,7 +22,7 @@ use Rattle.bay_device.specs.declared.event.Event.{Event}
 use Rattle.bay_device.specs.declared.event.Event.TheVariants.{Open, Recv, Close, Contact, Input, Measure, BadMeasure, Lost, Scan}
 use Rattle.bay_device.specs.declared.event.Step.{Step}
 use Rattle.bay_device.specs.declared.fault.StepFault.{StepFault}
-use Rattle.bay_audit.specs.Rules.{IsByTimer, IsRule, is_obeyed, program_of}
+use Rattle.bay_audit.specs.Rules.{BoundProgram, IsByTimer, IsDueByTimer, IsMet, IsRule, is_obeyed, program_of, sufficient_demand}
 
 -- ---- a device
 
@@ -165,20 +165,54 @@ EachAfter Does condition (e ∷ es) scans s (answer ∷ answers) last =
     (new : State) × Steps e.0 e.1 s answer new × Does scans e.0 e.1 s answer new
     × EachAfter Does condition es (scans_after condition e.0 e.1 s answer scans) new answers last
 
--- `Does` is true in each run of a device, from load of a bay and an image on, if a timer
--- establishes a rule with a time.
-abbrev pub Waits : (Rule → Timing → List (ℕ × Bool) → ℕ → Event → State → Result Step StepFault
-    → State → Type 0) → Type 0
-Waits Does =
-    (bay : Bay) (image : Image) (rule : Rule) (timing : Timing) (n : ℕ) → IsBay bay
-    → rule.switch < length bay.switches → IsByTimer (program_of bay image) rule timing n
+-- An accepted scan releases the switch, in a state that the rule covers, if the condition has held
+-- for the time.
+abbrev pub ScanIsDueAt : Rule → Timing → List (ℕ × Bool) → ℕ → Event → State
+    → Result Step StepFault → State → Type 0
+ScanIsDueAt rule timing scans now event old answer new =
+    event ≡ Scan → OnOk answer (holds rule.when (process_of new) ≡ true
+    → HasHeld timing.time now (scans_after timing.condition now event old answer scans)
+    → is_released new rule.switch rule.operation ≡ true)
+
+-- An accepted scan releases the switch, in a state that the rule covers, if the condition is TRUE.
+abbrev pub ScanReleasesAt : Rule → Timing → List (ℕ × Bool) → ℕ → Event → State
+    → Result Step StepFault → State → Type 0
+ScanReleasesAt rule timing scans now event old answer new =
+    event ≡ Scan → OnOk answer (holds rule.when (process_of new) ≡ true
+    → holds timing.condition (process_of new) ≡ true
+    → is_released new rule.switch rule.operation ≡ true)
+
+-- `Does` is true in each run of a device, from load of a bay and an image on, if a rule with a time
+-- is established in this way.
+abbrev pub EachIf : (BoundProgram → Rule → Timing → Type 0)
+    → (Rule → Timing → List (ℕ × Bool) → ℕ → Event → State → Result Step StepFault → State
+    → Type 0) → Type 0
+EachIf IsEstablished Does =
+    (bay : Bay) (image : Image) (rule : Rule) (timing : Timing) → IsBay bay
+    → rule.switch < length bay.switches → IsEstablished (program_of bay image) rule timing
     → (events : List (ℕ × Event)) (answers : List (Result Step StepFault)) (last : State)
     → AreOfTypes events → EachStep HaltsAt events (initial_device bay image) answers last
     → EachAfter (Does rule timing) timing.condition events [] (initial_device bay image) answers
     last
+
+-- the same, if a timer establishes it
+abbrev pub Waits : (Rule → Timing → List (ℕ × Bool) → ℕ → Event → State → Result Step StepFault
+    → State → Type 0) → Type 0
+Waits Does = (n : ℕ) → EachIf (λ g rule timing. IsByTimer g rule timing n) Does
 
 abbrev pub ScansWait : Type 0
 ScansWait = Waits ScanWaitsAt
 
 abbrev pub CommandsWait : Type 0
 CommandsWait = Waits CommandsWaitAt
+
+-- ---- rules that require a release
+
+-- a timer establishes it
+abbrev pub ScansAreDue : Type 0
+ScansAreDue = (n : ℕ) → EachIf (λ g rule timing. IsDueByTimer g rule timing n) ScanIsDueAt
+
+-- the condition alone releases the switch
+abbrev pub ScansRelease : Type 0
+ScansRelease =
+    EachIf (λ g rule timing. IsMet g (sufficient_demand rule timing.condition)) ScanReleasesAt

@@ -2,7 +2,7 @@
 // is the law.
 ghost use Rattle.bay_audit.specs.Rules.{IsRule};
 ghost use Rattle.bay_audit_laws.specs.Examples.{at_all_times, halting_program};
-ghost use Rattle.bay_audit_laws.specs.Laws.{CommandsObey, CommandsWait, ScansObey, ScansWait};
+ghost use Rattle.bay_audit_laws.specs.Laws.{CommandsObey, CommandsWait, ScansAreDue, ScansObey, ScansRelease, ScansWait};
 ghost use Rattle.bay_audit_laws.specs.Lost.{LostIsBlind};
 ghost use Rattle.bay_audit_rules.specs.declared.rule.RuleKind.TheVariants.{Always, Never};
 
@@ -29,6 +29,17 @@ pub fn no_command_breaks_a_rule()
 pub fn a_release_waits()
     ensures scans { ScansWait }
     ensures commands { CommandsWait }
+{}
+
+/// If a timer establishes the rule that a switch is released in a direction after a condition has
+/// held for a time, each scan of a device with this program releases the switch so, in a state that
+/// the rule covers, if the condition was TRUE at this scan and at each scan before it back to one
+/// at least the time ago. If the condition alone releases the switch, each scan with the condition
+/// TRUE does so. Both for the values that the process had reported by then, in each run of events
+/// from load on.
+pub fn a_release_comes()
+    ensures due { ScansAreDue }
+    ensures at_once { ScansRelease }
 {}
 
 /// While the process is lost, the program reads only the values of a lost process: from the loss

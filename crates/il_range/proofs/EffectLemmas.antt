@@ -30,7 +30,7 @@ use Rattle.il_range.proofs.TimerLemmas.{timer-called}
 use Rattle.il_range.specs.declared.range.Range.{Range}
 use Rattle.il_range.specs.declared.range.Range.TheVariants.{Any, No, Yes, Either, Between, Among}
 use Rattle.il_range.specs.declared.known.Known.{Known}
-use Rattle.il_range.specs.Ranges.{AreIn, AreTimersIn, IsIn, IsTimerIn, Switches}
+use Rattle.il_range.specs.Ranges.{AreIn, AreTimersIn, IsIn, IsTimerIn, Setting}
 use Rattle.il_range.specs.Effects.{Plain, and_ranges, compare_ranges, compute_range, connect_ranges, known_after, or_ranges, value_range, not_range, timer_after_call, slot_of, timer_of, with_cells, with_input, with_preset, with_timer}
 use Rattle.il_range.specs.Pending.{Arrives, Covers, CoversAt, Held, Lands, Moves, held_by}
 use Rattle.il_range.proofs.RangeLemmas.{in-exactly, of-both, of-compared, of-connected, of-either, of-negated}
@@ -38,24 +38,24 @@ use Rattle.il_range.proofs.NumberLemmas.{of-computed}
 use Rattle.il_range.proofs.ListLemmas.{are-get, are-set, each-get, each-set}
 
 -- the step goes to the next place, with what is covered there; or it traps
-abbrev NextIs : Switches → StepResult → ℕ → ℕ → Plain → Type 0
+abbrev NextIs : Setting → StepResult → ℕ → ℕ → Plain → Type 0
 NextIs ps (Goes s) now next p = (s.place ≡ next) × Covers p (held_by now ps s)
 NextIs ps Halts now next p = ⊥
 NextIs ps (Traps trap) now next p = Unit {0}
 
-next-if : (ps : Switches) (b : Bool) (t : StepResult) (trap : Trap) (now next : ℕ) (p : Plain)
+next-if : (ps : Setting) (b : Bool) (t : StepResult) (trap : Trap) (now next : ℕ) (p : Plain)
     → NextIs ps t now next p
     → NextIs ps (cond b t (Traps trap)) now next p
 next-if ps true t trap now next p h = h
 next-if ps false t trap now next p h = tt
 
-next-unless : (ps : Switches) (b : Bool) (t : StepResult) (trap : Trap) (now next : ℕ) (p : Plain)
+next-unless : (ps : Setting) (b : Bool) (t : StepResult) (trap : Trap) (now next : ℕ) (p : Plain)
     → NextIs ps t now next p
     → NextIs ps (cond b (Traps trap) t) now next p
 next-unless ps true t trap now next p h = tt
 next-unless ps false t trap now next p h = h
 
-next-slot : (ps : Switches) (n : ℕ) (s : State) (f : Value → StepResult) (now next : ℕ) (p : Plain)
+next-slot : (ps : Setting) (n : ℕ) (s : State) (f : Value → StepResult) (now next : ℕ) (p : Plain)
     → ((v : Value) → slice_get s.slots n ≡ Some v → NextIs ps (f v) now next p)
     → NextIs ps (with_slot n s f) now next p
 next-slot ps n s f now next p h = go (slice_get s.slots n) refl
@@ -65,7 +65,7 @@ next-slot ps n s f now next p h = go (slice_get s.slots n) refl
     go None e = tt
     go (Some v) e = h v e
 
-next-timer : (ps : Switches) (n : ℕ) (s : State) (f : TimerState → StepResult) (now next : ℕ)
+next-timer : (ps : Setting) (n : ℕ) (s : State) (f : TimerState → StepResult) (now next : ℕ)
     (p : Plain)
     → ((t : TimerState) → slice_get s.timers n ≡ Some t → NextIs ps (f t) now next p)
     → NextIs ps (machine.with_timer n s f) now next p
@@ -110,7 +110,7 @@ has-timer n us f p e = go (slice_get us n) refl e
     go None at e = absurd (cc)
     go (Some r) at e = record { known = r; at = at; gives = e }
 
-module _ (ps : Switches) (now next place : ℕ) (timers : List TimerState) (ts : List KnownTimer)
+module _ (ps : Setting) (now next place : ℕ) (timers : List TimerState) (ts : List KnownTimer)
     (fits : AreTimersIn ps now timers ts) (p : Plain) where
   abbrev plain_of : List Range → List Range → Plain
   plain_of rs us = record { cells = rs; slots = us; timers = ts }
@@ -118,7 +118,7 @@ module _ (ps : Switches) (now next place : ℕ) (timers : List TimerState) (ts :
   -- the state is covered with these cells, slots and timers
   abbrev DoneWith : List Value → List Value → List TimerState → Type 0
   DoneWith cells slots after =
-      Covers p (record { now = now; switches = ps; cells = cells; slots = slots; timers = after })
+      Covers p (record { now = now; setting = ps; cells = cells; slots = slots; timers = after })
 
   abbrev Done : List Value → List Value → Type 0
   Done cells slots = DoneWith cells slots timers
@@ -128,7 +128,7 @@ module _ (ps : Switches) (now next place : ℕ) (timers : List TimerState) (ts :
       → DoneWith cells slots after
   covers-with q cells slots after e h k t =
       subst (λ (r : Plain). Covers r
-      (record { now = now; switches = ps; cells = cells; slots = slots; timers = after }))
+      (record { now = now; setting = ps; cells = cells; slots = slots; timers = after }))
       (same_Some q p e) (record { cells = h; slots = k; timers = t })
 
   covers-along : (rs us : List Range) (cells slots : List Value) → Some (plain_of rs us) ≡ Some p
@@ -346,7 +346,7 @@ module _ (ps : Switches) (now next place : ℕ) (timers : List TimerState) (ts :
         in_preset = was.in_preset;
         in_output = was.in_output;
         in_elapsed = was.in_elapsed;
-        young = was.young;
+        in_delay = was.in_delay;
       }) e (Truth b ∷ cells) cells slots h.1 k
   comes-input n rs us e cells slots h k =
       next-timer ps n (state_of place cells slots timers) _ now next p (λ t at. tt)
@@ -365,7 +365,7 @@ module _ (ps : Switches) (now next place : ℕ) (timers : List TimerState) (ts :
         in_preset = h.0;
         in_output = was.in_output;
         in_elapsed = was.in_elapsed;
-        young = was.young;
+        in_delay = was.in_delay;
       }) e (Span d ∷ cells) cells slots h.1 k
   comes-preset n rs us e cells slots h k =
       next-timer ps n (state_of place cells slots timers) _ now next p (λ t at. tt)
@@ -439,12 +439,12 @@ module _ (ps : Switches) (now next place : ℕ) (timers : List TimerState) (ts :
   comes (Timer t n) rs us e cells slots h k = comes-timer t n rs us e cells slots h k
 
 next-lands : (t : StepResult) (next end : ℕ) (h : Held) (p : Plain) (old new : List (Option Known))
-    → Arrives old new next p → NextIs h.switches t h.now next p → Lands t next end h new
+    → Arrives old new next p → NextIs h.setting t h.now next p → Lands t next end h new
 next-lands (Goes s) next end h p old new a is =
     let least : next ≤ s.place = (let at = is.0 in omega arith) in (
       least,
-      subst (λ (n : ℕ). CoversAt new n (held_by h.now h.switches s)) (sym is.0)
-          (a.brings (held_by h.now h.switches s) is.1),
+      subst (λ (n : ℕ). CoversAt new n (held_by h.now h.setting s)) (sym is.0)
+          (a.brings (held_by h.now h.setting s) is.1),
     )
 next-lands Halts next end h p old new a is = absurd is
 next-lands (Traps trap) next end h p old new a is = tt

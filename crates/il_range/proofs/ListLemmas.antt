@@ -5,7 +5,7 @@ use Rattle.std.proofs.lemmas.Grind.{reverse_onto}
 use Rattle.std.proofs.lemmas.List.{length-reverse}
 use Rattle.il_image.specs.declared.value.Value.{Value}
 use Rattle.il_range.specs.declared.range.Range.{Range}
-use Rattle.il_range.specs.Ranges.{AreEach, AreIn, IsIn, Switches}
+use Rattle.il_range.specs.Ranges.{AreEach, AreIn, IsIn, Setting}
 use Rattle.il_range.specs.Effects.{join_lists}
 
 -- ---- joins
@@ -87,10 +87,10 @@ each-set Fits (a ∷ xs) (b ∷ ys) zero x y h k = (k, h.1)
 each-set Fits (a ∷ xs) (b ∷ ys) (suc n) x y h k = (h.0, each-set Fits xs ys n x y h.1 k)
 
 -- The value of a slot is one of its range.
-pub are-get : (w : Switches) (vs : List Value) (rs : List Range) (n : ℕ) (v : Value) (r : Range)
+pub are-get : (w : Setting) (vs : List Value) (rs : List Range) (n : ℕ) (v : Value) (r : Range)
     → AreIn w vs rs → slice_get vs n ≡ Some v → slice_get rs n ≡ Some r → IsIn w v r
 are-get w vs rs n v r h e f = each-get (IsIn w) vs rs n v r h e f
 
-pub are-set : (w : Switches) (vs : List Value) (rs : List Range) (n : ℕ) (v : Value) (r : Range)
+pub are-set : (w : Setting) (vs : List Value) (rs : List Range) (n : ℕ) (v : Value) (r : Range)
     → AreIn w vs rs → IsIn w v r → AreIn w (slice_set vs n v) (slice_set rs n r)
 are-set w vs rs n v r h k = each-set (IsIn w) vs rs n v r h k

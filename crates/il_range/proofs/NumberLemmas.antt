@@ -16,14 +16,14 @@ use Rattle.il_image.specs.Values.{number_of}
 use Rattle.il_range.specs.declared.range.Range.{Range}
 use Rattle.il_range.specs.declared.range.Range.TheVariants.{Between}
 use Rattle.il_range.specs.Effects.{full_range, compute_range, fits_in, greatest_of, least_of, wrap_range, wrapped_of}
-use Rattle.il_range.specs.Ranges.{IsIn, Switches}
+use Rattle.il_range.specs.Ranges.{IsIn, Setting}
 
 number-of-width : (w : Width) (z : ℤ) → number_of (value_of_width w z) ≡ z
 number-of-width width.Int z = refl
 number-of-width width.Dint z = refl
 number-of-width width.Lint z = refl
 
-in-between : (ps : Switches) (w : Width) (low high z : ℤ) → low ≤ℤ z → z ≤ℤ high
+in-between : (ps : Setting) (w : Width) (low high z : ℤ) → low ≤ℤ z → z ≤ℤ high
     → IsIn ps (value_of_width w z) (Between low high)
 in-between ps w low high z h k =
     subst (λ (n : ℤ). (low ≤ℤ n) × (n ≤ℤ high)) (sym (number-of-width w z)) (h, k)
@@ -41,7 +41,7 @@ fits-by width.Int z h k = omega (arith, ints)
 fits-by width.Dint z h k = omega (arith, ints)
 fits-by width.Lint z h k = omega (arith, ints)
 
-wrap-in : (ps : Switches) (w : Width) (z : ℤ)
+wrap-in : (ps : Setting) (w : Width) (z : ℤ)
     → IsIn ps (value_of_width w (wrap_to w z)) (full_range w)
 wrap-in ps w z =
     let within = bounds w (wrap_to w z) (SFits-int_wrap (bits_of w) z) in
@@ -50,7 +50,7 @@ wrap-in ps w z =
 fit-bounds : (w : Width) (z : ℤ) → fits_in w z ≡ true → (least_of w ≤ℤ z) × (z ≤ℤ greatest_of w)
 fit-bounds w z e = (grind (arith, ints, common_steps), grind (arith, ints, common_steps))
 
-wrapped-in : (ps : Switches) (w : Width) (low high z : ℤ) → low ≤ℤ z → z ≤ℤ high
+wrapped-in : (ps : Setting) (w : Width) (low high z : ℤ) → low ≤ℤ z → z ≤ℤ high
     → IsIn ps (value_of_width w (wrap_to w z)) (wrap_range w low high)
 wrapped-in ps w low high z h k = go (fits_in w low) (fits_in w high) refl refl
   where
@@ -67,7 +67,7 @@ wrapped-in ps w low high z h k = go (fits_in w low) (fits_in w high) refl refl
     go true false e f = wrap-in ps w z
     go false c e f = wrap-in ps w z
 
-pub of-computed : (ps : Switches) (o : ArithmeticOperation) (w : Width) (v u : Value) (a b : ℤ)
+pub of-computed : (ps : Setting) (o : ArithmeticOperation) (w : Width) (v u : Value) (a b : ℤ)
     (r s : Range)
     → number_of v ≡ a → number_of u ≡ b → IsIn ps v r → IsIn ps u s
     → IsIn ps (value_of_width w (computation_of o w a b)) (compute_range o w r s)

@@ -15,7 +15,7 @@ use Rattle.il_image.specs.Reading.{instr_at}
 use Rattle.il_range.specs.declared.known.Known.{Known}
 use Rattle.il_range.specs.Effects.{Plain}
 use Rattle.il_range.specs.Outcomes.{Ends}
-use Rattle.il_range.specs.Ranges.{AreIn, AreTimersIn, Switches}
+use Rattle.il_range.specs.Ranges.{AreIn, AreTimersIn, Setting}
 use Rattle.il_range.specs.Pending.{Arrives, Covers, CoversAt, Lands, Held, Moves, Visits, held_by, known_view}
 use Rattle.il_range.proofs.PendingLemmas.{covers-elsewhere}
 
@@ -84,15 +84,15 @@ visits-halt code place next old new here reads was a = record {
 -- ---- a run that halts
 
 -- It has halted with these slots and timers, which are covered at the end.
-pub record HasHalted (code : List ℕ) (w : Switches) (now : ℕ) (after : List Value)
+pub record HasHalted (code : List ℕ) (w : Setting) (now : ℕ) (after : List Value)
     (timers : List TimerState)
     (pending : List (Option Known)) : Type 0 where
   pub cells : List Value
   pub covers : CoversAt pending (length code)
-      (record { now = now; switches = w; cells = cells; slots = after; timers = timers })
+      (record { now = now; setting = w; cells = cells; slots = after; timers = timers })
 
 -- It halts as it does from a state at a place from this one on, which is covered.
-pub record GoesOn (code : List ℕ) (w : Switches) (now place : ℕ) (after : List Value)
+pub record GoesOn (code : List ℕ) (w : Setting) (now place : ℕ) (after : List Value)
     (timers : List TimerState)
     (pending : List (Option Known)) : Type 0 where
   pub state : State
@@ -104,7 +104,7 @@ pub record GoesOn (code : List ℕ) (w : Switches) (now place : ℕ) (after : Li
   pub covers : CoversAt pending state.place (held_by now w state)
 
 -- the run has halted, or goes on below what is pending
-abbrev pub Follows : List ℕ → Switches → ℕ → List Value → List TimerState → ℕ → List (Option Known)
+abbrev pub Follows : List ℕ → Setting → ℕ → List Value → List TimerState → ℕ → List (Option Known)
     → Type 0
 Follows code w now after timers place pending =
     HasHalted code w now after timers pending ⊎ GoesOn code w now place after timers pending
@@ -128,7 +128,7 @@ read-at code place = go (is_place code place) refl (instr_at code place) refl
     go true is (Some r) e = inr (r.0, r.1, refl, e, within is)
 
 -- the rest of the run, by its next step
-follows-turn : (code : List ℕ) (w : Switches) (now least most steps steps_after : ℕ)
+follows-turn : (code : List ℕ) (w : Setting) (now least most steps steps_after : ℕ)
     (after : List Value)
     (timers_after : List TimerState) (s : State) (new : List (Option Known)) (t : StepResult)
     → ending_of t s (steps + 1) (λ to. run_from code now most to (steps + 1))
@@ -151,16 +151,16 @@ follows-turn code w now least most steps steps_after after timers_after s new Ha
     inl (record {
       cells = s.cells;
       covers = subst (λ (timers : List TimerState). CoversAt new (length code)
-          (record { now = now; switches = w; cells = s.cells; slots = after; timers = timers }))
+          (record { now = now; setting = w; cells = s.cells; slots = after; timers = timers }))
           same_timers
           (subst (λ (slots : List Value). CoversAt new (length code)
-          (record { now = now; switches = w; cells = s.cells; slots = slots; timers = s.timers }))
+          (record { now = now; setting = w; cells = s.cells; slots = slots; timers = s.timers }))
           same l);
     })
 follows-turn code w now least most steps steps_after after timers_after s new (Traps trap) e l =
     absurd (cc)
 
-follows-step : (code : List ℕ) (w : Switches) (now place : ℕ) (after : List Value)
+follows-step : (code : List ℕ) (w : Setting) (now place : ℕ) (after : List Value)
     (old new : List (Option Known))
     → Visits code place old new → (most steps steps_after : ℕ)
     (timers_after : List TimerState) (s : State)
@@ -204,7 +204,7 @@ halts-within code now (suc most) steps steps_after after timers_after s e =
       | inr read ↦ read.4
     ]
 
-pub follows-next : (code : List ℕ) (w : Switches) (now place : ℕ) (after : List Value)
+pub follows-next : (code : List ℕ) (w : Setting) (now place : ℕ) (after : List Value)
     (timers : List TimerState) (old new : List (Option Known)) → place < length code
     → Visits code place old new → Follows code w now after timers place old
     → Follows code w now after timers (place + 1) new
@@ -212,7 +212,7 @@ follows-next code w now place after timers old new less v f = elim f [
   | inl e ↦ inl (record {
     cells = e.cells;
     covers = v.keeps (length code) (λ same. omega arith)
-        (record { now = now; switches = w; cells = e.cells; slots = after; timers = timers })
+        (record { now = now; setting = w; cells = e.cells; slots = after; timers = timers })
         e.covers;
   })
   | inr g ↦ elim (cases_eq g.state.place place) [
@@ -232,7 +232,7 @@ follows-next code w now place after timers old new less v f = elim f [
   ]
 ]
 
-pub follows-first : (code : List ℕ) (w : Switches) (given after : List Value) (first : Plain)
+pub follows-first : (code : List ℕ) (w : Setting) (given after : List Value) (first : Plain)
     (old new : List (Option Known)) → first.cells ≡ [] → AreIn w given first.slots
     → Arrives old new 0 first → (e : Ends code given after)
     → AreTimersIn w e.now e.timers first.timers
@@ -245,12 +245,12 @@ follows-first code w given after first old new empty h a e t = inr (record {
   from = omega arith;
   halts = e.halts;
   covers =
-      a.brings (record { now = e.now; switches = w; cells = []; slots = given; timers = e.timers })
+      a.brings (record { now = e.now; setting = w; cells = []; slots = given; timers = e.timers })
       (record { cells = subst (AreIn w []) (sym empty) tt; slots = h; timers = t });
 })
 
 -- what is known at the end stands for each run that halts
-pub follows-end : (code : List ℕ) (w : Switches) (now : ℕ) (after : List Value)
+pub follows-end : (code : List ℕ) (w : Setting) (now : ℕ) (after : List Value)
     (timers : List TimerState)
     (pending : List (Option Known)) (end : Known)
     → slice_get pending (length code) ≡ Some (Some end)
@@ -259,7 +259,7 @@ pub follows-end : (code : List ℕ) (w : Switches) (now : ℕ) (after : List Val
 follows-end code w now after timers pending end was f = elim f [
   | inl e ↦
       (let there = covers-there (length code) pending end
-      (record { now = now; switches = w; cells = e.cells; slots = after; timers = timers }) was
+      (record { now = now; setting = w; cells = e.cells; slots = after; timers = timers }) was
       e.covers in
       (there.slots, there.timers))
   | inr g ↦ absurd

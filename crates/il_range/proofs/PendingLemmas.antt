@@ -14,7 +14,7 @@ use Rattle.il_range.specs.declared.known.Known.{Known}
 use Rattle.il_range.specs.declared.range.Range.{Range}
 use Rattle.il_range.specs.declared.range.Range.TheVariants.{No, Yes}
 use Rattle.il_range.specs.Effects.{Plain, join, join_timer, join_lists, not_range}
-use Rattle.il_range.specs.Ranges.{AreIn, AreTimersIn, IsIn, IsTimerIn, Switches}
+use Rattle.il_range.specs.Ranges.{AreIn, AreTimersIn, IsIn, IsTimerIn, Setting}
 use Rattle.il_range.specs.Pending.{Branches, Held, held_by, Covers, CoversAt, IsJoin, IsUnder, Arrives, Lands, Moves, known_view}
 use Rattle.il_range.proofs.RangeLemmas.{in-join_left, in-join_right, of-negated}
 use Rattle.il_range.proofs.ListLemmas.{each-left, each-right, joined-reverse}
@@ -37,14 +37,14 @@ cells-joined one other both j =
 pub under-left : (one other both : Known) → IsJoin one other both
     → IsUnder (known_view one) (known_view both)
 under-left one other both j h c = record {
-  cells = subst (AreIn h.switches h.cells) (sym (cells-joined one other both j))
-      (each-left (IsIn h.switches) join (in-join_left h.switches) h.cells (reverse one.cells.items)
+  cells = subst (AreIn h.setting h.cells) (sym (cells-joined one other both j))
+      (each-left (IsIn h.setting) join (in-join_left h.setting) h.cells (reverse one.cells.items)
       (reverse other.cells.items) c.cells);
-  slots = subst (AreIn h.switches h.slots) (sym j.slots)
-      (each-left (IsIn h.switches) join (in-join_left h.switches) h.slots one.slots.items
+  slots = subst (AreIn h.setting h.slots) (sym j.slots)
+      (each-left (IsIn h.setting) join (in-join_left h.setting) h.slots one.slots.items
       other.slots.items c.slots);
-  timers = subst (AreTimersIn h.switches h.now h.timers) (sym j.timers)
-      (each-left (IsTimerIn h.switches h.now) join_timer (timer-join_left h.switches h.now) h.timers
+  timers = subst (AreTimersIn h.setting h.now h.timers) (sym j.timers)
+      (each-left (IsTimerIn h.setting h.now) join_timer (timer-join_left h.setting h.now) h.timers
       one.timers.items
       other.timers.items
       c.timers);
@@ -53,16 +53,16 @@ under-left one other both j h c = record {
 pub under-right : (one other both : Known) → IsJoin one other both
     → IsUnder (known_view other) (known_view both)
 under-right one other both j h c = record {
-  cells = subst (AreIn h.switches h.cells) (sym (cells-joined one other both j))
-      (each-right (IsIn h.switches) join (in-join_right h.switches) h.cells
+  cells = subst (AreIn h.setting h.cells) (sym (cells-joined one other both j))
+      (each-right (IsIn h.setting) join (in-join_right h.setting) h.cells
       (reverse one.cells.items)
       (reverse other.cells.items)
       (length-reverse one.cells.items ∙ j.depth ∙ sym (length-reverse other.cells.items)) c.cells);
-  slots = subst (AreIn h.switches h.slots) (sym j.slots)
-      (each-right (IsIn h.switches) join (in-join_right h.switches) h.slots one.slots.items
+  slots = subst (AreIn h.setting h.slots) (sym j.slots)
+      (each-right (IsIn h.setting) join (in-join_right h.setting) h.slots one.slots.items
       other.slots.items j.size c.slots);
-  timers = subst (AreTimersIn h.switches h.now h.timers) (sym j.timers)
-      (each-right (IsTimerIn h.switches h.now) join_timer (timer-join_right h.switches h.now)
+  timers = subst (AreTimersIn h.setting h.now h.timers) (sym j.timers)
+      (each-right (IsTimerIn h.setting h.now) join_timer (timer-join_right h.setting h.now)
       h.timers one.timers.items
       other.timers.items j.count c.timers);
 }
@@ -121,7 +121,7 @@ always-moves distance next come old new a = record {
 -- where a jump that depends on a truth lands
 lands-by : (jumps : Range) (distance next end place : ℕ) (come : Plain)
     (old new : List (Option Known)) (h : Held) → Branches jumps distance next come old new
-    → Covers come h → (j : Bool) → IsIn h.switches (Truth j) jumps
+    → Covers come h → (j : Bool) → IsIn h.setting (Truth j) jumps
     → place ≡ cond j (next + distance) next
     → Lands (Goes (record { place = place; cells = h.cells; slots = h.slots; timers = h.timers }))
     next end h new
@@ -133,7 +133,7 @@ lands-by jumps distance next end place come old new h b c false may e =
     (least, subst (λ (n : ℕ). CoversAt new n h) (sym e) (b.near h may c))
 
 -- a jump where the top is this
-jump-lands : (w : Switches) (to : Bool → ℕ) (jumps_of : Bool → Bool) (r jumps : Range)
+jump-lands : (w : Setting) (to : Bool → ℕ) (jumps_of : Bool → Bool) (r jumps : Range)
     (distance next : ℕ)
     (below : List Range) (come : Plain) (old new : List (Option Known))
     → ((b : Bool) → to b ≡ cond (jumps_of b) (next + distance) next)
@@ -142,16 +142,16 @@ jump-lands : (w : Switches) (to : Bool → ℕ) (jumps_of : Bool → Bool) (r ju
     → (now place end : ℕ) (cells slots : List Value) (timers : List TimerState)
     → AreIn w cells (r ∷ below)
     → Covers come
-    (record { now = now; switches = w; cells = cells; slots = slots; timers = timers })
+    (record { now = now; setting = w; cells = cells; slots = slots; timers = timers })
     → Lands (jumps_where to
     (record { place = place; cells = cells; slots = slots; timers = timers })) next end
-    (record { now = now; switches = w; cells = cells; slots = slots; timers = timers }) new
+    (record { now = now; setting = w; cells = cells; slots = slots; timers = timers }) new
 jump-lands w to jumps_of r jumps distance next below come old new leads tells is b now place end []
     slots timers i c = tt
 jump-lands w to jumps_of r jumps distance next below come old new leads tells is b now place end
     (Truth x ∷ cells) slots timers i c =
     lands-by jumps distance next end (to x) come old new
-    (record { now = now; switches = w; cells = Truth x ∷ cells; slots = slots; timers = timers }) b
+    (record { now = now; setting = w; cells = Truth x ∷ cells; slots = slots; timers = timers }) b
     c
     (jumps_of x)
     (tells x i.0) (leads x)

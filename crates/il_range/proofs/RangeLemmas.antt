@@ -20,7 +20,7 @@ use Rattle.il_range.specs.declared.range.Positions.{Positions}
 use Rattle.il_range.specs.declared.range.Range.{Range}
 use Rattle.il_range.specs.declared.range.Range.TheVariants.{Any, No, Yes, Either, Between, Among}
 use Rattle.il_range.specs.Effects.{and_ranges, common_positions, other_positions, same_positions, compare_ranges, connect_ranges, or_ranges, value_range, high_of, are_within, is_within, join, low_of, lower, not_range, xor_ranges, holds_if_known, surely_le, surely_lt, bool_range, upper, widen_range}
-use Rattle.il_range.specs.Ranges.{AreIn, IsFalseValue, IsIn, IsTrueValue, IsTruth, Switches, among, are_all, are_any, has_position}
+use Rattle.il_range.specs.Ranges.{AreIn, IsFalseValue, IsIn, IsTrueValue, IsTruth, Setting, among, are_all, are_any, has_position}
 
 -- ---- sets of positions
 
@@ -101,22 +101,23 @@ none-has s d h =
     go On i o n b = n
     go Bad i o n b = b
 
-module _ (w : Switches) where
+module _ (w : Setting) where
   among-truth : (v : Value) (k : ℕ) (s : Positions) → IsIn w v (Among k s) → IsTruth v
   among-truth v k s h = subst IsTruth (sym h) tt
 
   -- what has a position of a set is in its range
-  pub in-among : (b : Bool) (k : ℕ) (s : Positions) → b ≡ has_position s (w k)
+  pub in-among : (b : Bool) (k : ℕ) (s : Positions) → b ≡ has_position s (w.position k)
       → IsIn w (Truth b) (among k s)
   in-among b k s h = go (are_all s) (are_any s) refl refl
     where
       go : (all any : Bool) → are_all s ≡ all → are_any s ≡ any
           → IsIn w (Truth b) (cond all Yes (cond any (Among k s) No))
       go true any all-is any-is =
-          subst (λ (x : Bool). IsTrueValue (Truth x)) (sym (h ∙ all-has s (w k) all-is)) tt
+          subst (λ (x : Bool). IsTrueValue (Truth x)) (sym (h ∙ all-has s (w.position k) all-is)) tt
       go false true all-is any-is = ap (λ x. Truth x) h
       go false false all-is any-is =
-          subst (λ (x : Bool). IsFalseValue (Truth x)) (sym (h ∙ none-has s (w k) any-is)) tt
+          subst (λ (x : Bool). IsFalseValue (Truth x)) (sym (h ∙ none-has s (w.position k) any-is))
+          tt
 
   same-le : (z : ℤ) → z ≤ℤ z
   same-le z = omega (arith, ints)
@@ -160,8 +161,8 @@ module _ (w : Switches) where
   joined-right v j k s t true e h =
       let parts = and_parts (nat_eq j k) (same_positions s t) e in
       let same : j ≡ k = same-index j k parts.0 in
-      h ∙ ap (λ x. Truth x) (sym (ap (λ n. has_position s (w n)) same
-      ∙ same-has s t parts.1 (w k)))
+      h ∙ ap (λ x. Truth x) (sym (ap (λ n. has_position s (w.position n)) same
+      ∙ same-has s t parts.1 (w.position k)))
   joined-right v j k s t false e h = among-truth v k t h
 
   pub in-join_left : (v : Value) (r s : Range) → IsIn w v r → IsIn w v (join r s)
@@ -221,8 +222,8 @@ module _ (w : Switches) where
   in-within v (Among j s) Either e h = among-truth v j s h
   in-within v (Among j s) (Among k t) e h =
       let parts = and_parts (nat_eq j k) (same_positions s t) e in
-      h ∙ ap (λ x. Truth x) (ap (λ n. has_position s (w n)) (same-index j k parts.0)
-      ∙ same-has s t parts.1 (w k))
+      h ∙ ap (λ x. Truth x) (ap (λ n. has_position s (w.position n)) (same-index j k parts.0)
+      ∙ same-has s t parts.1 (w.position k))
   in-within v r s e h = absurd (cc)
 
   pub are-within : (values : List Value) (ranges others : List Range)
@@ -251,13 +252,13 @@ module _ (w : Switches) where
       → IsIn w (Truth a) (Among m s) → IsIn w (Truth b) (Among n t)
       → IsIn w (Truth (a && b)) (cond same (among m (common_positions s t)) Either)
   common-if a b m n s t true e h k =
-      let is : a ≡ has_position s (w m) = same-truth a (has_position s (w m)) h in
-      let also : b ≡ has_position t (w m) =
-      same-truth b (has_position t (w n)) k
-      ∙ ap (λ i. has_position t (w i)) (sym (same-index m n e)) in
+      let is : a ≡ has_position s (w.position m) = same-truth a (has_position s (w.position m)) h in
+      let also : b ≡ has_position t (w.position m) =
+      same-truth b (has_position t (w.position n)) k
+      ∙ ap (λ i. has_position t (w.position i)) (sym (same-index m n e)) in
       in-among (a && b) m (common_positions s t)
-      (ap (λ x. x && b) is ∙ ap (λ x. has_position s (w m) && x) also
-      ∙ sym (common-has s t (w m)))
+      (ap (λ x. x && b) is ∙ ap (λ x. has_position s (w.position m) && x) also
+      ∙ sym (common-has s t (w.position m)))
   common-if a b m n s t false e h k = tt
 
   pub of-negated : (b : Bool) (r : Range) → IsIn w (Truth b) r
@@ -267,8 +268,8 @@ module _ (w : Switches) where
   of-negated true No h = absurd h
   of-negated false No h = tt
   of-negated b (Among k s) h =
-      let is : b ≡ has_position s (w k) = same-truth b (has_position s (w k)) h in
-      ap (λ x. Truth x) (ap not is ∙ sym (other-has s (w k)))
+      let is : b ≡ has_position s (w.position k) = same-truth b (has_position s (w.position k)) h in
+      ap (λ x. Truth x) (ap not is ∙ sym (other-has s (w.position k)))
   of-negated b r h = tt
 
   pub of-both : (a b : Bool) (r s : Range) → IsIn w (Truth a) r → IsIn w (Truth b) s

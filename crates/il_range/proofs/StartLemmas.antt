@@ -1,5 +1,5 @@
 -- What a scan starts from, what all scans keep, and what foretells a scan and a memory.
-use Rattle.std.proofs.Common.{◌≡◌, ◌+◌, length, ℕ, zero, suc, Bool, true, false, cond, List, [], ◌∷◌, ◌++◌, refl, sym, ap, subst, ◌∙◌, map, drop, replicate, ◌≤◌, Option, arith}
+use Rattle.std.proofs.Common.{◌≡◌, ◌+◌, length, ℕ, zero, suc, Bool, true, false, cond, List, [], ◌∷◌, ◌++◌, refl, sym, ap, subst, ◌∙◌, map, drop, replicate, ◌≤◌, arith}
 use Rattle.bay_base.specs.declared.types.TimerKind.{TimerKind}
 use Rattle.il_image.specs.declared.image.ImagePoint.{ImagePoint}
 use Rattle.il_image.specs.declared.timer.TimerState.{TimerState}
@@ -10,34 +10,35 @@ use Rattle.il_image.specs.Values.{default_value}
 use Rattle.il_scan.specs.Scans.{MachineData, Scans, first_input, first_slots, first_machine, scan_start, with_inputs}
 use Rattle.il_range.specs.declared.range.Range.{Range}
 use Rattle.il_range.specs.declared.range.Range.TheVariants.{Any}
+use Rattle.il_range.specs.declared.delay.KnownDelay.{KnownDelay}
 use Rattle.il_range.specs.declared.timer.KnownTimer.{KnownTimer}
 use Rattle.il_range.specs.Effects.{are_within, value_range, join_lists, widen_range}
 use Rattle.il_range.specs.Foretold.{Foretells, IsMemory, IsReached, First, Next, Leaves, with_memory}
 use Rattle.il_range.specs.Laws.{DelaysContinue, ReachesByScan}
 use Rattle.il_range.specs.Outcomes.{Carries, Predicts, Tells}
-use Rattle.il_range.specs.Ranges.{AreIn, AreTimersIn, AreYoung, IsIn, IsYoung, Switches, kind_of}
-use Rattle.il_range.specs.Starts.{first_limit, known_of_kinds, range_of_point}
+use Rattle.il_range.specs.Ranges.{AreDelays, AreIn, AreTimersIn, IsDelay, IsIn, Setting, kind_of}
+use Rattle.il_range.specs.Starts.{first_delay, known_of_kinds, range_of_point}
 use Rattle.il_range.proofs.KeepLemmas.{Keeps, run-keeps}
 use Rattle.il_range.proofs.ListLemmas.{each-left, each-size}
 use Rattle.il_range.proofs.RangeLemmas.{are-within, in-exactly, in-widened}
 
 -- ---- the start of a scan
 
-first-in : (w : Switches) (inputs : List Value) (given : List Range) (v : Value) (r : Range)
+first-in : (w : Setting) (inputs : List Value) (given : List Range) (v : Value) (r : Range)
     → AreIn w inputs given → IsIn w v r → IsIn w (first_input inputs v) (first_input given r)
 first-in w [] [] v r h k = k
 first-in w [] (s ∷ given) v r h k = absurd h
 first-in w (u ∷ inputs) [] v r h k = absurd h
 first-in w (u ∷ inputs) (s ∷ given) v r h k = h.0
 
-behind-in : (w : Switches) (inputs : List Value) (given : List Range) → AreIn w inputs given
+behind-in : (w : Setting) (inputs : List Value) (given : List Range) → AreIn w inputs given
     → AreIn w (drop 1 inputs) (drop 1 given)
 behind-in w [] [] h = tt
 behind-in w [] (r ∷ given) h = absurd h
 behind-in w (u ∷ inputs) [] h = absurd h
 behind-in w (u ∷ inputs) (r ∷ given) h = h.1
 
-points-in : (w : Switches) (points : List ImagePoint) (inputs : List Value) (given : List Range)
+points-in : (w : Setting) (points : List ImagePoint) (inputs : List Value) (given : List Range)
     (slots : List Value) (memory : List Range) → AreIn w inputs given → AreIn w slots memory
     → AreIn w (with_inputs points inputs slots) (with_inputs points given memory)
 points-in w [] inputs given slots memory h k = k
@@ -59,7 +60,7 @@ points-in w (p ∷ points) inputs given (v ∷ slots) (r ∷ memory) h k = (
     later false = behind-in w inputs given h
 
 -- whatever the inputs are, where nothing is known of so many
-free-in : (w : Switches) (points : List ImagePoint) (inputs : List Value) (n : ℕ)
+free-in : (w : Setting) (points : List ImagePoint) (inputs : List Value) (n : ℕ)
     (slots : List Value)
     (memory : List Range) → length points ≤ n → AreIn w slots memory
     → AreIn w (with_inputs points inputs slots) (with_inputs points (replicate n Any) memory)
@@ -85,23 +86,25 @@ free-in w (p ∷ points) inputs (suc n) (v ∷ slots) (r ∷ memory) few k =
     go true written read = (k.0, written)
     go false written read = (tt, read)
 
-first-young : (now : ℕ) (t : TimerState) (timers : List TimerState) (limits : List (Option ℕ))
-    → AreYoung now (t ∷ timers) limits → IsYoung now t.phase (first_limit limits)
-first-young now t timers [] y = tt
-first-young now t timers (below ∷ limits) y = y.0
+delay-first : (mark now : ℕ) (t : TimerState) (timers : List TimerState)
+    (delays : List KnownDelay) → AreDelays mark now (t ∷ timers) delays
+    → IsDelay mark now t.kind t.phase (first_delay delays)
+delay-first mark now t timers [] y = tt
+delay-first mark now t timers (d ∷ delays) y = y.0
 
-later-young : (now : ℕ) (t : TimerState) (timers : List TimerState) (limits : List (Option ℕ))
-    → AreYoung now (t ∷ timers) limits → AreYoung now timers (drop 1 limits)
-later-young now t timers [] y = tt
-later-young now t timers (below ∷ limits) y = y.1
+delays-later : (mark now : ℕ) (t : TimerState) (timers : List TimerState)
+    (delays : List KnownDelay) → AreDelays mark now (t ∷ timers) delays
+    → AreDelays mark now timers (drop 1 delays)
+delays-later mark now t timers [] y = tt
+delays-later mark now t timers (d ∷ delays) y = y.1
 
-pub timers-start : (w : Switches) (now : ℕ) (timers : List TimerState) (kinds : List TimerKind)
-    (limits : List (Option ℕ)) → map kind_of timers ≡ kinds → AreYoung now timers limits
-    → AreTimersIn w now timers (known_of_kinds kinds limits)
-timers-start w now [] [] limits e y = tt
-timers-start w now [] (k ∷ kinds) limits e y = absurd (cc)
-timers-start w now (t ∷ timers) [] limits e y = absurd (cc)
-timers-start w now (t ∷ timers) (k ∷ kinds) limits e y =
+pub timers-start : (w : Setting) (now : ℕ) (timers : List TimerState) (kinds : List TimerKind)
+    (delays : List KnownDelay) → map kind_of timers ≡ kinds → AreDelays w.mark now timers delays
+    → AreTimersIn w now timers (known_of_kinds kinds delays)
+timers-start w now [] [] delays e y = tt
+timers-start w now [] (k ∷ kinds) delays e y = absurd (cc)
+timers-start w now (t ∷ timers) [] delays e y = absurd (cc)
+timers-start w now (t ∷ timers) (k ∷ kinds) delays e y =
     let is : t.kind ≡ k = cc in let are : map kind_of timers ≡ kinds = cc in (
       record {
         of_kind = is;
@@ -109,18 +112,19 @@ timers-start w now (t ∷ timers) (k ∷ kinds) limits e y =
         in_preset = tt;
         in_output = tt;
         in_elapsed = tt;
-        young = first-young now t timers limits y;
+        in_delay = delay-first w.mark now t timers delays y;
       },
-      timers-start w now timers kinds (drop 1 limits) are (later-young now t timers limits y),
+      timers-start w now timers kinds (drop 1 delays) are
+          (delays-later w.mark now t timers delays y),
     )
 
 -- what is known of the delays of timers
-pub limits-young : (w : Switches) (now : ℕ) (timers : List TimerState) (known : List KnownTimer)
-    → AreTimersIn w now timers known → AreYoung now timers (map (λ u. u.below) known)
-limits-young w now [] [] h = tt
-limits-young w now [] (u ∷ known) h = absurd h
-limits-young w now (t ∷ timers) [] h = absurd h
-limits-young w now (t ∷ timers) (u ∷ known) h = (h.0.young, limits-young w now timers known h.1)
+pub delays-known : (w : Setting) (now : ℕ) (timers : List TimerState) (known : List KnownTimer)
+    → AreTimersIn w now timers known → AreDelays w.mark now timers (map (λ u. u.delay) known)
+delays-known w now [] [] h = tt
+delays-known w now [] (u ∷ known) h = absurd h
+delays-known w now (t ∷ timers) [] h = absurd h
+delays-known w now (t ∷ timers) (u ∷ known) h = (h.0.in_delay, delays-known w now timers known h.1)
 
 -- ---- what each scan keeps
 
@@ -184,7 +188,7 @@ size-stays machine (Next before inputs now slots timers r l) =
 
 -- ---- what foretells a scan
 
-any-in : (w : Switches) (slots : List Value) (n : ℕ) → length slots ≡ n
+any-in : (w : Setting) (slots : List Value) (n : ℕ) → length slots ≡ n
     → AreIn w slots (replicate n Any)
 any-in w [] zero e = tt
 any-in w [] (suc n) e = absurd (omega arith)
@@ -196,26 +200,26 @@ pub any-memory : (image : Image) → IsMemory image (replicate (slot_count image
 any-memory image w machine is r =
     any-in w machine.slots (slot_count image) (size-stays machine r ∙ ap slot_count is)
 
-pub any-tells : (image : Image) (start : List Range) (limits last : List (Option ℕ))
+pub any-tells : (image : Image) (start : List Range) (delays last : List KnownDelay)
     (result : List Range) → last ≡ [] → result ≡ replicate (slot_count image) Any
-    → Tells image start limits last result
-any-tells image start limits last result none all w machine inputs now slots timers is r h y l = (
+    → Tells image start delays last result
+any-tells image start delays last result none all w machine inputs now slots timers is r h y l = (
   subst (AreIn w slots) (sym all)
       (any-memory image w (with_memory slots timers machine) is
       (Next machine inputs now slots timers r l)),
-  subst (AreYoung now timers) (sym none) tt,
+  subst (AreDelays w.mark now timers) (sym none) tt,
 )
 
 -- The result of the pass tells it.
-pub pass-tells : (image : Image) (start : List Range) (limits : List (Option ℕ))
+pub pass-tells : (image : Image) (start : List Range) (delays : List KnownDelay)
     (last : List KnownTimer) (result : List Range)
-    → Predicts image.code (known_of_kinds image.timers limits) start last result
-    → Tells image start limits (map (λ u. u.below) last) result
-pass-tells image start limits last result p w machine inputs now slots timers is r h y l =
-    let q : Predicts machine.image.code (known_of_kinds machine.image.timers limits) start last
+    → Predicts image.code (known_of_kinds image.timers delays) start last result
+    → Tells image start delays (map (λ u. u.delay) last) result
+pass-tells image start delays last result p w machine inputs now slots timers is r h y l =
+    let q : Predicts machine.image.code (known_of_kinds machine.image.timers delays) start last
     result =
     subst
-    (λ (i : Image). Predicts i.code (known_of_kinds i.timers limits) start last result) (sym is)
+    (λ (i : Image). Predicts i.code (known_of_kinds i.timers delays) start last result) (sym is)
     p in
     let end =
     q w (scan_start machine inputs).slots slots h
@@ -227,15 +231,15 @@ pass-tells image start limits last result p w machine inputs now slots timers is
       steps = l.steps;
       halts = l.halts;
     })
-    (timers-start w now machine.timers machine.image.timers limits (kinds-stay machine r) y) in
-    (end.0, limits-young w now timers last end.1)
+    (timers-start w now machine.timers machine.image.timers delays (kinds-stay machine r) y) in
+    (end.0, delays-known w now timers last end.1)
 
 -- From given inputs.
-pub tells-given : (image : Image) (start memory : List Range) (limits : List (Option ℕ))
-    (given : List Range) (last : List (Option ℕ)) (result : List Range)
-    → start ≡ with_inputs image.points given memory → Tells image start limits last result
-    → Foretells image memory limits given last result
-tells-given image start memory limits given last result at t w machine inputs now slots timers is r
+pub tells-given : (image : Image) (start memory : List Range) (delays : List KnownDelay)
+    (given : List Range) (last : List KnownDelay) (result : List Range)
+    → start ≡ with_inputs image.points given memory → Tells image start delays last result
+    → Foretells image memory delays given last result
+tells-given image start memory delays given last result at t w machine inputs now slots timers is r
     k
     y
     h l =
@@ -243,7 +247,7 @@ tells-given image start memory limits given last result at t w machine inputs no
     (rw (at, ← is) (points-in w machine.image.points inputs given machine.slots memory h k)) y l
 
 -- From any inputs.
-pub tells-any : (image : Image) (start memory : List Range) (last : List (Option ℕ))
+pub tells-any : (image : Image) (start memory : List Range) (last : List KnownDelay)
     (result : List Range)
     → start ≡ with_inputs image.points (replicate (length image.points) Any) memory
     → Tells image start [] last result → Carries image memory result
@@ -255,7 +259,7 @@ tells-any image start memory last result at t w machine inputs now slots timers 
 -- ---- what foretells a memory
 
 -- The first values are in their ranges.
-pub firsts-in : (w : Switches) (points : List ImagePoint) (variables : List Value)
+pub firsts-in : (w : Setting) (points : List ImagePoint) (variables : List Value)
     → AreIn w (first_slots points variables)
     (map range_of_point points ++ map value_range variables)
 firsts-in w (p ∷ points) variables =
@@ -264,7 +268,7 @@ firsts-in w [] [] = tt
 firsts-in w [] (v ∷ variables) = (in-exactly w v, firsts-in w [] variables)
 
 -- There is a range for each slot.
-pub firsts-size : (w : Switches) (image : Image) (ranges : List Range)
+pub firsts-size : (w : Setting) (image : Image) (ranges : List Range)
     → AreIn w (first_machine image).slots ranges
     → length ranges ≡ slot_count image
 firsts-size w image ranges h =
@@ -272,7 +276,7 @@ firsts-size w image ranges h =
     ∙ first-size image.points image.variables
 
 -- What ranges stand for, they stand for where they are widened.
-pub grows : (w : Switches) (is_late : Bool) (slots : List Value) (ranges left : List Range)
+pub grows : (w : Setting) (is_late : Bool) (slots : List Value) (ranges left : List Range)
     → AreIn w slots ranges
     → AreIn w slots (join_lists (widen_range is_late) ranges left)
 grows w is_late slots ranges left h =
@@ -280,7 +284,7 @@ grows w is_late slots ranges left h =
 
 -- Ranges of the first values, within which a scan stays, are those of the memory.
 pub settled : (image : Image) (ranges left : List Range)
-    → ((w : Switches) → AreIn w (first_machine image).slots ranges)
+    → ((w : Setting) → AreIn w (first_machine image).slots ranges)
     → Carries image ranges left → are_within left ranges ≡ true → IsMemory image ranges
 settled image ranges left first carries inside w machine is r = go machine r is
   where

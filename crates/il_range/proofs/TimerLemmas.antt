@@ -1,6 +1,6 @@
 -- Timers under joins, calls and changes.
-use Rattle.std.proofs.Common.{◌≡◌, ◌<◌, ◌≤◌, ◌-◌, ℕ, ℤ, pos, Bool, nat_le, true, false, cond, Option, None, Some, refl, sym, ap, subst, ◌∙◌, arith}
-use Rattle.std.specs.Prelude.{◌≤ℤ◌, int_le, max, option_map}
+use Rattle.std.proofs.Common.{◌≡◌, ◌<◌, ◌≤◌, ◌-◌, ℕ, ℤ, pos, Bool, nat_le, true, false, cond, Option, None, Some, refl, sym, subst, arith}
+use Rattle.std.specs.Prelude.{◌≤ℤ◌, int_le, is_some, max, min}
 use Rattle.std.proofs.lemmas.Int.{ints}
 use Rattle.bay_base.specs.declared.types.TimerKind.{TimerKind}
 use Rattle.bay_base.specs.declared.types.TimerKind.TheVariants.{OnDelay, OffDelay}
@@ -11,12 +11,14 @@ use Rattle.il_image.specs.declared.value.Value.TheVariants.{Truth, Span}
 use Rattle.il_image.specs.Timers.{after_call, elapsed_of, output_of, phase_after}
 use Rattle.il_range.specs.declared.range.Range.{Range}
 use Rattle.il_range.specs.declared.range.Range.TheVariants.{Any, No, Yes, Either, Between, Among}
+use Rattle.il_range.specs.declared.delay.KnownDelay.{KnownDelay}
+use Rattle.il_range.specs.declared.delay.KnownDelay.TheVariants.{Unknown, Below, Begun, AtLeast}
 use Rattle.il_range.specs.declared.timer.KnownTimer.{KnownTimer}
-use Rattle.il_range.specs.Ranges.{IsIn, IsKind, IsTimerIn, IsYoung, Switches}
-use Rattle.il_range.specs.Effects.{below_after, timer_after_call, elapsed_after, is_short, join_below, join_kind, join_timer, output_after, up_to}
+use Rattle.il_range.specs.Ranges.{IsDelay, IsIn, IsKind, IsTimerIn, Setting, delay_onset, is_by}
+use Rattle.il_range.specs.Effects.{delay_after, elapsed_after, going_on, has_passed, join_delay, join_kind, join_timer, output_after, output_of_off, timer_after_call, up_to}
 use Rattle.il_range.proofs.RangeLemmas.{in-join_left, in-join_right, le-told}
 
-module _ (w : Switches) where
+module _ (w : Setting) where
   kind-left : (k : TimerKind) (a b : Option TimerKind) → IsKind k a → IsKind k (join_kind a b)
   kind-left k (Some OnDelay) (Some OnDelay) h = h
   kind-left k (Some OffDelay) (Some OffDelay) h = h
@@ -27,21 +29,57 @@ module _ (w : Switches) where
   kind-right k (Some OffDelay) (Some OffDelay) h = h
   kind-right k a b h = tt
 
-  young-left : (now : ℕ) (phase : TimerPhase) (a b : Option ℕ) → IsYoung now phase a
-      → IsYoung now phase (join_below a b)
-  young-left now Idle (Some a) (Some b) h = tt
-  young-left now Held (Some a) (Some b) h = tt
-  young-left now (Since start) (Some a) (Some b) h = omega arith
-  young-left now phase (Some a) None h = tt
-  young-left now phase None b h = tt
+  by-begun : (mark : ℕ) (o : Option ℕ) → is_by mark o ≡ true → is_some o ≡ true
+  by-begun mark None h = absurd cc
+  by-begun mark (Some start) h = refl
 
-  young-right : (now : ℕ) (phase : TimerPhase) (a b : Option ℕ) → IsYoung now phase b
-      → IsYoung now phase (join_below a b)
-  young-right now Idle (Some a) (Some b) h = tt
-  young-right now Held (Some a) (Some b) h = tt
-  young-right now (Since start) (Some a) (Some b) h = omega arith
-  young-right now phase (Some a) None h = tt
-  young-right now phase None b h = tt
+  below-more : (now : ℕ) (mark : ℕ) (kind : TimerKind) (phase : TimerPhase) (m n : ℕ) → m ≤ n
+      → IsDelay mark now kind phase (Below m) → IsDelay mark now kind phase (Below n)
+  below-more now mark kind Idle m n le h = tt
+  below-more now mark kind Held m n le h = tt
+  below-more now mark kind (Since start) m n le h = omega (arith, h, le)
+
+  least-less : (now : ℕ) (mark : ℕ) (kind : TimerKind) (phase : TimerPhase) (m n : ℕ) → n ≤ m
+      → IsDelay mark now kind phase (AtLeast m) → IsDelay mark now kind phase (AtLeast n)
+  least-less now mark kind phase m n le h = (h.0, (let far = h.1 in omega (arith, far, le)))
+
+  delay-left : (mark now : ℕ) (kind : TimerKind) (phase : TimerPhase) (a b : KnownDelay)
+      → IsDelay mark now kind phase a → IsDelay mark now kind phase (join_delay a b)
+  delay-left mark now kind phase Unknown b h = tt
+  delay-left mark now kind phase (Below m) (Below n) h =
+      below-more now mark kind phase m (max m n) (omega arith) h
+  delay-left mark now kind phase (Below m) Unknown h = tt
+  delay-left mark now kind phase (Below m) Begun h = tt
+  delay-left mark now kind phase (Below m) (AtLeast n) h = tt
+  delay-left mark now kind phase Begun Begun h = h
+  delay-left mark now kind phase Begun (AtLeast n) h = h
+  delay-left mark now kind phase Begun Unknown h = tt
+  delay-left mark now kind phase Begun (Below n) h = tt
+  delay-left mark now kind phase (AtLeast m) (AtLeast n) h =
+      least-less now mark kind phase m (min m n) (omega arith) h
+  delay-left mark now kind phase (AtLeast m) Begun h =
+      by-begun mark (delay_onset kind phase) h.0
+  delay-left mark now kind phase (AtLeast m) Unknown h = tt
+  delay-left mark now kind phase (AtLeast m) (Below n) h = tt
+
+  delay-right : (mark now : ℕ) (kind : TimerKind) (phase : TimerPhase) (a b : KnownDelay)
+      → IsDelay mark now kind phase b → IsDelay mark now kind phase (join_delay a b)
+  delay-right mark now kind phase Unknown b h = tt
+  delay-right mark now kind phase (Below m) (Below n) h =
+      below-more now mark kind phase n (max m n) (omega arith) h
+  delay-right mark now kind phase (Below m) Unknown h = tt
+  delay-right mark now kind phase (Below m) Begun h = tt
+  delay-right mark now kind phase (Below m) (AtLeast n) h = tt
+  delay-right mark now kind phase Begun Begun h = h
+  delay-right mark now kind phase Begun (AtLeast n) h =
+      by-begun mark (delay_onset kind phase) h.0
+  delay-right mark now kind phase Begun Unknown h = tt
+  delay-right mark now kind phase Begun (Below n) h = tt
+  delay-right mark now kind phase (AtLeast m) (AtLeast n) h =
+      least-less now mark kind phase n (min m n) (omega arith) h
+  delay-right mark now kind phase (AtLeast m) Begun h = h
+  delay-right mark now kind phase (AtLeast m) Unknown h = tt
+  delay-right mark now kind phase (AtLeast m) (Below n) h = tt
 
   pub timer-join_left : (now : ℕ) (t : TimerState) (a b : KnownTimer) → IsTimerIn w now t a
       → IsTimerIn w now t (join_timer a b)
@@ -51,7 +89,7 @@ module _ (w : Switches) where
     in_preset = in-join_left w (Span t.preset) a.preset b.preset h.in_preset;
     in_output = in-join_left w (Truth t.output) a.output b.output h.in_output;
     in_elapsed = in-join_left w (Span t.elapsed) a.elapsed b.elapsed h.in_elapsed;
-    young = young-left now t.phase a.below b.below h.young;
+    in_delay = delay-left w.mark now t.kind t.phase a.delay b.delay h.in_delay;
   }
 
   pub timer-join_right : (now : ℕ) (t : TimerState) (a b : KnownTimer) → IsTimerIn w now t b
@@ -62,42 +100,103 @@ module _ (w : Switches) where
     in_preset = in-join_right w (Span t.preset) a.preset b.preset h.in_preset;
     in_output = in-join_right w (Truth t.output) a.output b.output h.in_output;
     in_elapsed = in-join_right w (Span t.elapsed) a.elapsed b.elapsed h.in_elapsed;
-    young = young-right now t.phase a.below b.below h.young;
+    in_delay = delay-right w.mark now t.kind t.phase a.delay b.delay h.in_delay;
   }
 
-  -- no delay runs
-  young-idle : (now : ℕ) (below : Option ℕ) → IsYoung now Idle (option_map (max 1) below)
-  young-idle now None = tt
-  young-idle now (Some below) = tt
-
   -- the delay of a TON after a call with IN TRUE
-  young-since : (now : ℕ) (phase : TimerPhase) (below : Option ℕ) → IsYoung now phase below
-      → IsYoung now (phase_after OnDelay true phase now) (option_map (max 1) below)
-  young-since now phase None h = tt
-  young-since now Idle (Some below) h = omega arith
-  young-since now Held (Some below) h = omega arith
-  young-since now (Since start) (Some below) h = omega arith
+  below-since : (now mark : ℕ) (phase : TimerPhase) (n : ℕ)
+      → IsDelay mark now OnDelay phase (Below n)
+      → IsDelay mark now OnDelay (phase_after OnDelay true phase now) (Below (max 1 n))
+  below-since now mark Idle n h = omega arith
+  below-since now mark Held n h = omega arith
+  below-since now mark (Since start) n h = omega (arith, h)
 
-  young-called : (k : TimerKind) (b : Bool) (phase : TimerPhase) (m : ℕ) (known : Option TimerKind)
-      (r : Range) (below : Option ℕ) → IsKind k known → IsIn w (Truth b) r → IsYoung m phase below
-      → IsYoung m (phase_after k b phase m) (below_after known r below)
-  young-called k b phase m None r below h g y = tt
-  young-called k b phase m (Some OffDelay) r below h g y = tt
-  young-called OffDelay b phase m (Some OnDelay) r below h g y = absurd (cc)
-  young-called OnDelay false phase m (Some OnDelay) No below h g y = tt
-  young-called OnDelay true phase m (Some OnDelay) No below h g y = absurd g
-  young-called OnDelay true phase m (Some OnDelay) Yes below h g y = young-since m phase below y
-  young-called OnDelay false phase m (Some OnDelay) Yes below h g y = absurd g
-  young-called OnDelay true phase m (Some OnDelay) Either below h g y = young-since m phase below y
-  young-called OnDelay false phase m (Some OnDelay) Either below h g y = young-idle m below
-  young-called OnDelay true phase m (Some OnDelay) Any below h g y = young-since m phase below y
-  young-called OnDelay false phase m (Some OnDelay) Any below h g y = young-idle m below
-  young-called OnDelay true phase m (Some OnDelay) (Between l u) below h g y =
-      young-since m phase below y
-  young-called OnDelay false phase m (Some OnDelay) (Between l u) below h g y = young-idle m below
-  young-called OnDelay true phase m (Some OnDelay) (Among k s) below h g y =
-      young-since m phase below y
-  young-called OnDelay false phase m (Some OnDelay) (Among k s) below h g y = young-idle m below
+  -- a TON whose IN stays TRUE keeps the start of its delay, or begins one now
+  on-goes : (now mark : ℕ) (phase : TimerPhase) (d : KnownDelay)
+      → IsDelay mark now OnDelay phase d
+      → IsDelay mark now OnDelay (phase_after OnDelay true phase now) (going_on d)
+  on-goes now mark Idle (AtLeast n) h = absurd (let none = h.0 in cc)
+  on-goes now mark Held (AtLeast n) h = absurd (let none = h.0 in cc)
+  on-goes now mark (Since start) (AtLeast n) h = h
+  on-goes now mark Idle Unknown h = refl
+  on-goes now mark Held Unknown h = refl
+  on-goes now mark (Since start) Unknown h = refl
+  on-goes now mark Idle (Below n) h = refl
+  on-goes now mark Held (Below n) h = refl
+  on-goes now mark (Since start) (Below n) h = refl
+  on-goes now mark Idle Begun h = refl
+  on-goes now mark Held Begun h = refl
+  on-goes now mark (Since start) Begun h = refl
+
+  -- the same of a TOF whose IN stays FALSE
+  off-goes : (now mark : ℕ) (phase : TimerPhase) (d : KnownDelay)
+      → IsDelay mark now OffDelay phase d
+      → IsDelay mark now OffDelay (phase_after OffDelay false phase now) (going_on d)
+  off-goes now mark Idle (AtLeast n) h = h
+  off-goes now mark Held (AtLeast n) h = absurd (let none = h.0 in cc)
+  off-goes now mark (Since start) (AtLeast n) h = h
+  off-goes now mark Idle Unknown h = refl
+  off-goes now mark Held Unknown h = refl
+  off-goes now mark (Since start) Unknown h = refl
+  off-goes now mark Idle (Below n) h = refl
+  off-goes now mark Held (Below n) h = refl
+  off-goes now mark (Since start) (Below n) h = refl
+  off-goes now mark Idle Begun h = refl
+  off-goes now mark Held Begun h = refl
+  off-goes now mark (Since start) Begun h = refl
+
+  -- a TON whose IN is not known may run on, or begin
+  either-on : (now mark : ℕ) (b : Bool) (phase : TimerPhase) (n : ℕ)
+      → IsDelay mark now OnDelay phase (Below n)
+      → IsDelay mark now OnDelay (phase_after OnDelay b phase now) (Below (max 1 n))
+  either-on now mark false phase n h = tt
+  either-on now mark true phase n h = below-since now mark phase n h
+
+  delay-called : (k : TimerKind) (b : Bool) (phase : TimerPhase) (m mark : ℕ)
+      (known : Option TimerKind) (r : Range) (d : KnownDelay) → IsKind k known
+      → IsIn w (Truth b) r → IsDelay mark m k phase d
+      → IsDelay mark m k (phase_after k b phase m) (delay_after known r d)
+  delay-called k b phase m mark None r d h g y = tt
+  delay-called OnDelay b phase m mark (Some OffDelay) r d h g y = absurd (cc)
+  delay-called OffDelay b phase m mark (Some OnDelay) r d h g y = absurd (cc)
+  delay-called OffDelay true phase m mark (Some OffDelay) No d h g y = absurd g
+  delay-called OffDelay false phase m mark (Some OffDelay) No d h g y = off-goes m mark phase d y
+  delay-called OffDelay b phase m mark (Some OffDelay) Yes d h g y = tt
+  delay-called OffDelay b phase m mark (Some OffDelay) Either d h g y = tt
+  delay-called OffDelay b phase m mark (Some OffDelay) Any d h g y = tt
+  delay-called OffDelay b phase m mark (Some OffDelay) (Between l u) d h g y = tt
+  delay-called OffDelay b phase m mark (Some OffDelay) (Among k s) d h g y = tt
+  delay-called OnDelay false phase m mark (Some OnDelay) No d h g y = tt
+  delay-called OnDelay true phase m mark (Some OnDelay) No d h g y = absurd g
+  delay-called OnDelay false phase m mark (Some OnDelay) Yes d h g y = absurd g
+  delay-called OnDelay true phase m mark (Some OnDelay) Yes (Below n) h g y =
+      below-since m mark phase n y
+  delay-called OnDelay true phase m mark (Some OnDelay) Yes Unknown h g y =
+      on-goes m mark phase Unknown y
+  delay-called OnDelay true phase m mark (Some OnDelay) Yes Begun h g y =
+      on-goes m mark phase Begun y
+  delay-called OnDelay true phase m mark (Some OnDelay) Yes (AtLeast n) h g y =
+      on-goes m mark phase (AtLeast n) y
+  delay-called OnDelay b phase m mark (Some OnDelay) Either (Below n) h g y =
+      either-on m mark b phase n y
+  delay-called OnDelay b phase m mark (Some OnDelay) Any (Below n) h g y =
+      either-on m mark b phase n y
+  delay-called OnDelay b phase m mark (Some OnDelay) (Between l u) (Below n) h g y =
+      either-on m mark b phase n y
+  delay-called OnDelay b phase m mark (Some OnDelay) (Among k s) (Below n) h g y =
+      either-on m mark b phase n y
+  delay-called OnDelay b phase m mark (Some OnDelay) r d h g y = tt
+
+  -- ---- Q
+
+  -- FALSE or TRUE where a test holds, else either
+  of-no : (b sure : Bool) → (sure ≡ true → b ≡ false) → IsIn w (Truth b) (cond sure No Either)
+  of-no b false none = tt
+  of-no b true none = subst (λ (x : Bool). IsIn w (Truth x) No) (sym (none refl)) tt
+
+  of-yes : (b sure : Bool) → (sure ≡ true → b ≡ true) → IsIn w (Truth b) (cond sure Yes Either)
+  of-yes b false all = tt
+  of-yes b true all = subst (λ (x : Bool). IsIn w (Truth x) Yes) (sym (all refl)) tt
 
   -- a delay that has run for less than PT
   short-since : (preset m start below : ℕ) (low high : ℤ) → m - start < below
@@ -109,46 +208,107 @@ module _ (w : Switches) where
       let less : m - start < preset = omega (arith, ints, y, le, within) in
       grind (arith, less)
 
-  short-output : (b : Bool) (preset m : ℕ) (phase : TimerPhase) (below : Option ℕ) (p : Range)
-      → IsYoung m (phase_after OnDelay b phase m) below → IsIn w (Span preset) p
-      → is_short below p ≡ true
-      → output_of OnDelay preset (phase_after OnDelay b phase m) m ≡ false
-  short-output false preset m phase below p y i s = refl
-  short-output true preset m Idle (Some below) (Between low high) y i s =
-      short-since preset m m below low high y i s
-  short-output true preset m Held (Some below) (Between low high) y i s =
-      short-since preset m m below low high y i s
-  short-output true preset m (Since start) (Some below) (Between low high) y i s =
-      short-since preset m start below low high y i s
-  short-output true preset m phase below p y i s = absurd (cc)
+  -- PT has passed at a moment
+  long-since : (preset m start mark least : ℕ) (low high : ℤ) → nat_le start mark ≡ true
+      → least ≤ m - mark → IsIn w (Span preset) (Between low high)
+      → int_le high (pos least) ≡ true → preset ≤ m - start
+  long-since preset m start mark least low high by far i s =
+      let le : high ≤ℤ pos least = le-told w high (pos least) s in
+      let within : pos preset ≤ℤ high = i.1 in
+      let early : start ≤ mark = grind (arith, by) in
+      let small : preset ≤ least = omega (arith, ints, le, within) in
+      omega (arith, early, small, far)
 
-  -- FALSE where the delay is short, else either
-  of-short : (b short : Bool) → (short ≡ true → b ≡ false)
-      → IsIn w (Truth b) (cond short No Either)
-  of-short b false none = tt
-  of-short b true none = subst (λ (x : Bool). IsIn w (Truth x) No) (sym (none refl)) tt
+  -- Q of a TON whose delay runs
+  on-since : (preset m start mark : ℕ) (d : KnownDelay) (p : Range)
+      → IsDelay mark m OnDelay (Since start) d → IsIn w (Span preset) p
+      → IsIn w (Truth (nat_le preset (m - start))) (has_passed d p)
+  on-since preset m start mark (Below n) (Between low high) y i =
+      of-no (nat_le preset (m - start)) (int_le (pos n) low)
+      (λ s. short-since preset m start n low high y i s)
+  on-since preset m start mark (AtLeast n) (Between low high) y i =
+      of-yes (nat_le preset (m - start)) (int_le high (pos n))
+      (λ s. let le = long-since preset m start mark n low high y.0 y.1 i s in grind (arith, le))
+  on-since preset m start mark d p y i = tt
 
-  of-output : (k : TimerKind) (b : Bool) (phase : TimerPhase) (preset m : ℕ)
-      (known : Option TimerKind) (r : Range) (short : Bool) → IsKind k known → IsIn w (Truth b) r
-      → (k ≡ OnDelay → short ≡ true → output_of k preset (phase_after k b phase m) m ≡ false)
-      → IsIn w (Truth (output_of k preset (phase_after k b phase m) m)) (output_after known r short)
-  of-output OnDelay false phase preset m (Some OnDelay) No short h g none = tt
-  of-output OnDelay true phase preset m (Some OnDelay) No short h g none = absurd g
-  of-output OffDelay b phase preset m (Some OnDelay) r short h g none = absurd (cc)
-  of-output OffDelay true phase preset m (Some OffDelay) Yes short h g none = tt
-  of-output OffDelay false phase preset m (Some OffDelay) Yes short h g none = absurd g
-  of-output OnDelay b phase preset m (Some OffDelay) r short h g none = absurd (cc)
-  of-output OnDelay b phase preset m (Some OnDelay) Yes short h g none =
-      of-short _ short (none refl)
-  of-output OnDelay b phase preset m (Some OnDelay) Either short h g none =
-      of-short _ short (none refl)
-  of-output OnDelay b phase preset m (Some OnDelay) Any short h g none =
-      of-short _ short (none refl)
-  of-output OnDelay b phase preset m (Some OnDelay) (Between l u) short h g none =
-      of-short _ short (none refl)
-  of-output OnDelay b phase preset m (Some OnDelay) (Among k s) short h g none =
-      of-short _ short (none refl)
-  of-output k b phase preset m known r short h g none = tt
+  -- Q of a TON whose delay does not run
+  on-idle : (preset m mark : ℕ) (d : KnownDelay) (p : Range) → IsDelay mark m OnDelay Idle d
+      → IsIn w (Truth false) (has_passed d p)
+  on-idle preset m mark (Below n) (Between low high) y =
+      of-no false (int_le (pos n) low) (λ s. refl)
+  on-idle preset m mark (AtLeast n) (Between low high) y = absurd (let none = y.0 in cc)
+  on-idle preset m mark d p y = tt
+
+  on-output : (b : Bool) (preset m mark : ℕ) (phase : TimerPhase) (d : KnownDelay) (p : Range)
+      → IsDelay mark m OnDelay (phase_after OnDelay b phase m) d → IsIn w (Span preset) p
+      → IsIn w (Truth (output_of OnDelay preset (phase_after OnDelay b phase m) m))
+      (has_passed d p)
+  on-output false preset m mark phase d p y i = on-idle preset m mark d p y
+  on-output true preset m mark Idle d p y i = on-since preset m m mark d p y i
+  on-output true preset m mark Held d p y i = on-since preset m m mark d p y i
+  on-output true preset m mark (Since start) d p y i = on-since preset m start mark d p y i
+
+  -- Q of a TOF by what is known of its delay
+  of-off : (b sure : Bool) → (sure ≡ true → b ≡ false)
+      → IsIn w (Truth b) (output_of_off (cond sure Yes Either))
+  of-off b false none = tt
+  of-off b true none = subst (λ (x : Bool). IsIn w (Truth x) No) (sym (none refl)) tt
+
+  no-off : (b sure : Bool) → IsIn w (Truth b) (output_of_off (cond sure No Either))
+  no-off b false = tt
+  no-off b true = tt
+
+  off-passed : (preset m mark : ℕ) (phase : TimerPhase) (n : ℕ) (low high : ℤ)
+      → IsDelay mark m OffDelay phase (AtLeast n) → IsIn w (Span preset) (Between low high)
+      → int_le high (pos n) ≡ true → output_of OffDelay preset phase m ≡ false
+  off-passed preset m mark Idle n low high y i s = refl
+  off-passed preset m mark Held n low high y i s = absurd (let none = y.0 in cc)
+  off-passed preset m mark (Since start) n low high y i s =
+      let le = long-since preset m start mark n low high y.0 y.1 i s in grind (arith, le)
+
+  off-output : (preset m mark : ℕ) (phase : TimerPhase) (d : KnownDelay) (p : Range)
+      → IsDelay mark m OffDelay phase d → IsIn w (Span preset) p
+      → IsIn w (Truth (output_of OffDelay preset phase m)) (output_of_off (has_passed d p))
+  off-output preset m mark phase (AtLeast n) (Between low high) y i =
+      of-off (output_of OffDelay preset phase m) (int_le high (pos n))
+      (λ s. off-passed preset m mark phase n low high y i s)
+  off-output preset m mark phase (Below n) (Between low high) y i =
+      no-off (output_of OffDelay preset phase m) (int_le (pos n) low)
+  off-output preset m mark phase d p y i = tt
+
+  of-output : (k : TimerKind) (b : Bool) (phase : TimerPhase) (preset m mark : ℕ)
+      (known : Option TimerKind) (r p : Range) (d : KnownDelay) → IsKind k known
+      → IsIn w (Truth b) r → IsIn w (Span preset) p
+      → IsDelay mark m k (phase_after k b phase m) d
+      → IsIn w (Truth (output_of k preset (phase_after k b phase m) m))
+      (output_after known r (has_passed d p))
+  of-output k b phase preset m mark None r p d h g i y = tt
+  of-output OnDelay b phase preset m mark (Some OffDelay) r p d h g i y = absurd (cc)
+  of-output OffDelay b phase preset m mark (Some OnDelay) r p d h g i y = absurd (cc)
+  of-output OnDelay false phase preset m mark (Some OnDelay) No p d h g i y = tt
+  of-output OnDelay true phase preset m mark (Some OnDelay) No p d h g i y = absurd g
+  of-output OffDelay true phase preset m mark (Some OffDelay) Yes p d h g i y = tt
+  of-output OffDelay false phase preset m mark (Some OffDelay) Yes p d h g i y = absurd g
+  of-output OnDelay b phase preset m mark (Some OnDelay) Yes p d h g i y =
+      on-output b preset m mark phase d p y i
+  of-output OnDelay b phase preset m mark (Some OnDelay) Either p d h g i y =
+      on-output b preset m mark phase d p y i
+  of-output OnDelay b phase preset m mark (Some OnDelay) Any p d h g i y =
+      on-output b preset m mark phase d p y i
+  of-output OnDelay b phase preset m mark (Some OnDelay) (Between l u) p d h g i y =
+      on-output b preset m mark phase d p y i
+  of-output OnDelay b phase preset m mark (Some OnDelay) (Among k s) p d h g i y =
+      on-output b preset m mark phase d p y i
+  of-output OffDelay b phase preset m mark (Some OffDelay) No p d h g i y =
+      off-output preset m mark (phase_after OffDelay b phase m) d p y i
+  of-output OffDelay b phase preset m mark (Some OffDelay) Either p d h g i y =
+      off-output preset m mark (phase_after OffDelay b phase m) d p y i
+  of-output OffDelay b phase preset m mark (Some OffDelay) Any p d h g i y =
+      off-output preset m mark (phase_after OffDelay b phase m) d p y i
+  of-output OffDelay b phase preset m mark (Some OffDelay) (Between l u) p d h g i y =
+      off-output preset m mark (phase_after OffDelay b phase m) d p y i
+  of-output OffDelay b phase preset m mark (Some OffDelay) (Among k s) p d h g i y =
+      off-output preset m mark (phase_after OffDelay b phase m) d p y i
 
   elapsed-up : (preset m : ℕ) (phase : TimerPhase) → elapsed_of preset phase m ≤ preset
   elapsed-up preset m Idle = omega arith
@@ -181,9 +341,11 @@ module _ (w : Switches) where
       (elapsed-up preset m (phase_after k b phase m)) i
 
   of-called : (t : TimerState) (u : KnownTimer) (now : ℕ) → IsTimerIn w now t u
-      → IsYoung now (phase_after t.kind t.input t.phase now) (below_after u.kind u.input u.below)
+      → IsDelay w.mark now t.kind (phase_after t.kind t.input t.phase now)
+      (delay_after u.kind u.input u.delay)
   of-called t u now h =
-      young-called t.kind t.input t.phase now u.kind u.input u.below h.of_kind h.in_input h.young
+      delay-called t.kind t.input t.phase now w.mark u.kind u.input u.delay h.of_kind h.in_input
+      h.in_delay
 
   pub timer-called : (t : TimerState) (u : KnownTimer) (now : ℕ) → IsTimerIn w now t u
       → IsTimerIn w now (after_call t now) (timer_after_call u)
@@ -191,16 +353,10 @@ module _ (w : Switches) where
     of_kind = h.of_kind;
     in_input = h.in_input;
     in_preset = h.in_preset;
-    in_output = of-output t.kind t.input t.phase t.preset now u.kind u.input
-        (is_short (below_after u.kind u.input u.below) u.preset) h.of_kind h.in_input
-        (λ on short.
-        ap (λ (k : TimerKind). output_of k t.preset (phase_after k t.input t.phase now) now) on
-        ∙ short-output t.input t.preset now t.phase (below_after u.kind u.input u.below) u.preset
-        (subst (λ (k : TimerKind).
-        IsYoung now (phase_after k t.input t.phase now) (below_after u.kind u.input u.below)) on
-        (of-called t u now h))
-        h.in_preset short);
+    in_output = of-output t.kind t.input t.phase t.preset now w.mark u.kind u.input u.preset
+        (delay_after u.kind u.input u.delay) h.of_kind h.in_input h.in_preset
+        (of-called t u now h);
     in_elapsed = of-elapsed t.kind t.input t.phase t.preset now u.kind u.input u.preset h.of_kind
         h.in_input h.in_preset;
-    young = of-called t u now h;
+    in_delay = of-called t u now h;
   }

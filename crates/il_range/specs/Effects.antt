@@ -1,6 +1,6 @@
 -- Inner: the effect of an instruction without a jump on ranges.
 use Rattle.std.specs.Bool.{beq}
-use Rattle.std.specs.Prelude.{ℕ, ℤ, pos, negsuc, ◌+ℤ◌, ◌-ℤ◌, max, Bool, true, false, List, [], ◌∷◌, not, ◌&&◌, ◌||◌, ◌==◌, int_lt, int_le, slice_get, slice_set, Option, Some, None, option_and_then, option_map, if◌then◌else◌}
+use Rattle.std.specs.Prelude.{ℕ, ℤ, pos, negsuc, ◌+ℤ◌, ◌-ℤ◌, max, min, Bool, true, false, List, [], ◌∷◌, not, ◌&&◌, ◌||◌, ◌==◌, int_lt, int_le, slice_get, slice_set, Option, Some, None, option_and_then, if◌then◌else◌}
 use Rattle.il_image.specs.declared.arithmetic.Comparison.{Comparison}
 use Rattle.il_image.specs.declared.arithmetic.Comparison.TheVariants.{Gt, Ge, Eq, Ne, Le, Lt}
 use Rattle.il_image.specs.declared.arithmetic.ArithmeticOperation.{ArithmeticOperation}
@@ -17,6 +17,8 @@ use Rattle.il_image.specs.declared.value.Value.{Value}
 use Rattle.il_image.specs.declared.value.Value.TheVariants.{Truth, Short, Long, Wide, Span}
 use Rattle.bay_base.specs.declared.types.TimerKind.{TimerKind}
 use Rattle.bay_base.specs.declared.types.TimerKind.TheVariants.{OnDelay, OffDelay}
+use Rattle.il_range.specs.declared.delay.KnownDelay.{KnownDelay}
+use Rattle.il_range.specs.declared.delay.KnownDelay.TheVariants.{Unknown, Below, Begun, AtLeast}
 use Rattle.il_range.specs.declared.timer.KnownTimer.{KnownTimer}
 use Rattle.il_range.specs.Ranges.{among}
 use Rattle.il_range.specs.declared.range.Range.{Range}
@@ -134,10 +136,20 @@ join_kind (Some OnDelay) (Some OnDelay) = Some OnDelay
 join_kind (Some OffDelay) (Some OffDelay) = Some OffDelay
 join_kind a b = None
 
-abbrev pub join_below : Option ℕ → Option ℕ → Option ℕ
-join_below (Some a) (Some b) = Some (max a b)
-join_below (Some a) None = None
-join_below None b = None
+abbrev pub join_delay : KnownDelay → KnownDelay → KnownDelay
+join_delay Unknown b = Unknown
+join_delay (Below m) (Below n) = Below (max m n)
+join_delay (Below m) Unknown = Unknown
+join_delay (Below m) Begun = Unknown
+join_delay (Below m) (AtLeast n) = Unknown
+join_delay Begun Begun = Begun
+join_delay Begun (AtLeast n) = Begun
+join_delay Begun Unknown = Unknown
+join_delay Begun (Below n) = Unknown
+join_delay (AtLeast m) (AtLeast n) = AtLeast (min m n)
+join_delay (AtLeast m) Begun = Begun
+join_delay (AtLeast m) Unknown = Unknown
+join_delay (AtLeast m) (Below n) = Unknown
 
 abbrev pub join_timer : KnownTimer → KnownTimer → KnownTimer
 join_timer a b =
@@ -147,33 +159,67 @@ join_timer a b =
       preset = join a.preset b.preset;
       output = join a.output b.output;
       elapsed = join a.elapsed b.elapsed;
-      below = join_below a.below b.below;
+      delay = join_delay a.delay b.delay;
     }
 
--- Less than this number of milliseconds has passed since the delay of a TON began, after a call: no
--- delay runs if IN is FALSE, and one that begins with the call has run for 0 ms.
-abbrev pub below_after : Option TimerKind → Range → Option ℕ → Option ℕ
-below_after None input below = None
-below_after (Some OffDelay) input below = None
-below_after (Some OnDelay) No below = Some 0
-below_after (Some OnDelay) Yes below = option_map (max 1) below
-below_after (Some OnDelay) Either below = option_map (max 1) below
-below_after (Some OnDelay) Any below = option_map (max 1) below
-below_after (Some OnDelay) (Between l h) below = option_map (max 1) below
-below_after (Some OnDelay) (Among k s) below = option_map (max 1) below
+-- a delay that has begun or begins now
+abbrev pub going_on : KnownDelay → KnownDelay
+going_on (AtLeast n) = AtLeast n
+going_on Unknown = Begun
+going_on (Below n) = Begun
+going_on Begun = Begun
 
--- whether a delay that has run for less than `below` has run for less than PT
-abbrev pub is_short : Option ℕ → Range → Bool
-is_short (Some below) (Between low high) = int_le (pos below) low
-is_short below preset = false
+-- The delay of a TON after a call: no delay runs if IN is FALSE, one runs if IN is TRUE, and one
+-- that begins with the call has run for 0 ms.
+abbrev pub delay_of_on : Range → KnownDelay → KnownDelay
+delay_of_on No delay = Below 0
+delay_of_on Yes (Below n) = Below (max 1 n)
+delay_of_on Yes Unknown = going_on Unknown
+delay_of_on Yes Begun = going_on Begun
+delay_of_on Yes (AtLeast n) = going_on (AtLeast n)
+delay_of_on Either (Below n) = Below (max 1 n)
+delay_of_on Any (Below n) = Below (max 1 n)
+delay_of_on (Between l h) (Below n) = Below (max 1 n)
+delay_of_on (Among k s) (Below n) = Below (max 1 n)
+delay_of_on input delay = Unknown
 
--- Q after a call: FALSE for a TON whose IN is FALSE or whose delay is short, and TRUE for a TOF
--- whose IN is TRUE; else FALSE or TRUE
-abbrev pub output_after : Option TimerKind → Range → Bool → Range
-output_after (Some OnDelay) No short = No
-output_after (Some OffDelay) Yes short = Yes
-output_after (Some OnDelay) input short = if short then No else Either
-output_after kind input short = Either
+-- the delay of a TOF after a call: it goes on or begins if IN is FALSE
+abbrev pub delay_of_off : Range → KnownDelay → KnownDelay
+delay_of_off No delay = going_on delay
+delay_of_off Yes delay = Unknown
+delay_of_off Either delay = Unknown
+delay_of_off Any delay = Unknown
+delay_of_off (Between l h) delay = Unknown
+delay_of_off (Among k s) delay = Unknown
+
+abbrev pub delay_after : Option TimerKind → Range → KnownDelay → KnownDelay
+delay_after None input delay = Unknown
+delay_after (Some OnDelay) input delay = delay_of_on input delay
+delay_after (Some OffDelay) input delay = delay_of_off input delay
+
+-- the range of whether PT has passed since the delay began
+abbrev pub has_passed : KnownDelay → Range → Range
+has_passed (Below n) (Between low high) = if int_le (pos n) low then No else Either
+has_passed (AtLeast n) (Between low high) = if int_le high (pos n) then Yes else Either
+has_passed delay preset = Either
+
+-- Q of a TOF with IN FALSE, or with an IN that is not known
+abbrev pub output_of_off : Range → Range
+output_of_off Yes = No
+output_of_off No = Either
+output_of_off Either = Either
+output_of_off Any = Either
+output_of_off (Between l h) = Either
+output_of_off (Among k s) = Either
+
+-- Q after a call: FALSE for a TON whose IN is FALSE, and TRUE for a TOF whose IN is TRUE; else by
+-- whether PT has passed since the delay began
+abbrev pub output_after : Option TimerKind → Range → Range → Range
+output_after (Some OnDelay) No passed = No
+output_after (Some OffDelay) Yes passed = Yes
+output_after (Some OnDelay) input passed = passed
+output_after (Some OffDelay) input passed = output_of_off passed
+output_after None input passed = Either
 
 -- the numbers that are at most PT, if PT is known
 abbrev pub up_to : Range → Range
@@ -192,14 +238,14 @@ elapsed_after kind input preset = up_to preset
 
 abbrev pub timer_after_call : KnownTimer → KnownTimer
 timer_after_call u =
-    let below = below_after u.kind u.input u.below in
+    let delay = delay_after u.kind u.input u.delay in
     record {
       kind = u.kind;
       input = u.input;
       preset = u.preset;
-      output = output_after u.kind u.input (is_short below u.preset);
+      output = output_after u.kind u.input (has_passed delay u.preset);
       elapsed = elapsed_after u.kind u.input u.preset;
-      below = below;
+      delay = delay;
     }
 
 abbrev pub with_input : Range → KnownTimer → KnownTimer

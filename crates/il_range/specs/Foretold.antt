@@ -1,12 +1,13 @@
 -- The slots that the scans of a program may leave.
-use Rattle.std.specs.Prelude.{ℕ, ◌≡◌, List, Option}
+use Rattle.std.specs.Prelude.{ℕ, ◌≡◌, List}
 use Rattle.il_image.specs.declared.timer.TimerState.{TimerState}
 use Rattle.il_image.specs.declared.value.Value.{Value}
 use Rattle.il_image.specs.Images.{Image}
 use Rattle.il_image.specs.Machine.{Halted, run_from}
 use Rattle.il_scan.specs.Scans.{MachineData, first_machine, scan_start}
+use Rattle.il_range.specs.declared.delay.KnownDelay.{KnownDelay}
 use Rattle.il_range.specs.declared.range.Range.{Range}
-pub use Rattle.il_range.specs.Ranges.{AreIn, AreYoung, Switches, delay_start, delay_start_at, kind_of}
+pub use Rattle.il_range.specs.Ranges.{AreDelays, AreIn, Setting, delay_onset_at, delay_start, delay_start_at, kind_of}
 
 -- the machine with these slots and timers
 abbrev pub with_memory : List Value → List TimerState → MachineData → MachineData
@@ -29,21 +30,20 @@ pub data IsReached : MachineData → Type 0 where
       (timers : List TimerState) → IsReached machine → Leaves machine inputs now slots timers
       → IsReached (with_memory slots timers machine)
 
--- The slots of each reached machine with the image are in the ranges, whatever positions the
--- switches have.
+-- The slots of each reached machine with the image are in the ranges, in each setting.
 abbrev pub IsMemory : Image → List Range → Type 0
 IsMemory image ranges =
-    (w : Switches) (machine : MachineData) → machine.image ≡ image → IsReached machine
+    (w : Setting) (machine : MachineData) → machine.image ≡ image → IsReached machine
     → AreIn w machine.slots ranges
 
--- Take any positions of the switches, and any reached machine with the image whose slots are in the
--- ranges `memory` and whose delays have run for less than the limits, at any moment. A scan with
--- inputs in the ranges `given` leaves slots in `result`, and delays that have run for less than the
--- limits `last`.
-abbrev pub Foretells : Image → List Range → List (Option ℕ) → List Range → List (Option ℕ)
+-- Take any setting, and any reached machine with the image whose slots are in the ranges `memory`,
+-- at any moment at which its delays are as `delays` says. A scan with inputs in the ranges `given`
+-- leaves slots in `result`, and delays as `last` says.
+abbrev pub Foretells : Image → List Range → List KnownDelay → List Range → List KnownDelay
     → List Range → Type 0
-Foretells image memory limits given last result =
-    (w : Switches) (machine : MachineData) (inputs : List Value) (now : ℕ) (slots : List Value)
+Foretells image memory delays given last result =
+    (w : Setting) (machine : MachineData) (inputs : List Value) (now : ℕ) (slots : List Value)
     (timers : List TimerState) → machine.image ≡ image → IsReached machine
-    → AreIn w machine.slots memory → AreYoung now machine.timers limits → AreIn w inputs given
-    → Leaves machine inputs now slots timers → AreIn w slots result × AreYoung now timers last
+    → AreIn w machine.slots memory → AreDelays w.mark now machine.timers delays
+    → AreIn w inputs given → Leaves machine inputs now slots timers
+    → AreIn w slots result × AreDelays w.mark now timers last

@@ -1,14 +1,15 @@
 -- Inner: the slots at the end of a run, and of a scan.
-use Rattle.std.specs.Prelude.{ℕ, ◌≡◌, List, Option}
+use Rattle.std.specs.Prelude.{ℕ, ◌≡◌, List}
 use Rattle.il_image.specs.declared.timer.TimerState.{TimerState}
 use Rattle.il_image.specs.declared.value.Value.{Value}
 use Rattle.il_image.specs.Images.{Image}
 use Rattle.il_image.specs.Machine.{Halted, initial_state, run_from}
 use Rattle.il_scan.specs.Scans.{MachineData, scan_start}
+use Rattle.il_range.specs.declared.delay.KnownDelay.{KnownDelay}
 use Rattle.il_range.specs.declared.timer.KnownTimer.{KnownTimer}
 use Rattle.il_range.specs.declared.range.Range.{Range}
 use Rattle.il_range.specs.Foretold.{IsReached, Leaves}
-use Rattle.il_range.specs.Ranges.{AreIn, AreTimersIn, AreYoung, Switches}
+use Rattle.il_range.specs.Ranges.{AreDelays, AreIn, AreTimersIn, Setting}
 
 -- A run from the slots `given`, with some timers and at some moment, ends with the slots `after`.
 pub record Ends (code : List ℕ) (given after : List Value) : Type 0 where
@@ -24,24 +25,24 @@ pub record Ends (code : List ℕ) (given after : List Value) : Type 0 where
 -- `result`, and with timers that are in `timers_after`.
 abbrev pub Predicts : List ℕ → List KnownTimer → List Range → List KnownTimer → List Range → Type 0
 Predicts code timers slots timers_after result =
-    (w : Switches) (given after : List Value) → AreIn w given slots → (e : Ends code given after)
+    (w : Setting) (given after : List Value) → AreIn w given slots → (e : Ends code given after)
     → AreTimersIn w e.now e.timers timers
     → AreIn w after result × AreTimersIn w e.now e.timers_after timers_after
 
 -- Take any reached machine with the image that starts a scan with slots in the ranges `start`, and
--- with delays that have run for less than the limits. The scan leaves slots in `result`, and delays
--- that have run for less than the limits `last`.
-abbrev pub Tells : Image → List Range → List (Option ℕ) → List (Option ℕ) → List Range → Type 0
-Tells image start limits last result =
-    (w : Switches) (machine : MachineData) (inputs : List Value) (now : ℕ) (slots : List Value)
+-- with delays as `delays` says. The scan leaves slots in `result`, and delays as `last` says.
+abbrev pub Tells : Image → List Range → List KnownDelay → List KnownDelay → List Range → Type 0
+Tells image start delays last result =
+    (w : Setting) (machine : MachineData) (inputs : List Value) (now : ℕ) (slots : List Value)
     (timers : List TimerState) → machine.image ≡ image → IsReached machine
-    → AreIn w (scan_start machine inputs).slots start → AreYoung now machine.timers limits
-    → Leaves machine inputs now slots timers → AreIn w slots result × AreYoung now timers last
+    → AreIn w (scan_start machine inputs).slots start
+    → AreDelays w.mark now machine.timers delays → Leaves machine inputs now slots timers
+    → AreIn w slots result × AreDelays w.mark now timers last
 
 -- From slots in `memory` a scan leaves slots in `result`, with any inputs.
 abbrev pub Carries : Image → List Range → List Range → Type 0
 Carries image memory result =
-    (w : Switches) (machine : MachineData) (inputs : List Value) (now : ℕ) (slots : List Value)
+    (w : Setting) (machine : MachineData) (inputs : List Value) (now : ℕ) (slots : List Value)
     (timers : List TimerState) → machine.image ≡ image → IsReached machine
     → AreIn w machine.slots memory → Leaves machine inputs now slots timers
     → AreIn w slots result

@@ -9,26 +9,26 @@ use Rattle.il_image.specs.Reading.{instr_at}
 use Rattle.il_range.specs.declared.range.Range.{Range}
 use Rattle.il_range.specs.declared.known.Known.{Known}
 use Rattle.il_range.specs.Effects.{Plain, join, join_timer, join_lists}
-use Rattle.il_range.specs.Ranges.{AreIn, AreTimersIn, IsIn, Switches}
+use Rattle.il_range.specs.Ranges.{AreIn, AreTimersIn, IsIn, Setting}
 
 -- what is known, as lists
 abbrev pub known_view : Known → Plain
 known_view s =
     record { cells = reverse s.cells.items; slots = s.slots.items; timers = s.timers.items }
 
--- what a run holds at its moment, with the switches in their positions: the cells with the top
--- first, the slots and the timers
+-- what a run holds at its moment, in a setting: the cells with the top first, the slots and the
+-- timers
 pub record Held : Type 0 where
   pub now : ℕ
-  pub switches : Switches
+  pub setting : Setting
   pub cells : List Value
   pub slots : List Value
   pub timers : List TimerState
 
-abbrev pub held_by : ℕ → Switches → State → Held
+abbrev pub held_by : ℕ → Setting → State → Held
 held_by now w s = record {
   now = now;
-  switches = w;
+  setting = w;
   cells = s.cells;
   slots = s.slots;
   timers = s.timers;
@@ -36,9 +36,9 @@ held_by now w s = record {
 
 -- The cells, slots and timers of the run are in the known ranges.
 pub record Covers (p : Plain) (h : Held) : Type 0 where
-  pub cells : AreIn h.switches h.cells p.cells
-  pub slots : AreIn h.switches h.slots p.slots
-  pub timers : AreTimersIn h.switches h.now h.timers p.timers
+  pub cells : AreIn h.setting h.cells p.cells
+  pub slots : AreIn h.setting h.slots p.slots
+  pub timers : AreTimersIn h.setting h.now h.timers p.timers
 
 -- Whatever the first covers, the second covers too.
 abbrev pub IsUnder : Plain → Plain → Type 0
@@ -74,16 +74,16 @@ pub record Branches (jumps : Range) (distance next : ℕ) (come : Plain)
     (old new : List (Option Known))
     : Type 0 where
   pub keeps : Keeps old new
-  pub far : (h : Held) → IsIn h.switches (Truth true) jumps → Covers come h
+  pub far : (h : Held) → IsIn h.setting (Truth true) jumps → Covers come h
       → CoversAt new (next + distance) h
-  pub near : (h : Held) → IsIn h.switches (Truth false) jumps → Covers come h
+  pub near : (h : Held) → IsIn h.setting (Truth false) jumps → Covers come h
       → CoversAt new next h
 
 -- A step goes to a place from `next` on, where it is covered; or it halts, and is covered at the
 -- end; or it traps.
 abbrev pub Lands : StepResult → ℕ → ℕ → Held → List (Option Known) → Type 0
 Lands (Goes s) next end h pending =
-    (next ≤ s.place) × CoversAt pending s.place (held_by h.now h.switches s)
+    (next ≤ s.place) × CoversAt pending s.place (held_by h.now h.setting s)
 Lands Halts next end h pending = CoversAt pending end h
 Lands (Traps trap) next end h pending = Unit {0}
 
@@ -91,13 +91,13 @@ Lands (Traps trap) next end h pending = Unit {0}
 pub record Moves (instr : Instr) (next : ℕ) (come : Plain) (old new : List (Option Known))
     : Type 0 where
   pub keeps : Keeps old new
-  pub lands : (now end : ℕ) (w : Switches) (s : State) → Covers come (held_by now w s)
+  pub lands : (now end : ℕ) (w : Setting) (s : State) → Covers come (held_by now w s)
       → Lands (act now instr next s) next end (held_by now w s) new
 
 -- Each step of the instruction at a place from a state that is covered there lands after it; what
 -- was covered at other places is still covered. The end of the code represents the end of a run.
 pub record Visits (code : List ℕ) (place : ℕ) (old new : List (Option Known)) : Type 0 where
   pub keeps : (q : ℕ) → q ≢ place → (h : Held) → CoversAt old q h → CoversAt new q h
-  pub lands : (instr : Instr) (next now : ℕ) (w : Switches) (s : State)
+  pub lands : (instr : Instr) (next now : ℕ) (w : Setting) (s : State)
       → instr_at code place ≡ Some (instr, next) → CoversAt old place (held_by now w s)
       → Lands (act now instr next s) (place + 1) (length code) (held_by now w s) new

@@ -3,6 +3,7 @@
 // ranges to start from, `memory::memory_ranges`.
 //
 // - `range`: what is known of a value, and of the results of operations.
+// - `delay`: what is known of the delay of a timer.
 // - `timer`: what is known of a timer, and after a call of it.
 // - `known`: what is known of the stack, the slots and the timers before an instruction.
 // - `pass`: the pass over the places of the code.
@@ -13,6 +14,7 @@
 // - `laws`: what holds of each scan.
 #![tactic(auto)]
 
+pub mod delay;
 pub(crate) mod dependencies;
 pub(crate) mod known;
 pub mod laws;

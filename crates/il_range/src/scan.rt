@@ -1,9 +1,11 @@
 // What a scan of a verified image may leave in the slots.
-ghost use Rattle.std.specs.Prelude.{◌≡◌, ◌+◌, IfOk, List, Option, [], length, map, ℕ};
+ghost use Rattle.std.specs.Prelude.{◌≡◌, ◌+◌, IfOk, List, [], length, map};
+ghost use Rattle.il_range.specs.declared.delay.KnownDelay.{KnownDelay};
 ghost use Rattle.il_range.specs.Foretold.{Foretells};
 ghost use Rattle.il_range.specs.Outcomes.{Tells};
 ghost use Rattle.il_range.specs.Starts as spec;
 
+use crate::delay::KnownDelay;
 use crate::dependencies::Dependencies;
 use crate::known::Known;
 use crate::pass::outcome;
@@ -21,9 +23,8 @@ use std::alloc::{AllocError, Global};
 pub struct ScanPrediction {
     /// The range of each slot: the points, then the variables.
     pub ranges: Vec<Range>,
-    /// For each timer, if it is known: less than this number of milliseconds has passed since its
-    /// delay began; 0 if no delay runs.
-    pub limits: Vec<Option<u32>>,
+    /// What is known of the delay of each timer.
+    pub delays: Vec<KnownDelay>,
     /// What each slot's range depends on.
     pub sources: SlotSources,
 }
@@ -32,15 +33,15 @@ pub struct ScanPrediction {
 fn first_known(
     alloc: Global,
     image: &Image,
-    limits: &[Option<u32>],
+    delays: &[KnownDelay],
     slots: Vec<Range>,
 ) -> Result<Known, AllocError>
     ensures cells { IfOk result (λ first. first.cells.items ≡ []) }
     ensures slots { IfOk result (λ first. first.slots ≡ slots) }
     ensures timers { IfOk result
-        (λ first. first.timers.items ≡ spec.known_of_kinds image.now.timers limits.now) }
+        (λ first. first.timers.items ≡ spec.known_of_kinds image.now.timers delays.now) }
 {
-    let timers = timers_of(alloc, image.timers(), limits)?;
+    let timers = timers_of(alloc, image.timers(), delays)?;
     let traces = Dependencies::new(alloc, slots.as_slice(), timers.len())?;
     Ok(Known {
         cells: Vec::new(alloc),
@@ -54,43 +55,43 @@ fn first_known(
 fn unknown(alloc: Global, image: &Image) -> Result<ScanPrediction, AllocError>
     ensures size { IfOk result
         (λ f. length f.ranges.items ≡ length image.now.points + length image.now.variables) }
-    ensures tells { (start : List Range) (limits : List (Option ℕ))
-        → IfOk result (λ f. Tells image.now start limits f.limits.items f.ranges.items) }
+    ensures tells { (start : List Range) (delays : List KnownDelay)
+        → IfOk result (λ f. Tells image.now start delays f.delays.items f.ranges.items) }
 {
     let ranges = free_ranges(alloc, image.points().len() + image.variables().len())?;
     Ok(ScanPrediction {
         ranges,
-        limits: Vec::new(alloc),
+        delays: Vec::new(alloc),
         sources: SlotSources {
             sets: Vec::new(alloc),
         },
     })
 }
 
-// Returns the limits of timers.
-fn limits_of(alloc: Global, timers: &[KnownTimer]) -> Result<Vec<Option<u32>>, AllocError>
-    ensures { IfOk result (λ limits. limits.items ≡ map (λ u. u.below) timers.now) }
+// Returns what is known of the delays of timers.
+fn delays_of(alloc: Global, timers: &[KnownTimer]) -> Result<Vec<KnownDelay>, AllocError>
+    ensures { IfOk result (λ delays. delays.items ≡ map (λ u. u.delay) timers.now) }
 {
-    let mut limits = Vec::new(alloc);
+    let mut delays = Vec::new(alloc);
     for timer in timers {
-        limits.push(timer.below)?;
+        delays.push(timer.delay)?;
     }
-    Ok(limits)
+    Ok(delays)
 }
 
 // Returns the prediction from what is known at the end of a pass.
 fn prediction_at(alloc: Global, end: Known) -> Result<ScanPrediction, AllocError>
     ensures { IfOk result (λ f. (f.ranges ≡ end.slots)
-        × (f.limits.items ≡ map (λ u. u.below) end.timers.items)) }
+        × (f.delays.items ≡ map (λ u. u.delay) end.timers.items)) }
 {
-    let limits = limits_of(alloc, end.timers.as_slice())?;
+    let delays = delays_of(alloc, end.timers.as_slice())?;
     let ranges = end.slots;
     let traces = end.traces;
     let mut sets = traces.slots;
     sets.extend_from_slice(traces.timers.as_slice())?;
     Ok(ScanPrediction {
         ranges,
-        limits,
+        delays,
         sources: SlotSources { sets },
     })
 }
@@ -100,15 +101,15 @@ fn prediction_at(alloc: Global, end: Known) -> Result<ScanPrediction, AllocError
 pub(crate) fn predict(
     alloc: Global,
     image: &Image,
-    limits: &[Option<u32>],
+    delays: &[KnownDelay],
     start: Vec<Range>,
 ) -> Result<ScanPrediction, AllocError>
     ensures size { IfOk result
         (λ f. length f.ranges.items ≡ length image.now.points + length image.now.variables) }
     ensures tells { IfOk result
-        (λ f. Tells image.now start.items limits.now f.limits.items f.ranges.items) }
+        (λ f. Tells image.now start.items delays.now f.delays.items f.ranges.items) }
 {
-    let first = first_known(alloc, image, limits, start)?;
+    let first = first_known(alloc, image, delays, start)?;
     match outcome(alloc, image.code(), first) {
         Ok(end) if end.slots.len() == image.points().len() + image.variables().len() => {
             prediction_at(alloc, end)
@@ -121,24 +122,24 @@ pub(crate) fn predict(
 /// Predicts what a scan of a program may leave, from each state that its scans can reach with slots
 /// in `memory`, at each moment: one range for each slot, the points, then the variables, in the
 /// order of `memory_ranges`. The inputs are in the ranges `given`: one for each read-only point, in
-/// the image's order. The delays of the first timers may have limits: less than this number of
-/// milliseconds has passed since each began, at the moment of the scan. A TOF whose IN is TRUE has
-/// no delay yet, and is within each limit. A range may be wider than necessary: `Any` or `Either`
-/// means that the value is not known. Fails only if an allocation fails. The time is proportional
-/// to the length of the code, and for each jump to the number of slots.
+/// the image's order. The delays of the first timers are as `delays` says, before the scan and at
+/// its moment; those after the scan are then as the prediction says, with the same mark. A range
+/// may be wider than necessary: `Any` or `Either` means that the value is not known. Fails only if
+/// an allocation fails. The time is proportional to the length of the code, and for each jump to
+/// the number of slots.
 pub fn scan_ranges(
     alloc: Global,
     verified: &Verified,
     memory: &[Range],
-    limits: &[Option<u32>],
+    delays: &[KnownDelay],
     given: &[Range],
 ) -> Result<ScanPrediction, AllocError>
     ensures size { IfOk result
         (λ f. length f.ranges.items ≡ length verified.now.points + length verified.now.variables) }
-    ensures foretells { IfOk result (λ f. Foretells verified.now memory.now limits.now given.now
-        f.limits.items f.ranges.items) }
+    ensures foretells { IfOk result (λ f. Foretells verified.now memory.now delays.now given.now
+        f.delays.items f.ranges.items) }
 {
     let image = verified.image();
     let start = start_ranges(alloc, image.points(), given, memory)?;
-    predict(alloc, image, limits, start)
+    predict(alloc, image, delays, start)
 }

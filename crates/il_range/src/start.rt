@@ -4,6 +4,7 @@ ghost use Rattle.il_scan.specs.Scans.{first_input, with_inputs};
 ghost use Rattle.il_range.specs.declared.range.Range.TheVariants.{Any};
 ghost use Rattle.il_range.specs.Starts as spec;
 
+use crate::delay::KnownDelay;
 use crate::range::Range;
 use crate::timer::KnownTimer;
 use bay_base::types::TimerKind;
@@ -69,9 +70,9 @@ pub(crate) fn start_ranges(
     Ok(ranges)
 }
 
-// Returns what is known of a timer of this kind, whose delay may have a limit.
-fn known_of_kind(kind: TimerKind, below: Option<u32>) -> KnownTimer
-    ensures { result ≡ spec.known_of_kind kind below }
+// Returns what is known of a timer of this kind with this delay.
+fn known_of_kind(kind: TimerKind, delay: KnownDelay) -> KnownTimer
+    ensures { result ≡ spec.known_of_kind kind delay }
 {
     KnownTimer {
         kind: Some(kind),
@@ -79,45 +80,45 @@ fn known_of_kind(kind: TimerKind, below: Option<u32>) -> KnownTimer
         preset: Range::Any,
         output: Range::Either,
         elapsed: Range::Any,
-        below,
+        delay,
     }
 }
 
-// Returns the first limit, if there is one.
-fn first_limit(limits: &[Option<u32>]) -> Option<u32>
-    ensures { result ≡ spec.first_limit limits.now }
+// Returns what is known of the first delay.
+fn first_delay(delays: &[KnownDelay]) -> KnownDelay
+    ensures { result ≡ spec.first_delay delays.now }
 {
-    match limits {
+    match delays {
         [first, ..] => *first,
-        [] => None,
+        [] => KnownDelay::Unknown,
     }
 }
 
-// Returns the limits after the first.
-fn behind_first(limits: &[Option<u32>]) -> &[Option<u32>]
-    ensures { result.now ≡ drop 1 limits.now }
+// Returns the delays after the first.
+fn behind_first(delays: &[KnownDelay]) -> &[KnownDelay]
+    ensures { result.now ≡ drop 1 delays.now }
 {
-    match limits {
+    match delays {
         [_, later @ ..] => later,
-        [] => limits,
+        [] => delays,
     }
 }
 
-/// Returns what is known of timers of these kinds; the delays of the first ones may have limits.
-/// Fails only if an allocation fails.
+/// Returns what is known of timers of these kinds, and of the delays of the first ones. Fails only
+/// if an allocation fails.
 pub(crate) fn timers_of(
     alloc: Global,
     kinds: &[TimerKind],
-    limits: &[Option<u32>],
+    delays: &[KnownDelay],
 ) -> Result<Vec<KnownTimer>, AllocError>
     ensures { IfOk result
-        (λ timers. timers.items ≡ spec.known_of_kinds kinds.now limits.now) }
+        (λ timers. timers.items ≡ spec.known_of_kinds kinds.now delays.now) }
 {
     let mut timers = Vec::new(alloc);
     let mut rest = kinds;
-    let mut left = limits;
+    let mut left = delays;
     while let [kind, others @ ..] = rest {
-        timers.push(known_of_kind(*kind, first_limit(left)))?;
+        timers.push(known_of_kind(*kind, first_delay(left)))?;
         left = behind_first(left);
         rest = others;
     }

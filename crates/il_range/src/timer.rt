@@ -2,6 +2,7 @@
 ghost use Rattle.std.specs.Prelude.{◌≡◌};
 ghost use Rattle.il_range.specs.Effects as spec;
 
+use crate::delay::{KnownDelay, delay_after, has_passed, join_delay};
 use crate::range::{Range, join};
 use bay_base::types::TimerKind;
 
@@ -18,9 +19,8 @@ pub(crate) struct KnownTimer {
     pub output: Range,
     /// Its ET.
     pub elapsed: Range,
-    /// Less than this number of milliseconds has passed since its delay began, if that is known;
-    /// with 0, no delay runs.
-    pub below: Option<u32>,
+    /// Its delay.
+    pub delay: KnownDelay,
 }
 
 // Returns the kind, if both have the same known kind.
@@ -30,16 +30,6 @@ fn join_kind(a: Option<TimerKind>, b: Option<TimerKind>) -> Option<TimerKind>
     match (a, b) {
         (Some(TimerKind::OnDelay), Some(TimerKind::OnDelay)) => Some(TimerKind::OnDelay),
         (Some(TimerKind::OffDelay), Some(TimerKind::OffDelay)) => Some(TimerKind::OffDelay),
-        _ => None,
-    }
-}
-
-// Returns the greater limit, if both have one.
-fn join_below(a: Option<u32>, b: Option<u32>) -> Option<u32>
-    ensures { result ≡ spec.join_below a b }
-{
-    match (a, b) {
-        (Some(a), Some(b)) => Some(a.max(b)),
         _ => None,
     }
 }
@@ -54,39 +44,20 @@ pub(crate) fn join_timer(a: KnownTimer, b: KnownTimer) -> KnownTimer
         preset: join(a.preset, b.preset),
         output: join(a.output, b.output),
         elapsed: join(a.elapsed, b.elapsed),
-        below: join_below(a.below, b.below),
+        delay: join_delay(a.delay, b.delay),
     }
 }
 
-// Returns the limit of the delay after a call of a timer of the kind with this IN.
-fn below_after(kind: Option<TimerKind>, input: Range, below: Option<u32>) -> Option<u32>
-    ensures { result ≡ spec.below_after kind input below }
+// Returns Q after a call of a timer of the kind with this IN; `passed` is the range of whether PT
+// has passed since its delay began.
+fn output_after(kind: Option<TimerKind>, input: Range, passed: Range) -> Range
+    ensures { result ≡ spec.output_after kind input passed }
 {
-    match (kind, input, below) {
-        (Some(TimerKind::OnDelay), Range::No, _) => Some(0),
-        (Some(TimerKind::OnDelay), _, Some(below)) => Some(below.max(1)),
-        _ => None,
-    }
-}
-
-// Returns whether a delay that has run for less than this has run for less than PT.
-fn is_short(below: Option<u32>, preset: Range) -> bool
-    ensures { result ≡ spec.is_short below preset }
-{
-    match (below, preset) {
-        (Some(below), Range::Between(low, _)) => i64::from(below) <= low,
-        _ => false,
-    }
-}
-
-// Returns Q after a call of a timer of the kind with this IN, whose delay may be short of its PT.
-fn output_after(kind: Option<TimerKind>, input: Range, short: bool) -> Range
-    ensures { result ≡ spec.output_after kind input short }
-{
-    match (kind, input) {
-        (Some(TimerKind::OnDelay), Range::No) => Range::No,
-        (Some(TimerKind::OffDelay), Range::Yes) => Range::Yes,
-        (Some(TimerKind::OnDelay), _) if short => Range::No,
+    match (kind, input, passed) {
+        (Some(TimerKind::OnDelay), Range::No, _) => Range::No,
+        (Some(TimerKind::OffDelay), Range::Yes, _) => Range::Yes,
+        (Some(TimerKind::OnDelay), _, _) => passed,
+        (Some(TimerKind::OffDelay), _, Range::Yes) => Range::No,
         _ => Range::Either,
     }
 }
@@ -116,13 +87,13 @@ fn elapsed_after(kind: Option<TimerKind>, input: Range, preset: Range) -> Range
 pub(crate) fn timer_after_call(timer: KnownTimer) -> KnownTimer
     ensures { result ≡ spec.timer_after_call timer }
 {
-    let below = below_after(timer.kind, timer.input, timer.below);
+    let delay = delay_after(timer.kind, timer.input, timer.delay);
     KnownTimer {
         kind: timer.kind,
         input: timer.input,
         preset: timer.preset,
-        output: output_after(timer.kind, timer.input, is_short(below, timer.preset)),
+        output: output_after(timer.kind, timer.input, has_passed(delay, timer.preset)),
         elapsed: elapsed_after(timer.kind, timer.input, timer.preset),
-        below,
+        delay,
     }
 }

@@ -1,4 +1,5 @@
-use Rattle.std.proofs.Common.{List, ℕ, Option, map, subst, ◌∙◌, ap}
+use Rattle.std.proofs.Common.{List, map, subst, ◌∙◌, ap}
+use Rattle.il_range.specs.declared.delay.KnownDelay.{KnownDelay}
 use Rattle.il_range.specs.declared.range.Range.{Range}
 use Rattle.bay_audit.specs.Cases.{range_of}
 use Rattle.bay_audit.specs.Rules.{Foresees}
@@ -9,13 +10,13 @@ pub returns : goal.returns
 returns c =
     let g = c.args.program.now in
     let forecast = c.in_ok-forecast.forecast in
-    decision-by g c.args.demand.now c.args.case.now forecast.ranges.items forecast.limits.items
+    decision-by g c.args.demand.now c.args.case.now forecast.ranges.items forecast.delays.items
     (subst
-    (λ (limits : List (Option ℕ)). Foresees g limits (map (range_of c.args.case.now) g.reads)
-    forecast.limits.items forecast.ranges.items)
+    (λ (limits : List KnownDelay). Foresees g limits (map (range_of c.args.case.now) g.reads)
+    forecast.delays.items forecast.ranges.items)
     c.as_slice.ensures
     (subst
-    (λ (given : List Range). Foresees g c.as_slice.result.now given forecast.limits.items
+    (λ (given : List Range). Foresees g c.as_slice.result.now given forecast.delays.items
     forecast.ranges.items)
     (c.as_slice-2.ensures.value ∙ c.in_ok-input_ranges.ensures
     ∙ ap (map (range_of c.args.case.now)) c.reads.ensures)

@@ -8,7 +8,7 @@ use Rattle.bay_base.specs.declared.position.Dbpos.TheVariants.{Off}
 use Rattle.il_range.specs.Effects.{are_within}
 use Rattle.il_range.specs.Foretold.{IsMemory}
 use Rattle.il_range.specs.Outcomes.{Carries}
-use Rattle.il_range.specs.Ranges.{AreIn, Switches}
+use Rattle.il_range.specs.Ranges.{AreIn, Setting}
 use Rattle.il_range.proofs.StartLemmas.{any-memory, firsts-in, firsts-size, grows, settled, slot_count}
 use Rattle.il_range.proofs.memory.memory_ranges.Goals as goal
 
@@ -32,8 +32,8 @@ returns-then-are_within c w machine is r =
 
 pub widen-requires : goal.widen-requires
 widen-requires c =
-    firsts-size (λ k. Off) c.image-image.result.now c.loop-round.ranges.items
-    (c.loop-round.invariant (λ k. Off))
+    let w : Setting = record { position = λ k. Off; mark = 0 } in
+    firsts-size w c.image-image.result.now c.loop-round.ranges.items (c.loop-round.invariant w)
     ∙ sym (ap length c.as_slice-in-loop-round-3.ensures.value ∙ c.in_ok-left.ensures.size)
 
 pub loop-round-preserved : goal.loop-round-preserved

@@ -1,14 +1,14 @@
 use Rattle.std.proofs.Common.{◌≡◌, ◌+◌, List, length}
 use Rattle.il_image.specs.declared.value.Value.{Value}
 use Rattle.il_range.specs.Outcomes.{Ends}
-use Rattle.il_range.specs.Ranges.{AreIn, AreTimersIn, Switches}
+use Rattle.il_range.specs.Ranges.{AreIn, AreTimersIn, Setting}
 use Rattle.il_range.proofs.PassLemmas.{Follows}
 use Rattle.il_range.proofs.pass.outcome.Given as goal
 
 abbrev pub invariant-loop-place : goal.invariant-loop-place
 invariant-loop-place l = record {
   size : length l.pending.items ≡ length l.code + 1;
-  follows : (w : Switches) (given after : List Value) → AreIn w given l.fn.first.slots.items
+  follows : (w : Setting) (given after : List Value) → AreIn w given l.fn.first.slots.items
       → (e : Ends l.code given after) → AreTimersIn w e.now e.timers l.fn.first.timers.items
       → Follows l.code w e.now after e.timers_after l.place l.pending.items;
 }

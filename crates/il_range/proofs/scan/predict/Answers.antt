@@ -1,6 +1,7 @@
-use Rattle.std.proofs.Common.{◌≡◌, ◌+◌, List, ℕ, Option, length, map, rules, subst, sym, ap, ◌∙◌}
+use Rattle.std.proofs.Common.{◌≡◌, ◌+◌, List, ℕ, length, map, rules, subst, sym, ap, ◌∙◌}
 use Rattle.std.proofs.lemmas.Result.{IfOk-weaker}
 use Rattle.il_range.specs.declared.timer.KnownTimer.{KnownTimer}
+use Rattle.il_range.specs.declared.delay.KnownDelay.{KnownDelay}
 use Rattle.il_range.specs.declared.range.Range.{Range}
 use Rattle.il_range.specs.Outcomes.{Predicts, Tells}
 use Rattle.il_range.specs.Starts.{known_of_kinds}
@@ -17,15 +18,15 @@ returns-in-Ok-clause-size c =
 pub returns-in-Ok-clause-tells : goal.returns-in-Ok-clause-tells
 returns-in-Ok-clause-tells c =
     let image = c.args.image.now in
-    let limits = c.args.limits.now in
+    let delays = c.args.delays.now in
     let start = c.args.start.items in
     let end = c.in-Ok.end in
     let first = c.in_ok-first.first in
-    let known = map (λ (u : KnownTimer). u.below) end.timers.items in
-    let tells : Tells image start limits known end.slots.items =
-    pass-tells image start limits end.timers.items end.slots.items
+    let known = map (λ (u : KnownTimer). u.delay) end.timers.items in
+    let tells : Tells image start delays known end.slots.items =
+    pass-tells image start delays end.timers.items end.slots.items
     (subst
-    (λ (code : List ℕ). Predicts code (known_of_kinds image.timers limits)
+    (λ (code : List ℕ). Predicts code (known_of_kinds image.timers delays)
     start end.timers.items end.slots.items) c.code.ensures.value
     (subst (λ (timers : List KnownTimer). Predicts c.code.result.now timers
     start end.timers.items end.slots.items) c.in_ok-first.ensures.timers
@@ -34,10 +35,10 @@ returns-in-Ok-clause-tells c =
     c.in-Ok.ensures))) in
     IfOk-weaker c.prediction_at.result _ _
     (λ f is.
-    subst (λ (last : List (Option ℕ)). Tells image start limits last f.ranges.items)
+    subst (λ (last : List KnownDelay). Tells image start delays last f.ranges.items)
     (sym is.1)
-    (subst (λ (rs : List Range). Tells image start limits known rs)
+    (subst (λ (rs : List Range). Tells image start delays known rs)
     (sym (ap (λ v. v.items) is.0)) tells)) c.prediction_at.ensures
 
 pub returns-in_default-clause-tells : goal.returns-in_default-clause-tells
-returns-in_default-clause-tells c = c.unknown.ensures.tells c.args.start.items c.args.limits.now
+returns-in_default-clause-tells c = c.unknown.ensures.tells c.args.start.items c.args.delays.now

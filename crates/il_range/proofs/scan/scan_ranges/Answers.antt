@@ -9,10 +9,10 @@ use Rattle.il_range.proofs.scan.scan_ranges.Goals as goal
 pub returns-clause-foretells : goal.returns-clause-foretells
 returns-clause-foretells c =
     IfOk-weaker c.predict.result _ _
-    (λ f h. subst (λ (i : Image). Foretells i c.args.memory.now c.args.limits.now c.args.given.now
-    f.limits.items f.ranges.items) c.image-image.ensures.value
+    (λ f h. subst (λ (i : Image). Foretells i c.args.memory.now c.args.delays.now c.args.given.now
+    f.delays.items f.ranges.items) c.image-image.ensures.value
     (tells-given c.image-image.result.now c.in_ok-start.start.items c.args.memory.now
-    c.args.limits.now c.args.given.now f.limits.items f.ranges.items
+    c.args.delays.now c.args.given.now f.delays.items f.ranges.items
     (c.in_ok-start.ensures
     ∙ ap (λ ps. with_inputs ps c.args.given.now c.args.memory.now) c.points.ensures.value)
     h)) c.predict.ensures.tells

@@ -15,6 +15,6 @@ pub returns-clause-size : goal.returns-clause-size
 returns-clause-size c = ap length (count c) ∙ length-replicate (slot_count c.args.image.now) Any
 
 pub returns-clause-tells : goal.returns-clause-tells
-returns-clause-tells c start limits =
-    any-tells c.args.image.now start limits c.new.result.items c.in_ok-ranges.ranges.items
+returns-clause-tells c start delays =
+    any-tells c.args.image.now start delays c.new.result.items c.in_ok-ranges.ranges.items
     c.new.ensures.items (count c)

@@ -4,7 +4,7 @@ use Rattle.il_range.proofs.start.timers_of.Given as goal
 
 abbrev pub invariant-loop-rest : goal.invariant-loop-rest
 invariant-loop-rest l =
-    l.timers.items ++ known_of_kinds l.rest l.left ≡ known_of_kinds l.kinds l.limits
+    l.timers.items ++ known_of_kinds l.rest l.left ≡ known_of_kinds l.kinds l.delays
 
 abbrev pub decreases-loop-rest : goal.decreases-loop-rest
 decreases-loop-rest l = length l.rest

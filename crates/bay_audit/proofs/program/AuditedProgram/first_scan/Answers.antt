@@ -1,8 +1,9 @@
-use Rattle.std.proofs.Common.{◌∙◌, ◌++◌, ℕ, List, Option, ap, length, map, subst, sym}
+use Rattle.std.proofs.Common.{◌∙◌, ◌++◌, List, ap, length, map, subst, sym}
 use Rattle.il_image.specs.Images.{Image}
 use Rattle.il_range.specs.Effects.{value_range}
 use Rattle.il_range.specs.Foretold.{Foretells}
 use Rattle.il_range.specs.Starts.{range_of_point}
+use Rattle.il_range.specs.declared.delay.KnownDelay.{KnownDelay}
 use Rattle.il_range.specs.declared.range.Range.{Range}
 use Rattle.bay_audit.specs.Rules.{BoundProgram, ForeseesFirst, program}
 use Rattle.bay_audit.proofs.program.AuditedProgram.first_scan.Goals as goal
@@ -16,15 +17,15 @@ returns-clause-foretells c =
     subst (λ (g : BoundProgram). ForeseesFirst g c.args.given.now found.ranges.items)
     c.self.view_is
     (foresees-first (program own.verified.now own.reads.items own.writes.items) memory
-    (length c.timers.result.now) c.args.given.now found.limits.items found.ranges.items
+    (length c.timers.result.now) c.args.given.now found.delays.items found.ranges.items
     (c.in_ok-memory.ensures
     ∙ ap (λ (i : Image). map range_of_point i.points ++ map value_range i.variables)
     (c.image.ensures ∙ sym (ap (λ (g : BoundProgram). g.image) c.self.view_is)))
     (subst
-    (λ (limits : List (Option ℕ)). Foretells own.verified.now memory limits c.args.given.now
-    found.limits.items found.ranges.items)
+    (λ (limits : List KnownDelay). Foretells own.verified.now memory limits c.args.given.now
+    found.delays.items found.ranges.items)
     (c.as_slice-2.ensures.value ∙ c.in_ok-limits.ensures)
     (subst
     (λ (ranges : List Range). Foretells own.verified.now ranges c.as_slice-2.result.now
-    c.args.given.now found.limits.items found.ranges.items) c.as_slice.ensures.value
+    c.args.given.now found.delays.items found.ranges.items) c.as_slice.ensures.value
     c.in_ok-found.ensures.foretells)))

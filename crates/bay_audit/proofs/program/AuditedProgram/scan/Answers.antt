@@ -10,11 +10,11 @@ returns-clause-foretells c =
     let own = c.self.inside in
     let found = c.in_ok-found.found in
     subst
-    (λ (g : BoundProgram). Foresees g c.args.limits.now c.args.given.now found.limits.items
+    (λ (g : BoundProgram). Foresees g c.args.limits.now c.args.given.now found.delays.items
     found.ranges.items) c.self.view_is
     (foresees-by (program own.verified.now own.reads.items own.writes.items) own.memory.items
-    c.args.limits.now c.args.given.now found.limits.items found.ranges.items c.self.invariant
+    c.args.limits.now c.args.given.now found.delays.items found.ranges.items c.self.invariant
     (subst
     (λ (memory : List Range). Foretells own.verified.now memory c.args.limits.now c.args.given.now
-    found.limits.items found.ranges.items) c.as_slice-memory.ensures.value
+    found.delays.items found.ranges.items) c.as_slice-memory.ensures.value
     c.in_ok-found.ensures.foretells))
