@@ -97,6 +97,14 @@ class Trial(unittest.TestCase):
         self.assertEqual(self.broken_at(self.rule, (0, IN, True), (1, IN, False), (2, OUT, True)),
                          [0])
 
+    def test_a_timer_bears_only_a_rule_with_a_time(self):
+        by = Proof(1, 'QA1', 0, answers.HOLDS, timer='d')
+        late = [(0, IN | ASKED, False), (50, IN | ASKED, True)]
+        for rule, scans, wrong in (
+                (self.rule, [], 'a timer bears a rule without a time'), (self.after, late, None),
+                (self.after, [late[0], (50, IN | ASKED, False)], 'a proved rule is broken')):
+            self.assertEqual(self.wrong(by, *scans, rule=rule), wrong)
+
     def test_until_holds_without_a_timer_where_nothing_is_released(self):
         holds, late = Proof(1, 'QA1', 0, answers.HOLDS), [(0, IN | ASKED, False),
                                                           (50, IN | ASKED, True)]
@@ -104,8 +112,7 @@ class Trial(unittest.TestCase):
         for proof, rule, scans, wrong in (
                 (by, self.until, late, None), (holds, self.until, late, 'a proved rule is broken'),
                 (by, self.until, [(49, IN | ASKED, True)], 'a proved rule is broken'),
-                (holds, self.until, [(0, IN | NOT_ASKED, True)], None),
-                (by, self.after, [], 'a timer bears a rule without `until`')):
+                (holds, self.until, [(0, IN | NOT_ASKED, True)], None)):
             self.assertEqual(self.wrong(proof, *scans, rule=rule), wrong)
 
     def test_after_holds_where_the_condition_alone_releases(self):
