@@ -333,11 +333,30 @@ class Verdicts(unittest.TestCase):
         self.assertEqual([it.split(' while')[0] for it in verdicts.lost_warnings(breaker)],
                          ['QA1 may be closed', 'QC1 may be opened'])
 
+    def test_what_is_released_after_a_restart(self):
+        text = (LOADED + 'rule 1 QA1 open holds cases=1\n'
+                'release QC1 close cases=2\ndepends M1_AA=0 on LOCK\nblocked M1_AA=1\n'
+                'start QA1 open released\nstart QA1 close released\n'
+                'start QC1 open blocked\nstart QC1 close depends on M1_AA\n')
+        found = proved('always QA1 open\n', text)
+        self.assertEqual(proofs.start_table(found.answer, FILE), [
+            ('QA1', 'released', 'released'), ('QC1', 'blocked', 'depends on M1_AA')])
+        self.assertEqual(verdicts.start_warnings(found), [
+            'QA1 may be closed right after a restart, whatever the process reports',
+            'QC1 may be closed right after a restart, which forgets LOCK'])
+        self.assertIn('<h2>After a restart</h2>', page_of(found))
+        self.assertIn('which forgets LOCK', page_of(found))
+        locked = proved('always QA1 open\n', text.replace('close depends on M1_AA', 'close blocked')
+                        .replace('start QA1 close released', 'start QA1 close depends on M1_AA'))
+        self.assertEqual(verdicts.start_warnings(locked), [])
+
     def test_a_bayctl_that_does_not_tell_it(self):
         for found in (audited('always QA1 open\n'),
                       proved('always QA1 open\n', LOADED + 'rule 1 QA1 open holds cases=1\n')):
             self.assertEqual(proofs.lost_table(found.answer, FILE), [])
             self.assertEqual(verdicts.lost_warnings(found), [])
+            self.assertEqual(proofs.start_table(found.answer, FILE), [])
+            self.assertEqual(verdicts.start_warnings(found), [])
             self.assertNotIn('process is lost', page_of(found))
 
     def test_the_report(self):

@@ -13,6 +13,8 @@
     release QB1 close many
     lost QB1 open blocked
     lost QB1 close depends on t1
+    start QB1 open blocked
+    start QB1 close depends on QA1_OPEN QC1_OPEN
 
 A rule has an answer for each switch and operation that its line is about. One with a time that
 holds names the timer that bears it, where one does. In a case a switch has its positions as
@@ -22,7 +24,10 @@ those in which it depends on what stands behind `on`, and those in which it is n
 variables, timers, and measures with which the program calculates in a way that is not followed; no
 name stands there if it calculates so with the values of the case. So it is with `by` of a rule that
 is open. The lines `lost` say the same of one case, that the process is lost: each position is bad
-and each input 0, and a measure has any value. A bayctl older than 1.2.0 prints none."""
+and each input 0, and a measure has any value. A bayctl older than 1.2.0 prints none. The lines
+`start` say the same of the first scan after a load, from the first values, whatever the process
+reports by then: behind `on` stands what it may depend on, also points of the process. A bayctl
+older than 1.9.0 prints none."""
 import re
 from dataclasses import dataclass, field
 
@@ -88,8 +93,8 @@ class Release:
 
 @dataclass(frozen=True)
 class Lost:
-    """Whether a switch may be opened or closed while the process is lost: RELEASED, BLOCKED, or
-    DEPENDS with that on which it depends."""
+    """Whether a switch may be opened or closed while the process is lost, or by the first scan
+    after a load: RELEASED, BLOCKED, or DEPENDS with that on which it depends."""
     name: str
     way: int
     state: str
@@ -98,12 +103,13 @@ class Lost:
 
 @dataclass
 class Answer:
-    """All that bayctl says: of each rule, of each release, and of each while the process is lost.
-    """
+    """All that bayctl says: of each rule, of each release, and of each while the process is lost
+    and by the first scan after a load."""
     report: str
     rules: list[Proof] = field(default_factory=list)
     releases: list[Release] = field(default_factory=list)
     lost: list[Lost] = field(default_factory=list)
+    start: list[Lost] = field(default_factory=list)
 
     def of_line(self, line: int) -> Proof | None:
         """The answer on a line of rules: the worst, where it has several."""
@@ -135,6 +141,9 @@ def read(printed: str, keys: set) -> Answer:
             at += 1 + count
         elif words[0] == 'lost':
             found.lost.append(lost_of(lines[at], words[1:], keys))
+            at += 1
+        elif words[0] == 'start':
+            found.start.append(lost_of(lines[at], words[1:], keys))
             at += 1
         else:
             raise Bad(lines[at])
@@ -177,7 +186,7 @@ def release_of(line: str, words: list[str], keys: set) -> tuple[Release, int]:
 
 
 def lost_of(line: str, words: list[str], keys: set) -> Lost:
-    """What is said of a release while the process is lost."""
+    """What is said of a release while the process is lost, or by the first scan."""
     if len(words) < 3:
         raise Bad(line)
     (name, way), (state, *rest) = way_of(line, words[:2], keys), words[2:]

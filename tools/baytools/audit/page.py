@@ -44,7 +44,7 @@ class Report:
         style = A4 % f'Bay {bay["domain"]}, {page_head.moment_told(self.begun)}'
         parts = [f'<h1>{escaped(title)}</h1>', self.verdict(), *self.head(),
                  signatures(), self.how(), self.rules(), self.diagram(), self.conditions(),
-                 self.lost(), self.uncovered(), self.matrix()]
+                 self.lost(), self.start(), self.uncovered(), self.matrix()]
         return page(title, style, parts)
 
     def verdict(self) -> str:
@@ -155,6 +155,19 @@ class Report:
         return ('<h2>When the process is lost</h2><p class="quiet">What is released while each '
                 'position is bad and each input 0, with any measures: as it is proved, in every '
                 'state of the program.</p>'
+                + table(['!Switch', *WAYS], rows) + warnings)
+
+    def start(self) -> str:
+        """What the first scan after a restart releases, where bayctl tells it."""
+        rows = [(f'<b>{escaped(name)}</b>', *map(escaped, told))
+                for name, *told in proofs.start_table(self.audit.answer, self.bay.file)]
+        if not rows:
+            return ''
+        warnings = ''.join(f'<p class="bad"><b>Warning:</b> {escaped(it)}.</p>'
+                           for it in verdicts.start_warnings(self.audit))
+        return ('<h2>After a restart</h2><p class="quiet">What the first scan after a restart '
+                'releases, whatever the process reports by then, as it is proved: the program '
+                'begins at its first values.</p>'
                 + table(['!Switch', *WAYS], rows) + warnings)
 
     def uncovered(self) -> str:

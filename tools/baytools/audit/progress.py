@@ -1,20 +1,42 @@
-"""What is shown while bayctl proves: for how long it has been at it, on a terminal alone. It prints
-all its answers at its end, so how much of it is done is not known."""
+"""What is shown while bayctl proves: how far it is, on a terminal alone. It prints each answer when it
+has it: those of the rules, and then the releases."""
 import contextlib
 import sys
 import threading
 import time
-from collections.abc import Iterator
+from collections.abc import Callable, Iterator
+
+from baytools.common.texts import counted
 
 FIRST, EVERY = 1.0, 0.5  # seconds until something is shown, and between two times
 
 
+class Progress:
+    """How many rules and releases bayctl has answered, of how many."""
+
+    def __init__(self, rules: int, releases: int) -> None:
+        self.all = {'rule': rules, 'release': releases}
+        self.done = dict.fromkeys(self.all, 0)
+
+    def take(self, line: bytes) -> None:
+        """Counts a line that bayctl printed."""
+        word = line.split(b' ', 1)[0].decode('ascii', 'replace')
+        if word in self.done:
+            self.done[word] += 1
+
+    def told(self) -> str:
+        """How far it is, in words."""
+        what = 'rule' if self.done['rule'] < self.all['rule'] else 'release'
+        return f'{self.done[what]} of {counted(self.all[what], what)}'
+
+
 @contextlib.contextmanager
-def shown_while(what: str) -> Iterator[None]:
-    """Shows what is done within it, with its seconds, where someone sees it and it takes longer
-    than one; takes it away behind."""
+def shown_while(what: str, progress: Progress) -> Iterator[Callable[[bytes], None]]:
+    """Shows how far what is done within it is, and for how long it has been at it, where someone
+    sees it and it takes longer than a second; takes it away behind. Hands out what takes the lines
+    of bayctl."""
     if not sys.stderr.isatty():
-        yield
+        yield progress.take
         return
     is_over, since = threading.Event(), time.monotonic()
 
@@ -22,14 +44,14 @@ def shown_while(what: str) -> Iterator[None]:
         wait = FIRST
         while not is_over.wait(wait):
             wait = EVERY
-            put(f'\r{what}: {time.monotonic() - since:.0f} s ')
+            put(f'\r{what}: {progress.told()}, {time.monotonic() - since:.0f} s\x1b[K')
         if wait == EVERY:
             put('\r\x1b[K')
 
     thread = threading.Thread(target=show, daemon=True)
     thread.start()
     try:
-        yield
+        yield progress.take
     finally:
         is_over.set()
         thread.join()

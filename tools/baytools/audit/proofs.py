@@ -10,7 +10,7 @@ from baytools.common.ending import Failed
 from baytools.common.positions import POSITIONS
 from baytools.common.texts import raised
 
-from .answers import LEAST, MOST, WAYS, Answer, Case, Release
+from .answers import LEAST, MOST, WAYS, Answer, Case, Lost, Release
 from .replays import scans_of
 from .variables import Bay, Thing, all_things
 
@@ -177,8 +177,18 @@ def derived(release: Release, bay_file: dict, rules: list[Rule]) -> Derived:
 def lost_table(answer: Answer | None, bay_file: dict) -> list[tuple[str, str, str]]:
     """What is told of opening and of closing each switch while the process is lost; nothing where
     bayctl does not tell it."""
+    return state_table(answer.lost if answer else [], bay_file)
+
+
+def start_table(answer: Answer | None, bay_file: dict) -> list[tuple[str, str, str]]:
+    """The same of the first scan after a restart."""
+    return state_table(answer.start if answer else [], bay_file)
+
+
+def state_table(entries: list[Lost], bay_file: dict) -> list[tuple[str, str, str]]:
+    """What is told of opening and of closing each switch, if anything is."""
     told = {(it.name, it.way): f'depends on {", ".join(it.kept)}' if it.kept else it.state
-            for it in (answer.lost if answer else [])}
+            for it in entries}
     return [(switch['id'], *(told.get((raised(switch['id']), way), '') for way in range(len(WAYS))))
             for switch in bay_file['switch'] if told]
 

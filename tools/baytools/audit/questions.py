@@ -12,7 +12,7 @@ from baytools.common.ending import Failed
 from baytools.common.texts import raised
 from baytools.diagnosis.faults import faults
 from baytools.diagnosis.warnings import Proved
-from baytools.report.bayctl import Ask, is_tried, run
+from baytools.report.bayctl import Ask, is_tried, run, run_lines
 
 from .answers import Answer, Bad, read
 from .program_inputs import POSITION
@@ -31,10 +31,14 @@ def can_prove(bayctl) -> bool:
     return re.search(rb'(?m)^ +audit\b', told.stdout + told.stderr) is not None
 
 
-def asked(bayctl, bay, logic, rules, keys: set) -> Answer:
+def unseen(line: bytes) -> None:
+    """A line that comes from bayctl, where nobody looks how far it is."""
+
+
+def asked(bayctl, bay, logic, rules, keys: set, each=unseen) -> Answer:
     """The answer of bayctl on a bay file, a program and a file of rules; `keys` are the things of
-    the bay, as rules know them."""
-    done = run(bayctl, 'audit', '--bay', bay, '--logic', logic, '--rules', rules)
+    the bay, as rules know them. Each line is handed to `each` when it comes."""
+    done = run_lines(bayctl, 'audit', '--bay', bay, '--logic', logic, '--rules', rules, each=each)
     printed = done.stdout.decode('utf-8', 'backslashreplace')
     refused = REFUSED.search(printed)
     if refused:
@@ -59,9 +63,9 @@ def refusal_of_rules(bayctl, bay, logic, rules) -> tuple[int, int] | None:
     return (int(found[1]), int(found[2])) if found else None
 
 
-def answer_of(bayctl, bay, logic, rules, keys: set) -> Answer | None:
+def answer_of(bayctl, bay, logic, rules, keys: set, each=unseen) -> Answer | None:
     """The answer of bayctl, or None where it can prove nothing."""
-    return asked(bayctl, bay, logic, rules, keys) if can_prove(bayctl) else None
+    return asked(bayctl, bay, logic, rules, keys, each) if can_prove(bayctl) else None
 
 
 def proved_of(bayctl, bay, logic, file: dict) -> Proved | None:
@@ -83,9 +87,9 @@ def any_rule(keys: set) -> str:
     return f'never {name} open when {name} open and {name} closed\n'
 
 
-def releases_of(bayctl, bay, logic, keys: set) -> Answer | None:
+def releases_of(bayctl, bay, logic, keys: set, each=unseen) -> Answer | None:
     """What bayctl says of the releases, whatever the rules are; None where it can prove nothing."""
-    answer = answer_of(bayctl, bay, logic, rules_file(any_rule(keys)).name, keys)
+    answer = answer_of(bayctl, bay, logic, rules_file(any_rule(keys)).name, keys, each)
     if answer is not None:
         answer.rules.clear()
     return answer

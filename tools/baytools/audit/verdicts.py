@@ -35,6 +35,32 @@ def lost_warnings(audit: Audit) -> list[str]:
                 switches[it.name]['kind'] == 'breaker' and answers.WAYS[it.way] == 'open')]
 
 
+def forgotten(audit: Audit, name: str, way: int) -> list[str]:
+    """What a release depends on that the program keeps from scan to scan, and a restart forgets."""
+    reported = {name for _, name in (thing.key for thing in all_things(audit.bay.file))}
+    return sorted({kept for it in audit.answer.releases if (it.name, it.way) == (name, way)
+                   for case in it.cases for kept in case.kept
+                   if kept != answers.COMPUTED and raised(kept) not in reported})
+
+
+def start_warnings(audit: Audit) -> list[str]:
+    """Which switches may be closed right after a restart, whatever was before: by the first scan
+    whatever the process reports, or although the release depends on what the restart forgets."""
+    found = []
+    ids = {raised(it['id']): it['id'] for it in audit.bay.file['switch']}
+    for it in (audit.answer.start if audit.answer else []):
+        if answers.WAYS[it.way] != 'close' or it.state == answers.BLOCKED:
+            continue
+        kept = forgotten(audit, it.name, it.way)
+        if it.state == answers.RELEASED:
+            found.append(f'{ids[it.name]} may be closed right after a restart, whatever the process '
+                         'reports')
+        elif kept:
+            found.append(f'{ids[it.name]} may be closed right after a restart, which forgets '
+                         f'{", ".join(kept)}')
+    return found
+
+
 def ways_told(rule, words: tuple, joint: str) -> str:
     return f' {joint} '.join(words[way] for way in sorted(set(rule.ways)))
 

@@ -7,7 +7,7 @@ import re
 import shutil
 import subprocess
 import tempfile
-from collections.abc import Sequence
+from collections.abc import Callable, Sequence
 from dataclasses import dataclass
 
 from baytools.common import paths
@@ -72,6 +72,31 @@ def run(bayctl: str | pathlib.Path, *words: object, given: bytes = b'') -> Answe
     except OSError as error:
         raise not_run(error) from None
     return Answer(done.stdout, done.stderr, done.returncode)
+
+
+def run_lines(bayctl: str | pathlib.Path, *words: object,
+              each: Callable[[bytes], None]) -> Answer:
+    """The answer to one ask without an input. Each line of standard output is handed to `each` when
+    it comes, if a built program is asked."""
+    if is_tried(bayctl):
+        return run(bayctl, *words)
+    lines, command = [], [bayctl, *map(str, words)]
+    with tempfile.TemporaryFile() as errors:
+        try:
+            asked = subprocess.Popen(command, stdin=subprocess.DEVNULL, stdout=subprocess.PIPE,
+                                     stderr=errors)
+        except OSError as error:
+            raise not_run(error) from None
+        with asked:
+            try:
+                for line in asked.stdout:
+                    lines.append(line)
+                    each(line)
+            except BaseException:
+                asked.kill()
+                raise
+        errors.seek(0)
+        return Answer(b''.join(lines), errors.read(), asked.returncode)
 
 
 def ask_ahead(bayctl: str | pathlib.Path, asks: Sequence[Ask]) -> None:
