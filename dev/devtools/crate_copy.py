@@ -35,7 +35,8 @@ def copy_of(crates: pathlib.Path, room: pathlib.Path, built: set[str]) -> None:
 
 def applied(crate: pathlib.Path, edit: str) -> dict[str, str]:
     """The texts that an edit makes of the files of a crate: each `old` stands in its file once."""
-    path, old, texts = '', '', {}
+    path, old = '', ''
+    texts: dict[str, str] = {}
     for kind, _, text in (line.partition(': ') for line in edit.splitlines()):
         if kind == 'file':
             path = text
@@ -50,7 +51,7 @@ def applied(crate: pathlib.Path, edit: str) -> dict[str, str]:
 
 
 @contextlib.contextmanager
-def edited(crate: pathlib.Path, edit: str) -> Iterator:
+def edited(crate: pathlib.Path, edit: str) -> Iterator[None]:
     """Applies an edit to a copy of a crate, and takes it back at the end of the block."""
     texts = applied(crate, edit)
     before = {path: (crate / path).read_text(encoding='utf-8') for path in texts}

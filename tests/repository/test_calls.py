@@ -9,6 +9,7 @@ from tests.repository.test_crates import crates
 TESTING = {'bayctl_tests', 'bay_diagram_tests', 'bayctl_cases', 'layer_cases', 'cases'}
 # Public calls for whoever uses the layer by itself; the product makes others of the same bodies.
 FOR_USERS = {
+    'audit',  # a whole audit; the command prints each answer when it has it
     'bits',  # a bit string, written; the product's are constants
     'failures', 'reads',  # how many calls failed, and how many were made
     'fits',  # whether a scan can take these inputs

@@ -1,4 +1,4 @@
-"""What is shown while bayctl proves: how far it is, on a terminal alone. It prints each answer when it
+"""Shows, on a terminal alone, how far bayctl is while it proves. bayctl prints each answer when it
 has it: those of the rules, and then the releases."""
 import contextlib
 import sys
