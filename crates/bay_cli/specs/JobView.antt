@@ -21,7 +21,8 @@ task_view (Serve bay program port turns trace process tells limit key file most 
     Serve bay.now (program_view program) port turns (option_map (λ name. name.now) trace) process
     tells limit (option_map (λ name. name.now) key) (option_map (λ name. name.now) file) most idle
 task_view (Compile bay logic out) = Compile bay.now logic.now out.now
-task_view (Audit bay program rules) = Audit bay.now (program_view program) rules.now
+task_view (Audit bay program rules effort) =
+    Audit bay.now (program_view program) rules.now effort
 
 -- the same, of a task with its log
 abbrev pub asked_view : Invoked (Bor (List ℕ)) → Invoked (List ℕ)
@@ -46,5 +47,6 @@ job_view job = record {
   record_file = option_map (λ name. name.now) job.record_file;
   record_most = job.record_most;
   idle = job.idle;
+  effort = job.effort;
   log = job.log;
 }

@@ -70,11 +70,13 @@ compile_app =
     (needed_rule (codes "bay"))) (needed_rule (codes "logic"))) (needed_rule (codes "out")))
     log_rule
 
--- `audit --bay F [--logic F] [--image F] --rules F [--log]`
+-- `audit --bay F [--logic F] [--image F] --rules F [--effort N] [--log]`, with an effort from 1 to
+-- 100000
 abbrev pub audit_app : App
 audit_app =
-    with_rule (with_rule (with_program (with_rule (new_app (codes "audit"))
-    (needed_rule (codes "bay")))) (needed_rule (codes "rules"))) log_rule
+    with_rule (with_rule (with_rule (with_program (with_rule (new_app (codes "audit"))
+    (needed_rule (codes "bay")))) (needed_rule (codes "rules")))
+    (number_rule (codes "effort") 1 100000 false)) log_rule
 
 -- the program: a subcommand is required; without any word the result is the help
 abbrev pub program_app : App
@@ -126,6 +128,10 @@ most_in rows = option_and_then (number_of 1 16777216) (first_of (codes "record-m
 -- the most seconds for which a client may send nothing, where they were given
 abbrev pub idle_in : List Row → Option ℕ
 idle_in rows = option_and_then (number_of 10 3600) (first_of (codes "idle") rows)
+
+-- the millions of octets of code that an audit looks at, if given
+abbrev pub effort_in : List Row → Option ℕ
+effort_in rows = option_and_then (number_of 1 100000) (first_of (codes "effort") rows)
 
 -- the one or the other, and not both
 abbrev pub either : Option Text → Option Text → Option (ProgramFile Text)
@@ -193,11 +199,11 @@ compile_in rows =
     option_and_then (λ bay. option_and_then (λ logic. option_map (λ out. Compile bay logic out)
     (first_of (codes "out") rows)) (first_of (codes "logic") rows)) (first_of (codes "bay") rows)
 
--- the task of `audit`: a bay, a program and rules
+-- the task of `audit`: a bay, a program, rules, and the effort, if it was given
 abbrev pub audit_in : List Row → Option (Task Text)
 audit_in rows =
     option_and_then (λ bay. option_and_then
-    (λ program. option_map (λ rules. Audit bay program rules)
+    (λ program. option_map (λ rules. Audit bay program rules (effort_in rows))
     (first_of (codes "rules") rows)) (program_in rows)) (first_of (codes "bay") rows)
 
 -- the task of a subcommand with these values
@@ -256,6 +262,7 @@ pub record JobData : Type 0 where
   pub record_file : Option Text
   pub record_most : Option ℕ
   pub idle : Option ℕ
+  pub effort : Option ℕ
   pub log : Bool
 
 abbrev pub verb_of : Task Text → Verb
@@ -263,7 +270,7 @@ verb_of (Check bay program) = verb.Check
 verb_of Replay = verb.Replay
 verb_of (Serve bay program port turns trace process tells limit key file most idle) = verb.Serve
 verb_of (Compile bay logic out) = verb.Compile
-verb_of (Audit bay program rules) = verb.Audit
+verb_of (Audit bay program rules effort) = verb.Audit
 
 -- the job of a verb with the values of its options
 abbrev pub with_options : List Row → Verb → JobData
@@ -284,6 +291,7 @@ with_options rows verb = record {
   record_file = first_of (codes "record") rows;
   record_most = most_in rows;
   idle = idle_in rows;
+  effort = effort_in rows;
   log = logs rows;
 }
 

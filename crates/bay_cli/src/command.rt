@@ -194,6 +194,12 @@ const ENTRIES: [Entry; 5] = [
                 required: true,
                 help: "Rules file, one rule per line",
             },
+            OptionSpec {
+                id: "effort",
+                value: OptionValue::Number("N", 1, 100_000),
+                required: false,
+                help: "Most work, in millions of octets of code, or 20",
+            },
             LOG,
         ],
     },

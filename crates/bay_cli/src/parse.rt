@@ -62,6 +62,8 @@ pub struct Job<'a> {
     pub record_most: Option<u32>,
     /// The most seconds for which a client may send nothing, from 10 to 3,600.
     pub idle: Option<u32>,
+    /// The millions of octets of code that an audit looks at, 1 to 100,000.
+    pub effort: Option<u32>,
     /// Whether the log is written.
     pub log: bool,
 }
@@ -134,6 +136,13 @@ fn idle_in(found: &ArgMatches<'_>) -> Option<u32>
     ensures { result ≡ spec.idle_in (rows_of (found_of found.now)) }
 {
     number_in(found, "idle", 10, 3_600)
+}
+
+// Returns the millions of octets of code that an audit looks at.
+fn effort_in(found: &ArgMatches<'_>) -> Option<u32>
+    ensures { result ≡ spec.effort_in (rows_of (found_of found.now)) }
+{
+    number_in(found, "effort", 1, 100_000)
 }
 
 // Returns the program or the image that was named, if exactly one of the two was.
@@ -260,6 +269,7 @@ fn audit_from<'a>(found: &ArgMatches<'a>) -> Option<Task<&'a str>>
         bay,
         program,
         rules,
+        effort: effort_in(found),
     })
 }
 
@@ -341,6 +351,7 @@ fn with_options<'a>(found: &ArgMatches<'a>, verb: Verb) -> Job<'a>
         record_file: value_of(found, "record"),
         record_most: most_in(found),
         idle: idle_in(found),
+        effort: effort_in(found),
         log: logs(found),
     }
 }
@@ -360,7 +371,8 @@ fn usage_of(name: &str) -> &'static str {
         "serve" => {
             "bayctl serve --bay <F> <--logic <F>|--image <F>> --port <N> --turns <N> [--trace <F>] [--process <P>] [--tell <WHAT>] [--supervise <MS>] [--key <F>] [--record <F>] [--record-most <OCTETS>] [--idle <S>] [--log]"
         }
-        "audit" => "bayctl audit --bay <F> <--logic <F>|--image <F>> --rules <F> [--log]",
+        "audit" =>
+            "bayctl audit --bay <F> <--logic <F>|--image <F>> --rules <F> [--effort <N>] [--log]",
         _ => "bayctl check --bay <F> <--logic <F>|--image <F>> [--log]",
     }
 }
@@ -442,7 +454,8 @@ fn matches_of<'a>(alloc: Global, words: &'a [&'a str]) -> Result<ArgMatches<'a>,
 /// and a number of turns. It may have a trace, and a process on another port, to which releases may
 /// be reported. Without a trace, the process may be supervised, with a key or without one. The
 /// session may be recorded, in a file of limited size. `compile` takes a bay file, a program and
-/// the file for the image; `audit` takes what `check` takes, and rules. Each may request the log.
+/// the file for the image; `audit` takes what `check` takes, and rules, and may have an
+/// effort. Each may request the log.
 /// Fails with `Refused` if the words spell no task or request help, and with `OutOfMemory`.
 pub fn task_of<'a>(alloc: Global, words: &'a [&'a str]) -> Result<Invoked<&'a str>, WordsFault>
     ensures ok { IfOk result

@@ -47,11 +47,13 @@ pub enum Task<T> {
         record_most: Option<u32>,
         idle_s: Option<u32>,
     },
-    /// Audits rules for a bay with a program.
+    /// Audits rules for a bay with a program, with an effort from 1 to 100,000, if it is given: the
+    /// millions of octets of code that the audit looks at.
     Audit {
         bay: T,
         program: ProgramFile<T>,
         rules: T,
+        effort: Option<u32>,
     },
     /// Compiles a program to a file.
     Compile {

@@ -208,7 +208,7 @@ module _ {F L H R W : Type 0} (reads : FileReads F) (guards : FileGuards F) (wri
       Compiles reads writes same contents asks bay logic out old.files new.files old.writer
       new.writer
       answer × (new.host ≡ old.host) × (new.reader ≡ old.reader)
-  DoesTask (Audit bay program rules) old new answer =
+  DoesTask (Audit bay program rules effort) old new answer =
       Audits reads contents asks bay (form_of program) (name_of program) rules old.files old.writer
       new.writer answer × (new.files ≡ old.files) × (new.host ≡ old.host)
       × (new.reader ≡ old.reader)

@@ -228,9 +228,10 @@ fn do_task<F: FileSystem, L: Link + Drop, H: Host<L>, R: OctetSource, W: Sink>(
             bay,
             program,
             rules,
+            effort,
         } => {
             let (form, program) = form_of(program);
-            audit_files(alloc, bay, form, program, rules, files, writer)
+            audit_files(alloc, bay, form, program, rules, effort, files, writer)
         }
     }
 }

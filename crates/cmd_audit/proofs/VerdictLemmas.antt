@@ -18,7 +18,7 @@ use Rattle.bay_config.specs.Key.{is_name_character}
 use Rattle.bay_config.specs.declared.bay.Bay.{Bay}
 use Rattle.bay_audit_rules.specs.declared.rule.Rule.{Rule}
 use Rattle.bay_audit.specs.Cases.{high_of, input_may, low_of, may_be}
-use Rattle.bay_audit.specs.Rules.{AreRight, BoundProgram, IsRight, program_of}
+use Rattle.bay_audit.specs.Rules.{AreRight, BoundProgram, IsRight}
 use Rattle.bay_audit.specs.declared.answer.RuleAnswer.{RuleAnswer}
 use Rattle.bay_audit.specs.declared.answer.RuleAnswer.TheVariants as answer
 use Rattle.bay_audit.specs.declared.answer.CaseRelease.{CaseRelease}
@@ -34,7 +34,7 @@ use Rattle.bay_replay_laws.proofs.LineLemmas.{AreLines, decimal-free, each-line,
 use Rattle.bay_replay_laws.proofs.ReadLemmas.{no-end, no-space}
 use Rattle.cmd_audit.specs.Names.{AreWords, HasWords, IsWord, Known}
 use Rattle.cmd_audit.specs.Text as spec
-use Rattle.cmd_audit.specs.Verdicts.{HoldsAreRead, IsHold, PrintedHold, hold_in, hold_of, operation_in, printed_hold}
+use Rattle.cmd_audit.specs.Verdicts.{IsHold, PrintedHold, hold_in, hold_of, operation_in, printed_hold}
 
 -- ---- octets that end no line
 
@@ -294,11 +294,11 @@ id-word (Some switch) word = word
 
 module _ (bay : Bay) (names : Known) (g : BoundProgram) (words : HasWords bay)
     (known : AreWords names) where
-  abbrev Says : List (Rule × RuleAnswer) → List ℕ → Type 0
+  abbrev pub Says : List (Rule × RuleAnswer) → List ℕ → Type 0
   Says pairs line =
       (hold : PrintedHold) → printed_hold line ≡ Some hold → IsHold bay g pairs hold
 
-  says-none : (pairs : List (Rule × RuleAnswer)) (line : List ℕ) → printed_hold line ≡ None
+  pub says-none : (pairs : List (Rule × RuleAnswer)) (line : List ℕ) → printed_hold line ≡ None
       → Says pairs line
   says-none pairs line none hold e = absurd (let bad : None ≡ Some hold = sym none ∙ e in cc)
 
@@ -405,7 +405,7 @@ module _ (bay : Bay) (names : Known) (g : BoundProgram) (words : HasWords bay)
       (number-free rule.line)
       (way-free (codes " ") (rule_id rule) rule.operation refl (rule-id-word rule)))
 
-  here : (p : Rule × RuleAnswer) (ps : List (Rule × RuleAnswer)) → Contains (p ∷ ps) p
+  pub here : (p : Rule × RuleAnswer) (ps : List (Rule × RuleAnswer)) → Contains (p ∷ ps) p
   here p ps = (0, omega arith, refl)
 
   later : (p : Rule × RuleAnswer) (ps : List (Rule × RuleAnswer)) (q : Rule × RuleAnswer)
@@ -413,7 +413,7 @@ module _ (bay : Bay) (names : Known) (g : BoundProgram) (words : HasWords bay)
       → Contains (p ∷ ps) q
   later p ps q at = (suc at.0, omega (arith, at.1), at.2)
 
-  lift : (p : Rule × RuleAnswer) (ps : List (Rule × RuleAnswer)) (line : List ℕ) → Says ps line
+  pub lift : (p : Rule × RuleAnswer) (ps : List (Rule × RuleAnswer)) (line : List ℕ) → Says ps line
       → Says (p ∷ ps) line
   lift p ps line says hold e =
       let it = says hold e in
@@ -427,7 +427,7 @@ module _ (bay : Bay) (names : Known) (g : BoundProgram) (words : HasWords bay)
         right = it.right;
       }
 
-  answer-lines : (rule : Rule) (a : RuleAnswer) (pairs : List (Rule × RuleAnswer))
+  pub answer-lines : (rule : Rule) (a : RuleAnswer) (pairs : List (Rule × RuleAnswer))
       → Contains pairs (rule, a)
       → IsRight g rule a → AreLines (Says pairs) (spec.answer_text bay names (rule, a))
   answer-lines rule a pairs among right =
@@ -437,7 +437,7 @@ module _ (bay : Bay) (names : Known) (g : BoundProgram) (words : HasWords bay)
       (one-line (front ++ said) (free-append 10 front said (front-free rule) (said-free a))
       (says-answer rule a pairs among right))
 
-  answers-lines : (rules : List Rule) (answers : List RuleAnswer) → AreRight g rules answers
+  pub answers-lines : (rules : List Rule) (answers : List RuleAnswer) → AreRight g rules answers
       → AreLines (Says (zip rules answers)) (spec.answers_text bay names (zip rules answers))
   answers-lines [] [] right = no-lines
   answers-lines [] (a ∷ answers) right = absurd right
@@ -450,7 +450,7 @@ module _ (bay : Bay) (names : Known) (g : BoundProgram) (words : HasWords bay)
 
   -- ---- releases
 
-  says-word : (pairs : List (Rule × RuleAnswer)) (line : List ℕ)
+  pub says-word : (pairs : List (Rule × RuleAnswer)) (line : List ℕ)
       → bytes_eq (first (words_in line)) (codes "rule") ≡ false → Says pairs line
   says-word pairs line other = says-none pairs line (other-words (words_in line) other)
 
@@ -561,24 +561,35 @@ module _ (bay : Bay) (names : Known) (g : BoundProgram) (words : HasWords bay)
       (one-other 108
       (words_in (codes "ost " ++ (switch.id ++ spec.operation_text r.operation) ++ lost)) refl)))
 
-  releases-lines : (pairs : List (Rule × RuleAnswer)) (releases : List Release)
+  start-lines : (pairs : List (Rule × RuleAnswer)) (r : Release) (s : Option Switch)
+      → Maybe (λ s. IsWord s.id) s → AreLines (Says pairs) (spec.switch_start names r s)
+  start-lines pairs r None is = no-lines
+  start-lines pairs r (Some switch) is =
+      let way : List ℕ = spec.switch_operation_text (codes "start ") switch.id r.operation in
+      let start : List ℕ = spec.lost_release_text names r.start in
+      subst (AreLines (Says pairs)) (append_assoc way start (codes "\n"))
+      (one-line (way ++ start)
+      (free-append 10 way start (way-free (codes "start ") switch.id r.operation refl is)
+      (lost-free r.start))
+      (says-word pairs (way ++ start)
+      (one-other 115
+      (words_in (codes "tart " ++ (switch.id ++ spec.operation_text r.operation) ++ start)) refl)))
+
+  pub shown-lines : (pairs : List (Rule × RuleAnswer)) (releases : List Release)
+      → AreLines (Says pairs) (flat_map (spec.release_text bay names) releases)
+  shown-lines pairs releases =
+      flat-lines (spec.release_text bay names) pairs releases
+      (λ r. release-lines pairs r (slice_get bay.switches r.switch)
+      (each-get (λ s. IsWord s.id) bay.switches r.switch words.switches))
+
+  pub releases-lines : (pairs : List (Rule × RuleAnswer)) (releases : List Release)
       → AreLines (Says pairs) (spec.releases_text bay names releases)
   releases-lines pairs releases =
-      more-lines
-      (flat-lines (spec.release_text bay names) pairs releases
-      (λ r. release-lines pairs r (slice_get bay.switches r.switch)
-      (each-get (λ s. IsWord s.id) bay.switches r.switch words.switches)))
+      more-lines (shown-lines pairs releases)
+      (more-lines
       (flat-lines (spec.lost_text bay names) pairs releases
       (λ r. lost-lines pairs r (slice_get bay.switches r.switch)
       (each-get (λ s. IsWord s.id) bay.switches r.switch words.switches)))
-
-pub holds-are-read : HoldsAreRead
-holds-are-read bay names image rules text status words known said line hold at e =
-    let g = program_of bay image in
-    let pairs = zip rules said.answers in
-    let lines =
-    more-lines (answers-lines bay names g words known rules said.answers said.right)
-    (releases-lines bay names g words known pairs said.releases) in
-    each-line
-    (subst (AreLines (Says bay names g words known pairs)) (sym said.said) lines)
-    (says-none bay names g words known pairs [] refl) line at hold e
+      (flat-lines (spec.start_text bay names) pairs releases
+      (λ r. start-lines pairs r (slice_get bay.switches r.switch)
+      (each-get (λ s. IsWord s.id) bay.switches r.switch words.switches))))

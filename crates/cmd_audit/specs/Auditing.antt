@@ -1,9 +1,10 @@
 -- What an audit of files prints, with which status, and which line is logged then, if any.
-use Rattle.std.specs.Prelude.{◌≡◌, ℕ, List, ◌++◌, codes, length, map, zip, Option, None, Some, option_and_then, Result, Ok, Err, ◌⊎◌, if◌then◌else◌}
+use Rattle.std.specs.Prelude.{◌≡◌, ℕ, List, [], ◌++◌, codes, length, flat_map, map, zip, Option, None, Some, option_and_then, Result, Ok, Err, ◌⊎◌, if◌then◌else◌}
 use Rattle.std.specs.List.{list_all}
 use Rattle.bay_audit.specs.Rules.{AreReleases, AreRight, program_of, way_of, ways}
 use Rattle.bay_audit.specs.declared.answer.RuleAnswer.{RuleAnswer}
 use Rattle.bay_audit.specs.declared.answer.Release.{Release}
+use Rattle.bay_base.specs.declared.switch.Operation.{Operation}
 use Rattle.bay_config.specs.declared.bay.Bay.{Bay}
 use Rattle.bay_config.specs.declared.fault.BayFault.{BayFault}
 use Rattle.bay_device.specs.Device.{State}
@@ -17,7 +18,7 @@ use Rattle.bay_io.specs.Watched.{Writing}
 use Rattle.bay_io.specs.declared.outbox.WriteFault.{WriteFault}
 use Rattle.bay_report.specs.Load.{IsImageOf, MayLoadTo, file_of}
 use Rattle.bay_report.specs.LogLines.{IsReported, PrintsLogs, Refuses, UnreadReport}
-use Rattle.bay_report.specs.Report.{IsLast, report_text}
+use Rattle.bay_report.specs.Report.{report_text}
 use Rattle.bay_report.specs.declared.load.Form.{Form}
 use Rattle.bay_audit_rules.specs.Meaning.{TextRead}
 use Rattle.bay_audit_rules.specs.declared.fault.RuleFault.{RuleFault}
@@ -25,26 +26,42 @@ use Rattle.bay_audit_rules.specs.declared.rule.Rule.{Rule}
 use Rattle.il_image.specs.Images.{Image}
 use Rattle.il_text.specs.Listing.{Declared}
 use Rattle.cmd_audit.specs.Names.{Known, declared_in, known_of}
-use Rattle.cmd_audit.specs.Text.{answers_text, is_passed, refusal_text, refused_log, releases_text}
+use Rattle.cmd_audit.specs.Text.{answers_text, is_passed, refusal_text, refused_log, release_text, releases_text}
 
--- There is an answer for each rule, and a release for each switch and operation, also while the
--- process is lost. Each is right, and the text has its lines, with these names for what the program
--- retains.
+-- The text has the lines of all answers and releases: there is a release for each switch and
+-- operation, also while the process is lost.
+pub record IsWhole (bay : Bay) (names : Known) (rules : List Rule) (answers : List RuleAnswer)
+    (releases : List Release) (text : List ℕ) (status : ℕ) : Type 0 where
+  pub all : map way_of releases ≡ ways (length bay.switches)
+  pub said : text
+      ≡ answers_text bay names (zip rules answers) ++ releases_text bay names releases
+  pub ends : status ≡ (if list_all is_passed answers then 0 else 4)
+
+-- Memory ran out: the text has the lines of the first answers, then, if these are all answers,
+-- those of the first releases, and then the line of the fault.
+pub record IsCut (bay : Bay) (names : Known) (rules : List Rule) (answers : List RuleAnswer)
+    (releases : List Release) (text : List ℕ) (status : ℕ) : Type 0 where
+  pub shown : List (Rule × RuleAnswer)
+  pub hidden : List (Rule × RuleAnswer)
+  pub parts : zip rules answers ≡ shown ++ hidden
+  pub later : List (ℕ × Operation)
+  pub first : map way_of releases ++ later ≡ ways (length bay.switches)
+  pub order : (hidden ≡ []) ⊎ (releases ≡ [])
+  pub said : text ≡ answers_text bay names shown
+      ++ (flat_map (release_text bay names) releases ++ codes "fault memory\n")
+  pub ends : status ≡ 3
+
+-- There is an answer for each rule, in their order, and there are releases of switches. Each is
+-- right, and the text has their lines, with these names for what the program retains; or only the
+-- first of these lines, because memory ran out.
 pub record Answers (bay : Bay) (names : Known) (image : Image) (rules : List Rule) (text : List ℕ)
     (status : ℕ) : Type 0 where
   pub answers : List RuleAnswer
   pub right : AreRight (program_of bay image) rules answers
   pub releases : List Release
   pub released : AreReleases bay (program_of bay image) releases
-  pub all : map way_of releases ≡ ways (length bay.switches)
-  pub said : text
-      ≡ answers_text bay names (zip rules answers) ++ releases_text bay names releases
-  pub ends : status ≡ (if list_all is_passed answers then 0 else 4)
-
--- rules are refused: the fault, the text and the status
-abbrev pub SaysRefused : RuleFault → Option RuleFault → List ℕ → ℕ → Type 0
-SaysRefused fault refused text status =
-    (refused ≡ Some fault) × IsLast (refusal_text fault) 1 text status
+  pub said : IsWhole bay names rules answers releases text status
+      ⊎ IsCut bay names rules answers releases text status
 
 -- the log line, if rules are refused
 abbrev pub log_in : Option RuleFault → Option (List ℕ)
@@ -67,7 +84,8 @@ pub record SaysFor (file : Result Bay BayFault) (declared : List Declared) (rule
   pub means : TextRead bay rules meant
   pub says : SaysOf bay (known_of image.points declared) image meant log text status
 
--- for a device: the line of its load, and the text for rules, unless memory runs out for that
+-- for a device: the line of its load, and the text for rules, unless memory runs out before they
+-- are read
 pub record DeviceReport (file : Result Bay BayFault) (declared : List Declared) (rules : List ℕ)
     (s : State) (log : Option (List ℕ)) (text : List ℕ) (status : ℕ) : Type 0 where
   pub report : Report

@@ -1,7 +1,8 @@
 -- What an audit of files prints. `Auditing`: which files are read, and what is printed with which
 -- status. `Text`: the lines of the answers. `Names`: the names of slots and timers in them.
--- `Verdicts`: how a line is read as a rule that holds.
+-- `Verdicts`: how a line is read as a rule that holds. `Written` is inner.
 pub mod Auditing
 pub mod Names
 pub mod Text
 pub mod Verdicts
+pub mod Written

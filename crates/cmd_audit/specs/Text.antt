@@ -213,7 +213,7 @@ release_text bay names r = switch_release bay names r (slice_get bay.switches r.
 
 -- ---- the process is lost
 
--- a release while the process is lost, followed by what it depends on
+-- a release while the process is lost or by the first scan, followed by what it depends on
 abbrev pub lost_release_text : Known → CaseRelease → List ℕ
 lost_release_text names told.Released = codes " released"
 lost_release_text names told.Refused = codes " blocked"
@@ -233,10 +233,31 @@ switch_lost names r (Some switch) = lost_line names switch.id r
 abbrev pub lost_text : Bay → Known → Release → List ℕ
 lost_text bay names r = switch_lost names r (slice_get bay.switches r.switch)
 
--- the lines of all releases, followed by those of the releases while the process is lost
+-- ---- the first scan
+
+abbrev pub start_line : Known → List ℕ → Release → List ℕ
+start_line names id r =
+    switch_operation_text (codes "start ") id r.operation
+    ++ (lost_release_text names r.start ++ codes "\n")
+
+-- the line of a release by the first scan, of a switch that the bay has
+abbrev pub switch_start : Known → Release → Option Switch → List ℕ
+switch_start names r None = []
+switch_start names r (Some switch) = start_line names switch.id r
+
+abbrev pub start_text : Bay → Known → Release → List ℕ
+start_text bay names r = switch_start names r (slice_get bay.switches r.switch)
+
+-- the lines of all releases while the process is lost, followed by those of all by the first scan
+abbrev pub states_text : Bay → Known → List Release → List ℕ
+states_text bay names releases =
+    flat_map (lost_text bay names) releases ++ flat_map (start_text bay names) releases
+
+-- the lines of all releases, followed by those of the releases while the process is lost and by the
+-- first scan
 abbrev pub releases_text : Bay → Known → List Release → List ℕ
 releases_text bay names releases =
-    flat_map (release_text bay names) releases ++ flat_map (lost_text bay names) releases
+    flat_map (release_text bay names) releases ++ states_text bay names releases
 
 -- ---- rules that are refused
 

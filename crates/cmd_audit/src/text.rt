@@ -329,8 +329,8 @@ fn put_said(
     }
 }
 
-// Adds the line of a rule's answer.
-fn put_answer(
+/// Adds the line of a rule's answer. Fails only if an allocation fails.
+pub fn put_answer(
     text: &mut Vec<u8>,
     bay: &Bay,
     names: &StateNames<'_>,
@@ -343,26 +343,6 @@ fn put_answer(
     put_front(text, bay, rule)?;
     put_said(text, bay, names, answer)?;
     text.extend_from_slice(b"\n")
-}
-
-/// Adds the lines of the answers to rules. Fails only if an allocation fails.
-pub fn put_answers(
-    text: &mut Vec<u8>,
-    bay: &Bay,
-    names: &StateNames<'_>,
-    rules: &[Rule],
-    answers: &[RuleAnswer],
-) -> Result<(), AllocError>
-    ensures { OnOk result (text.new.items ≡ text.old.items
-        ++ spec.answers_text bay.now names.now (zip rules.now answers.now)) }
-{
-    for i in 0..rules.len() {
-        let Some(answer) = answers.get(i) else {
-            return Ok(());
-        };
-        put_answer(text, bay, names, &rules[i], answer)?;
-    }
-    Ok(())
 }
 
 // Adds a word and a case.
@@ -446,8 +426,8 @@ fn put_release(
     }
 }
 
-// Adds the lines of a release, if the bay has its switch.
-fn put_release_of(
+/// Adds the lines of a release, if the bay has its switch. Fails only if an allocation fails.
+pub fn put_release_of(
     text: &mut Vec<u8>,
     bay: &Bay,
     names: &StateNames<'_>,
@@ -462,18 +442,21 @@ fn put_release_of(
     }
 }
 
-// Adds the line of a release of the switch with this id while the process is lost.
-fn put_lost(
+// Adds a word, the id of a switch, an operation, and whether it is released.
+fn put_state(
     text: &mut Vec<u8>,
     names: &StateNames<'_>,
+    word: &[u8],
     id: &str,
-    release: &Release,
+    operation: Operation,
+    told: &CaseRelease,
 ) -> Result<(), AllocError>
-    ensures { OnOk result
-        (text.new.items ≡ text.old.items ++ spec.lost_line names.now id.now release.now) }
+    ensures { OnOk result (text.new.items
+        ≡ text.old.items ++ (spec.switch_operation_text word.now id.now operation
+        ++ (spec.lost_release_text names.now told.now ++ codes "\n"))) }
 {
-    put_way(text, b"lost ", id, release.operation)?;
-    match &release.lost {
+    put_way(text, word, id, operation)?;
+    match told {
         CaseRelease::Released => text.extend_from_slice(b" released\n"),
         CaseRelease::Refused => text.extend_from_slice(b" blocked\n"),
         CaseRelease::Hangs(kept) => {
@@ -495,27 +478,57 @@ fn put_lost_of(
         (text.new.items ≡ text.old.items ++ spec.lost_text bay.now names.now release.now) }
 {
     match bay.switches.as_slice().get(release.switch) {
-        Some(found) => put_lost(text, names, found.id.as_str(), release),
+        Some(found) => put_state(
+            text,
+            names,
+            b"lost ",
+            found.id.as_str(),
+            release.operation,
+            &release.lost,
+        ),
         None => Ok(()),
     }
 }
 
-/// Adds the lines of the releases, then those of the releases while the process is lost. Fails only
-/// if an allocation fails.
-pub fn put_releases(
+// Adds the line of a release by the first scan, if the bay has its switch.
+fn put_start_of(
+    text: &mut Vec<u8>,
+    bay: &Bay,
+    names: &StateNames<'_>,
+    release: &Release,
+) -> Result<(), AllocError>
+    ensures { OnOk result
+        (text.new.items ≡ text.old.items ++ spec.start_text bay.now names.now release.now) }
+{
+    match bay.switches.as_slice().get(release.switch) {
+        Some(found) => put_state(
+            text,
+            names,
+            b"start ",
+            found.id.as_str(),
+            release.operation,
+            &release.start,
+        ),
+        None => Ok(()),
+    }
+}
+
+/// Adds the lines of the releases while the process is lost, then those of the releases by the
+/// first scan. Fails only if an allocation fails.
+pub fn put_states(
     text: &mut Vec<u8>,
     bay: &Bay,
     names: &StateNames<'_>,
     releases: &[Release],
 ) -> Result<(), AllocError>
     ensures { OnOk result
-        (text.new.items ≡ text.old.items ++ spec.releases_text bay.now names.now releases.now) }
+        (text.new.items ≡ text.old.items ++ spec.states_text bay.now names.now releases.now) }
 {
     for release in releases {
-        put_release_of(text, bay, names, release)?;
+        put_lost_of(text, bay, names, release)?;
     }
     for release in releases {
-        put_lost_of(text, bay, names, release)?;
+        put_start_of(text, bay, names, release)?;
     }
     Ok(())
 }
@@ -549,19 +562,12 @@ pub fn fault_words(fault: RuleFault) -> &'static [u8]
     }
 }
 
-// Returns whether a rule holds.
-fn is_passed(answer: &RuleAnswer) -> bool
+/// Returns whether a rule holds.
+pub fn is_passed(answer: &RuleAnswer) -> bool
     ensures { result ≡ spec.is_passed answer.now }
 {
     match answer {
         RuleAnswer::Holds { .. } | RuleAnswer::Since { .. } => true,
         RuleAnswer::Broken { .. } | RuleAnswer::Open { .. } | RuleAnswer::TooMany => false,
     }
-}
-
-/// Returns whether each rule holds.
-pub fn are_passed(answers: &[RuleAnswer]) -> bool
-    ensures { result ≡ list_all spec.is_passed answers.now }
-{
-    answers.iter().all(|answer| is_passed(answer))
 }

@@ -13,7 +13,7 @@ use Rattle.cmd_audit.specs.Text.{is_passed, numbered_text}
 use Rattle.cmd_audit.specs.Verdicts.{PrintedHold, hold_in, printed_hold}
 use Rattle.cmd_audit.proofs.BayNameLemmas.{bays-have-words}
 use Rattle.cmd_audit.proofs.NameLemmas.{names-are-words}
-use Rattle.cmd_audit.proofs.VerdictLemmas.{holds-are-read}
+use Rattle.cmd_audit.proofs.HoldLemmas.{holds-are-read}
 use Rattle.bay_config.specs.declared.bay.Bay.{Bay}
 use Rattle.bay_device.specs.Device.{State}
 use Rattle.bay_device.proofs.LoadLemmas.{image-is}

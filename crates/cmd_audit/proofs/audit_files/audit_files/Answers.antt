@@ -1,6 +1,5 @@
-use Rattle.std.proofs.Common.{◌++◌, ◌∙◌, ap, codes, inl, inr, refl, Ok, Err}
+use Rattle.std.proofs.Common.{inl, inr, Ok, Err}
 use Rattle.bay_files.specs.Files.{unread_view}
-use Rattle.bay_report.specs.Report.{report_text}
 use Rattle.bay_report.proofs.ReportLemmas.{PrintsLogs-weaker}
 use Rattle.cmd_audit.specs.Auditing.{AuditReport}
 use Rattle.cmd_audit.proofs.audit_files.audit_files.Goals as goal
@@ -47,66 +46,26 @@ returns-in-Err-load_program g c =
       );
     }
 
-pub returns-in-Ok-loaded_output : goal.returns-in-Ok-loaded_output
-returns-in-Ok-loaded_output g c =
-    let bay = c.in-Ok.both.bay.items in
-    let program = c.in-Ok.both.program.items in
-    let rules = c.in-Ok-read_file.rules.items in
-    let report = c.report-report.result in
-    let loaded =
-    rw (c.as_slice.ensures.value, c.as_slice-2.ensures.value) at c.in-Ok-load_program.ensures.loaded
-    in
-    let said = rw c.as_slice-3.ensures.value at c.in-Ok-loaded_output.ensures in
-    record {
-      read = Ok (record { bay = bay; program = program });
-      is_read = c.in-Ok.ensures.ok;
-      does = (
-        Ok rules,
-        c.in-Ok-read_file.ensures.ok,
-        PrintsLogs-weaker (AuditReport bay c.args.form program rules) c.write_audit.result
-            (λ log text status told. inl (record {
-              device = c.in-Ok-load_program.device;
-              loaded = loaded;
-              tells = record {
-                report = report;
-                is = c.report-report.ensures;
-                rest = c.in-Ok-loaded_output.said.text.items;
-                whole = told.1.0
-                    ∙ ap (λ rest. report_text report ++ rest)
-                    c.as_slice-in-Ok-loaded_output.ensures.value;
-                says = inl (rw (told.0, told.1.1) said);
-              };
-            })) c.write_audit.ensures,
-      );
-    }
-
 pub returns : goal.returns
 returns g c =
     let bay = c.in-Ok.both.bay.items in
     let program = c.in-Ok.both.program.items in
     let rules = c.in-Ok-read_file.rules.items in
-    let report = c.report-report.result in
     let loaded =
     rw (c.as_slice.ensures.value, c.as_slice-2.ensures.value) at c.in-Ok-load_program.ensures.loaded
     in
+    let printed = rw c.as_slice-3.ensures.value at c.write_device.ensures in
     record {
       read = Ok (record { bay = bay; program = program });
       is_read = c.in-Ok.ensures.ok;
       does = (
         Ok rules,
         c.in-Ok-read_file.ensures.ok,
-        PrintsLogs-weaker (AuditReport bay c.args.form program rules)
-            c.write_audit-in-Err-loaded_output.result
+        PrintsLogs-weaker (AuditReport bay c.args.form program rules) c.write_device.result
             (λ log text status told. inl (record {
               device = c.in-Ok-load_program.device;
               loaded = loaded;
-              tells = record {
-                report = report;
-                is = c.report-report.ensures;
-                rest = codes "fault memory\n";
-                whole = told.1.0;
-                says = inr (told.0, (refl, told.1.1));
-              };
-            })) c.write_audit-in-Err-loaded_output.ensures,
+              tells = told;
+            })) printed,
       );
     }

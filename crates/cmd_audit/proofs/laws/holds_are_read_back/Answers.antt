@@ -1,4 +1,4 @@
-use Rattle.cmd_audit.proofs.VerdictLemmas.{holds-are-read}
+use Rattle.cmd_audit.proofs.HoldLemmas.{holds-are-read}
 use Rattle.cmd_audit.proofs.laws.holds_are_read_back.Goals as goal
 
 pub returns : goal.returns

@@ -1,7 +1,7 @@
 use Rattle.std.proofs.Common.{◌≡◌, true, false}
 use Rattle.std.specs.Str.{is_utf8}
 use Rattle.bay_base.proofs.ListLemmas.{is-utf8-false}
-use Rattle.cmd_audit.proofs.audit_files.reread_bay.Goals as goal
+use Rattle.cmd_audit.proofs.loaded.reread_bay.Goals as goal
 
 pub unreachable-requires : goal.unreachable-requires
 unreachable-requires c =

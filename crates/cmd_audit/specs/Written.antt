@@ -1,0 +1,99 @@
+-- Inner: what was put into a writer so far.
+use Rattle.std.specs.Prelude.{◌≡◌, ℕ, Bool, List, [], ◌∷◌, ◌++◌, ◌⊎◌, codes, flat_map, length, map, zip, Option, None, Result}
+use Rattle.std.specs.List.{list_all}
+use Rattle.bay_audit.specs.Rules.{AreReleases, AreRight, IsRelease, BoundProgram, way_of, ways}
+use Rattle.bay_audit.specs.declared.answer.Release.{Release}
+use Rattle.bay_audit.specs.declared.answer.RuleAnswer.{RuleAnswer}
+use Rattle.bay_audit_rules.specs.declared.rule.Rule.{Rule}
+use Rattle.bay_base.specs.declared.switch.Operation.{Operation}
+use Rattle.bay_config.specs.declared.bay.Bay.{Bay}
+use Rattle.bay_config.specs.declared.fault.BayFault.{BayFault}
+use Rattle.bay_io.specs.Calls.{WriteCall}
+use Rattle.bay_io.specs.Sent.{Puts}
+use Rattle.bay_io.specs.Watched.{Writing}
+use Rattle.bay_report.specs.LogLines.{IsReported}
+use Rattle.bay_report.specs.Report.{code_of}
+use Rattle.bay_report.specs.declared.output.Status.{Status}
+use Rattle.cmd_audit.specs.Auditing.{Answers, SaysFor}
+use Rattle.cmd_audit.specs.Names.{Known}
+use Rattle.cmd_audit.specs.Text.{answers_text, is_passed, release_text}
+use Rattle.il_image.specs.Images.{Image}
+use Rattle.il_text.specs.Listing.{Declared}
+
+module _ {W : Type 0} (contents : W → Option (List ℕ)) (does : W → WriteCall → W → Type 0) where
+  -- the lines of right answers to these rules, and whether each holds
+  pub record PutsAnswers (bay : Bay) (names : Known) (g : BoundProgram) (rules : List Rule)
+      (passed : Bool) (old new : Writing W) : Type 0 where
+    pub answers : List RuleAnswer
+    pub right : AreRight g rules answers
+    pub so : passed ≡ list_all is_passed answers
+    pub put : Puts contents does old (answers_text bay names (zip rules answers)) new
+
+  -- the same for the first of these rules
+  pub record PutsFirst (bay : Bay) (names : Known) (g : BoundProgram) (rules : List Rule)
+      (old new : Writing W) : Type 0 where
+    pub answered : List Rule
+    pub others : List Rule
+    pub parts : rules ≡ answered ++ others
+    pub passed : Bool
+    pub put : PutsAnswers bay names g answered passed old new
+
+  -- the lines of a right release of this switch and operation
+  pub record PutsRelease (bay : Bay) (names : Known) (g : BoundProgram) (way : ℕ × Operation)
+      (r : Release) (old new : Writing W) : Type 0 where
+    pub right : IsRelease bay g r
+    pub is : way_of r ≡ way
+    pub put : Puts contents does old (release_text bay names r) new
+
+  -- the same, or nothing
+  abbrev pub PutsMaybe : Bay → Known → BoundProgram → ℕ × Operation → Writing W → Writing W
+      → Type 0
+  PutsMaybe bay names g way old new =
+      (new ≡ old) ⊎ ((r : Release) × PutsRelease bay names g way r old new)
+
+  -- the lines of these releases, which are right and are those of these switches and operations
+  pub record PutsReleases (bay : Bay) (names : Known) (g : BoundProgram)
+      (these : List (ℕ × Operation)) (releases : List Release) (old new : Writing W)
+      : Type 0 where
+    pub right : AreReleases bay g releases
+    pub all : map way_of releases ≡ these
+    pub put : Puts contents does old (flat_map (release_text bay names) releases) new
+
+  -- the same for the first of these switches and operations
+  pub record PutsSome (bay : Bay) (names : Known) (g : BoundProgram)
+      (these : List (ℕ × Operation)) (old new : Writing W) : Type 0 where
+    pub found : List (ℕ × Operation)
+    pub later : List (ℕ × Operation)
+    pub parts : these ≡ found ++ later
+    pub releases : List Release
+    pub put : PutsReleases bay names g found releases old new
+
+  -- the text of an audit, up to the line of a fault if it stopped
+  pub record PutsText (bay : Bay) (names : Known) (image : Image) (rules : List Rule)
+      (fault : List ℕ) (status : ℕ) (old new : Writing W) : Type 0 where
+    pub text : List ℕ
+    pub put : Puts contents does old text new
+    pub says : Answers bay names image rules (text ++ fault) status
+
+  -- the text after the line of a load
+  pub record PutsSaid (file : Result Bay BayFault) (declared : List Declared) (rules : List ℕ)
+      (image : Image) (log : Option (List ℕ)) (status : ℕ) (old new : Writing W) : Type 0 where
+    pub text : List ℕ
+    pub put : Puts contents does old text new
+    pub says : SaysFor file declared rules image log text status
+
+  -- the same without the line of a fault, before which it stopped; or nothing
+  pub record PutsStopped (file : Result Bay BayFault) (declared : List Declared) (rules : List ℕ)
+      (image : Image) (old new : Writing W) : Type 0 where
+    pub text : List ℕ
+    pub put : Puts contents does old text new
+    pub says : SaysFor file declared rules image None (text ++ codes "fault memory\n") 3
+        ⊎ (text ≡ [])
+
+  -- the text after the line of a load, also if it stopped
+  pub record PutsRest (file : Result Bay BayFault) (declared : List Declared) (rules : List ℕ)
+      (image : Image) (log : Option (List ℕ)) (status : ℕ) (old new : Writing W) : Type 0 where
+    pub rest : List ℕ
+    pub put : Puts contents does old rest new
+    pub says : SaysFor file declared rules image log rest status
+        ⊎ IsReported None (codes "fault memory\n") 3 log rest status
