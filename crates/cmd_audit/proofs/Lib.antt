@@ -1,6 +1,7 @@
 pub mod BayNameLemmas
 pub mod DeviceLemmas
 pub mod HoldLemmas
+pub mod JudgeLemmas
 pub mod LoadedLemmas
 pub mod NameLemmas
 pub mod TextLemmas

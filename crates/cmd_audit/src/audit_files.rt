@@ -20,8 +20,8 @@ use bay_report::output::finish;
 use bay_report::report::put_report;
 use std::alloc::Global;
 
-// Logs why rules are refused, if they are.
-fn log_refused<W: Sink>(writer: &mut WatchedWriter<W>, refused: Option<RuleFault>)
+/// Logs why rules are refused, if they are.
+pub(crate) fn log_refused<W: Sink>(writer: &mut WatchedWriter<W>, refused: Option<RuleFault>)
     ensures { LogsSome W.contents W.does writer.old (log_in refused) writer.new }
 {
     let Some(fault) = refused else {

@@ -41,8 +41,8 @@ fn refusal_line(alloc: Global, fault: RuleFault) -> Result<Vec<u8>, AllocError>
     Ok(text)
 }
 
-// Reads once more the bay of a file that was loaded.
-fn reread_bay(alloc: Global, octets: &[u8]) -> Result<Bay, AllocError>
+/// Reads once more the bay of a file that was loaded. Fails only if an allocation fails.
+pub(crate) fn reread_bay(alloc: Global, octets: &[u8]) -> Result<Bay, AllocError>
     requires { is_ok (file_of octets.now) ≡ true }
     ensures { IfOk result (λ bay. file_of octets.now ≡ Ok bay) }
 {

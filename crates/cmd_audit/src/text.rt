@@ -571,3 +571,10 @@ pub fn is_passed(answer: &RuleAnswer) -> bool
         RuleAnswer::Broken { .. } | RuleAnswer::Open { .. } | RuleAnswer::TooMany => false,
     }
 }
+
+/// Returns whether each rule holds.
+pub fn are_passed(answers: &[RuleAnswer]) -> bool
+    ensures { result ≡ list_all spec.is_passed answers.now }
+{
+    answers.iter().all(|answer| is_passed(answer))
+}

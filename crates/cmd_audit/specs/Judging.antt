@@ -1,0 +1,72 @@
+-- Whether each rule of a text holds for a loaded program, and what is printed and logged then.
+use Rattle.std.specs.Prelude.{◌≡◌, ◌⊎◌, ℕ, Bool, true, false, List, ◌++◌, codes, length, zip, flat_map, Option, None, Result, Ok, Err, if◌then◌else◌, []}
+use Rattle.std.specs.Fmt.{decimal}
+use Rattle.std.specs.List.{list_all}
+use Rattle.bay_audit.specs.Rules.{AreRight, program_of}
+use Rattle.bay_audit.specs.declared.answer.RuleAnswer.{RuleAnswer}
+use Rattle.bay_config.specs.declared.bay.Bay.{Bay}
+use Rattle.bay_config.specs.declared.fault.BayFault.{BayFault}
+use Rattle.bay_report.specs.LogLines.{IsReported}
+use Rattle.bay_audit_rules.specs.Meaning.{TextRead}
+use Rattle.bay_audit_rules.specs.declared.fault.RuleFault.{RuleFault}
+use Rattle.bay_audit_rules.specs.declared.rule.Rule.{Rule}
+use Rattle.il_image.specs.Images.{Image}
+use Rattle.il_text.specs.Listing.{Declared}
+use Rattle.cmd_audit.specs.Names.{Known, known_of}
+use Rattle.cmd_audit.specs.Text.{answer_text, is_passed, refusal_text, refused_log}
+use Rattle.cmd_audit.specs.declared.judging.RulesVerdict.{RulesVerdict}
+use Rattle.cmd_audit.specs.declared.judging.RulesVerdict.TheVariants.{Hold, Unproved, Refused, OutOfMemory}
+
+-- the line of an audit for a rule that does not hold; none for a rule that holds
+abbrev pub unproved_line : Bay → Known → Rule × RuleAnswer → List ℕ
+unproved_line bay names pair = if is_passed pair.1 then [] else answer_text bay names pair
+
+-- the lines of an audit for the rules that do not hold
+abbrev pub unproved_text : Bay → Known → List (Rule × RuleAnswer) → List ℕ
+unproved_text bay names pairs = flat_map (unproved_line bay names) pairs
+
+-- the verdict on rules with these answers: their number, if each of them holds; the lines of those
+-- that do not hold, if one does not
+abbrev pub IsJudged : Bay → Known → List Rule → List RuleAnswer → RulesVerdict → Type 0
+IsJudged bay names rules answers (Hold count) =
+    (list_all is_passed answers ≡ true) × (count ≡ length rules)
+IsJudged bay names rules answers (Unproved text) =
+    (list_all is_passed answers ≡ false)
+    × (text.items ≡ unproved_text bay names (zip rules answers))
+IsJudged bay names rules answers (Refused fault) = ⊥
+IsJudged bay names rules answers OutOfMemory = ⊥
+
+-- There is an answer for each rule, each answer is right, and the verdict is that on these answers.
+pub record Judges (bay : Bay) (names : Known) (image : Image) (rules : List Rule)
+    (verdict : RulesVerdict) : Type 0 where
+  pub answers : List RuleAnswer
+  pub right : AreRight (program_of bay image) rules answers
+  pub judged : IsJudged bay names rules answers verdict
+
+-- the verdict on the rules of a text, or on a text that has a fault
+abbrev pub JudgesRead : Bay → Known → Image → Result (List Rule) RuleFault → RulesVerdict → Type 0
+JudgesRead bay names image (Ok rules) verdict = Judges bay names image rules verdict
+JudgesRead bay names image (Err fault) verdict = verdict ≡ Refused fault
+
+-- the same for the bay that a file spells, and the names that a program declares
+pub record JudgesText (file : Result Bay BayFault) (declared : List Declared) (text : List ℕ)
+    (image : Image) (verdict : RulesVerdict) : Type 0 where
+  pub bay : Bay
+  pub read : file ≡ Ok bay
+  pub meant : Result (List Rule) RuleFault
+  pub means : TextRead bay text meant
+  pub judges : JudgesRead bay (known_of image.points declared) image meant verdict
+
+-- the same, unless memory ran out
+abbrev pub IsVerdictOn : Result Bay BayFault → List Declared → List ℕ → Image → RulesVerdict
+    → Type 0
+IsVerdictOn file declared text image verdict =
+    (verdict ≡ OutOfMemory) ⊎ JudgesText file declared text image verdict
+
+-- what is printed of a verdict, with which status, and what is logged
+abbrev pub VerdictReport : RulesVerdict → Option (List ℕ) → List ℕ → ℕ → Type 0
+VerdictReport (Hold count) =
+    IsReported None (codes "rules " ++ (decimal count ++ codes "\n")) 0
+VerdictReport (Unproved text) = IsReported None text.items 4
+VerdictReport (Refused fault) = IsReported (refused_log fault) (refusal_text fault) 1
+VerdictReport OutOfMemory = IsReported None (codes "fault memory\n") 3
