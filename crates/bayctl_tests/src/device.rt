@@ -4,12 +4,16 @@ ghost use Rattle.std.specs.Prelude.{◌<◌, length};
 
 use crate::session::{self, CONFIRM, REQUEST, octets_of};
 use bay_base::position::Dbpos;
+use bay_config::bay::Bay;
+use bay_config::read::read_bay;
 use bay_device::device::Device;
 use bay_device::event::Event;
 use bay_device::fault::{LoadFault, StepFault};
 use bay_device::load::{load, load_image};
 use bay_io::outbox::WriteFault;
-use std::alloc::{AllocError, Global};
+use il_image::decode::decode;
+use il_verify::verify::verify;
+use std::alloc::Global;
 use std::process::Abort;
 use std::test::Fail;
 
@@ -153,85 +157,60 @@ fn a_device_of_an_image(rt: HostRuntime) -> Result<(), Fail> {
     Ok(())
 }
 
-// The codes of an image whose scan takes more instructions than its budget, and of an image that is
-// not loaded since an allocation fails; no fault has one of them.
-const LONG_SCAN: u8 = 1;
-
-const OUT_OF_MEMORY: u8 = 2;
-
-// Returns the number of the fault with which `load_image` refuses an image; 0 if the image is
-// loaded, and a scan of its device ends within the budget that was reported.
-fn load_code(alloc: Global, octets: &[u8]) -> u8 {
-    let mut device = match load_image(alloc, session::BAY, octets) {
-        Ok(device) => device,
-        Err(LoadFault::Refused { code, line: _ }) => return code,
-        Err(LoadFault::OutOfMemory) => return OUT_OF_MEMORY,
+// Returns whether an image is loaded, and its scan ends within its budget. Does not try an image
+// that can't be decoded, or is not verified for the points of the bay: `load_image` refuses it.
+fn is_loaded(alloc: Global, bay: &Bay, octets: &[u8]) -> bool {
+    let Ok(image) = decode(alloc, octets) else {
+        return false;
+    };
+    if verify(alloc, image, bay.points.as_slice()).is_err() {
+        return false;
+    }
+    let Ok(mut device) = load_image(alloc, session::BAY, octets) else {
+        return false;
     };
     let budget = device.report().budget;
-    let is_within = match device.step(1000, Event::Scan) {
+    match device.step(1000, Event::Scan) {
         Ok(step) => step.scan.unwrap_or(u32::MAX) <= budget,
         Err(_) => false,
-    };
-    if is_within { 0 } else { LONG_SCAN }
+    }
 }
 
-// The number of images for each code, 0 to 100.
-type Counts = [u32; 101];
-
-// Loads an image with the octet at an index replaced by each other value, and counts the codes.
-fn count_at(alloc: Global, octets: &mut [u8], at: usize, counts: &mut Counts)
+// Loads an image with the octet at an index replaced by each other value, and returns how many are
+// loaded.
+fn loaded_of(alloc: Global, bay: &Bay, octets: &mut [u8], at: usize) -> usize
     requires { at < length octets.old }
 {
     let was = octets[at];
+    let mut loaded = 0usize;
     for more in 1..=255u8 {
         octets[at] = was.wrapping_add(more);
-        let code = usize::from(load_code(alloc, octets));
-        if let Some(count) = counts.get_mut(code) {
-            *count = count.saturating_add(1);
-        }
+        loaded = loaded.saturating_add(is_loaded(alloc, bay, octets) as usize);
     }
     octets[at] = was;
+    loaded
 }
 
-// Does this with each octet, and returns the codes with their counts.
-fn counts_text(alloc: Global, octets: &mut [u8]) -> Result<String, AllocError> {
-    let mut counts = [0; 101];
+// Does this with each octet, and returns how many images are loaded.
+fn loaded_in(alloc: Global, bay: &Bay, octets: &mut [u8]) -> usize {
+    let mut loaded = 0usize;
     for at in 0..octets.len() {
-        count_at(alloc, octets, at, &mut counts);
+        loaded = loaded.saturating_add(loaded_of(alloc, bay, octets, at));
     }
-    let mut text = String::new(alloc);
-    for (code, count) in counts.iter().enumerate() {
-        if *count > 0 {
-            write!(text, "{code}={count} ")?;
-        }
-    }
-    Ok(text)
+    loaded
 }
 
-// The codes of the images of each version that differ in one octet from one that is loaded, as
-// tests/repository/test_images.py counts them by the rules of docs/IMAGE.md.
-const CHANGED: [(&str, &str); 2] = [
-    (
-        "01",
-        "0=82 80=1020 81=254 82=11555 83=533 90=26 92=4 94=1528 95=20 96=6 97=5 99=5 100=1537 ",
-    ),
-    (
-        "02",
-        "0=19 80=1020 81=254 82=12054 83=536 90=26 92=7 94=1528 95=20 96=6 97=5 99=6 100=1094 ",
-    ),
-];
-
-// Each changed image is loaded and scanned within its budget, or refused with its fault. In each
-// version three are loaded that have the name of another point, one of the other version, and
-// changes of the code: 14, and in version 2 one more, to a PUSHL. In version 1 also those with 1 to
-// 64 timers, since that version has no octets for each timer.
+// The images that are still loaded: three with the name of another point, one of the other version,
+// and changes of the code: 14, and in version 2 one more, to a PUSHL. In version 1 also those with
+// 1 to 64 timers, since that version has no octets for each timer.
 // Shows P-018, P-061, P-138.
 #[test]
 fn changed_images(rt: HostRuntime) -> Result<(), Fail> {
-    for (version, wanted) in CHANGED {
+    let bay = read_bay(rt.alloc(), session::BAY)?;
+    for (version, wanted) in [("01", 82), ("02", 19)] {
         let mut octets = octets_of(rt.alloc(), &[IMAGE[0], version, IMAGE[1]])?;
-        let found = counts_text(rt.alloc(), octets.as_mut_slice())?;
-        assert_eq!(rt; found.as_str(), wanted);
+        let loaded = loaded_in(rt.alloc(), &bay, octets.as_mut_slice());
+        assert_eq!(rt; loaded, wanted, "version {version}");
     }
     Ok(())
 }
