@@ -26,7 +26,7 @@ class Here(Tools):
         self.process, self.trust = self.folder / 'proc', self.folder / 'trust'
         for folder in (self.bay, self.process / 'net', self.process / '77', self.trust):
             folder.mkdir(parents=True)
-        for name in ('bay.toml', 'logic.il'):
+        for name in ('bay.toml', 'logic.il', 'rules'):
             (self.bay / name).write_text('')
             os.utime(self.bay / name, (1, 1))
         (self.bay / 'env').write_text('PORT=10102\nPROCESS=10103\nSUPERVISE=500\n')
@@ -39,8 +39,8 @@ class Here(Tools):
 
     def runs(self, *more, bay='bay.toml'):
         words = ['/usr/bin/bayctl', 'serve', '--bay', str(self.bay / bay), '--logic',
-                 str(self.bay / 'logic.il'), '--port', '10102', '--supervise', '500', '--key', 'k',
-                 '--log', *more]
+                 str(self.bay / 'logic.il'), '--rules', str(self.bay / 'rules'), '--port', '10102',
+                 '--supervise', '500', '--key', 'k', '--log', *more]
         (self.process / '77' / 'cmdline').write_text('\0'.join(words) + '\0')
 
     def test_ports(self):
@@ -65,7 +65,7 @@ class Here(Tools):
         self.assertIn('it serves --bay', self.machine.server().told)
         (self.process / '77' / 'cmdline').write_text('bayctl\0serve\0--port\x0010102\0')
         found = self.machine.server()
-        self.assertEqual((found.state, found.told.count('it was started without --')), (WRONG, 3))
+        self.assertEqual((found.state, found.told.count('it was started without --')), (WRONG, 4))
         (self.process / '77' / 'cmdline').write_text('')
         self.assertEqual(self.machine.server(), Verdict(WRONG, '0 servers at port 10102'))
 

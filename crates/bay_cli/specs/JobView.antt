@@ -17,9 +17,10 @@ program_view (Image name) = Image name.now
 abbrev pub task_view : Task (Bor (List ℕ)) → Task (List ℕ)
 task_view (Check bay program) = Check bay.now (program_view program)
 task_view Replay = Replay
-task_view (Serve bay program port turns trace process tells limit key file most idle) =
+task_view (Serve bay program port turns trace process tells limit key file most idle rules) =
     Serve bay.now (program_view program) port turns (option_map (λ name. name.now) trace) process
     tells limit (option_map (λ name. name.now) key) (option_map (λ name. name.now) file) most idle
+    (option_map (λ name. name.now) rules)
 task_view (Compile bay logic out) = Compile bay.now logic.now out.now
 task_view (Audit bay program rules effort) =
     Audit bay.now (program_view program) rules.now effort

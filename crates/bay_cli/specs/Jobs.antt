@@ -44,20 +44,20 @@ check_app =
     log_rule
 
 -- `serve --bay F [--logic F] [--image F] --port N --turns N [--trace F] [--process P]
--- [--tell WHAT] [--supervise MS] [--key F] [--record F] [--record-most OCTETS] [--idle S] [--log]`,
--- with ports from 1 to 65535, turns below 2 ^ 32, from 100 to 60000 milliseconds, up to 2 ^ 24
--- octets, and from 10 to 3600 seconds
+-- [--tell WHAT] [--supervise MS] [--key F] [--record F] [--record-most OCTETS] [--idle S]
+-- [--rules F] [--log]`, with ports from 1 to 65535, turns below 2 ^ 32, from 100 to 60000
+-- milliseconds, up to 2 ^ 24 octets, and from 10 to 3600 seconds
 abbrev pub serve_app : App
 serve_app =
     let named = with_program (with_rule (new_app (codes "serve")) (needed_rule (codes "bay"))) in
     with_rule (with_rule (with_rule (with_rule (with_rule (with_rule (with_rule (with_rule
-    (with_rule (with_rule (with_rule named
+    (with_rule (with_rule (with_rule (with_rule named
     (number_rule (codes "port") 1 65535 true)) (number_rule (codes "turns") 0 4294967295 true))
     (text_rule (codes "trace"))) (number_rule (codes "process") 1 65535 false))
     (text_rule (codes "tell"))) (number_rule (codes "supervise") 100 60000 false))
     (text_rule (codes "key"))) (text_rule (codes "record")))
     (number_rule (codes "record-most") 1 16777216 false))
-    (number_rule (codes "idle") 10 3600 false)) log_rule
+    (number_rule (codes "idle") 10 3600 false)) (text_rule (codes "rules"))) log_rule
 
 -- `replay [--log]`
 abbrev pub replay_app : App
@@ -174,22 +174,22 @@ is_recordable file most = is_some file || is_none most
 
 -- the task of `serve` with these values, if they fit together
 abbrev pub serve_task : Text → ProgramFile Text → ℕ → ℕ → Option Text → Option ℕ → Option ℕ
-    → Option Text → Option Text → Option ℕ → Option ℕ → Bool → Option (Task Text)
-serve_task bay program port turns trace process limit key file most idle tells =
+    → Option Text → Option Text → Option ℕ → Option ℕ → Option Text → Bool → Option (Task Text)
+serve_task bay program port turns trace process limit key file most idle rules tells =
     if is_apart port process && is_supervisable process trace limit key && is_recordable file most
-    then Some (Serve bay program port turns trace process tells limit key file most idle)
+    then Some (Serve bay program port turns trace process tells limit key file most idle rules)
     else None
 
 -- what `serve` asks for: the same, both numbers, a trace and a process, if they were named, what
--- the process is told, how it is supervised, how what is served is recorded, and how long a client
--- may send nothing
+-- the process is told, how it is supervised, how what is served is recorded, how long a client may
+-- send nothing, and rules, if they were named
 abbrev pub serve_in : List Row → Option (Task Text)
 serve_in rows =
     option_and_then (λ bay. option_and_then (λ program. option_and_then (λ port. option_and_then
     (λ turns. option_and_then
     (serve_task bay program port turns (first_of (codes "trace") rows) (process_in rows)
     (limit_in rows) (first_of (codes "key") rows) (first_of (codes "record") rows) (most_in rows)
-    (idle_in rows))
+    (idle_in rows) (first_of (codes "rules") rows))
     (tells_of (process_in rows) (first_of (codes "tell") rows))) (turns_in rows)) (port_in rows))
     (program_in rows)) (first_of (codes "bay") rows)
 
@@ -268,7 +268,8 @@ pub record JobData : Type 0 where
 abbrev pub verb_of : Task Text → Verb
 verb_of (Check bay program) = verb.Check
 verb_of Replay = verb.Replay
-verb_of (Serve bay program port turns trace process tells limit key file most idle) = verb.Serve
+verb_of (Serve bay program port turns trace process tells limit key file most idle rules) =
+    verb.Serve
 verb_of (Compile bay logic out) = verb.Compile
 verb_of (Audit bay program rules effort) = verb.Audit
 

@@ -11,7 +11,7 @@ use std::alloc::{AllocError, Global};
 
 // The version of the program, of its formats and of its fault numbers. CHANGELOG.md lists the
 // changes of each version.
-const VERSION: &str = "1.8.0";
+const VERSION: &str = "1.9.0";
 
 // The note below the options in the help of a command with a program.
 const WANTED: &str = "Exactly one of --logic and --image is needed.";
@@ -155,6 +155,12 @@ const ENTRIES: [Entry; 5] = [
                 value: OptionValue::Number("S", 10, 3_600),
                 required: false,
                 help: "Most seconds for which a client may send nothing",
+            },
+            OptionSpec {
+                id: "rules",
+                value: OptionValue::Text("F"),
+                required: false,
+                help: "Rules file: serve only if each rule holds",
             },
             LOG,
         ],

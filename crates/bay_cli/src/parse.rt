@@ -42,7 +42,7 @@ pub struct Job<'a> {
     pub out: Option<&'a str>,
     /// The trace of the process, of which serving reads one line per turn.
     pub trace: Option<&'a str>,
-    /// The rules to audit.
+    /// The rules to audit; for `serve`, those that must hold.
     pub rules: Option<&'a str>,
     /// The port of 127.0.0.1 on which clients are served, 1 to 65,535.
     pub port: Option<u16>,
@@ -236,6 +236,7 @@ fn serve_from<'a>(found: &ArgMatches<'a>) -> Option<Task<&'a str>>
     let record_file = value_of(found, "record");
     let record_most = most_in(found);
     let idle_s = idle_in(found);
+    let rules = value_of(found, "rules");
     if !is_apart(port, process)
         || !is_supervisable(process, trace, limit_ms, key)
         || record_file.is_none() && record_most.is_some()
@@ -255,6 +256,7 @@ fn serve_from<'a>(found: &ArgMatches<'a>) -> Option<Task<&'a str>>
         record_file,
         record_most,
         idle_s,
+        rules,
     })
 }
 
@@ -369,7 +371,7 @@ fn job_from<'a>(matches: &ArgMatches<'a>) -> Option<Job<'a>>
 fn usage_of(name: &str) -> &'static str {
     match name {
         "serve" => {
-            "bayctl serve --bay <F> <--logic <F>|--image <F>> --port <N> --turns <N> [--trace <F>] [--process <P>] [--tell <WHAT>] [--supervise <MS>] [--key <F>] [--record <F>] [--record-most <OCTETS>] [--idle <S>] [--log]"
+            "bayctl serve --bay <F> <--logic <F>|--image <F>> --port <N> --turns <N> [--trace <F>] [--process <P>] [--tell <WHAT>] [--supervise <MS>] [--key <F>] [--record <F>] [--record-most <OCTETS>] [--idle <S>] [--rules <F>] [--log]"
         }
         "audit" =>
             "bayctl audit --bay <F> <--logic <F>|--image <F>> --rules <F> [--effort <N>] [--log]",
@@ -453,10 +455,10 @@ fn matches_of<'a>(alloc: Global, words: &'a [&'a str]) -> Result<ArgMatches<'a>,
 /// either a program or an image; `replay` takes nothing. `serve` takes what `check` takes, a port
 /// and a number of turns. It may have a trace, and a process on another port, to which releases may
 /// be reported. Without a trace, the process may be supervised, with a key or without one. The
-/// session may be recorded, in a file of limited size. `compile` takes a bay file, a program and
-/// the file for the image; `audit` takes what `check` takes, and rules, and may have an
-/// effort. Each may request the log.
-/// Fails with `Refused` if the words spell no task or request help, and with `OutOfMemory`.
+/// session may be recorded, in a file of limited size. It may have rules. `compile` takes a bay
+/// file, a program and the file for the image; `audit` takes what `check` takes, and rules, and may
+/// have an effort. Each may request the log. Fails with `Refused` if the words spell no task or
+/// request help, and with `OutOfMemory`.
 pub fn task_of<'a>(alloc: Global, words: &'a [&'a str]) -> Result<Invoked<&'a str>, WordsFault>
     ensures ok { IfOk result
         (λ t. task_in (map (λ w. w.now) words.entry.now) ≡ Some (asked_view t)) }

@@ -32,7 +32,8 @@ pub enum Task<T> {
     /// the key in a file, if that is given, and there is no trace before it. What the device is
     /// given is recorded in a new file, if one is named, in at most `record_most` octets, from 1 to
     /// 16,777,216, if that is given. If `idle_s` is given, from 10 to 3,600, a client that has sent
-    /// nothing for this many seconds has failed.
+    /// nothing for this many seconds has failed. If rules are named, nothing is served unless each
+    /// of them holds.
     Serve {
         bay: T,
         program: ProgramFile<T>,
@@ -46,6 +47,7 @@ pub enum Task<T> {
         record_file: Option<T>,
         record_most: Option<u32>,
         idle_s: Option<u32>,
+        rules: Option<T>,
     },
     /// Audits rules for a bay with a program, with an effort from 1 to 100,000, if it is given: the
     /// millions of octets of code that the audit looks at.

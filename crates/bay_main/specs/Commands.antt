@@ -215,7 +215,7 @@ module _ {F L H R W : Type 0} (reads : FileReads F) (guards : FileGuards F) (wri
   DoesTask Replay old new answer =
       PrintsLogs contents asks (IsReplay (remaining old.reader.inner) new.reader.has_failed)
       old.writer new.writer answer × (new.files ≡ old.files) × (new.host ≡ old.host)
-  DoesTask (Serve bay program port turns trace process tells limit key file most idle) old new
+  DoesTask (Serve bay program port turns trace process tells limit key file most idle rules) old new
       answer =
       ServesFiles step acts contents asks reads guards old.files
       (record {
@@ -224,6 +224,7 @@ module _ {F L H R W : Type 0} (reads : FileReads F) (guards : FileGuards F) (wri
         program = name_of program;
         trace = trace;
         key = key;
+        rules = rules;
       })
       (record {
         port = port;

@@ -203,6 +203,7 @@ fn do_task<F: FileSystem, L: Link + Drop, H: Host<L>, R: OctetSource, W: Sink>(
             record_file,
             record_most,
             idle_s,
+            rules,
         } => {
             let (form, program) = form_of(program);
             let named = NamedFiles {
@@ -211,6 +212,7 @@ fn do_task<F: FileSystem, L: Link + Drop, H: Host<L>, R: OctetSource, W: Sink>(
                 program,
                 trace,
                 key,
+                rules,
             };
             let numbers = Numbers {
                 port,

@@ -111,7 +111,7 @@ pub record OfOctets (So : RuleAnswer → Type 0) (bay : List ℕ) (form : Form) 
   pub so : So answer
   pub right : IsRight (program_of own image) rule answer
 
-same-bay : (file : Result Bay BayFault) (a b : Bay) → file ≡ Ok a → file ≡ Ok b → a ≡ b
+pub same-bay : (file : Result Bay BayFault) (a b : Bay) → file ≡ Ok a → file ≡ Ok b → a ≡ b
 same-bay file a b e f = let both : Ok a ≡ Ok b = sym e ∙ f in cc
 
 module _ (So : RuleAnswer → Type 0) (bay : List ℕ) (f : Form) (program : List ℕ) (rule : Rule) where

@@ -18,7 +18,9 @@ use Rattle.bay_server.specs.Clock.{jump_of}
 use Rattle.bay_server.specs.ServeReport.{AfterTurn, ProcessData, Serving, ServesTurns, moment_of}
 use Rattle.bay_server.specs.declared.host.BindFault.{BindFault}
 use Rattle.cmd_serve.specs.Live.{InLater}
-use Rattle.cmd_serve.specs.Serve.{BindsPorts, BindsProcess, EndsUnserved, FileNames, IsBound, IsRecordFault, LoadsFiles, ServesBound, ServesLoaded, made_of}
+use Rattle.cmd_audit.specs.declared.judging.RulesVerdict.{RulesVerdict}
+use Rattle.cmd_audit.specs.declared.judging.RulesVerdict.TheVariants.{Hold, Unproved, Refused, OutOfMemory}
+use Rattle.cmd_serve.specs.Serve.{AfterVerdict, BindsPorts, BindsProcess, EndsUnserved, FileNames, IsBound, IsRecordFault, LoadsFiles, ServesBound, ServesLoaded, ServesPorts, ServesRules, ServesVerdict, data_of, made_of, rules_of, served_of}
 use Rattle.cmd_serve.specs.Service.{AreTurns, DoneTurn, later_turns, past_of, turns_in}
 use Rattle.cmd_serve.proofs.HistoryLemmas.{stands-first}
 use Rattle.cmd_serve.proofs.TurnLemmas.{stands-turns}
@@ -27,9 +29,16 @@ use Rattle.cmd_serve.specs.declared.serve.Loaded.{Loaded}
 use Rattle.cmd_serve.specs.declared.serve.Numbers.{Numbers}
 use Rattle.cmd_serve.specs.declared.serve.ServeStartFault.{ServeStartFault}
 use Rattle.cmd_serve.specs.declared.serve.ServeStartFault.TheVariants as unserved
+use Rattle.cmd_serve.specs.declared.sums.ServedFiles.{ServedFiles}
 use Rattle.cmd_audit_laws.specs.Audited.{ByTimer, Plainly}
-use Rattle.cmd_audit_laws.specs.Served.{ObeyAuditsOf, OfBound, OfFiles, ServedCommandsObey}
-use Rattle.cmd_audit_laws.proofs.AuditLemmas.{audited, begins, plain-rule, right-rule, right-timer}
+use Rattle.bay_audit_laws.specs.Laws.{ScanObeysAt}
+use Rattle.bay_audit_rules.specs.declared.rule.Rule.{Rule}
+use Rattle.bay_audit_rules.specs.declared.rule.RuleKind.TheVariants.{Never}
+use Rattle.bay_audit_rules.specs.declared.rule.Timing.{Timing}
+use Rattle.cmd_replay.specs.History.{EachPast}
+use Rattle.cmd_audit_laws.specs.Served.{InVerdict, IsFile, ObeyAuditsOf, OfBound, OfFiles, OfPorts, OfRules, OfVerdict, OrdersObey, ServedCommandsObey}
+use Rattle.cmd_audit_laws.specs.Waits.{OrdersWait}
+use Rattle.cmd_audit_laws.proofs.AuditLemmas.{OfOctets, audited, begins, plain-rule, right-rule, right-timer}
 use Rattle.cmd_audit_laws.proofs.ObeyLemmas.{AreGiven, Good, good-first, past-obeys, turns-obey, turns-typed}
 use Rattle.cmd_audit_laws.proofs.TypeLemmas.{choice-fits}
 use Rattle.cmd_audit_laws.proofs.WaitLemmas.{Ready, ready-first, turns-wait}
@@ -110,15 +119,16 @@ module _ {L H : Type 0} (acts : H → HostCall L → H → Type 0) where
           after ports is
       by-had (Err fault) is = absurd (let e = is.1 in cc)
 
--- ---- the rules that an audit answers
+-- ---- the rules that are answered to hold
 
--- a server of a device that these octets load to goes by them in its turns
-loaded-obeys : (f : Form) (both : FilesData) (device : State)
-    → LoadsTo both.bay f both.program (Ok device) → (ts : List DoneTurn)
-    → AreTurns (made_of device) ts → AreGiven ts → ObeyAuditsOf f both (made_of device) ts
-loaded-obeys f both device loads ts are given file = record {
-  obey = λ rules rule never is.
-      let own = audited Plainly both.bay f both.program rule rules is in
+-- a server of a device that these octets load to obeys such rules in its turns
+module _ (f : Form) (both : FilesData) (device : State)
+    (loads : LoadsTo both.bay f both.program (Ok device)) (ts : List DoneTurn)
+    (are : AreTurns (made_of device) ts) (given : AreGiven ts) (file : IsFile f both.program)
+    (rule : Rule) where
+  pub orders-obey : rule.kind ≡ Never → OfOctets Plainly both.bay f both.program rule
+      → OrdersObey rule device (made_of device) [] ts
+  orders-obey never own =
       let b = begins both.bay f both.program device loads file own.own own.image own.read own.made
       in
       let rule_so = right-rule (program_of own.own own.image) rule own.answer never own.so own.right
@@ -126,9 +136,12 @@ loaded-obeys f both device loads ts are given file = record {
       turns-obey own.own own.image rule b.sound own.there rule_so device
       (ap (λ (s : State). s.switches) b.is) never ts (made_of device) [] are given
       (subst (Good own.own own.image rule b.sound own.there rule_so) (sym b.is)
-      (good-first own.own own.image rule b.sound own.there rule_so b.steady));
-  wait = λ rules rule timing never timed is.
-      let own = audited ByTimer both.bay f both.program rule rules is in
+      (good-first own.own own.image rule b.sound own.there rule_so b.steady))
+
+  pub orders-wait : (timing : Timing) → rule.kind ≡ Never → rule.timed ≡ Some timing
+      → OfOctets ByTimer both.bay f both.program rule
+      → OrdersWait rule timing device (made_of device) [] [] ts
+  orders-wait timing never timed own =
       let b = begins both.bay f both.program device loads file own.own own.image own.read own.made
       in
       let borne = right-timer (program_of own.own own.image) rule timing own.answer never timed
@@ -138,9 +151,11 @@ loaded-obeys f both device loads ts are given file = record {
       (subst (Ready own.own own.image rule timing borne.timer b.sound own.there borne.bears [])
       (sym b.is)
       (ready-first own.own own.image rule timing borne.timer b.sound own.there borne.bears
-      b.steady));
-  scans = λ rules rule plain is.
-      let own = audited Plainly both.bay f both.program rule rules is in
+      b.steady))
+
+  pub scans-obey : rule.timed ≡ None → OfOctets Plainly both.bay f both.program rule
+      → EachPast (ScanObeysAt rule) device (past_of ts (made_of device) [])
+  scans-obey plain own =
       let b = begins both.bay f both.program device loads file own.own own.image own.read own.made
       in
       let rule_so = plain-rule (program_of own.own own.image) rule own.answer plain own.so own.right
@@ -152,57 +167,109 @@ loaded-obeys f both device loads ts are given file = record {
       (past_of ts (made_of device) []) stands.steps
       (turns-typed device ts (made_of device) [] are given tt)
       (subst (Good own.own own.image rule b.sound own.there rule_so) (sym b.is)
-      (good-first own.own own.image rule b.sound own.there rule_so b.steady))).1;
+      (good-first own.own own.image rule b.sound own.there rule_so b.steady))).1
+
+loaded-obeys : (f : Form) (both : FilesData) (device : State)
+    → LoadsTo both.bay f both.program (Ok device) → (ts : List DoneTurn)
+    → AreTurns (made_of device) ts → AreGiven ts → ObeyAuditsOf f both (made_of device) ts
+loaded-obeys f both device loads ts are given file = record {
+  obey = λ rules rule never is. orders-obey f both device loads ts are given file rule never
+      (audited Plainly both.bay f both.program rule rules is);
+  wait = λ rules rule timing never timed is. orders-wait f both device loads ts are given file
+      rule timing never timed (audited ByTimer both.bay f both.program rule rules is);
+  scans = λ rules rule plain is. scans-obey f both device loads ts are given file rule plain
+      (audited Plainly both.bay f both.program rule rules is);
 }
+
+-- ---- the turns of a service
 
 module _ {L H W : Type 0} (step : L → Call → L → Type 0) (acts : H → HostCall L → H → Type 0)
     (contents : W → Option (List ℕ)) (asks : W → WriteCall → W → Type 0) where
-  later-is : (Ends Goes : Type 0) (told : Result ℕ WriteFault) (rest : AfterTurn told Ends Goes)
+  pub later-is : (Ends Goes : Type 0) (told : Result ℕ WriteFault) (rest : AfterTurn told Ends Goes)
       (Is : Goes → Type 0) → ((goes : Goes) → Is goes) → InLater Ends Goes told rest Is
   later-is Ends Goes (Err fault) rest Is each = tt
   later-is Ends Goes (Ok status) goes Is each = each goes
 
-  bound-obeys : (f : Form) (both : FilesData) (numbers : Numbers) (loaded : Loaded)
-      → LoadsTo both.bay f both.program (Ok loaded.device) → (duties : Option SupervisionSettings)
-      (before host after : H) (old new : Writing W) (answer : Result ℕ WriteFault)
-      (bound : Result (Bound L) ServeStartFault)
-      → BindsPorts acts numbers duties loaded.device before host bound
-      → (goes : MatchResult bound
-      (λ ports. ServesBound step acts contents asks numbers ports loaded.trace.items host after old
-      new answer)
-      (λ why. EndsUnserved contents asks why old new answer × (after ≡ host)))
-      → OfBound step acts contents asks (ObeyAuditsOf f both) numbers loaded.trace.items host after
-      old
-      new answer bound goes
-  bound-obeys f both numbers loaded loads duties before host after old new answer (Ok ports) binds
-      goes =
-      let run = goes.5 in
-      let made : ports.server ≡ made_of loaded.device =
-      ports-made acts numbers duties loaded.device before host ports binds in
-      let given : AreGiven run.done =
-      subst AreGiven (sym run.are)
-      (turns-given step acts contents asks numbers.turns _ _ after new answer run.serves) in
-      subst (λ (h : ServerData). ObeyAuditsOf f both h run.done) (sym made)
-      (loaded-obeys f both loaded.device loads run.done
-      (subst (λ (h : ServerData). AreTurns h run.done) made run.run.are) given)
-  bound-obeys f both numbers loaded loads duties before host after old new answer (Err why) binds
-      goes =
-      tt
+  -- what is so of all turns of a server of this device
+  module _ (Is : ServerData → List DoneTurn → Type 0) (loaded : Loaded)
+      (each : (ts : List DoneTurn) → AreTurns (made_of loaded.device) ts → AreGiven ts
+      → Is (made_of loaded.device) ts) (numbers : Numbers) where
+    bound-is : (served : ServedFiles) (duties : Option SupervisionSettings)
+        (before host after : H) (old new : Writing W) (answer : Result ℕ WriteFault)
+        (bound : Result (Bound L) ServeStartFault)
+        → BindsPorts acts numbers duties loaded.device before host bound
+        → (goes : MatchResult bound
+        (λ ports. ServesBound step acts contents asks numbers served ports loaded.trace.items host
+        after old new answer)
+        (λ why. EndsUnserved contents asks why old new answer × (after ≡ host)))
+        → OfBound step acts contents asks Is numbers served loaded.trace.items host after old new
+        answer bound goes
+    bound-is served duties before host after old new answer (Ok ports) binds goes =
+        let run = goes.5 in
+        let made : ports.server ≡ made_of loaded.device =
+        ports-made acts numbers duties loaded.device before host ports binds in
+        let given : AreGiven run.done =
+        subst AreGiven (sym run.are)
+        (turns-given step acts contents asks numbers.turns _ _ after new answer run.serves) in
+        subst (λ (h : ServerData). Is h run.done) (sym made)
+        (each run.done (subst (λ (h : ServerData). AreTurns h run.done) made run.run.are) given)
+    bound-is served duties before host after old new answer (Err why) binds goes = tt
+
+    pub ports-is : (count : ℕ) (before after : H) (old new : Writing W)
+        (answer : Result ℕ WriteFault)
+        (ports : ServesPorts step acts contents asks numbers loaded count before after old new
+        answer)
+        → OfPorts step acts contents asks Is numbers loaded count before after old new answer ports
+    ports-is count before after old new answer ports =
+        bound-is (served_of loaded count) _ before ports.host after old new answer ports.bound
+        ports.binds ports.goes_on
+
+    in-verdict : (Ends : Type 0) (Goes : ℕ → Type 0) (verdict : RulesVerdict)
+        (told : Result ℕ WriteFault) (goes : AfterVerdict verdict told Ends Goes)
+        (More : (count : ℕ) → Goes count → Type 0)
+        → ((count : ℕ) (goes : Goes count) → More count goes)
+        → InVerdict Ends Goes verdict told goes More
+    in-verdict Ends Goes (Hold count) told goes More more =
+        later-is Ends (Goes count) told goes (More count) (more count)
+    in-verdict Ends Goes (Unproved text) told goes More more = tt
+    in-verdict Ends Goes (Refused fault) told goes More more = tt
+    in-verdict Ends Goes OutOfMemory told goes More more = tt
+
+    pub verdict-is : (verdict : RulesVerdict) (before after : H) (old new : Writing W)
+        (answer : Result ℕ WriteFault)
+        (serves : ServesVerdict step acts contents asks numbers loaded verdict before after old new
+        answer)
+        → OfVerdict step acts contents asks Is numbers loaded verdict before after old new answer
+        serves
+    verdict-is verdict before after old new answer serves =
+        in-verdict _ _ verdict serves.told serves.goes_on _
+        (λ count ports. ports-is count before after serves.middle new answer ports)
+
+    pub rules-is : (rules : Option (List ℕ)) (before after : H) (old new : Writing W)
+        (answer : Result ℕ WriteFault)
+        (serves : ServesRules step acts contents asks rules numbers loaded before after old new
+        answer)
+        → OfRules step acts contents asks Is rules numbers loaded before after old new answer serves
+    rules-is None before after old new answer serves =
+        ports-is 0 before after old new answer serves
+    rules-is (Some rules) before after old new answer serves =
+        verdict-is serves.verdict before after old new answer serves.serves
 
   module _ {F : Type 0} (reads : FileReads F) (guards : FileGuards F) where
     files-obey : (files : F) (named : FileNames) (numbers : Numbers) (before after : H)
         (old new : Writing W) (answer : Result ℕ WriteFault)
         (loaded : Result Loaded ServeStartFault)
-        (loads : LoadsFiles reads guards files named loaded)
-        (goes : MatchResult loaded
+        → LoadsFiles reads guards files named loaded
+        → (goes : MatchResult loaded
         (λ all. ServesLoaded step acts contents asks numbers all before after old new answer)
         (λ why. EndsUnserved contents asks why old new answer × (after ≡ before)))
-        → OfFiles step acts contents asks reads guards (ObeyAuditsOf named.form) files named numbers
-        before after old new answer loaded loads goes
+        → OfFiles step acts contents asks (ObeyAuditsOf named.form) numbers before after old new
+        answer loaded goes
     files-obey files named numbers before after old new answer (Ok loaded) loads goes =
         later-is _ _ goes.told goes.goes_on _
-        (λ ports. bound-obeys named.form loads.0 numbers loaded loads.4 _ before ports.host after
-        goes.middle new answer ports.bound ports.binds ports.goes_on)
+        (rules-is (ObeyAuditsOf named.form (data_of loaded)) loaded
+        (loaded-obeys named.form (data_of loaded) loaded.device loads.6) numbers (rules_of loaded)
+        before after goes.middle new answer)
     files-obey files named numbers before after old new answer (Err why) loads goes = tt
 
     pub served-obey : ServedCommandsObey step acts contents asks reads guards

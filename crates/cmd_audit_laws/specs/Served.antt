@@ -23,13 +23,16 @@ use Rattle.bay_server_turn_laws.specs.Events.{done_at, turn_events}
 use Rattle.bay_server.specs.Host.{HostCall}
 use Rattle.cmd_serve.specs.Live.{InLater}
 use Rattle.cmd_serve.specs.Orders.{IsOrdered}
-use Rattle.cmd_serve.specs.Serve.{FileNames, LoadsFiles, ServesBound, ServesFiles, ServesLoaded, ServesPorts, EndsUnserved}
+use Rattle.cmd_audit.specs.declared.judging.RulesVerdict.{RulesVerdict}
+use Rattle.cmd_audit.specs.declared.judging.RulesVerdict.TheVariants.{Hold, Unproved, Refused, OutOfMemory}
+use Rattle.cmd_serve.specs.Serve.{AfterVerdict, EndsUnserved, FileNames, ServesBound, ServesFiles, ServesLoaded, ServesPorts, ServesRules, ServesVerdict, data_of, rules_of, served_of}
 use Rattle.cmd_serve.specs.Service.{DoneTurn, held_behind, past_behind, past_of}
 use Rattle.cmd_serve.specs.Texts.{IsPrintedFor}
 use Rattle.cmd_serve.specs.declared.serve.Bound.{Bound}
 use Rattle.cmd_serve.specs.declared.serve.Loaded.{Loaded}
 use Rattle.cmd_serve.specs.declared.serve.Numbers.{Numbers}
 use Rattle.cmd_serve.specs.declared.serve.ServeStartFault.{ServeStartFault}
+use Rattle.cmd_serve.specs.declared.sums.ServedFiles.{ServedFiles}
 use Rattle.il_image.specs.Octets.{AreOctets}
 use Rattle.cmd_audit_laws.specs.Audited.{ByTimer, IsAudited, Plainly}
 use Rattle.cmd_audit_laws.specs.Waits.{OrdersWait}
@@ -78,27 +81,59 @@ ObeyAuditsOf form both begun turns = IsFile form both.program → ObeyAudits for
 
 -- ---- the turns of a service
 
+-- a statement on what follows a verdict on rules, if each rule holds, with their number
+abbrev pub InVerdict : (Ends : Type 0) (Goes : ℕ → Type 0) (verdict : RulesVerdict)
+    (told : Result ℕ WriteFault) → AfterVerdict verdict told Ends Goes
+    → ((count : ℕ) → Goes count → Type 0) → Type 0
+InVerdict Ends Goes (Hold count) told goes more = InLater Ends (Goes count) told goes (more count)
+InVerdict Ends Goes (Unproved text) told goes more = Unit {0}
+InVerdict Ends Goes (Refused fault) told goes more = Unit {0}
+InVerdict Ends Goes OutOfMemory told goes more = Unit {0}
+
 module _ {L H W : Type 0} (step : L → Call → L → Type 0) (acts : H → HostCall L → H → Type 0)
     (contents : W → Option (List ℕ)) (asks : W → WriteCall → W → Type 0) where
   -- the statement holds for the turns that were served, if the ports could be bound
   abbrev pub OfBound : (Is : ServerData → List DoneTurn → Type 0) (numbers : Numbers)
-      (trace : List ℕ)
+      (served : ServedFiles) (trace : List ℕ)
       (host after : H) (old new : Writing W) (answer : Result ℕ WriteFault)
       (bound : Result (Bound L) ServeStartFault) → MatchResult bound
-      (λ ports. ServesBound step acts contents asks numbers ports trace host after old new answer)
+      (λ ports. ServesBound step acts contents asks numbers served ports trace host after old new
+      answer)
       (λ why. EndsUnserved contents asks why old new answer × (after ≡ host))
       → Type 0
-  OfBound Is numbers trace host after old new answer (Ok ports) goes =
+  OfBound Is numbers served trace host after old new answer (Ok ports) goes =
       Is ports.server goes.5.done
-  OfBound Is numbers trace host after old new answer (Err why) goes = Unit {0}
+  OfBound Is numbers served trace host after old new answer (Err why) goes = Unit {0}
 
   abbrev pub OfPorts : (Is : ServerData → List DoneTurn → Type 0) (numbers : Numbers)
-      (loaded : Loaded)
+      (loaded : Loaded) (count : ℕ)
       (before after : H) (old new : Writing W) (answer : Result ℕ WriteFault)
-      → ServesPorts step acts contents asks numbers loaded before after old new answer → Type 0
-  OfPorts Is numbers loaded before after old new answer ports =
-      OfBound Is numbers loaded.trace.items ports.host after old new answer ports.bound
-      ports.goes_on
+      → ServesPorts step acts contents asks numbers loaded count before after old new answer
+      → Type 0
+  OfPorts Is numbers loaded count before after old new answer ports =
+      OfBound Is numbers (served_of loaded count) loaded.trace.items ports.host after old new answer
+      ports.bound ports.goes_on
+
+  -- the same, if the verdict on the rules is that each holds, and could be written
+  abbrev pub OfVerdict : (Is : ServerData → List DoneTurn → Type 0) (numbers : Numbers)
+      (loaded : Loaded) (verdict : RulesVerdict)
+      (before after : H) (old new : Writing W) (answer : Result ℕ WriteFault)
+      → ServesVerdict step acts contents asks numbers loaded verdict before after old new answer
+      → Type 0
+  OfVerdict Is numbers loaded verdict before after old new answer serves =
+      InVerdict _ _ verdict serves.told serves.goes_on
+      (λ count. OfPorts Is numbers loaded count before after serves.middle new answer)
+
+  -- the same, with rules or without
+  abbrev pub OfRules : (Is : ServerData → List DoneTurn → Type 0) (rules : Option (List ℕ))
+      (numbers : Numbers) (loaded : Loaded)
+      (before after : H) (old new : Writing W) (answer : Result ℕ WriteFault)
+      → ServesRules step acts contents asks rules numbers loaded before after old new answer
+      → Type 0
+  OfRules Is None numbers loaded before after old new answer serves =
+      OfPorts Is numbers loaded 0 before after old new answer serves
+  OfRules Is (Some rules) numbers loaded before after old new answer serves =
+      OfVerdict Is numbers loaded serves.verdict before after old new answer serves.serves
 
   -- the same, if the line of the load could be written
   abbrev pub OfLoaded : (Is : ServerData → List DoneTurn → Type 0) (numbers : Numbers)
@@ -107,26 +142,26 @@ module _ {L H W : Type 0} (step : L → Call → L → Type 0) (acts : H → Hos
       → ServesLoaded step acts contents asks numbers loaded before after old new answer → Type 0
   OfLoaded Is numbers loaded before after old new answer serves =
       InLater _ _ serves.told serves.goes_on
-      (OfPorts Is numbers loaded before after serves.middle new answer)
+      (OfRules Is (rules_of loaded) numbers loaded before after serves.middle new answer)
+
+  -- the same, if the files could be read and loaded: with the octets of the bay file and of the
+  -- program
+  abbrev pub OfFiles : (Is : FilesData → ServerData → List DoneTurn → Type 0)
+      (numbers : Numbers) (before after : H) (old new : Writing W)
+      (answer : Result ℕ WriteFault) (loaded : Result Loaded ServeStartFault)
+      → MatchResult loaded
+      (λ all. ServesLoaded step acts contents asks numbers all before after old new answer)
+      (λ why. EndsUnserved contents asks why old new answer × (after ≡ before))
+      → Type 0
+  OfFiles Is numbers before after old new answer (Ok loaded) goes =
+      OfLoaded (Is (data_of loaded)) numbers loaded before after old new answer goes
+  OfFiles Is numbers before after old new answer (Err why) goes = Unit {0}
 
 -- ---- the turns of the files
 
 module _ {F L H W : Type 0} (step : L → Call → L → Type 0) (acts : H → HostCall L → H → Type 0)
     (contents : W → Option (List ℕ)) (asks : W → WriteCall → W → Type 0) (reads : FileReads F)
     (guards : FileGuards F) where
-  -- the same, if the files could be read and loaded: with the octets of the bay file and of the
-  -- program
-  abbrev pub OfFiles : (Is : FilesData → ServerData → List DoneTurn → Type 0) (files : F)
-      (named : FileNames) (numbers : Numbers) (before after : H) (old new : Writing W)
-      (answer : Result ℕ WriteFault) (loaded : Result Loaded ServeStartFault)
-      → LoadsFiles reads guards files named loaded → MatchResult loaded
-      (λ all. ServesLoaded step acts contents asks numbers all before after old new answer)
-      (λ why. EndsUnserved contents asks why old new answer × (after ≡ before))
-      → Type 0
-  OfFiles Is files named numbers before after old new answer (Ok loaded) loads goes =
-      OfLoaded step acts contents asks (Is loads.0) numbers loaded before after old new answer goes
-  OfFiles Is files named numbers before after old new answer (Err why) loads goes = Unit {0}
-
   -- The turns of each service obey the answers of each audit of the same octets.
   abbrev pub ServedCommandsObey : Type 0
   ServedCommandsObey =
@@ -134,5 +169,5 @@ module _ {F L H W : Type 0} (step : L → Call → L → Type 0) (acts : H → H
       (answer : Result ℕ WriteFault)
       (serves : ServesFiles step acts contents asks reads guards files named numbers before after
       old new answer)
-      → OfFiles (ObeyAuditsOf named.form) files named numbers before after old new answer
-      serves.loaded serves.loads serves.goes_on
+      → OfFiles step acts contents asks (ObeyAuditsOf named.form) numbers before after old new
+      answer serves.loaded serves.goes_on

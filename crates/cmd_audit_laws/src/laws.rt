@@ -6,6 +6,7 @@ ghost use Rattle.bay_mms_services.specs.declared.answer.Command.{Command};
 ghost use Rattle.bay_device.specs.Device.{State};
 ghost use Rattle.bay_device.specs.Fresh.{IsSameProcess, Past};
 ghost use Rattle.bay_device.specs.declared.event.Step.{Step};
+ghost use Rattle.cmd_audit_laws.specs.Guarded.{GuardedCommandsObey};
 ghost use Rattle.cmd_audit_laws.specs.Orders.{octets_arrived, server_without_clients, contact_past, with_enable_value, lost_past, server_with_client, open_command, octets_refused, scan_past, no_octets, turn_with};
 ghost use Rattle.cmd_audit_laws.specs.Replayed.{ReplayedCommandsObey};
 ghost use Rattle.cmd_audit_laws.specs.Served.{ServedCommandsObey};
@@ -40,6 +41,27 @@ pub fn served_commands_obey<F: FileSystem, L: Link, H: Host<L>, W: Sink>(
     _sink: &W,
 )
     ensures { ServedCommandsObey (Called L.does L.failures) H.does W.contents W.does F.reads
+        F.guards }
+{}
+
+/// A service that was started with rules obeys them, with no premise on an audit. If it serves a
+/// turn, the octets that it read from the file of the rules spell rules of the bay, and its turns
+/// obey each of them. After each scan of a turn the interlocking values meet each rule without a
+/// time. For each command of a turn, and each line `ms command id on` (or `off`) that is printed or
+/// sent to the process, the condition of each rule that forbids it does not hold for what the
+/// process had last reported before the octets of the client. If such a rule has a time, and it
+/// applies to what the process had last reported, its condition had held for this time at the last
+/// scan before the command.
+///
+/// An image may come from anyone: it must only be a list of octets. The text of a program may be
+/// any.
+pub fn guarded_commands_obey<F: FileSystem, L: Link, H: Host<L>, W: Sink>(
+    _files: &F,
+    _link: &L,
+    _host: &H,
+    _sink: &W,
+)
+    ensures { GuardedCommandsObey (Called L.does L.failures) H.does W.contents W.does F.reads
         F.guards }
 {}
 

@@ -1,4 +1,5 @@
--- The command `serve`: files are read and loaded, ports are opened, and turns are served.
+-- The command `serve`: files are read and loaded, rules are judged, ports are opened, and turns are
+-- served.
 use Rattle.bay_io.specs.Calls.{WriteCall}
 use Rattle.std.specs.declared.io.ErrorKind.{ErrorKind}
 use Rattle.std.specs.Prelude.{◌≡◌, ℕ, true, is_err, is_some, List, ◌∷◌, ◌++◌, replicate, option_map, codes, MatchResult, Bool, Option, None, Some, Result, Ok, Err, ◌⊎◌, [], unwrap_or}
@@ -8,7 +9,7 @@ use Rattle.bay_device.specs.Meaning.{Runs}
 use Rattle.bay_device.specs.Outcomes.{associations}
 use Rattle.bay_device.specs.Report.{IsReport as IsReportOf}
 use Rattle.bay_device.specs.declared.report.Report.{Report}
-use Rattle.bay_files.specs.Files.{FileGuards, FileReads, FilesData, ReadsBoth, ReadsNamed, unread_view}
+use Rattle.bay_files.specs.Files.{FileGuards, FileReads, FilesData, ReadsBoth, ReadsFile, ReadsNamed, UnreadData, unread_view}
 use Rattle.bay_files.specs.Keys.{ReadsNamedKey, keyless_view}
 use Rattle.bay_files.specs.declared.key.KeyFault.{KeyFault}
 use Rattle.bay_files.specs.declared.key.KeyFault.TheVariants as keyless
@@ -17,7 +18,7 @@ use Rattle.bay_io.specs.Watched.{Writing}
 use Rattle.bay_io.specs.declared.outbox.WriteFault.{WriteFault}
 use Rattle.bay_process_port.specs.Ports.{initial_port}
 use Rattle.bay_process_port.specs.Supervised.{SupervisionSettings}
-use Rattle.bay_report.specs.Load.{LoadsTo, MayLoadTo, file_of, text_of}
+use Rattle.bay_report.specs.Load.{IsImageOf, LoadsTo, MayLoadTo, file_of, text_of}
 use Rattle.bay_report.specs.LogLines.{IsReported, PrintsLogs, Refuses, UnreadReport, unwritten_line}
 use Rattle.bay_report.specs.Report.{IsLast, Prints, report_text}
 use Rattle.bay_report.specs.TextLines.{lines_of}
@@ -35,25 +36,32 @@ use Rattle.bay_server.specs.RecordLine.{room_log}
 use Rattle.bay_server.specs.ServeReport.{AfterTurn, ProcessData, Serving, ServesTurns, told_lines}
 use Rattle.bay_server.specs.declared.clock.Clocks.{Clocks}
 use Rattle.bay_server.specs.declared.host.BindFault.{BindFault}
+use Rattle.cmd_audit.specs.Judging.{IsVerdictOn, VerdictReport}
+use Rattle.cmd_audit.specs.Names.{declared_in}
+use Rattle.cmd_audit.specs.declared.judging.RulesVerdict.{RulesVerdict}
+use Rattle.cmd_audit.specs.declared.judging.RulesVerdict.TheVariants as judged
 use Rattle.cmd_serve.specs.Live.{CommandsLive, IsSupervised}
 use Rattle.cmd_serve.specs.Orders.{AreOrdered}
 use Rattle.cmd_serve.specs.Service.{DoneTurn, IsService, turns_in}
+use Rattle.cmd_serve.specs.Sums.{sums_log}
 use Rattle.cmd_serve.specs.Texts.{ArePrinted}
 use Rattle.cmd_serve.specs.declared.serve.Bound.{Bound}
 use Rattle.cmd_serve.specs.declared.serve.Loaded.{Loaded}
 use Rattle.cmd_serve.specs.declared.serve.NamedFiles.{NamedFiles}
 use Rattle.cmd_serve.specs.declared.serve.Numbers.{Numbers}
 use Rattle.cmd_serve.specs.declared.serve.ServeStartFault.{ServeStartFault}
+use Rattle.cmd_serve.specs.declared.sums.ServedFiles.{ServedFiles}
 use Rattle.cmd_serve.specs.declared.serve.ServeStartFault.TheVariants as unserved
 
--- the names of the command's files: the bay, a program or an image, and the trace and the key, if
--- they were given
+-- the names of the command's files: the bay, a program or an image, and the trace, the key and the
+-- rules, if they were given
 pub record FileNames : Type 0 where
   pub bay : List ℕ
   pub form : Form
   pub program : List ℕ
   pub trace : Option (List ℕ)
   pub key : Option (List ℕ)
+  pub rules : Option (List ℕ)
 
 -- the same, as the code has them
 abbrev pub names_of : NamedFiles → FileNames
@@ -63,6 +71,7 @@ names_of named = record {
   program = named.program.now;
   trace = text_in named.trace;
   key = text_in named.key;
+  rules = text_in named.rules;
 }
 
 -- a file without a key: the log line, the text and the status
@@ -116,21 +125,45 @@ RunsText Logic both s =
     × Runs loaded.made.checked s
 RunsText Image both s = Unit {0}
 
--- The files were read: the bay and the program or the image, then the trace and the key, if they
--- were named. Their contents were loaded; or one could not be read, or had no key, or the load was
--- refused.
+-- the octets of the bay file and of the program or the image
+abbrev pub data_of : Loaded → FilesData
+data_of loaded =
+    record { bay = loaded.both.bay.items; program = loaded.both.program.items }
+
+-- the octets of the rules, if they were named
+abbrev pub rules_of : Loaded → Option (List ℕ)
+rules_of loaded = option_map (λ rules. rules.items) loaded.rules
+
+-- the file of the rules was read, if it was named
+abbrev pub ReadsRules : {F : Type 0} → FileReads F → F → Option (List ℕ)
+    → Result (Option (List ℕ)) UnreadData → Type 0
+ReadsRules reads files None read = read ≡ Ok None
+ReadsRules reads files (Some name) (Ok None) = ⊥
+ReadsRules reads files (Some name) (Ok (Some rules)) = ReadsFile reads files name (Ok rules)
+ReadsRules reads files (Some name) (Err unread) = ReadsFile reads files name (Err unread)
+
+-- The files were read: the bay and the program or the image, then the trace, the key and the rules,
+-- if they were named. Their contents were loaded; or one could not be read, or had no key, or the
+-- load was refused.
 abbrev pub LoadsFiles : {F : Type 0} → FileReads F → FileGuards F → F → FileNames
     → Result Loaded ServeStartFault → Type 0
 LoadsFiles reads guards files named (Ok loaded) =
-    (both : FilesData) × ReadsBoth reads files named.bay named.program (Ok both)
+    ReadsBoth reads files named.bay named.program (Ok (data_of loaded))
     × ReadsNamed reads files named.trace (Ok loaded.trace.items)
     × ReadsNamedKey guards files named.key (Ok (option_map (λ key. key.items) loaded.key))
-    × LoadsTo both.bay named.form both.program (Ok loaded.device)
-    × RunsText named.form both loaded.device
+    × ReadsRules reads files named.rules (Ok (rules_of loaded))
+    × (loaded.form ≡ named.form)
+    × IsLoaded (file_of loaded.both.bay.items) (IsImageOf named.form loaded.both.program.items)
+    loaded.device
+    × LoadsTo loaded.both.bay.items named.form loaded.both.program.items (Ok loaded.device)
+    × RunsText named.form (data_of loaded) loaded.device
 LoadsFiles reads guards files named (Err (unserved.Unread unread)) =
     ReadsBoth reads files named.bay named.program (Err (unread_view unread))
     ⊎ ((both : FilesData) × ReadsBoth reads files named.bay named.program (Ok both)
-    × ReadsNamed reads files named.trace (Err (unread_view unread)))
+    × (ReadsNamed reads files named.trace (Err (unread_view unread))
+    ⊎ ((trace : List ℕ) × ReadsNamed reads files named.trace (Ok trace)
+    × ((key : Option (List ℕ)) × ReadsNamedKey guards files named.key (Ok key)
+    × ReadsRules reads files named.rules (Err (unread_view unread))))))
 LoadsFiles reads guards files named (Err (unserved.KeyFileFault none)) =
     (both : FilesData) × ReadsBoth reads files named.bay named.program (Ok both)
     × ((trace : List ℕ) × ReadsNamed reads files named.trace (Ok trace)
@@ -139,7 +172,8 @@ LoadsFiles reads guards files named (Err (unserved.Refused fault)) =
     (both : FilesData) × ReadsBoth reads files named.bay named.program (Ok both)
     × ((trace : List ℕ) × ReadsNamed reads files named.trace (Ok trace)
     × ((key : Option (List ℕ)) × ReadsNamedKey guards files named.key (Ok key)
-    × MayLoadTo both.bay named.form both.program (Err fault)))
+    × ((rules : Option (List ℕ)) × ReadsRules reads files named.rules (Ok rules)
+    × MayLoadTo both.bay named.form both.program (Err fault))))
 LoadsFiles reads guards files named (Err _) = ⊥
 
 -- ---- ports
@@ -199,10 +233,25 @@ module _ {L H : Type 0} (acts : H → HostCall L → H → Type 0) where
       numbers.process mid after bound)
       (λ fault. (after ≡ mid) × (bound ≡ Err (unserved.Unbound numbers.port fault)))
 
--- what is logged before the first turn: the ports, and the room of the record, if there is one
-abbrev pub start_log : ℕ → Numbers → List (List ℕ)
-start_log now numbers =
+-- what is logged before the first turn: the ports, the room of the record, if there is one, and the
+-- sums of the files that are served
+abbrev pub start_log : ℕ → Numbers → ServedFiles → List (List ℕ)
+start_log now numbers served =
     ports_log now numbers.port numbers.process ∷ room_log now numbers.record_most
+    ++ sums_log now served
+
+-- the files that are served, with the number of their rules
+abbrev pub served_of : Loaded → ℕ → ServedFiles
+served_of loaded count =
+    record { form = loaded.form; both = loaded.both; rules = loaded.rules; count = count }
+
+-- what follows after a verdict was printed: the service, with the number of the rules, if each rule
+-- holds and the number could be written; otherwise nothing
+abbrev pub AfterVerdict : RulesVerdict → Result ℕ WriteFault → Type 0 → (ℕ → Type 0) → Type 0
+AfterVerdict (judged.Hold count) told ends goes = AfterTurn told ends (goes count)
+AfterVerdict (judged.Unproved text) told ends goes = ends
+AfterVerdict (judged.Refused fault) told ends goes = ends
+AfterVerdict judged.OutOfMemory told ends goes = ends
 
 module _ {L H W : Type 0} (step : L → Call → L → Type 0) (acts : H → HostCall L → H → Type 0)
     (contents : W → Option (List ℕ)) (asks : W → WriteCall → W → Type 0) where
@@ -222,13 +271,14 @@ module _ {L H W : Type 0} (step : L → Call → L → Type 0) (acts : H → Hos
     pub live : (duties : SupervisionSettings) → IsSupervised duties before
         → CommandsLive step acts contents asks duties turns before old host new answer serves
 
-  -- the server's clock is started, the ports and the record's room are logged, and turns are served
-  abbrev pub ServesBound : Numbers → Bound L → List ℕ → H → H → Writing W → Writing W
+  -- the server's clock is started, the ports, the record's room and the sums of the files are
+  -- logged, and turns are served
+  abbrev pub ServesBound : Numbers → ServedFiles → Bound L → List ℕ → H → H → Writing W → Writing W
       → Result ℕ WriteFault → Type 0
-  ServesBound numbers bound trace host after old new answer =
+  ServesBound numbers served bound trace host after old new answer =
       (clocks : Clocks) × (began : H) × (mid : Writing W)
       × acts host (Tells clocks.system clocks.steady) began
-      × LogsAll contents asks old (start_log clocks.system numbers) mid
+      × LogsAll contents asks old (start_log clocks.system numbers served) mid
       × ServesRun numbers.turns
       (record {
         link = bound.link;
@@ -240,8 +290,9 @@ module _ {L H W : Type 0} (step : L → Call → L → Type 0) (acts : H → Hos
         lines = told_lines 1 (lines_of trace);
       }) mid new after answer
 
-  -- the ports are opened and served; or it is reported why no turn is served
-  pub record ServesPorts (numbers : Numbers) (loaded : Loaded) (before after : H)
+  -- the ports are opened, and the device is served, with this number of rules; or it is reported
+  -- why no turn is served
+  pub record ServesPorts (numbers : Numbers) (loaded : Loaded) (count : ℕ) (before after : H)
       (old new : Writing W) (answer : Result ℕ WriteFault) : Type 0 where
     pub bound : Result (Bound L) ServeStartFault
     pub host : H
@@ -249,10 +300,38 @@ module _ {L H W : Type 0} (step : L → Call → L → Type 0) (acts : H → Hos
         (duties_of numbers.limit_ms (key_of (option_map (λ digits. digits.items) loaded.key)))
         loaded.device before host bound
     pub goes_on : MatchResult bound
-        (λ ports. ServesBound numbers ports loaded.trace.items host after old new answer)
+        (λ ports. ServesBound numbers (served_of loaded count) ports loaded.trace.items host after
+        old new answer)
         (λ why. EndsUnserved contents asks why old new answer × (after ≡ host))
 
-  -- the line of a load is printed, and then the ports are served
+  -- A verdict on the rules is printed. The ports are opened and served only if each rule holds;
+  -- otherwise nothing more is done.
+  pub record ServesVerdict (numbers : Numbers) (loaded : Loaded) (verdict : RulesVerdict)
+      (before after : H) (old new : Writing W) (answer : Result ℕ WriteFault) : Type 0 where
+    pub middle : Writing W
+    pub told : Result ℕ WriteFault
+    pub printed : PrintsLogs contents asks (VerdictReport verdict) old middle told
+    pub goes_on : AfterVerdict verdict told ((new ≡ middle) × (after ≡ before) × (answer ≡ told))
+        (λ count. ServesPorts numbers loaded count before after middle new answer)
+
+  -- the rules are judged for the program of the device, and served by the verdict
+  pub record ServesJudged (numbers : Numbers) (loaded : Loaded) (rules : List ℕ) (before after : H)
+      (old new : Writing W) (answer : Result ℕ WriteFault) : Type 0 where
+    pub verdict : RulesVerdict
+    pub is : IsVerdictOn (file_of loaded.both.bay.items)
+        (declared_in loaded.form loaded.both.program.items) rules loaded.device.machine.image
+        verdict
+    pub serves : ServesVerdict numbers loaded verdict before after old new answer
+
+  -- the ports are served, after the rules are judged, if they were named
+  abbrev pub ServesRules : Option (List ℕ) → Numbers → Loaded → H → H → Writing W → Writing W
+      → Result ℕ WriteFault → Type 0
+  ServesRules None numbers loaded before after old new answer =
+      ServesPorts numbers loaded 0 before after old new answer
+  ServesRules (Some rules) numbers loaded before after old new answer =
+      ServesJudged numbers loaded rules before after old new answer
+
+  -- the line of a load is printed, and then the rules are judged and the ports are served
   pub record ServesLoaded (numbers : Numbers) (loaded : Loaded) (before after : H)
       (old new : Writing W) (answer : Result ℕ WriteFault) : Type 0 where
     pub report : Report
@@ -261,7 +340,7 @@ module _ {L H W : Type 0} (step : L → Call → L → Type 0) (acts : H → Hos
     pub told : Result ℕ WriteFault
     pub printed : Prints contents asks (IsLast (report_text report) 0) old middle told
     pub goes_on : AfterTurn told ((new ≡ middle) × (after ≡ before) × (answer ≡ told))
-        (ServesPorts numbers loaded before after middle new answer)
+        (ServesRules (rules_of loaded) numbers loaded before after middle new answer)
 
   -- Files are read and loaded, and their contents are served; or it is reported why no turn is
   -- served.

@@ -1,17 +1,22 @@
 // Reads, loads and serves files.
-ghost use Rattle.std.specs.Prelude.{◌≡◌, None, Ok, Err, false, is_some, replicate, IfErr, IfOk, ◌≤◌, length, option_map};
+ghost use Rattle.std.specs.Prelude.{◌≡◌, None, Some, Ok, Err, true, false, is_ok, is_some, replicate, IfErr, IfOk, ◌≤◌, length, option_map};
 ghost use Rattle.bay_device.specs.Entries.{IsIdle};
+ghost use Rattle.bay_files.specs.Files.{unread_view};
 ghost use Rattle.bay_device.specs.Outcomes.{associations};
+ghost use Rattle.bay_report.specs.Load.{file_of};
 ghost use Rattle.bay_report.specs.LogLines.{PrintsLogs};
-ghost use Rattle.cmd_serve.specs.Serve.{BindsPorts, BindsProcess, EndsUnserved, IsBound, IsRecordFault, KeylessReport, LoadsFiles, ServesBound, ServesFiles, ServesLoaded, Unrecorded, UnservedReport, duties_of, key_of, made_of, names_of};
+ghost use Rattle.cmd_serve.specs.Serve.{BindsPorts, BindsProcess, EndsUnserved, IsBound, IsRecordFault, KeylessReport, LoadsFiles, ReadsRules, ServesBound, ServesFiles, ServesLoaded, ServesPorts, ServesVerdict, Unrecorded, UnservedReport, duties_of, key_of, made_of, names_of};
 ghost use Rattle.cmd_serve.specs.declared.serve.ServeStartFault.TheVariants as unserved;
 ghost use Rattle.bay_replay_laws.specs.ReadBack.{HaveIds};
 ghost use Rattle.bay_server_turn.specs.Calls.{Called};
 ghost use Rattle.cmd_serve.specs.Service.{IsBegun};
 
+use crate::sums::{ServedFiles, log_sums};
 use bay_device::device::Device;
 use bay_device::fault::LoadFault;
-use bay_files::files::{FileFault, FileSystem, UnreadFile, read_files, read_optional};
+use bay_files::files::{
+    BothFiles, FileFault, FileSystem, UnreadFile, read_file, read_files, read_optional,
+};
 use bay_files::key::{KeyFault, KeyFileFault, read_key};
 use bay_io::calls::{LinePart, Sink};
 use bay_io::outbox::WriteFault;
@@ -32,6 +37,7 @@ use bay_server::serving::serve_turns;
 use bay_server_turn::link::Link;
 use bay_server_turn::record::Record;
 use bay_server_turn::server::Server;
+use cmd_audit::judging::{RulesVerdict, judge_rules, write_verdict};
 use std::alloc::{AllocError, AllocFailed, Global};
 use std::io::ErrorKind;
 
@@ -51,7 +57,7 @@ pub struct Numbers {
 }
 
 /// The names of the files of a service: the bay, a program or an image, the trace of the process,
-/// and the key that the process must send.
+/// the key that the process must send, and the rules that must hold.
 #[derive(Clone, Copy)]
 pub struct NamedFiles<'a> {
     pub bay: &'a str,
@@ -59,11 +65,16 @@ pub struct NamedFiles<'a> {
     pub program: &'a str,
     pub trace: Option<&'a str>,
     pub key: Option<&'a str>,
+    pub rules: Option<&'a str>,
 }
 
-/// The contents of the files: a device, a trace, and a key, if there is one.
+/// The contents of the files: a bay file and a program or an image, the device that they were
+/// loaded to, a trace, and a key and rules, if there are some.
 #[derive(Drop)]
 pub struct Loaded {
+    form: Form,
+    both: BothFiles,
+    rules: Option<Vec<u8>>,
     device: Device,
     trace: Vec<u8>,
     key: Option<Vec<u8>>,
@@ -194,8 +205,27 @@ fn tell_unserved<W: Sink>(
     }
 }
 
-// Reads the bay, then the program or the image, then the trace and the key, if they are named, and
-// loads them.
+// Reads the file of the rules, if there is a name.
+fn read_rules<'a, F: FileSystem>(
+    alloc: Global,
+    files: &F,
+    name: Option<&'a str>,
+) -> Result<Option<Vec<u8>>, UnreadFile<'a>>
+    ensures ok { IfOk result
+        (λ rules. ReadsRules F.reads files.now (option_map (λ n. n.now) name.entry)
+        (Ok (option_map (λ r. r.items) rules))) }
+    ensures err { IfErr result
+        (λ unread. ReadsRules F.reads files.now (option_map (λ n. n.now) name.entry)
+        (Err (unread_view unread))) }
+{
+    match name {
+        Some(name) => Ok(Some(read_file(alloc, files, name)?)),
+        None => Ok(None),
+    }
+}
+
+// Reads the bay, then the program or the image, then the trace, the key and the rules, if they are
+// named, and loads them.
 fn load_files<'a, F: FileSystem>(
     alloc: Global,
     named: NamedFiles<'a>,
@@ -210,17 +240,26 @@ fn load_files<'a, F: FileSystem>(
     ensures named { IfOk result (λ loaded. HaveIds loaded.device.switches) }
     ensures short { IfOk result
         (λ loaded. length (key_of (option_map (λ digits. digits.items) loaded.key)) ≤ 64) }
+    ensures read { IfOk result (λ loaded. is_ok (file_of loaded.both.bay.items) ≡ true) }
 {
     let both = read_files(alloc, files, named.bay, named.program)?;
     let trace = read_optional(alloc, files, named.trace)?;
     let key = read_key(alloc, files, named.key)?;
+    let rules = read_rules(alloc, files, named.rules)?;
     let device = load_program(
         alloc,
         both.bay.as_slice(),
         named.form,
         both.program.as_slice(),
     )?;
-    Ok(Loaded { device, trace, key })
+    Ok(Loaded {
+        form: named.form,
+        both,
+        rules,
+        device,
+        trace,
+        key,
+    })
 }
 
 // Returns the octets of a key; a dash if there is none.
@@ -372,10 +411,11 @@ fn bind_ports<'a, F: FileSystem, L: Link + Drop, H: Host<L>>(
     }
 }
 
-// Starts the server's clock, logs the ports and the record's room, and serves the given number of
-// turns.
+// Starts the server's clock, logs the ports, the record's room and the sums of the files, and
+// serves the given number of turns.
 fn serve_bound<L: Link + Drop, H: Host<L>, W: Sink>(
     bound: Bound<L>,
+    served: ServedFiles,
     trace: &[u8],
     host: &mut H,
     numbers: Numbers,
@@ -383,12 +423,14 @@ fn serve_bound<L: Link + Drop, H: Host<L>, W: Sink>(
 ) -> Result<u8, WriteFault>
     requires begun { IsBegun bound.server }
     requires named { HaveIds bound.server.device.switches }
-    ensures { ServesBound (Called L.does L.failures) H.does W.contents W.does numbers bound
-        trace.now host.old host.new writer.old writer.new result }
+    ensures { ServesBound (Called L.does L.failures) H.does W.contents W.does numbers served
+        bound trace.now host.old host.new writer.old writer.new result }
 {
     let clocks = host.clocks();
     log_ports(writer, clocks.system, numbers.port, numbers.process);
     log_room(writer, clocks.system, numbers.record_most);
+    log_sums(writer, clocks.system, &served);
+    drop(served);
     let Bound {
         server,
         link,
@@ -407,7 +449,88 @@ fn serve_bound<L: Link + Drop, H: Host<L>, W: Sink>(
     )
 }
 
-// Writes the line of a load, opens the ports, starts the record, and serves.
+// Opens the ports, starts the record, and serves, with this number of rules.
+fn serve_ports<F: FileSystem, L: Link + Drop, H: Host<L>, W: Sink>(
+    alloc: Global,
+    loaded: Loaded,
+    count: usize,
+    record_file: Option<&str>,
+    files: &mut F,
+    host: &mut H,
+    numbers: Numbers,
+    writer: &mut WatchedWriter<W>,
+) -> Result<u8, WriteFault>
+    requires closed { loaded.device.connections ≡ replicate associations None }
+    requires records { is_some numbers.record_most ≡ is_some record_file }
+    requires begun { IsBegun (made_of loaded.device) }
+    requires named { HaveIds loaded.device.switches }
+    requires short { length (key_of (option_map (λ digits. digits.items) loaded.key)) ≤ 64 }
+    ensures serves { ServesPorts (Called L.does L.failures) H.does W.contents W.does numbers loaded
+        count host.old host.new writer.old writer.new result }
+    ensures files { is_some numbers.record_most ≡ false → files.new ≡ files.old }
+{
+    let Loaded {
+        form,
+        both,
+        rules,
+        device,
+        trace,
+        key,
+    } = loaded;
+    let served = ServedFiles {
+        form,
+        both,
+        rules,
+        count,
+    };
+    let duties = duties_by(numbers.limit_ms, key_octets(&key));
+    match bind_ports(alloc, device, host, numbers, duties, record_file, files) {
+        Ok(bound) => serve_bound(bound, served, trace.as_slice(), host, numbers, writer),
+        Err(why) => tell_unserved(writer, why),
+    }
+}
+
+// Judges rules for the device and writes the verdict; serves only if each rule holds.
+fn serve_judged<F: FileSystem, L: Link + Drop, H: Host<L>, W: Sink>(
+    alloc: Global,
+    loaded: Loaded,
+    verdict: RulesVerdict,
+    record_file: Option<&str>,
+    files: &mut F,
+    host: &mut H,
+    numbers: Numbers,
+    writer: &mut WatchedWriter<W>,
+) -> Result<u8, WriteFault>
+    requires closed { loaded.device.connections ≡ replicate associations None }
+    requires records { is_some numbers.record_most ≡ is_some record_file }
+    requires begun { IsBegun (made_of loaded.device) }
+    requires named { HaveIds loaded.device.switches }
+    requires short { length (key_of (option_map (λ digits. digits.items) loaded.key)) ≤ 64 }
+    ensures serves { ServesVerdict (Called L.does L.failures) H.does W.contents W.does numbers
+        loaded
+        verdict host.old host.new writer.old writer.new result }
+    ensures files { is_some numbers.record_most ≡ false → files.new ≡ files.old }
+{
+    let status = write_verdict(writer, &verdict)?;
+    match verdict {
+        RulesVerdict::Hold(count) => serve_ports(
+            alloc,
+            loaded,
+            count,
+            record_file,
+            files,
+            host,
+            numbers,
+            writer,
+        ),
+        RulesVerdict::Unproved(_) => Ok(status),
+        RulesVerdict::Refused(_) => Ok(status),
+        RulesVerdict::OutOfMemory => Ok(status),
+    }
+}
+
+// Writes the line of a load, judges the rules, if there are some, opens the ports, starts the
+// record, and serves.
 fn serve_loaded<F: FileSystem, L: Link + Drop, H: Host<L>, W: Sink>(
     alloc: Global,
     loaded: Loaded,
@@ -422,25 +545,43 @@ fn serve_loaded<F: FileSystem, L: Link + Drop, H: Host<L>, W: Sink>(
     requires begun { IsBegun (made_of loaded.device) }
     requires named { HaveIds loaded.device.switches }
     requires short { length (key_of (option_map (λ digits. digits.items) loaded.key)) ≤ 64 }
+    requires read { is_ok (file_of loaded.both.bay.items) ≡ true }
     ensures serves { ServesLoaded (Called L.does L.failures) H.does W.contents W.does numbers loaded
         host.old host.new writer.old writer.new result }
     ensures files { is_some numbers.record_most ≡ false → files.new ≡ files.old }
 {
-    let Loaded { device, trace, key } = loaded;
-    write_report(writer, device.report())?;
-    let duties = duties_by(numbers.limit_ms, key_octets(&key));
-    match bind_ports(alloc, device, host, numbers, duties, record_file, files) {
-        Ok(bound) => serve_bound(bound, trace.as_slice(), host, numbers, writer),
-        Err(why) => tell_unserved(writer, why),
-    }
+    write_report(writer, loaded.device.report())?;
+    let verdict = match &loaded.rules {
+        Some(rules) => judge_rules(
+            alloc,
+            &loaded.both,
+            loaded.form,
+            rules.as_slice(),
+            &loaded.device,
+        ),
+        None => return serve_ports(alloc, loaded, 0, record_file, files, host, numbers, writer),
+    };
+    serve_judged(
+        alloc,
+        loaded,
+        verdict,
+        record_file,
+        files,
+        host,
+        numbers,
+        writer,
+    )
 }
 
-/// Serves files by their names. Reads the bay, then the program or the image, then the trace and
-/// the key; loads them and writes the line of the load; opens the port for clients, and then that
-/// of the process, if there is one; creates the file of the record, if the session is recorded; and
-/// serves the given number of turns. Logs the ports and the record's room, or why no turn is
-/// served. Returns the exit status: 0 after the last turn, 1 if the load is refused, and 3 for any
-/// other fault. Fails if a write or a flush fails, or if the file of the record can't be created.
+/// Serves files by their names. Reads the bay, then the program or the image, then the trace, the
+/// key and the rules; loads them and writes the line of the load; judges the rules, if there are
+/// some, for the program that the device runs, and writes `rules COUNT`; opens the port for
+/// clients, and then that of the process, if there is one; creates the file of the record, if the
+/// session is recorded; and serves the given number of turns. Opens no port if a rule does not
+/// hold. Logs the ports, the record's room and the SHA-256 of each file that is served, or why no
+/// turn is served. Returns the exit status: 0 after the last turn, 1 if the load or the rules are
+/// refused, 4 if a rule does not hold, and 3 for any other fault. Fails if a write or a flush
+/// fails, or if the file of the record can't be created.
 ///
 /// All turns are one run of the device, from load on. Behind each command that a turn tells, and so
 /// behind each line that is printed, or told the process, and reads as one, stand the octets of a

@@ -29,7 +29,8 @@ NONE = {
     'P-082': 'no case looks at what is lent behind a later piece',
     'P-124': 'no trial refuses memory to a server that begins',
     'P-140': OWN_RUNS,
-    'P-141': OWN_RUNS}
+    'P-141': OWN_RUNS,
+    'P-147': 'no case can: it speaks of every run'}
 
 
 @dataclasses.dataclass(frozen=True)

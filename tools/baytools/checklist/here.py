@@ -20,7 +20,7 @@ LISTENS, LOCAL = '0A', ('0100007F',)  # of /proc/net/tcp: a state, and 127.0.0.1
 DATE = '%b %d %H:%M:%S %Y %Z'
 NOBODY = 'nobody'
 REACHED, REFUSED, UNTRIED = range(3)  # how a child ends that tries a port
-OPTIONS = ('--supervise', '--key', '--log')
+OPTIONS = ('--supervise', '--key', '--rules', '--log')
 SUBJECT = re.compile(r'\[[^\]]*CN=[^\]]*\] operate .*')
 
 
@@ -121,7 +121,7 @@ class Machine:
             return judged(False, f'{len(running)} servers at port {self.ports()[0]}')
         (process, words), told = running[0], []
         told += [f'it was started without {name}' for name in OPTIONS if name not in words]
-        for name, file in (('--bay', 'bay.toml'), ('--logic', 'logic.il')):
+        for name, file in (('--bay', 'bay.toml'), ('--logic', 'logic.il'), ('--rules', 'rules')):
             path = self.folder / file
             served = option(words, name)
             if served is None or not os.path.exists(served) or not path.samefile(served):
@@ -192,7 +192,7 @@ def steps_of(it: Machine) -> list[Step]:
         Step('another user of the machine reaches neither port', it.by_others),
         Step('the clock is set, and the revocation list is valid', it.clock),
         Step('each key is for its one user alone, and there is none of an authority', it.keys),
-        Step('the server runs with --supervise, --key and --log, and the files of the folder',
-             it.server),
+        Step('the server runs with --supervise, --key, --rules and --log, and the files of the '
+             'folder', it.server),
         Step('the files that are served keep the rules', it.audit),
         Step('the log has your certificate beside an operate that you made today', it.subject)]

@@ -258,6 +258,12 @@ def without_link(event: Event) -> tuple[str, str]:
             return f'the server listens: clients on {event.address}{event.words}', QUIET
         case lines.LOADED:
             return f'the bay and its program are loaded{why}', QUIET
+        case lines.RULES:
+            return f'each of the {event.code} rules holds', QUIET
+        case lines.SUM:
+            return f'the server serves: {event.words}', QUIET
+        case lines.UNPROVED:
+            return f'nothing is served: {event.words}', BAD
         case lines.LEFT_OUT:
             return f'{event.code} lines of clients that came and went are left out', BAD
         case lines.CLOCK:

@@ -1,4 +1,4 @@
-use Rattle.std.proofs.Common.{inr, option_map}
+use Rattle.std.proofs.Common.{ap, inl, inr, is_ok, option_map, refl}
 use Rattle.std.proofs.lemmas.Result.{err_from_is_err_and}
 use Rattle.bay_files.specs.Files.{FilesData}
 use Rattle.cmd_serve.proofs.FileLemmas.{named-short, text-runs}
@@ -12,7 +12,27 @@ returns-in_err-trace-clause-err g c =
     c.from_residual-in_err-trace.ensures.1 in
     let both : FilesData =
     record { bay = c.in_ok-both.both.bay.items; program = c.in_ok-both.both.program.items } in
-    rw (p.1, p.2) (inr (both, c.in_ok-both.ensures.ok, c.in_err-trace.ensures.err))
+    rw (p.1, p.2) (inr (both, c.in_ok-both.ensures.ok, inl c.in_err-trace.ensures.err))
+
+pub returns-in_err-rules-clause-err : goal.returns-in_err-rules-clause-err
+returns-in_err-rules-clause-err g c =
+    let p = err_from_is_err_and c.from_residual-in_err-rules.result
+    c.from_residual-in_err-rules.ensures.1 in
+    let both : FilesData =
+    record { bay = c.in_ok-both.both.bay.items; program = c.in_ok-both.both.program.items } in
+    rw (p.1, p.2) (inr (
+      both,
+      c.in_ok-both.ensures.ok,
+      inr (
+        c.in_ok-trace.trace.items,
+        c.in_ok-trace.ensures.ok,
+        (
+          option_map (λ k. k.items) c.in_ok-key.key,
+          c.in_ok-key.ensures.ok,
+          c.in_err-rules.ensures.err,
+        ),
+      ),
+    ))
 
 pub returns-in_err-device-clause-err : goal.returns-in_err-device-clause-err
 returns-in_err-device-clause-err g c =
@@ -28,7 +48,11 @@ returns-in_err-device-clause-err g c =
       (
         c.in_ok-trace.trace.items,
         c.in_ok-trace.ensures.ok,
-        (option_map (λ k. k.items) c.in_ok-key.key, c.in_ok-key.ensures.ok, refused),
+        (
+          option_map (λ k. k.items) c.in_ok-key.key,
+          c.in_ok-key.ensures.ok,
+          (option_map (λ r. r.items) c.in_ok-rules.rules, c.in_ok-rules.ensures.ok, refused),
+        ),
       ),
     )
 
@@ -49,11 +73,15 @@ returns-clause-ok g c =
     let both : FilesData =
     record { bay = c.in_ok-both.both.bay.items; program = c.in_ok-both.both.program.items } in
     let loads = rw (c.as_slice.ensures.value, c.as_slice-2.ensures.value) at
-    c.in_ok-device.ensures.ok in (
-      both,
+    c.in_ok-device.ensures.ok in
+    let is_loaded = rw (c.as_slice.ensures.value, c.as_slice-2.ensures.value) at
+    c.in_ok-device.ensures.loaded in (
       c.in_ok-both.ensures.ok,
       c.in_ok-trace.ensures.ok,
       c.in_ok-key.ensures.ok,
+      c.in_ok-rules.ensures.ok,
+      refl,
+      is_loaded,
       loads,
       text-runs c.args.named.form both c.in_ok-device.device loads,
     )
@@ -68,3 +96,9 @@ pub returns-clause-short : goal.returns-clause-short
 returns-clause-short g c =
     named-short g.F.FileSystem.guards _ _ (option_map (λ k. k.items) c.in_ok-key.key)
     c.in_ok-key.ensures.ok
+
+pub returns-clause-read : goal.returns-clause-read
+returns-clause-read g c =
+    let is_loaded = rw (c.as_slice.ensures.value, c.as_slice-2.ensures.value) at
+    c.in_ok-device.ensures.loaded in
+    ap (λ r. is_ok r) is_loaded.read

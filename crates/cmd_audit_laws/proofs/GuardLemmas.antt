@@ -1,0 +1,257 @@
+-- The turns of a service that was started with rules.
+use Rattle.std.proofs.Common.{◌≡◌, ◌∙◌, ◌⊎◌, ◌&&◌, ◌<◌, ℕ, zero, suc, Bool, true, false, List, [], ◌∷◌, length, Option, Some, None, Result, Ok, Err, inl, inr, ap, sym, subst, refl}
+use Rattle.std.specs.Prelude.{MatchOption, MatchResult, slice_get}
+use Rattle.std.specs.List.{list_all}
+use Rattle.std.proofs.lemmas.Bool.{and_parts}
+use Rattle.bay_audit.specs.Rules.{AreRight, BoundProgram, IsAnswer, IsRight, IsUntil, plain_demand, program_of}
+use Rattle.bay_audit.specs.declared.answer.RuleAnswer.{RuleAnswer}
+use Rattle.bay_audit.specs.declared.answer.RuleAnswer.TheVariants.{Broken, Holds, Open, Since, TooMany}
+use Rattle.bay_audit_laws.specs.Laws.{HasWaited, IsAllowed}
+use Rattle.bay_audit_rules.specs.Meaning.{TextRead}
+use Rattle.bay_audit_rules.specs.declared.fault.RuleFault.{RuleFault}
+use Rattle.bay_audit_rules.specs.declared.rule.Rule.{Rule}
+use Rattle.bay_audit_rules.specs.declared.rule.RuleKind.TheVariants.{Never}
+use Rattle.bay_audit_rules.specs.declared.rule.Timing.{Timing}
+use Rattle.bay_config.specs.declared.bay.Bay.{Bay}
+use Rattle.bay_device.specs.Device.{State}
+use Rattle.bay_device.specs.Fresh.{Past}
+use Rattle.bay_device.specs.Load.{IsLoaded}
+use Rattle.bay_files.specs.Files.{FileGuards, FileReads, FilesData}
+use Rattle.bay_io.specs.Calls.{WriteCall}
+use Rattle.bay_io.specs.Watched.{Writing}
+use Rattle.bay_io.specs.declared.outbox.WriteFault.{WriteFault}
+use Rattle.bay_mms_services.specs.declared.answer.Command.{Command}
+use Rattle.bay_report.specs.Load.{IsImageOf, LoadsTo, file_of}
+use Rattle.bay_report.specs.declared.load.Form.{Form}
+use Rattle.bay_server_turn.specs.Calls.{Call}
+use Rattle.bay_server_turn.specs.Turns.{ServerData}
+use Rattle.bay_server_turn_laws.specs.Events.{turn_events}
+use Rattle.bay_server.specs.Host.{HostCall}
+use Rattle.cmd_audit.specs.Judging.{IsVerdictOn, JudgesText, JudgesRead}
+use Rattle.cmd_audit.specs.Names.{known_of}
+use Rattle.cmd_audit.specs.Text.{is_passed}
+use Rattle.cmd_audit.specs.declared.judging.RulesVerdict.{RulesVerdict}
+use Rattle.cmd_audit.specs.declared.judging.RulesVerdict.TheVariants as judged
+use Rattle.cmd_serve.specs.Orders.{IsOrdered}
+use Rattle.cmd_serve.specs.Serve.{EndsUnserved, FileNames, LoadsFiles, ReadsRules, ServesLoaded, ServesRules, ServesVerdict, data_of, made_of, rules_of}
+use Rattle.cmd_serve.specs.Service.{AreTurns, DoneTurn, held_behind, past_behind}
+use Rattle.cmd_serve.specs.declared.serve.Loaded.{Loaded}
+use Rattle.cmd_serve.specs.declared.serve.Numbers.{Numbers}
+use Rattle.cmd_serve.specs.declared.serve.ServeStartFault.{ServeStartFault}
+use Rattle.il_text.specs.Listing.{Declared}
+use Rattle.il_image.specs.Images.{Image}
+use Rattle.cmd_audit_laws.specs.Audited.{ByTimer, Plainly}
+use Rattle.cmd_audit_laws.specs.Guarded.{GuardedCommandsObey, ObeyFile, ObeyRules, TurnsObey}
+use Rattle.cmd_audit_laws.specs.Served.{IsFile, OfFiles, OfRules, OfVerdict, OrdersObey}
+use Rattle.cmd_audit_laws.specs.Waits.{OrdersWait, scans_after_events}
+use Rattle.cmd_audit_laws.proofs.AuditLemmas.{OfOctets, same-bay}
+use Rattle.cmd_audit_laws.proofs.ObeyLemmas.{AreGiven}
+use Rattle.cmd_audit_laws.proofs.RuleLemmas.{rule-there}
+use Rattle.cmd_audit_laws.proofs.ServeLemmas.{later-is, orders-obey, orders-wait, ports-is, scans-obey}
+
+-- ---- the answers to rules, each of which holds
+
+-- a rule has an answer that it holds, and this is right
+record Passed (g : BoundProgram) (rule : Rule) : Type 0 where
+  pub answer : RuleAnswer
+  pub passed : is_passed answer ≡ true
+  pub right : IsRight g rule answer
+
+passed-at : (g : BoundProgram) (rules : List Rule) (answers : List RuleAnswer)
+    → AreRight g rules answers → list_all is_passed answers ≡ true
+    → (place : ℕ) (rule : Rule) → slice_get rules place ≡ Some rule → Passed g rule
+passed-at g [] answers right all place rule here = absurd cc
+passed-at g (r ∷ rules) [] right all place rule here = absurd right
+passed-at g (r ∷ rules) (a ∷ answers) right all zero rule here =
+    let same : r ≡ rule = cc in
+    subst (Passed g) same (record {
+      answer = a;
+      passed = (and_parts (is_passed a) (list_all is_passed answers) all).0;
+      right = right.0;
+    })
+passed-at g (r ∷ rules) (a ∷ answers) right all (suc place) rule here =
+    passed-at g rules answers right.1
+    (and_parts (is_passed a) (list_all is_passed answers) all).1 place rule here
+
+-- no timer establishes a rule without a time
+plain-since : (g : BoundProgram) (rule : Rule) (n cases : ℕ) → rule.timed ≡ None
+    → IsRight g rule (Since n cases) → ⊥
+plain-since g rule n cases plain right =
+    subst (λ (o : Option Timing). MatchOption o (IsAnswer g (plain_demand rule) (Since n cases))
+    (λ timing. IsUntil g rule timing (Since n cases))) plain right
+
+-- commands that obey a rule wait for its time
+waits-so : (rule : Rule) (timing : Timing) → rule.kind ≡ Never → (first : State) (h : ServerData)
+    (scans : List (ℕ × Bool)) (past : List Past) (ts : List DoneTurn)
+    → OrdersObey rule first h past ts → OrdersWait rule timing first h scans past ts
+waits-so rule timing never first h scans past [] obeys = tt
+waits-so rule timing never first h scans past (t ∷ ts) obeys = (
+  λ command o switch operation so.
+      let both : false ≡ true = sym (obeys.0 command o never switch operation) ∙ so in absurd cc,
+  waits-so rule timing never first (held_behind t h)
+      (scans_after_events timing.condition t.now (turn_events t.now t.given t.script h) h.device
+      scans)
+      (past_behind t.now (turn_events t.now t.given t.script h) h.device past) ts obeys.2,
+)
+
+-- ---- a device that these octets load to
+
+module _ (f : Form) (both : FilesData) (device : State)
+    (loads : LoadsTo both.bay f both.program (Ok device)) (ts : List DoneTurn)
+    (are : AreTurns (made_of device) ts) (given : AreGiven ts) (file : IsFile f both.program)
+    (rule : Rule) where
+  plainly-obeys : OfOctets Plainly both.bay f both.program rule
+      → TurnsObey rule (made_of device) ts
+  plainly-obeys own = record {
+    scans = λ plain. scans-obey f both device loads ts are given file rule plain own;
+    obey = λ never plain. orders-obey f both device loads ts are given file rule never own;
+    wait = λ timing never timed. waits-so rule timing never device (made_of device) [] [] ts
+        (orders-obey f both device loads ts are given file rule never own);
+  }
+
+  by-timer-obeys : (own : OfOctets ByTimer both.bay f both.program rule)
+      → (rule.timed ≡ None → ⊥) → TurnsObey rule (made_of device) ts
+  by-timer-obeys own timed = record {
+    scans = λ plain. absurd (timed plain);
+    obey = λ never plain. absurd (timed plain);
+    wait = λ timing never time. orders-wait f both device loads ts are given file rule timing never
+        time own;
+  }
+
+  passed-obeys : (own : Bay) (image : Image) → file_of both.bay ≡ Ok own
+      → IsImageOf f both.program own image → rule.switch < length own.switches
+      → (answer : RuleAnswer) → is_passed answer ≡ true
+      → IsRight (program_of own image) rule answer → TurnsObey rule (made_of device) ts
+  passed-obeys own image read made there (Holds cases) passed right =
+      plainly-obeys (record {
+        own = own;
+        read = read;
+        image = image;
+        made = made;
+        there = there;
+        answer = Holds cases;
+        so = tt;
+        right = right;
+      })
+  passed-obeys own image read made there (Since n cases) passed right =
+      by-timer-obeys (record {
+        own = own;
+        read = read;
+        image = image;
+        made = made;
+        there = there;
+        answer = Since n cases;
+        so = tt;
+        right = right;
+      }) (λ plain. plain-since (program_of own image) rule n cases plain right)
+  passed-obeys own image read made there (Broken case) passed right = absurd cc
+  passed-obeys own image read made there (Open case kept) passed right = absurd cc
+  passed-obeys own image read made there TooMany passed right = absurd cc
+
+-- rules whose verdict is that each holds
+module _ (f : Form) (both : FilesData) (device : State)
+    (loaded : IsLoaded (file_of both.bay) (IsImageOf f both.program) device)
+    (loads : LoadsTo both.bay f both.program (Ok device)) (declared : List Declared)
+    (text : List ℕ) (count : ℕ) where
+  read-obeys : (file : IsFile f both.program) (ts : List DoneTurn)
+      → AreTurns (made_of device) ts → AreGiven ts
+      → (own : Bay) → file_of both.bay ≡ Ok own → (meant : Result (List Rule) RuleFault)
+      → TextRead own text meant
+      → JudgesRead own (known_of device.machine.image.points declared) device.machine.image meant
+      (judged.Hold count)
+      → ObeyRules both.bay text (made_of device) ts
+  read-obeys file ts are given own read (Ok rules) means judges =
+      let same : loaded.bay ≡ own =
+      same-bay (file_of both.bay) loaded.bay own loaded.read read in
+      let run : loaded.image ≡ device.machine.image =
+      sym (ap (λ (s : State). s.machine.image) loaded.is) in
+      let made : IsImageOf f both.program own device.machine.image =
+      subst (IsImageOf f both.program own) run
+      (subst (λ (b : Bay). IsImageOf f both.program b loaded.image) same loaded.made) in
+      record {
+        own = own;
+        read = read;
+        rules = rules;
+        means = means;
+        obeyed = λ place rule here.
+            let p = passed-at (program_of own device.machine.image) rules judges.answers
+            judges.right judges.judged.0 place rule here in
+            passed-obeys f both device loads ts are given file rule own device.machine.image read
+            made (rule-there own text rules means place rule here) p.answer p.passed p.right;
+      }
+  read-obeys file ts are given own read (Err fault) means judges = absurd cc
+
+  holds-obeys : (file : IsFile f both.program) (ts : List DoneTurn)
+      → AreTurns (made_of device) ts → AreGiven ts
+      → IsVerdictOn (file_of both.bay) declared text device.machine.image (judged.Hold count)
+      → ObeyRules both.bay text (made_of device) ts
+  holds-obeys file ts are given (inl memory) = absurd cc
+  holds-obeys file ts are given (inr judges) =
+      read-obeys file ts are given judges.bay judges.read judges.meant judges.means judges.judges
+
+-- ---- the turns of a service
+
+module _ {F L H W : Type 0} (step : L → Call → L → Type 0) (acts : H → HostCall L → H → Type 0)
+    (contents : W → Option (List ℕ)) (asks : W → WriteCall → W → Type 0) (reads : FileReads F)
+    (guards : FileGuards F) where
+  -- files that were loaded, with the octets of their rules
+  module _ (files : F) (name : List ℕ) (form : Form) (loaded : Loaded)
+      (is_loaded : IsLoaded (file_of loaded.both.bay.items)
+      (IsImageOf form loaded.both.program.items) loaded.device)
+      (loads : LoadsTo loaded.both.bay.items form loaded.both.program.items (Ok loaded.device))
+      (numbers : Numbers) where
+    verdict-obeys : (text : List ℕ) → ReadsRules reads files (Some name) (Ok (Some text))
+        → (declared : List Declared) (verdict : RulesVerdict)
+        → IsVerdictOn (file_of loaded.both.bay.items) declared text loaded.device.machine.image
+        verdict
+        → (before after : H) (old new : Writing W) (answer : Result ℕ WriteFault)
+        (serves : ServesVerdict step acts contents asks numbers loaded verdict before after old new
+        answer)
+        → OfVerdict step acts contents asks (ObeyFile reads files name form (data_of loaded))
+        numbers loaded verdict before after old new answer serves
+    verdict-obeys text read declared (judged.Hold count) is before after old new answer serves =
+        later-is step acts contents asks _ _ serves.told serves.goes_on _
+        (ports-is step acts contents asks (ObeyFile reads files name form (data_of loaded)) loaded
+        (λ ts are given file. (
+          text,
+          read,
+          holds-obeys form (data_of loaded) loaded.device is_loaded loads declared text count file
+              ts are given is,
+        )) numbers count before after serves.middle new answer)
+    verdict-obeys text read declared (judged.Unproved lines) is before after old new answer serves =
+        tt
+    verdict-obeys text read declared (judged.Refused fault) is before after old new answer serves =
+        tt
+    verdict-obeys text read declared judged.OutOfMemory is before after old new answer serves = tt
+
+    rules-obey : (rules : Option (List ℕ)) → ReadsRules reads files (Some name) (Ok rules)
+        → (before after : H) (old new : Writing W) (answer : Result ℕ WriteFault)
+        (serves : ServesRules step acts contents asks rules numbers loaded before after old new
+        answer)
+        → OfRules step acts contents asks (ObeyFile reads files name form (data_of loaded)) rules
+        numbers loaded before after old new answer serves
+    rules-obey None read before after old new answer serves = absurd read
+    rules-obey (Some text) read before after old new answer serves =
+        verdict-obeys text read _ serves.verdict serves.is before after old new answer serves.serves
+
+  files-guarded : (files : F) (named : FileNames) (name : List ℕ) → named.rules ≡ Some name
+      → (numbers : Numbers) (before after : H)
+      (old new : Writing W) (answer : Result ℕ WriteFault)
+      (loaded : Result Loaded ServeStartFault)
+      → LoadsFiles reads guards files named loaded
+      → (goes : MatchResult loaded
+      (λ all. ServesLoaded step acts contents asks numbers all before after old new answer)
+      (λ why. EndsUnserved contents asks why old new answer × (after ≡ before)))
+      → OfFiles step acts contents asks (ObeyFile reads files name named.form) numbers before after
+      old new answer loaded goes
+  files-guarded files named name is numbers before after old new answer (Ok loaded) loads goes =
+      later-is step acts contents asks _ _ goes.told goes.goes_on _
+      (rules-obey files name named.form loaded loads.5 loads.6 numbers (rules_of loaded)
+      (subst (λ (n : Option (List ℕ)). ReadsRules reads files n (Ok (rules_of loaded))) is loads.3)
+      before after goes.middle new answer)
+  files-guarded files named name is numbers before after old new answer (Err why) loads goes = tt
+
+  pub guarded-obey : GuardedCommandsObey step acts contents asks reads guards
+  guarded-obey files named numbers before after old new answer serves name is =
+      files-guarded files named name is numbers before after old new answer serves.loaded
+      serves.loads serves.goes_on

@@ -1,0 +1,64 @@
+-- What a service implies that was started with rules: each of its commands and scans obeys each
+-- rule.
+use Rattle.std.specs.Prelude.{ℕ, ◌≡◌, slice_get, List, [], Option, None, Some, Result, Ok}
+use Rattle.bay_audit_laws.specs.Laws.{ScanObeysAt}
+use Rattle.bay_config.specs.declared.bay.Bay.{Bay}
+use Rattle.bay_files.specs.Files.{FileGuards, FileReads, FilesData, ReadsFile}
+use Rattle.bay_io.specs.Calls.{WriteCall}
+use Rattle.bay_io.specs.Watched.{Writing}
+use Rattle.bay_io.specs.declared.outbox.WriteFault.{WriteFault}
+use Rattle.bay_report.specs.Load.{file_of}
+use Rattle.bay_report.specs.declared.load.Form.{Form}
+use Rattle.cmd_replay.specs.History.{EachPast}
+use Rattle.bay_audit_rules.specs.Meaning.{TextRead}
+use Rattle.bay_audit_rules.specs.declared.rule.Rule.{Rule}
+use Rattle.bay_audit_rules.specs.declared.rule.RuleKind.TheVariants.{Never}
+use Rattle.bay_audit_rules.specs.declared.rule.Timing.{Timing}
+use Rattle.bay_server_turn.specs.Calls.{Call}
+use Rattle.bay_server_turn.specs.Turns.{ServerData}
+use Rattle.bay_server.specs.Host.{HostCall}
+use Rattle.cmd_serve.specs.Serve.{FileNames, ServesFiles}
+use Rattle.cmd_serve.specs.Service.{DoneTurn, past_of}
+use Rattle.cmd_serve.specs.declared.serve.Numbers.{Numbers}
+use Rattle.cmd_audit_laws.specs.Served.{IsFile, OfFiles, OrdersObey}
+use Rattle.cmd_audit_laws.specs.Waits.{OrdersWait}
+
+-- Turns of a server, from its first on, obey a rule. Each scan in them obeys a rule without a time;
+-- each command obeys one that forbids, and waits for one that forbids before a time.
+pub record TurnsObey (rule : Rule) (begun : ServerData) (turns : List DoneTurn) : Type 0 where
+  pub scans : rule.timed ≡ None → EachPast (ScanObeysAt rule) begun.device (past_of turns begun [])
+  pub obey : rule.kind ≡ Never → rule.timed ≡ None
+      → OrdersObey rule begun.device begun [] turns
+  pub wait : (timing : Timing) → rule.kind ≡ Never → rule.timed ≡ Some timing
+      → OrdersWait rule timing begun.device begun [] [] turns
+
+-- The text spells rules of the bay that the file spells, and the turns obey each of these rules.
+pub record ObeyRules (bay text : List ℕ) (begun : ServerData) (turns : List DoneTurn)
+    : Type 0 where
+  pub own : Bay
+  pub read : file_of bay ≡ Ok own
+  pub rules : List Rule
+  pub means : TextRead own text (Ok rules)
+  pub obeyed : (place : ℕ) (rule : Rule) → slice_get rules place ≡ Some rule
+      → TurnsObey rule begun turns
+
+module _ {F : Type 0} (reads : FileReads F) where
+  -- The octets that were read from the file of this name are such a text.
+  abbrev pub ObeyFile : F → List ℕ → Form → FilesData → ServerData → List DoneTurn → Type 0
+  ObeyFile files name form both begun turns =
+      IsFile form both.program
+      → (text : List ℕ) × ReadsFile reads files name (Ok text)
+      × ObeyRules both.bay text begun turns
+
+module _ {F L H W : Type 0} (step : L → Call → L → Type 0) (acts : H → HostCall L → H → Type 0)
+    (contents : W → Option (List ℕ)) (asks : W → WriteCall → W → Type 0) (reads : FileReads F)
+    (guards : FileGuards F) where
+  -- The turns of each service with rules obey the rules in their file.
+  abbrev pub GuardedCommandsObey : Type 0
+  GuardedCommandsObey =
+      (files : F) (named : FileNames) (numbers : Numbers) (before after : H) (old new : Writing W)
+      (answer : Result ℕ WriteFault)
+      (serves : ServesFiles step acts contents asks reads guards files named numbers before after
+      old new answer) (name : List ℕ) → named.rules ≡ Some name
+      → OfFiles step acts contents asks (ObeyFile reads files name named.form) numbers before after
+      old new answer serves.loaded serves.goes_on

@@ -1,0 +1,12 @@
+use Rattle.cmd_serve.proofs.sums.log_sums.Goals as goal
+
+pub returns : goal.returns
+returns g c = (
+  c.log_bay.new.writer,
+  rw c.as_slice.ensures.value at c.log_bay.ensures,
+  (
+    c.log_program.new.writer,
+    rw c.as_slice-2.ensures.value at c.log_program.ensures,
+    c.log_rules.ensures,
+  ),
+)

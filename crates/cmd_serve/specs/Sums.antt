@@ -1,0 +1,33 @@
+-- The log lines of the files that are served, each with its sum: the SHA-256 of its octets (FIPS
+-- 180-4 6.2), in 64 hexadecimal digits.
+use Rattle.std.specs.Prelude.{ℕ, List, [], ◌∷◌, codes, Option, None, Some, option_map}
+use Rattle.std.specs.Fmt.{decimal}
+use Rattle.bay_io.specs.Moments.{utc_text}
+use Rattle.bay_report.specs.declared.load.Form.{Form}
+use Rattle.bay_report.specs.declared.load.Form.TheVariants.{Logic, Image}
+use Rattle.bay_server.specs.LogLines.{concat}
+use Rattle.hex.specs.Hex.{encode_lower}
+use Rattle.sha2.specs.Sha256.{sha256}
+use Rattle.cmd_serve.specs.declared.sums.ServedFiles.{ServedFiles}
+
+-- words, and the sum of octets
+abbrev pub sum_line : ℕ → List ℕ → List ℕ → List ℕ
+sum_line now words octets =
+    concat (utc_text now ∷ words ∷ encode_lower (sha256 octets) ∷ codes "\n" ∷ [])
+
+abbrev pub program_words : Form → List ℕ
+program_words Logic = codes " program SHA-256 "
+program_words Image = codes " image SHA-256 "
+
+-- the line of the rules, if they were named, with their number
+abbrev pub rules_log : ℕ → Option (List ℕ) → ℕ → List (List ℕ)
+rules_log now None count = []
+rules_log now (Some rules) count =
+    concat (utc_text now ∷ codes " rules SHA-256 " ∷ encode_lower (sha256 rules) ∷ codes ", "
+    ∷ decimal count ∷ codes " hold\n" ∷ []) ∷ []
+
+abbrev pub sums_log : ℕ → ServedFiles → List (List ℕ)
+sums_log now served =
+    sum_line now (codes " bay SHA-256 ") served.both.bay.items
+    ∷ sum_line now (program_words served.form) served.both.program.items
+    ∷ rules_log now (option_map (λ rules. rules.items) served.rules) served.count

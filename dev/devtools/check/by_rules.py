@@ -1,0 +1,124 @@
+"""What only a served bay can show of `serve --rules`: a server whose rules hold serves, and its log
+has the sums of its files; of files that were edited after an audit no port is opened. Each check
+has the name of the wrong behaviour that it refuses."""
+import hashlib
+import pathlib
+import re
+import socket
+import subprocess
+import time
+
+from baytools.common.paths import TOP
+from devtools.served import Server, free_port
+
+SERVED = TOP / 'examples' / '09_served'
+BAY, LOGIC, RULES = SERVED / 'bay.toml', SERVED / 'logic.il', SERVED / 'rules'
+LOAD, HELD, COUNT = 'instructions=20 depth=2 budget=20\n', 'rules 9\n', 9
+CUT = LOAD.replace('20', '18')  # the load of a program without a line
+# What is edited after the audit, its text and what takes its place; the status, and a pattern of
+# what is printed.
+EDITS = (
+    ('a rule', RULES, 'when QA1 open and QC1 open', 'when QA1 open', 4,
+     LOAD + r'rule 7 QB1 open broken QA1=1 QC1=0\|2\|3\n'
+     r'rule 7 QB1 close broken QA1=1 QC1=0\|2\|3\n'),
+    ('a rule that was added', RULES, 'never  QC1 open|close', 'never QA1 open', 4,
+     LOAD + 'rule 9 QA1 open broken\n'),
+    ('the program', LOGIC, '    AND SPRING\n', '', 4,
+     CUT + r'rule 3 QA1 close broken .* SPRING=0\n'),
+    ('the bay file', BAY, 'name = "SPRING"', 'name = "SPRNG"', 1, 'load refused 70 line 7\n'),
+    ('the words of a rule', RULES, 'always QA1 open', 'allways QA1 open', 1,
+     LOAD + 'rules refused 141 line 2\n'))
+
+
+def logged(path: pathlib.Path, what: str, more: str = '') -> str:
+    """The line of the log for a file that is served, without its moment."""
+    return f' {what} SHA-256 {hashlib.sha256(path.read_bytes()).hexdigest()}{more}\n'
+
+
+# Shows P-146, P-148.
+def holding(checks) -> None:
+    """A server whose rules hold prints their number and serves; its log has the sums of the files
+    that it serves, and no other line of sums."""
+    image = checks.folder / 'ruled.image'
+    subprocess.run([checks.bayctl, 'compile', '--bay', BAY, '--logic', LOGIC, '--out', image],
+                   check=True, capture_output=True)
+    bay, rules = logged(BAY, 'bay'), logged(RULES, 'rules', f', {COUNT} hold')
+    for name, words, printed, sums in (
+            ('rules', ['--logic', LOGIC, '--rules', RULES], LOAD + HELD,
+             [bay, logged(LOGIC, 'program'), rules]),
+            ('an image', ['--image', image, '--rules', RULES], LOAD + HELD,
+             [bay, logged(image, 'image'), rules]),
+            ('no rules', ['--logic', LOGIC], LOAD, [bay, logged(LOGIC, 'program')])):
+        done = subprocess.run([checks.bayctl, 'serve', '--log', '--bay', BAY, *words, '--port',
+                               str(free_port()), '--turns', '1'], capture_output=True, text=True,
+                              timeout=60)
+        found = [line[24:] for line in done.stderr.splitlines(True) if ' SHA-256 ' in line]
+        checks.holds(f'a server with {name} prints otherwise',
+                     (done.returncode, done.stdout) == (0, printed), str(done))
+        checks.holds(f'the log of a server with {name} has other sums', found == sums, done.stderr)
+    with Server(checks.bayctl, BAY, LOGIC, '--rules', RULES) as server:
+        client = server.client()
+        checks.holds('a server whose rules hold does not serve', client.domain() == 'E05',
+                     server.printed())
+        client.close()
+
+
+def reached(port: int, run: subprocess.Popen) -> bool:
+    """Whether a port is open at any time while a program runs."""
+    while run.poll() is None:
+        with socket.socket() as one:
+            if one.connect_ex(('127.0.0.1', port)) == 0:
+                return True
+        time.sleep(0.001)
+    return False
+
+
+def started(checks, files: dict, port: int, *more: str) -> subprocess.Popen:
+    """A server of these files."""
+    return subprocess.Popen([checks.bayctl, 'serve', '--bay', files[BAY], '--logic', files[LOGIC],
+                             '--rules', files[RULES], '--port', str(port), '--turns', '1000000',
+                             *more], stdout=subprocess.PIPE, stderr=subprocess.PIPE, text=True)
+
+
+# Shows P-146.
+def edited(checks) -> None:
+    """A file that was edited after the audit is not served: nobody reaches the port, and a port
+    that another program has is not even tried."""
+    for name, path, old, new, status, wanted in EDITS:
+        text = path.read_text(encoding='utf-8')
+        assert old in text, old
+        files = {it: it for it in (BAY, LOGIC, RULES)}
+        files[path] = checks.file(f'edited_{path.name}', text.replace(old, new, 1))
+        port = free_port()
+        run = started(checks, files, port, '--process', str(free_port()))
+        checks.holds(f'a port is opened though {name} was edited', not reached(port, run), name)
+        told, error = run.communicate(timeout=60)
+        checks.holds(f'{name} was edited, and the server tells otherwise',
+                     (run.returncode, error) == (status, '') and re.fullmatch(wanted, told),
+                     f'{run.returncode} {told!r} {error!r}')
+        with socket.create_server(('127.0.0.1', 0)) as taken:
+            run = started(checks, files, taken.getsockname()[1])
+            told = run.communicate(timeout=60)[0]
+            checks.holds(f'{name} was edited, and a port is tried first',
+                         run.returncode == status and re.fullmatch(wanted, told),
+                         f'{run.returncode} {told!r}')
+
+
+# Shows P-146.
+def unread(checks) -> None:
+    """Rules that are not there, and rules that are refused, are logged."""
+    absent = checks.folder / 'absent.rules'
+    words = [checks.bayctl, 'serve', '--log', '--bay', BAY, '--logic', LOGIC, '--port',
+             str(free_port()), '--turns', '1', '--rules']
+    for name, rules, wanted in (
+            ('rules that are not there', absent,
+             (3, 'fault 121\n', f'bayctl: fault 121: {absent}: there is no such file\n')),
+            ('rules that are refused', checks.file('no.rules', '# none\n'),
+             (1, LOAD + 'rules refused 145 line 1\n',
+              'bayctl: rules refused 145 line 1: a text without a rule\n'))):
+        done = subprocess.run([*words, rules], capture_output=True, text=True, timeout=60)
+        told = done.returncode, done.stdout, done.stderr
+        checks.holds(f'{name} are told otherwise', told == wanted, str(told))
+
+
+PARTS = (holding, edited, unread)
