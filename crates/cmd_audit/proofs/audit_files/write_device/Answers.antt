@@ -11,11 +11,13 @@ returns-in_err-status g c =
     let declared = declared_in c.args.form c.args.both.now.program.items in
     let log = log_in c.write_rest-end.result.refused in
     let status = code_of c.write_rest-end.result.status in
+    let rest = rw (c.as_slice.ensures.value, c.as_slice-2.ensures.value, c.verified.ensures) at
+    c.write_rest-end.ensures in
     device-cut file declared c.args.rules.now c.args.device.now c.report.result c.report.ensures log
     status c.in_err-status.field-0.0 c.from_residual.result c.from_residual.ensures.0
     (device-prints file declared c.args.rules.now c.args.device.now c.report.result c.report.ensures
     log status c.finish.result c.finish-2.new.writer _ c.put_report.ensures c.finish.ensures
-    c.write_rest-end.ensures c.in_err-status.ensures.finishes c.in_err-status.ensures.status)
+    rest c.in_err-status.ensures.finishes c.in_err-status.ensures.status)
 
 pub returns : goal.returns
 returns g c =
@@ -23,10 +25,12 @@ returns g c =
     let declared = declared_in c.args.form c.args.both.now.program.items in
     let log = log_in c.write_rest-end.result.refused in
     let status = code_of c.write_rest-end.result.status in
+    let rest = rw (c.as_slice.ensures.value, c.as_slice-2.ensures.value, c.verified.ensures) at
+    c.write_rest-end.ensures in
     device-told file declared c.args.rules.now c.args.device.now c.report.result c.report.ensures
     log
     status c.in_ok-status.status
     (device-prints file declared c.args.rules.now c.args.device.now c.report.result c.report.ensures
     log status c.finish.result c.finish-2.new.writer _ c.put_report.ensures c.finish.ensures
-    c.write_rest-end.ensures c.in_ok-status.ensures.finishes c.in_ok-status.ensures.status)
+    rest c.in_ok-status.ensures.finishes c.in_ok-status.ensures.status)
     c.log_refused.ensures
