@@ -1,5 +1,5 @@
-"""Shows, on a terminal alone, how far bayctl is while it proves. bayctl prints each answer when it
-has it: those of the rules, and then the releases."""
+"""Shows how far bayctl is with an audit, on a terminal alone. bayctl prints each answer when it has
+it: those of the rules, and then the releases."""
 import contextlib
 import sys
 import threading
