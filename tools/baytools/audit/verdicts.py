@@ -53,8 +53,8 @@ def start_warnings(audit: Audit) -> list[str]:
             continue
         kept = forgotten(audit, it.name, it.way)
         if it.state == answers.RELEASED:
-            found.append(f'{ids[it.name]} may be closed right after a restart, whatever the process '
-                         'reports')
+            found.append(f'{ids[it.name]} may be closed right after a restart, whatever the '
+                         'process reports')
         elif kept:
             found.append(f'{ids[it.name]} may be closed right after a restart, which forgets '
                          f'{", ".join(kept)}')
