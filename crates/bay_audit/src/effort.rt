@@ -7,7 +7,7 @@ use il_image::instr::Instr;
 use il_image::read::instr_at;
 
 /// The default effort of an audit, in millions of octets of code.
-pub const EFFORT: u32 = 20;
+pub const EFFORT: u32 = 60;
 
 // The work of a pass beside its code, in octets of code.
 const PASS: u64 = 100;

@@ -279,6 +279,25 @@ fn condition_split(case: &Case, items: &[ConditionItem]) -> Option<Test> {
     None
 }
 
+// Returns the test of the position of an item by itself; `None` if it has none, or the case decides
+// it.
+fn single_test(case: &Case, item: ConditionItem) -> Option<Test> {
+    match item {
+        ConditionItem::Position { switch, position } => set_part(
+            allowed_positions(case, switch),
+            switch,
+            only(position),
+        ),
+        _ => None,
+    }
+}
+
+// Returns the first test of one position that a condition has and the case leaves open. The truth
+// set of an OR of positions does not say that they are all that the case allows.
+fn single_split(case: &Case, items: &[ConditionItem]) -> Option<Test> {
+    items.iter().find_map(|item| single_test(case, *item))
+}
+
 // Returns the test of a measured value at the first constant of the program for which the case
 // leaves one open.
 fn constant_test(code: &[u8], case: &Case, meter: usize, field: MeterField) -> Option<Test> {
@@ -412,6 +431,13 @@ pub fn undecided(
     }
     let slot = goal_slot(program, demand.goal, forecast);
     if let Some(test) = program_split(program, case, forecast, slot) {
+        return Ok(Verdict::Split(test));
+    }
+    let single = single_split(case, demand.when.as_slice()).or_else(|| single_split(
+        case,
+        demand.unless.as_slice(),
+    ));
+    if let Some(test) = single {
         return Ok(Verdict::Split(test));
     }
     let kept = dependencies_of(alloc, program, demand.goal, forecast)?;

@@ -204,7 +204,7 @@ const ENTRIES: [Entry; 5] = [
                 id: "effort",
                 value: OptionValue::Number("N", 1, 100_000),
                 required: false,
-                help: "Most work, in millions of octets of code, or 20",
+                help: "Most work, in millions of octets of code, or 60",
             },
             LOG,
         ],
