@@ -339,6 +339,19 @@ class Audits(unittest.TestCase):
         self.assertEqual(rule_findings.uncovered(audited('always QA1 open\n' + AFTER)), {})
 
 
+class Sampled(unittest.TestCase):
+    def test_more_combinations_than_a_list_can_have(self) -> None:
+        bay = mock.Mock()
+        bay.count.return_value = 2 ** 70
+        bay.combination_at.side_effect = lambda place: (place,)
+        finding = mock.Mock()
+        finding.is_settled.return_value = False
+        chosen = rule_findings.chosen_of(bay, [finding], False)
+        self.assertEqual(len(chosen), rule_findings.SAMPLED)
+        self.assertEqual(chosen, sorted(chosen))
+        self.assertTrue(all(0 <= place < 2 ** 70 for place, in chosen))
+
+
 class Pictures(unittest.TestCase):
     def test_equal_columns_are_one(self):
         found = audited('always QA1 open')

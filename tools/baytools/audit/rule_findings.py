@@ -150,8 +150,12 @@ def chosen_of(bay, findings: list, is_asked: bool) -> list[tuple]:
         return list(bay.combinations())
     if not is_asked and all(it.is_settled() for it in findings):
         return []
-    places = sorted(random.Random(1).sample(range(count), SAMPLED))
-    return [bay.combination_at(place) for place in places]
+    chooser = random.Random(1)
+    if count <= sys.maxsize:
+        places = chooser.sample(range(count), SAMPLED)
+    else:  # no range is that long; two equal numbers are then as good as impossible
+        places = [chooser.randrange(count) for _ in range(SAMPLED)]
+    return [bay.combination_at(place) for place in sorted(places)]
 
 
 def go_through(found: Audit, chosen: list[tuple], bayctl) -> None:
