@@ -234,6 +234,8 @@ const ROWS: [ServedCase; 22] = [
         status: 0,
         wanted: "instructions=2 depth=1 budget=2
 | 1970-01-01T00:00:01.000Z clients on 127.0.0.1:7
+| 1970-01-01T00:00:01.000Z bay SHA-256 039109cc180841997e6c30d729870d020103592c027cddd03bd60221d0cb410f
+| 1970-01-01T00:00:01.000Z program SHA-256 191643a54f5dd1f9a729a29e20b4c496ac41c7d182285acc1f461dd8a2d01fee
 | 1970-01-01T00:00:02.000Z association 1 open from 127.0.0.1:40000
 | 1970-01-01T00:00:02.000Z refused 113: 9 contact X 1
 | 1970-01-01T00:00:02.000Z association 1 closed 0: its client ended it
@@ -248,6 +250,8 @@ const ROWS: [ServedCase; 22] = [
         trace: "9 contact Q 1\n\n9 scan\n",
         wanted: "instructions=2 depth=1 budget=2
 | 1970-01-01T00:00:01.000Z clients on 127.0.0.1:7
+| 1970-01-01T00:00:01.000Z bay SHA-256 039109cc180841997e6c30d729870d020103592c027cddd03bd60221d0cb410f
+| 1970-01-01T00:00:01.000Z program SHA-256 191643a54f5dd1f9a729a29e20b4c496ac41c7d182285acc1f461dd8a2d01fee
 | 1970-01-01T00:00:02.000Z association 1 open from 127.0.0.1:40000
 | 1970-01-01T00:00:02.000Z association 1 closed 0: its client ended it
 | 1970-01-01T00:00:02.000Z position Q open
@@ -261,6 +265,8 @@ fault 120 line 3
         trace: "9 contact Q 1\n\n9 open 1\n",
         wanted: "instructions=2 depth=1 budget=2
 | 1970-01-01T00:00:01.000Z clients on 127.0.0.1:7
+| 1970-01-01T00:00:01.000Z bay SHA-256 039109cc180841997e6c30d729870d020103592c027cddd03bd60221d0cb410f
+| 1970-01-01T00:00:01.000Z program SHA-256 191643a54f5dd1f9a729a29e20b4c496ac41c7d182285acc1f461dd8a2d01fee
 | 1970-01-01T00:00:02.000Z association 1 open from 127.0.0.1:40000
 | 1970-01-01T00:00:02.000Z association 1 closed 0: its client ended it
 | 1970-01-01T00:00:02.000Z position Q open
@@ -274,6 +280,8 @@ fault 120 line 3
         now: 4_294_967_294_000,
         wanted: "instructions=2 depth=1 budget=2
 | 2106-02-07T06:28:15.000Z clients on 127.0.0.1:7
+| 2106-02-07T06:28:15.000Z bay SHA-256 039109cc180841997e6c30d729870d020103592c027cddd03bd60221d0cb410f
+| 2106-02-07T06:28:15.000Z program SHA-256 191643a54f5dd1f9a729a29e20b4c496ac41c7d182285acc1f461dd8a2d01fee
 | bayctl: fault 114: the clock is past the last moment
 fault 114
 ",
@@ -288,6 +296,8 @@ fault 114
         status: 0,
         wanted: "instructions=2 depth=1 budget=2
 | 1970-01-01T00:00:01.950Z clients on 127.0.0.1:7
+| 1970-01-01T00:00:01.950Z bay SHA-256 039109cc180841997e6c30d729870d020103592c027cddd03bd60221d0cb410f
+| 1970-01-01T00:00:01.950Z program SHA-256 191643a54f5dd1f9a729a29e20b4c496ac41c7d182285acc1f461dd8a2d01fee
 | 1970-01-01T00:00:02.100Z association 1 open from 127.0.0.1:40000
 | 1970-01-01T00:00:02.100Z association 1 closed 0: its client ended it
 2100 closed 1 0
@@ -319,6 +329,8 @@ fault 114
         status: 0,
         wanted: "instructions=2 depth=1 budget=2
 | 1970-01-01T00:00:01.000Z clients on 127.0.0.1:7
+| 1970-01-01T00:00:01.000Z bay SHA-256 039109cc180841997e6c30d729870d020103592c027cddd03bd60221d0cb410f
+| 1970-01-01T00:00:01.000Z program SHA-256 191643a54f5dd1f9a729a29e20b4c496ac41c7d182285acc1f461dd8a2d01fee
 | 1970-01-01T00:00:03.010Z the system's clock is 3599990 ms ahead
 | 1970-01-01T00:00:06.020Z the system's clock agrees again
 | 1970-01-01T00:00:07.010Z all turns are served
@@ -412,6 +424,8 @@ fault 120 line 2
         status: 0,
         wanted: "instructions=6 depth=1 budget=6
 | 1970-01-01T00:00:01.000Z clients on 127.0.0.1:7
+| 1970-01-01T00:00:01.000Z bay SHA-256 7c05d1c6048fc64c501c8ebe5001d84c6f4fb5d5ec45095d2f515894f33f4698
+| 1970-01-01T00:00:01.000Z program SHA-256 24bb2302144b494979e04d97fbdd36d58709795c22ddc55f12e9ac21d424731f
 | 1970-01-01T00:00:02.000Z association 1 open from 127.0.0.1:40000
 | 1970-01-01T00:00:02.000Z association 1 select QA1: done
 | 1970-01-01T00:00:02.000Z association 1 operate QA1 close orCat=2 orIdent=OPERATOR ctlNum=7: refused 10: the interlocking does not release the operation
@@ -436,6 +450,8 @@ fault 120 line 2
         told: "4000 refused 113\n",
         wanted: "instructions=2 depth=1 budget=2
 | 1970-01-01T00:00:01.000Z clients on 127.0.0.1:7, process on 127.0.0.1:9
+| 1970-01-01T00:00:01.000Z bay SHA-256 039109cc180841997e6c30d729870d020103592c027cddd03bd60221d0cb410f
+| 1970-01-01T00:00:01.000Z program SHA-256 191643a54f5dd1f9a729a29e20b4c496ac41c7d182285acc1f461dd8a2d01fee
 | 1970-01-01T00:00:02.000Z process open
 2000 process open
 | 1970-01-01T00:00:03.000Z position Q open
@@ -455,6 +471,8 @@ fault 120 line 2
         fails_at: 3,
         wanted: "instructions=2 depth=1 budget=2
 | 1970-01-01T00:00:01.000Z clients on 127.0.0.1:7, process on 127.0.0.1:9
+| 1970-01-01T00:00:01.000Z bay SHA-256 039109cc180841997e6c30d729870d020103592c027cddd03bd60221d0cb410f
+| 1970-01-01T00:00:01.000Z program SHA-256 191643a54f5dd1f9a729a29e20b4c496ac41c7d182285acc1f461dd8a2d01fee
 | 1970-01-01T00:00:02.000Z process open
 2000 process open
 | 1970-01-01T00:00:03.000Z refused 113: 0 contact X 1
@@ -473,6 +491,8 @@ fault 120 line 2
         per_read: 14,
         wanted: "instructions=2 depth=1 budget=2
 | 1970-01-01T00:00:01.000Z clients on 127.0.0.1:7, process on 127.0.0.1:9
+| 1970-01-01T00:00:01.000Z bay SHA-256 039109cc180841997e6c30d729870d020103592c027cddd03bd60221d0cb410f
+| 1970-01-01T00:00:01.000Z program SHA-256 191643a54f5dd1f9a729a29e20b4c496ac41c7d182285acc1f461dd8a2d01fee
 | 1970-01-01T00:00:02.000Z process open
 2000 process open
 | 1970-01-01T00:00:03.000Z position Q open
@@ -490,6 +510,8 @@ fault 120 line 2
         per_read: 14,
         wanted: "instructions=2 depth=1 budget=2
 | 1970-01-01T00:00:01.000Z clients on 127.0.0.1:7, process on 127.0.0.1:9
+| 1970-01-01T00:00:01.000Z bay SHA-256 039109cc180841997e6c30d729870d020103592c027cddd03bd60221d0cb410f
+| 1970-01-01T00:00:01.000Z program SHA-256 191643a54f5dd1f9a729a29e20b4c496ac41c7d182285acc1f461dd8a2d01fee
 | 1970-01-01T00:00:02.000Z process open
 2000 process open
 | 1970-01-01T00:00:03.000Z position Q open
@@ -507,6 +529,8 @@ fault 120 line 2
         said: "0 contact Q 1\n",
         wanted: "instructions=2 depth=1 budget=2
 | 1970-01-01T00:00:01.000Z clients on 127.0.0.1:7, process on 127.0.0.1:9
+| 1970-01-01T00:00:01.000Z bay SHA-256 039109cc180841997e6c30d729870d020103592c027cddd03bd60221d0cb410f
+| 1970-01-01T00:00:01.000Z program SHA-256 191643a54f5dd1f9a729a29e20b4c496ac41c7d182285acc1f461dd8a2d01fee
 | 1970-01-01T00:00:02.000Z process open
 2000 process open
 | 1970-01-01T00:00:03.000Z position Q open

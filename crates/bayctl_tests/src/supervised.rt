@@ -16,6 +16,8 @@ const STRANGER: ServedCase = ServedCase {
     told: "",
     wanted: "instructions=2 depth=1 budget=2
 | 1970-01-01T00:00:01.000Z clients on 127.0.0.1:7, process on 127.0.0.1:9
+| 1970-01-01T00:00:01.000Z bay SHA-256 039109cc180841997e6c30d729870d020103592c027cddd03bd60221d0cb410f
+| 1970-01-01T00:00:01.000Z program SHA-256 191643a54f5dd1f9a729a29e20b4c496ac41c7d182285acc1f461dd8a2d01fee
 | 1970-01-01T00:00:02.000Z process lost
 | 1970-01-01T00:00:02.000Z position Q bad
 | 1970-01-01T00:00:02.000Z process open
@@ -35,6 +37,8 @@ const ROWS: [ServedCase; 12] = [
         told: "2000 process 1500 B 1\n5000 alive\n",
         wanted: "instructions=2 depth=1 budget=2
 | 1970-01-01T00:00:01.000Z clients on 127.0.0.1:7, process on 127.0.0.1:9
+| 1970-01-01T00:00:01.000Z bay SHA-256 039109cc180841997e6c30d729870d020103592c027cddd03bd60221d0cb410f
+| 1970-01-01T00:00:01.000Z program SHA-256 191643a54f5dd1f9a729a29e20b4c496ac41c7d182285acc1f461dd8a2d01fee
 | 1970-01-01T00:00:02.000Z process lost
 | 1970-01-01T00:00:02.000Z position Q bad
 | 1970-01-01T00:00:02.000Z process open
@@ -70,6 +74,8 @@ const ROWS: [ServedCase; 12] = [
         words: "serve --log --bay bay --logic logic --port 7 --turns 4 --process 9 --supervise 1500 --key key",
         wanted: "instructions=2 depth=1 budget=2
 | 1970-01-01T00:00:01.000Z clients on 127.0.0.1:7, process on 127.0.0.1:9
+| 1970-01-01T00:00:01.000Z bay SHA-256 039109cc180841997e6c30d729870d020103592c027cddd03bd60221d0cb410f
+| 1970-01-01T00:00:01.000Z program SHA-256 191643a54f5dd1f9a729a29e20b4c496ac41c7d182285acc1f461dd8a2d01fee
 | 1970-01-01T00:00:02.000Z process lost
 | 1970-01-01T00:00:02.000Z position Q bad
 | 1970-01-01T00:00:02.000Z process open
@@ -86,6 +92,8 @@ const ROWS: [ServedCase; 12] = [
         said: "2000 bay - B 1\n2000 contact Q 1\n",
         wanted: "instructions=2 depth=1 budget=2
 | 1970-01-01T00:00:01.000Z clients on 127.0.0.1:7, process on 127.0.0.1:9
+| 1970-01-01T00:00:01.000Z bay SHA-256 039109cc180841997e6c30d729870d020103592c027cddd03bd60221d0cb410f
+| 1970-01-01T00:00:01.000Z program SHA-256 191643a54f5dd1f9a729a29e20b4c496ac41c7d182285acc1f461dd8a2d01fee
 | 1970-01-01T00:00:02.000Z process lost
 | 1970-01-01T00:00:02.000Z position Q bad
 | 1970-01-01T00:00:02.000Z process open
@@ -101,6 +109,8 @@ const ROWS: [ServedCase; 12] = [
         said: "2000 bay - B 1\n9000 contact Q 1\n",
         wanted: "instructions=2 depth=1 budget=2
 | 1970-01-01T00:00:01.000Z clients on 127.0.0.1:7, process on 127.0.0.1:9
+| 1970-01-01T00:00:01.000Z bay SHA-256 039109cc180841997e6c30d729870d020103592c027cddd03bd60221d0cb410f
+| 1970-01-01T00:00:01.000Z program SHA-256 191643a54f5dd1f9a729a29e20b4c496ac41c7d182285acc1f461dd8a2d01fee
 | 1970-01-01T00:00:02.000Z process lost
 | 1970-01-01T00:00:02.000Z position Q bad
 | 1970-01-01T00:00:02.000Z process open
@@ -118,6 +128,8 @@ const ROWS: [ServedCase; 12] = [
         stays: true,
         wanted: "instructions=2 depth=1 budget=2
 | 1970-01-01T00:00:01.000Z clients on 127.0.0.1:7, process on 127.0.0.1:9
+| 1970-01-01T00:00:01.000Z bay SHA-256 039109cc180841997e6c30d729870d020103592c027cddd03bd60221d0cb410f
+| 1970-01-01T00:00:01.000Z program SHA-256 191643a54f5dd1f9a729a29e20b4c496ac41c7d182285acc1f461dd8a2d01fee
 | 1970-01-01T00:00:02.000Z process lost
 | 1970-01-01T00:00:02.000Z position Q bad
 | 1970-01-01T00:00:02.000Z process open
@@ -137,6 +149,8 @@ const ROWS: [ServedCase; 12] = [
         told: "2000 process 2000 B 1\n4000 alive\n",
         wanted: "instructions=2 depth=1 budget=2
 | 1970-01-01T00:00:01.000Z clients on 127.0.0.1:7, process on 127.0.0.1:9
+| 1970-01-01T00:00:01.000Z bay SHA-256 039109cc180841997e6c30d729870d020103592c027cddd03bd60221d0cb410f
+| 1970-01-01T00:00:01.000Z program SHA-256 191643a54f5dd1f9a729a29e20b4c496ac41c7d182285acc1f461dd8a2d01fee
 | 1970-01-01T00:00:02.000Z process lost
 | 1970-01-01T00:00:02.000Z position Q bad
 | 1970-01-01T00:00:02.000Z process open
@@ -155,6 +169,8 @@ const ROWS: [ServedCase; 12] = [
         told: "2000 process 2500 B 1\n",
         wanted: "instructions=2 depth=1 budget=2
 | 1970-01-01T00:00:01.000Z clients on 127.0.0.1:7, process on 127.0.0.1:9
+| 1970-01-01T00:00:01.000Z bay SHA-256 039109cc180841997e6c30d729870d020103592c027cddd03bd60221d0cb410f
+| 1970-01-01T00:00:01.000Z program SHA-256 191643a54f5dd1f9a729a29e20b4c496ac41c7d182285acc1f461dd8a2d01fee
 | 1970-01-01T00:00:02.000Z process lost
 | 1970-01-01T00:00:02.000Z position Q bad
 | 1970-01-01T00:00:02.000Z process open
@@ -175,6 +191,8 @@ const ROWS: [ServedCase; 12] = [
         jump: 3_600_000,
         wanted: "instructions=2 depth=1 budget=2
 | 1970-01-01T00:00:01.000Z clients on 127.0.0.1:7, process on 127.0.0.1:9
+| 1970-01-01T00:00:01.000Z bay SHA-256 039109cc180841997e6c30d729870d020103592c027cddd03bd60221d0cb410f
+| 1970-01-01T00:00:01.000Z program SHA-256 191643a54f5dd1f9a729a29e20b4c496ac41c7d182285acc1f461dd8a2d01fee
 | 1970-01-01T00:00:02.000Z process lost
 | 1970-01-01T00:00:02.000Z position Q bad
 | 1970-01-01T00:00:02.000Z process open
