@@ -36,6 +36,8 @@ PLACES = (
           'pub const NO_MEMORY: &[u8] = b"fault memory\\n";', "the name of the line"),
     Place("bay_report/src/log.rt", "{ write_text(writer, NO_MEMORY, Status::Fault) }",
           "the body of `write_out_of_memory`, whose calls are held as the line is"),
+    Place("cmd_audit/src/loaded.rt", "Err(Stopped) => { writer.put(NO_MEMORY);",
+          "an audit stops if an allocation fails, or a write: then nothing more is written"),
     Place("bay_server/src/turns.rt",
           "for association in memory"
           " { put_closing_line(writer, moment, *association, Why::Memory); }",
