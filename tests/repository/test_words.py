@@ -1,29 +1,19 @@
-"""The words of comments in crates: those that CONTRIBUTING ('Words') says to avoid don't come back.
+"""The words of comments in crates: no comment has one that CONTRIBUTING ('Words') says to avoid.
 
 A comment is what stands in crates/*/src/*.rt after `//`, and in crates/*/specs/*.antt after `--`,
-without code in backticks. words_left.tsv beside this file has what today's comments still hold: a
-crate, a word and how often. A count that grows fails: write the other word. One that shrinks fails
-too, until this has lowered the numbers (it raises none):
-
-    python3 -B -m tests.repository.test_words lower"""
-import collections
-import functools
+without code in backticks."""
 import pathlib
 import re
-import sys
 import unittest
 from dataclasses import dataclass
 
 from baytools.common.paths import TOP
 
-LEFT = pathlib.Path(__file__).with_name('words_left.tsv')
-LOWER = '`python3 -B -m tests.repository.test_words lower`'
-
 
 @dataclass(frozen=True)
 class Word:
-    """A word to avoid: its name in words_left.tsv and in CONTRIBUTING's table, how it is found,
-    what to write for it, and why."""
+    """A word to avoid: its name in CONTRIBUTING's table, how it is found, what to write for it, and
+    why."""
     name: str
     pattern: str
     write: str
@@ -104,55 +94,20 @@ def sources() -> list[tuple[pathlib.Path, str]]:
             *((path, '--') for path in sorted(TOP.glob('crates/*/specs/**/*.antt')))]
 
 
-@functools.cache
-def counted() -> tuple[collections.Counter, dict]:
-    """How often each word stands in the comments of each crate, and in which of its files."""
-    counts: collections.Counter = collections.Counter()
-    places: dict = collections.defaultdict(list)
+def found_words() -> list[str]:
+    """Each use of a word to avoid: the file, the word, what to write and why, and the comment."""
+    found = []
     for path, mark in sources():
         for comment in comments(path.read_text(encoding='utf-8'), mark):
-            for word, pattern in FOUND:
-                number = len(pattern.findall(comment))
-                if number:
-                    key = path.relative_to(TOP / 'crates').parts[0], word.name
-                    counts[key] += number
-                    places[key].append(f'{path.relative_to(TOP)}: {comment[:120]}')
-    return counts, places
-
-
-def left() -> dict[tuple[str, str], int]:
-    rows = [line.split('\t') for line in LEFT.read_text(encoding='utf-8').splitlines()]
-    return {(crate, word): int(number) for crate, word, number in rows}
-
-
-def lower() -> None:
-    """Writes the counts that have shrunk."""
-    counts, _ = counted()
-    rows = [(key, min(number, counts[key])) for key, number in sorted(left().items())]
-    LEFT.write_text(''.join(f'{crate}\t{word}\t{number}\n' for (crate, word), number in rows
-                            if number), encoding='utf-8')
+            found += [f'{path.relative_to(TOP)}: "{word.name}": write {word.write} ({word.why}): '
+                      f'{comment[:120]}' for word, pattern in FOUND if pattern.search(comment)]
+    return found
 
 
 class Words(unittest.TestCase):
-    def test_no_comment_has_more_words_to_avoid(self):
-        counts, places = counted()
-        allowed = left()
+    def test_no_comment_has_a_word_to_avoid(self):
         self.assertGreater(len(sources()), 700)
-        for word in WORDS:
-            for key in sorted(it for it in counts if it[1] == word.name):
-                more = counts[key] - allowed.get(key, 0)
-                self.assertLessEqual(
-                    more, 0, f'{key[0]}: {more} more of "{word.name}": write {word.write} '
-                    f'({word.why}). One of:\n  ' + '\n  '.join(places[key]))
-
-    def test_what_is_left_is_lowered(self):
-        """A number that is too large lets words come back."""
-        counts, _ = counted()
-        names = {word.name for word in WORDS}
-        for key, number in left().items():
-            self.assertIn(key[1], names)
-            self.assertEqual(number, counts[key],
-                             f'{key[0]}: "{key[1]}" is rarer now: {LOWER} lowers its number')
+        self.assertEqual(found_words(), [])
 
     def test_the_table_of_contributing_has_each_word(self):
         page = (TOP / 'CONTRIBUTING.md').read_text(encoding='utf-8')
@@ -179,7 +134,4 @@ class Words(unittest.TestCase):
 
 
 if __name__ == '__main__':
-    if sys.argv[1:] == ['lower']:
-        lower()
-    else:
-        unittest.main()
+    unittest.main()

@@ -1,4 +1,4 @@
-// What a switch is, how it is controlled, and what a command asks of it.
+// The kind of a switch, how it is controlled, and the operation that a command requests.
 
 /// The kind of a switch.
 #[derive(Clone, Copy, Debug, PartialEq, Eq)]

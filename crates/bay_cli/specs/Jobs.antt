@@ -180,9 +180,9 @@ serve_task bay program port turns trace process limit key file most idle rules t
     then Some (Serve bay program port turns trace process tells limit key file most idle rules)
     else None
 
--- what `serve` asks for: the same, both numbers, a trace and a process, if they were named, what
--- the process is told, how it is supervised, how what is served is recorded, how long a client may
--- send nothing, and rules, if they were named
+-- the task of `serve`: a bay and a program, both numbers, a trace and a process, if they were named,
+-- whether releases are sent to the process, how it is supervised, how the session is recorded, how
+-- long a client may send nothing, and rules, if they were named
 abbrev pub serve_in : List Row → Option (Task Text)
 serve_in rows =
     option_and_then (λ bay. option_and_then (λ program. option_and_then (λ port. option_and_then

@@ -27,7 +27,7 @@ pub enum Task<T> {
     Replay,
     /// Serves clients on a port of 127.0.0.1, from 1 on, for the given number of turns. Reads the
     /// trace of the process line by line, if there is one, and then listens to the process itself
-    /// on a port of its own, if it has one, which may be told of releases. The process may be
+    /// on a port of its own, if it has one, to which releases may be sent. The process may be
     /// supervised: then it may be silent for at most `limit_ms`, from 100 to 60,000, it has to know
     /// the key in a file, if that is given, and there is no trace before it. What the device is
     /// given is recorded in a new file, if one is named, in at most `record_most` octets, from 1 to

@@ -43,7 +43,7 @@ pub record ConnectionStep : Type 0 where
   pub indications : List Indication
   pub left : ConnectionState
 
--- the state of a connection that is over: later octets have no effect
+-- the state of a connection that has ended: later octets have no effect
 abbrev pub over_state : Stream → ConnectionState
 over_state s = record { stream = end_of_stream s; phase = Over }
 

@@ -26,8 +26,8 @@ Completes t piece used (fails code) =
     (used ≤ length piece) × (indications t (take used piece) ≡ fails code ∷ [])
 
 -- `used` octets of the piece are consumed, and the result is the first indication of the piece, or
--- None if there is none yet. If the connection is over, no octet is consumed, and the result is the
--- end again.
+-- None if there is none yet. If the connection has ended, no octet is consumed, and the result is
+-- the end again.
 abbrev pub FeedsFrom : StreamState → ConnectionState → List ℕ → ℕ → Option Indication → Type 0
 FeedsFrom (Going connection rest) t piece used None =
     (used ≡ length piece) × (indications t piece ≡ [])

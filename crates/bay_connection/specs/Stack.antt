@@ -12,7 +12,7 @@ use Rattle.bay_connection.specs.ConnectionStates.{ConnectionState, Indication, a
 use Rattle.bay_connection.specs.Feeding.{Client}
 
 -- If the association is open, a size of TPDUs is agreed; if the stream has ended, the association
--- is over; and no stream has failed.
+-- has ended; and no stream has failed.
 abbrev pub AreJoined : StreamState → Phase → Type 0
 AreJoined (Going connection rest) phase =
     IfSome (association_terms phase) (λ _. IsSome connection.size)

@@ -76,7 +76,7 @@ impl Connection {
         ensures open { IfOk result (λ fed. IsOpenFor fed.heard self.new.talk.phase) }
         ensures lent { IfOk result (λ fed. LendsOnly fed.heard self.new.pdu) }
         // An allocation fails only if octets are still accepted and the piece has some, and then
-        // the connection is over.
+        // the connection ends.
         ensures memory { OnErr result
             (IsGoing self.old.talk.stream.left × (0 < length piece.now)) }
         ensures over { OnErr result (self.new.talk ≡ over_state self.old.talk.stream) }

@@ -9,12 +9,12 @@ pub enum Indication {
     Answer(Vec<u8>),
     /// A PDU of MMS, which `Connection::pdu` returns.
     Mms,
-    /// A request for a release. These octets answer it and must be sent. The connection is over.
+    /// A request for a release. These octets answer it and must be sent. The connection ends.
     Released(Vec<u8>),
-    /// The client has ended the connection or aborted the association. The connection is over.
+    /// The client has ended the connection or aborted the association. The connection ends.
     Ended,
     /// The octets were refused with the fault of this number: 10 to 13 of the transport, 20 to 25
-    /// of the association. The connection is over.
+    /// of the association. The connection ends.
     Fault(u8),
 }
 

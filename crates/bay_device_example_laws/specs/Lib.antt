@@ -1,4 +1,5 @@
--- Small runs that the relations of the headline tell apart. `Selects`: for `IsBacked`; `Commands`:
+-- Small runs, right and wrong, that the relations of the headline accept and refuse. `Selects`: for
+-- `IsBacked`; `Commands`:
 -- for `CommandedAt`; `Operates`: for `AreOperates` and `AllOperate`; `Scans`: for `HasScan`,
 -- `HaltsAt` and `MeansAt`.
 pub mod Commands

@@ -40,8 +40,8 @@ pub struct Outbox {
     room: [u8; ROOM],
     // The number of octets in use, from the first on.
     count: usize,
-    // The digits of a number are formatted here. The buffer is kept, so that it is initialised once
-    // and not for each number.
+    // The digits of a number are formatted here. The buffer is a field, so that it is initialised
+    // once and not for each number.
     digits: Buffer,
 }
 

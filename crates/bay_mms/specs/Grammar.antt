@@ -92,7 +92,7 @@ abbrev pub moment : List ℕ → Datum
 moment content =
     if length content == 8 then mms.utc content else mms.other (context 17) content
 
--- octet-string, visible-string and utc-time; any other kind is kept as it is
+-- octet-string, visible-string and utc-time; any other kind is left unchanged
 unfoldable pub string : Form Part Datum
 string =
     choice (context 9) (map_form mms.octets octets)

@@ -25,11 +25,11 @@ hears_end (Reads a room heard ∷ calls) = is_end heard || hears_end calls
 hears_end (Writes a octets taken ∷ calls) = hears_end calls
 hears_end (Closes a ∷ calls) = hears_end calls
 
--- Of a connected process that is closed after a turn nothing is kept, and nothing counts as
--- reported to it. The next turn takes from the port that the process is lost, and no line; the link
--- is not called before. A process that a turn dismisses is lost in this turn, which takes no line
--- of it; after the turn its connection is closed for the same reason. Of a process that has gone
--- while it waited nothing is kept or reported.
+-- If the connection of a process is closed after a turn, the port discards its octets, and nothing
+-- counts as reported to it. The next turn reads from the port that the process is lost, and no line;
+-- the link is not called before. A process that a turn dismisses is lost in this turn, which reads
+-- no line of it; after the turn its connection is closed for the same reason. If a process has gone
+-- while it waited, the port buffers nothing of it and reports nothing.
 pub record IsSilent (t : ReportedTurn) (s : State) (now jump : ℕ) (script : Script) (p : PortData)
     : Type 0 where
   pub closed : (why : DisconnectReason) → p.presence ≡ Here
@@ -46,7 +46,7 @@ pub record IsSilent (t : ReportedTurn) (s : State) (now jump : ℕ) (script : Sc
       → ((attendance t s script p).news ≡ None)
       × ((attendance t s script p).port ≡ with_no_data Away p)
 
--- a line that the port has can be read, and tells of what the turn is given
+-- a line that the port hands to a turn can be read, and spells the input of the turn
 abbrev pub IsReadable : State → ℕ → ℕ → PortData → Type 0
 IsReadable s now jump p = (line : List ℕ) → (taken_line s now jump p).line ≡ Some line
     → input_of_event (event_in_line s line) ≡ Ok (report_of_event (taken_line s now jump p).event)

@@ -1,5 +1,5 @@
--- What is done with the connection of the process behind a turn: what it is told, and what it
--- sends.
+-- How the connection of the process is served after a turn: what is sent to the process, and what
+-- is read from it.
 use Rattle.std.specs.Prelude.{◌≡◌, ℕ, List, [], ◌∷◌, ◌++◌, drop, Option, None, Some, Result, Ok, Err, if◌then◌else◌}
 use Rattle.std.specs.declared.net.socket_addr.SocketAddrV4.{SocketAddrV4}
 use Rattle.bay_device.specs.Device.{State}

@@ -1,4 +1,4 @@
--- What a supervised process owes, what is known of it, and what a line of a process comes to.
+-- The supervision settings, what is known of a supervised process, and how its lines are read.
 use Rattle.std.specs.Prelude.{ℕ, ◌-◌, Bool, true, false, ◌&&◌, min, nat_le, nat_lt, List, [], ◌∷◌, Option, None, Some, option_map, Result, Ok, Err, if◌then◌else◌}
 use Rattle.bay_device.specs.Device.{State}
 use Rattle.bay_lines.specs.Escaped.{shown_text}

@@ -21,7 +21,8 @@ pub enum DisconnectReason {
     Untimely,
     /// The moment of a line is before that of the line before it.
     OutOfOrder,
-    /// No whole line came for so many milliseconds, as long as a supervised process may be silent.
+    /// No whole line came for this number of milliseconds, for which a supervised process may be
+    /// silent.
     Silent(u32),
     /// The system's clock has gone on further beyond the steady one than a supervised process may
     /// be silent: the machine has slept, or its clock was set.

@@ -14,11 +14,11 @@ ghost use Rattle.bay_process_port.specs.declared.port.Presence.TheVariants.{Away
 ghost use Rattle.bay_server_turn.specs.Calls.{Over, Silence};
 ghost use Rattle.bay_server_turn.specs.declared.process_input.ProcessEvent.{ProcessEvent};
 
-/// A process that has gone reports nothing: after a closing, nothing that it sent is kept; the next
-/// turn begins with the loss of the process, and no other process' line is taken before that: till
-/// then the link is not called. A turn that believes a process no more begins with its loss and
-/// takes no line of it, and after this turn its connection is closed. One that has gone while it
-/// waited is not accepted.
+/// A process that has gone reports nothing. When its connection is closed, the port discards what
+/// the process had sent. The next turn begins with the loss of the process, and no other process'
+/// line is read before that: until then the link is not called. A turn that no longer believes a
+/// process begins with its loss and reads no line of it, and after this turn its connection is
+/// closed. A process that has gone while it waited is not accepted.
 pub fn a_closed_process_reports_nothing()
     ensures { (t : ReportedTurn) (s : State) (now jump : ℕ) (script : Script) (p : PortData)
         → IsSilent t s now jump script p }

@@ -11,8 +11,8 @@ use bay_device::device::Device;
 use bay_server_turn::link::Link;
 use bay_server_turn::turn_report::Turn;
 
-// Talks to a connected process: queues what the turn reported and which releases have changed,
-// offers what is waiting, and reads it. An error means that its connection is to be closed.
+// Serves a connected process: queues the turn's lines and the releases that have changed, writes
+// what is waiting, and reads from the process. An error means that its connection must be closed.
 fn exchange<L: Link>(
     port: &mut Port,
     link: &mut L,
@@ -93,12 +93,13 @@ fn close_dismissed<L: Link>(port: &mut Port, link: &mut L) -> Option<ConnectionE
 /// The connection of a process that the turn has dismissed is closed.
 ///
 /// A waiting connection is accepted, greeted if it is supervised, and read; one that has gone
-/// itself, and left no whole line, is closed again and not reported. A connected process is told
+/// itself, and left no whole line, is closed again and not reported. A connected process is sent
 /// the turn's refusal and commands, each line as it is printed, and the releases that have changed,
-/// if it is told of them; what is waiting is offered once; and it is read once if no whole line is
-/// kept. A supervised one is told first that an operate is over, and last that the server lives, if
-/// it said so itself. The connection is closed at its end, for a full queue, and if a read or a
-/// write fails. After that, none is accepted before a turn is told that the process is lost.
+/// if the port sends releases. What is waiting is written once, and the process is read once if no
+/// whole line is buffered. A supervised process is sent first that an operate has ended, and last
+/// that the server lives, if the process reported that it lives. The connection is closed at its
+/// end, for a full queue, and if a read or a write fails. After that, no process is accepted before
+/// a turn has handled the loss of this one.
 pub fn poll<L: Link>(
     port: &mut Port,
     link: &mut L,

@@ -43,8 +43,8 @@ pub enum Presence {
     /// It has disconnected, or is supervised and has not connected yet, and no turn has handled its
     /// loss.
     Leaving,
-    /// A turn was told that it is lost, since it is believed no more for this reason. Its
-    /// connection is still to be closed.
+    /// A turn has handled its loss, since it is no longer believed for this reason. Its connection
+    /// must still be closed.
     Dismissed(DisconnectReason),
     /// It is connected.
     Here,

@@ -131,8 +131,8 @@ impl ProcessMessage {
     }
 }
 
-/// What a line of a process comes to, and the moment that the line names, in milliseconds since
-/// 1970, or the moment of its turn if the process is not supervised.
+/// How a line of a process is read, and the moment that the line names, in milliseconds since 1970,
+/// or the moment of its turn if the process is not supervised.
 #[derive(Clone, Copy)]
 pub struct TimedMessage {
     pub moment: u64,
@@ -225,7 +225,7 @@ impl SupervisedProcess {
         self.duties.limit_ms
     }
 
-    // Returns what a later line comes to.
+    // Returns how a later line is read.
     fn report(
         &self,
         device: &Device,

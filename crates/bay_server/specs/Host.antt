@@ -1,4 +1,4 @@
--- What serving asks of the system.
+-- The calls of a server on its host, and their results.
 use Rattle.std.specs.Prelude.{ℕ, Option, Result}
 use Rattle.bay_server.specs.declared.host.BindFault.{BindFault}
 

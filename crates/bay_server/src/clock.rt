@@ -26,9 +26,9 @@ pub struct Clocks {
 pub enum ClockSide {
     /// At most 1,000 milliseconds away.
     Near,
-    /// Further ahead.
+    /// More than 1,000 milliseconds ahead.
     Ahead,
-    /// Further behind.
+    /// More than 1,000 milliseconds late.
     Behind,
 }
 
@@ -111,7 +111,7 @@ impl ServeClock {
     }
 
     /// Reads the clock, given the times of the two clocks of the host. A steady clock that went
-    /// back counts as one that stood still.
+    /// back counts as one that has not advanced.
     pub fn read(&mut self, clocks: Clocks) -> ClockReading
         ensures clock { self.new ≡ after_reading clocks self.old }
         ensures moment { result.moment ≡ self.new.moment }

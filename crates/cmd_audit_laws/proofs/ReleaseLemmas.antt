@@ -47,7 +47,7 @@ at-own-name name value =
     ap (λ b. option_and_then (λ (r : Row). r.leaf) (cond b (Some row) None))
     ((bytes_decides name name).1 refl)
 
-is-enabled : (b : Bool) (s : State)
+pub is-enabled : (b : Bool) (s : State)
     → is_truth true (leaf_of (enable_name 0 operation.Open) (with_enable_value b s).rows)
     ≡ is_truth true (Some (leaf.Truth b))
 is-enabled b s =

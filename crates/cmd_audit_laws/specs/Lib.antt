@@ -4,7 +4,7 @@
 -- octets; `Guarded`: the turns of a service with rules obey each of them; `Replayed`: the events of
 -- each replay obey an audit. `Audited`: how an audit answers a rule; `Told`: the line of an audit
 -- for a rule that holds. `Waits`: what a rule with a time implies. `Orders`: small runs that
--- `IsReleasedBy`, `IsHeard` and `IsOrdered` distinguish.
+-- `IsReleasedBy`, `IsHeard`, `IsOrdered` and what obeys a rule distinguish.
 pub mod Audited
 pub mod Guarded
 pub mod Orders

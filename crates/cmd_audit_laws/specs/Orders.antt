@@ -1,7 +1,9 @@
--- Small runs of scans, and of turns in which octets arrive.
+-- Small runs of scans, of rules with a time, and of turns in which octets arrive.
 use Rattle.std.specs.Prelude.{ℕ, Bool, false, List, [], ◌∷◌, replicate, None, Some, Ok}
 use Rattle.bay_base.specs.declared.switch.Operation.TheVariants.{Open}
 use Rattle.bay_base.specs.declared.position.Dbpos.TheVariants.{Off}
+use Rattle.bay_audit_rules.specs.declared.rule.ConditionItem.TheVariants as items
+use Rattle.bay_audit_rules.specs.declared.rule.Timing.{Timing}
 use Rattle.bay_tree.specs.declared.leaf.Leaf.TheVariants as leaf
 use Rattle.bay_mms_services.specs.Released.{enable_name}
 use Rattle.bay_mms_services.specs.declared.answer.Command.{Command}
@@ -48,6 +50,17 @@ contact_past s step = record {
 -- the loss of the process
 abbrev pub lost_past : State → Step → Past
 lost_past s step = record { now = 0; event = Lost; answer = Ok step; after = s }
+
+-- ---- rules with a time
+
+-- the time of a rule by which a switch waits until its condition, here TRUE in every state, has
+-- held for 5 milliseconds
+abbrev pub five_milliseconds : Timing
+five_milliseconds = record { condition = items.True ∷ []; time = 5 }
+
+-- the device after a last scan at this moment
+abbrev pub scanned_at : ℕ → State → State
+scanned_at moment s = record s { last_scan = Some moment }
 
 -- ---- turns
 

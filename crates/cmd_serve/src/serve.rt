@@ -41,10 +41,10 @@ use cmd_audit::judging::{RulesVerdict, judge_rules, write_verdict};
 use std::alloc::{AllocError, AllocFailed, Global};
 use std::io::ErrorKind;
 
-/// The port for clients, the number of turns, the port for the process, if there is one, whether it
-/// is told of releases, for how many milliseconds it may be silent, if it is supervised, for how
-/// many seconds a client may send nothing, if that is limited, and the most octets of the record,
-/// if the session is recorded.
+/// The port for clients, the number of turns, the port for the process, if there is one, whether
+/// releases are sent to the process, for how many milliseconds it may be silent, if it is
+/// supervised, for how many seconds a client may send nothing, if that is limited, and the most
+/// octets of the record, if the session is recorded.
 #[derive(Clone, Copy)]
 pub struct Numbers {
     pub port: u16,
@@ -583,13 +583,13 @@ fn serve_loaded<F: FileSystem, L: Link + Drop, H: Host<L>, W: Sink>(
 /// refused, 4 if a rule does not hold, and 3 for any other fault. Fails if a write or a flush
 /// fails, or if the file of the record can't be created.
 ///
-/// All turns are one run of the device, from load on. Behind each command that a turn tells, and so
-/// behind each line that is printed, or told the process, and reads as one, stand the octets of a
-/// client that ask for it, the success that is sent to this client, and the last scan before, of an
-/// earlier turn, which left the switch's interlocking value TRUE, and since which the process has
-/// not changed. If the process is supervised, it is connected in this turn, it has introduced
-/// itself as the process of this bay, and its last line counts from a moment at most the
-/// milliseconds of the supervision before the moment of this turn.
+/// All turns are one run of the device, from load on. For each command that a turn reports, and so
+/// for each line that is printed, or sent to the process, and is read as a command: the octets of a
+/// client requested it, success is sent to this client, and the last scan before, of an earlier
+/// turn, left the switch's interlocking value TRUE, and no contact or input has changed since that
+/// scan. If the process is supervised, it is connected in this turn, it has introduced itself as
+/// the process of this bay, and its last line counts from a moment at most the milliseconds of the
+/// supervision before the moment of this turn.
 pub fn serve<F: FileSystem, L: Link + Drop, H: Host<L>, W: Sink>(
     alloc: Global,
     named: NamedFiles<'_>,

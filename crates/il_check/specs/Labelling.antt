@@ -59,7 +59,7 @@ abbrev mutual
 
 -- ---- own: types of the current result, over the items
 
--- the type of the result that the paths to a place bring; none if no path leads there
+-- the type of the result that the paths to an item bring; none if no path leads there
 abbrev pub Coming : Type 0
 Coming = Option (Option ElementaryType)
 

@@ -15,7 +15,7 @@ use Rattle.il_check.specs.declared.typed.Variable.{Variable}
 
 -- ---- own: meanings of names
 
--- The external, variable or timer at the index that is meant has this name in upper case.
+-- The index in the meaning is that of an external, variable or timer with this name in upper case.
 abbrev pub IsOwn : Checked → List ℕ → Meaning → Type 0
 IsOwn c name (meaning.Variable (slot.External n) kind writable) =
     (e : External) × (slice_get c.externals n ≡ Some e) × (e.name ≡ name) × (e.kind ≡ kind)

@@ -116,14 +116,14 @@ same_result a b = false
 abbrev pub join_types : Option ElementaryType → Option ElementaryType → Option ElementaryType
 join_types a b = if same_result a b then a else None
 
--- the join of what two paths bring to a place
+-- the join of what two paths bring to the same item
 abbrev pub join : Reach → Reach → Reach
 join a b =
     if not a.is_reached then b
     else (if not b.is_reached then a
     else record { is_reached = true; kind = join_types a.kind b.kind })
 
--- a place that no path leads to
+-- what is known before an item that no path leads to
 abbrev pub no_reach : Reach
 no_reach = record { is_reached = false; kind = None }
 

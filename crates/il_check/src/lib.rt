@@ -10,7 +10,7 @@
 // - `source_operand`, `resolve`: instructions with their names resolved.
 // - `rules`: what instructions require of the current result, and the result after them.
 // - `typing`: the typed forms of valid instructions.
-// - `reach`: what is known of the current result at a place.
+// - `reach`: what is known of the current result before an item.
 // - `judge`: the faults of one instruction.
 // - `walk`: the items of a program, one after another.
 // - `laws`: laws of the definitions that the contracts cite.

@@ -1,17 +1,18 @@
-// What is known of the current result at a place of a program.
+// What is known of the current result before an item of a program.
 ghost use Rattle.std.specs.Prelude.{◌≡◌};
 ghost use Rattle.il_check.specs.WellTyped as spec;
 
 use bay_base::types::ElementaryType;
 
-/// Whether a place is reachable, and the type of the current result there, if it is set.
+/// Whether an item is reachable, and the type of the current result before it, if the result is
+/// set.
 #[derive(Clone, Copy)]
 pub struct Reach {
     pub is_reached: bool,
     pub kind: Option<ElementaryType>,
 }
 
-/// Returns what is known of a place that no path leads to.
+/// Returns what is known before an item that no path leads to.
 pub(crate) fn unreached() -> Reach
     ensures { result ≡ spec.no_reach }
 {
@@ -46,7 +47,7 @@ fn join_types(
     }
 }
 
-/// Joins what two paths bring to the same place.
+/// Joins what two paths bring to the same item.
 pub(crate) fn join(first: Reach, second: Reach) -> Reach
     ensures { result ≡ spec.join first second }
 {

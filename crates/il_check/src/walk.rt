@@ -31,8 +31,8 @@ use std::alloc::{AllocError, Global};
 // The maximum nesting depth of parentheses.
 const MAX_DEPTH: usize = 16;
 
-/// The state kept from item to item: the fault to report, if any so far, and a buffer for looking
-/// up names.
+/// The state of the walk from item to item: the fault to report, if any so far, and a buffer for
+/// looking up names.
 #[derive(Drop)]
 pub(crate) struct Judge {
     pub(crate) alloc: Global,

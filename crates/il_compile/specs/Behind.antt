@@ -1,5 +1,5 @@
--- Inner: what the compiler knows of the items after a place, the continuation, as it goes from the
--- last item to the first.
+-- Inner: what the compiler knows of the continuation, the items after the current one. The compiler
+-- goes from the last item to the first.
 use Rattle.std.specs.Prelude.{◌≡◌, ℕ, ◌+◌, ◌≤◌, List, min, reverse, Option, [], nat_eq}
 use Rattle.std.specs.HashMap.{get}
 use Rattle.std.specs.Option.{unwrap_or}
@@ -43,8 +43,8 @@ abbrev pub octets_bound : ℕ
 octets_bound = 65_536
 
 -- These are the instructions of the items, the last first, and the number of their octets, counted
--- up to the bound. The instructions and the places of labels are known if there are no more octets
--- than an image may have.
+-- up to the bound. If there are no more octets than an image may have, the instructions are known,
+-- and so is the number of octets after each label.
 pub record IsBehind (externals : ℕ) (is : List ProgramItem) (instrs : List Instr) (size : ℕ)
     (places : ℕ → Option ℕ) : Type 0 where
   pub counted : size ≡ min (octets (items_code externals is)) octets_bound

@@ -18,7 +18,7 @@ use std::collections::HashMap;
 // The octets are counted up to this number.
 const BOUND: u32 = 0x1_0000;
 
-/// What is known of the items after a place, the continuation.
+/// What is known of the continuation, the items after the current one.
 #[derive(Drop)]
 pub(crate) struct Continuation {
     /// The instructions of these items, the last first.

@@ -1,4 +1,5 @@
--- The stack machine. One instruction is one step; each case without a meaning is a trap.
+-- The stack machine. One instruction is one step; each case without a meaning is a trap. An offset
+-- counts octets of the code from 0.
 use Rattle.std.specs.Prelude.{ℕ, ℤ, zero, suc, pos, ◌+◌, ◌&&◌, ◌||◌, Bool, true, false, not, List, [], ◌∷◌, length, nat_lt, slice_get, slice_set, Option, Some, None, if◌then◌else◌}
 use Rattle.std.specs.Ordering.{int_eq}
 use Rattle.il_image.specs.declared.arithmetic.Width.{Width}

@@ -1,5 +1,5 @@
 -- Reading one item from the start of octets: the item and the octets after it, or the first fault
--- from the left.
+-- from the left. An offset counts octets of the code from 0.
 use Rattle.std.specs.Prelude.{ℕ, ℤ, ◌≡◌, ◌+◌, ◌-◌, ◌≤◌, ◌++◌, List, [], ◌∷◌, length, drop, Option, Some, None, Result, Ok, Err, nat_lt, if◌then◌else◌}
 use Rattle.std.specs.Int.{w16, cast_signed, from_be_bytes}
 use Rattle.bay_base.specs.Results.{◌>>=◌}
@@ -100,16 +100,16 @@ instr_from version octets = do
   opcode ← known_opcode version (opcode_of octet.0)
   operand_from version opcode octet.1
 
--- the instruction that was read, and the place after it in code of this length
+-- the instruction that was read, and the offset after it in code of this length
 abbrev pub with_next_place : ℕ → Read Instr → Option (Instr × ℕ)
 with_next_place size (Ok r) = Some (r.0, size - length r.1)
 with_next_place size (Err e) = None
 
--- the instruction at a place of the code, and the place after it
+-- the instruction at an offset in the code, and the offset after it
 unfoldable pub instr_at : List ℕ → ℕ → Option (Instr × ℕ)
 instr_at code place = with_next_place (length code) (instr_from Two (drop place code))
 
--- The code has the instruction at this place, and the place after it is `next`.
+-- The code has the instruction at this offset, and the offset after it is `next`.
 pub record StandsAt (code : List ℕ) (place : ℕ) (i : Instr) (next : ℕ) : Type 0 where
   pub is_instr : IsInstr i
   pub spelled : drop place code ≡ spelling i ++ drop next code

@@ -1,4 +1,5 @@
--- Tables of the kinds on the stack before each instruction, and paths through the code.
+-- Tables of the kinds on the stack before each instruction, and paths through the code. An offset
+-- counts octets of the code from 0.
 use Rattle.std.specs.Prelude.{ℕ, zero, suc, ◌≡◌, ◌≢◌, ◌+◌, ◌≤◌, List, [], ◌++◌, length, map, Option, Some, IsSome, ◌⊎◌, ◌↔◌}
 use Rattle.bay_base.specs.declared.types.ElementaryType.{ElementaryType}
 use Rattle.il_image.specs.declared.instr.Instr.{Instr}
@@ -21,7 +22,7 @@ slot_types i = map (λ p. p.elementary) i.points ++ map type_of i.variables
 
 -- ---- own: successors of an instruction
 
--- The instruction can continue at the place `to`, if the place after it is `next`.
+-- The instruction can continue at the offset `to`, if the offset after it is `next`.
 abbrev pub LeadsTo : Instr → ℕ → ℕ → Type 0
 LeadsTo Halt next to = ⊥
 LeadsTo (Jump Always distance) next to = to ≡ next + distance
@@ -37,7 +38,7 @@ LeadsTo (Compare c) next to = to ≡ next
 LeadsTo (Widen w) next to = to ≡ next
 LeadsTo (Timer timer_use n) next to = to ≡ next
 
--- The instruction at the first place can continue at the other.
+-- The instruction at the first offset can continue at the other.
 pub record IsSuccessor (code : List ℕ) (place to : ℕ) : Type 0 where
   pub instr : Instr
   pub next : ℕ
@@ -46,15 +47,15 @@ pub record IsSuccessor (code : List ℕ) (place to : ℕ) : Type 0 where
 
 -- ---- own: tables of kinds
 
--- the kinds on the operand stack before the instruction at each place
+-- the kinds on the operand stack before the instruction at each offset
 abbrev pub Table : Type 0
 Table = ℕ → Option (List CellKind)
 
--- The table has kinds at the place, and the kinds of the list are within them, one by one.
+-- The table has kinds at the offset, and the kinds of the list are within them, one by one.
 abbrev pub Enters : Table → ℕ → List CellKind → Type 0
 Enters table place kinds = (most : List CellKind) × (table place ≡ Some most) × AreWithin kinds most
 
--- The instruction at the place is allowed on these kinds, and the kinds after it enter each of its
+-- The instruction at the offset is allowed on these kinds, and the kinds after it enter each of its
 -- successors.
 pub record IsAllowed (image : Image) (table : Table) (place : ℕ) (kinds : List CellKind)
     : Type 0 where
@@ -65,7 +66,7 @@ pub record IsAllowed (image : Image) (table : Table) (place : ℕ) (kinds : List
   pub effect : kinds_after (slot_types image) (length image.timers) instr kinds ≡ Some after
   pub enters : (to : ℕ) → LeadsTo instr next to → Enters table to after
 
--- The table agrees with the code: it has kinds exactly at the places of instructions, no kinds on
+-- The table agrees with the code: it has kinds exactly at the offsets of instructions, no kinds on
 -- the stack before the first, and never more than the stack has cells; each instruction is allowed
 -- on its kinds; and each instruction but the first is a successor of one.
 pub record Agrees (image : Image) (table : Table) : Type 0 where
@@ -84,16 +85,16 @@ HasTable image = (table : Table) × Agrees image table
 
 -- ---- own: paths through code
 
--- a path of n places, from place 0 to this one, each a successor of the one before
+-- a path of n offsets, from offset 0 to this one, each a successor of the one before
 abbrev pub Path : List ℕ → ℕ → ℕ → Type 0
 Path code zero place = ⊥
 Path code (suc zero) place = place ≡ 0
 Path code (suc (suc n)) place = (from : ℕ) × Path code (suc n) from × IsSuccessor code from place
 
--- The instruction at the place is HALT.
+-- The instruction at the offset is HALT.
 abbrev pub IsHalt : List ℕ → ℕ → Type 0
 IsHalt code place = (next : ℕ) × (instr_at code place ≡ Some (Halt, next))
 
--- a path of n places that ends at a HALT
+-- a path of n offsets that ends at a HALT
 abbrev pub Ends : List ℕ → ℕ → Type 0
 Ends code n = (place : ℕ) × Path code n place × IsHalt code place

@@ -36,7 +36,7 @@ pub fn off_delay_timer()
 
 /// Each instruction has one encoding, which decodes to the instruction whatever follows it. A
 /// decoded instruction is encoded by the octets that were read. What version 1 decodes, version 2
-/// decodes likewise. The instruction at a place of the code is the one encoded there.
+/// decodes likewise. The instruction at an offset in the code is the one encoded there.
 pub fn one_spelling_of_instructions()
     ensures written { (i : Instr) (rest : List ℕ) → IsInstr i
         → instr_from Two (spelling i ++ rest) ≡ Ok (i, rest) }
@@ -49,7 +49,7 @@ pub fn one_spelling_of_instructions()
         → (instr_at code place ≡ Some (i, next)) ↔ StandsAt code place i next }
 {}
 
-/// `is_place` accepts a place exactly if one of the code's instructions begins there. The
+/// `is_place` accepts an offset exactly if one of the code's instructions begins there. The
 /// instructions follow one another without gaps.
 pub fn places_are_of_instructions()
     ensures { (code : List ℕ) (place : ℕ) → IsTrue (is_place code place) ↔ IsPlace code place }

@@ -1,5 +1,5 @@
 // Readers of one item at the start of octets. Each returns the item and the octets after it, or the
-// first fault from the left, and does not allocate.
+// first fault from the left, and does not allocate. An offset counts octets of the code from 0.
 ghost use Rattle.std.specs.Prelude.{◌≡◌, ◌+◌, ◌<◌, ◌≤◌, IfOk, IfSome, length};
 ghost use Rattle.bay_base.specs.Results.{IsRead};
 ghost use Rattle.il_image.specs.Reading.{with_next_place};

@@ -1,4 +1,5 @@
--- Inner: what the pass knows at the places that are still to come.
+-- Inner: what the pass knows at the offsets that it has yet to reach. An offset counts octets of
+-- the code from 0.
 use Rattle.std.specs.Prelude.{ℕ, ◌≡◌, ◌≢◌, ◌+◌, ◌≤◌, true, false, List, length, reverse, slice_get, Option, Some}
 use Rattle.il_image.specs.declared.instr.Instr.{Instr}
 use Rattle.il_image.specs.declared.value.Value.{Value}
@@ -53,23 +54,23 @@ pub record IsJoin (one other both : Known) : Type 0 where
   pub slots : both.slots.items ≡ join_lists join one.slots.items other.slots.items
   pub timers : both.timers.items ≡ join_lists join_timer one.timers.items other.timers.items
 
--- Something is known at the place, and it covers the run.
+-- Something is known at the offset, and it covers the run.
 pub record CoversAt (pending : List (Option Known)) (place : ℕ) (h : Held) : Type 0 where
   pub known : Known
   pub here : slice_get pending place ≡ Some (Some known)
   pub covers : Covers (known_view known) h
 
--- What was covered at a place is still covered there.
+-- What was covered at an offset is still covered there.
 abbrev pub Keeps : List (Option Known) → List (Option Known) → Type 0
 Keeps old new = (q : ℕ) (h : Held) → CoversAt old q h → CoversAt new q h
 
--- What is known is joined in at a place; what was covered at a place is still covered there.
+-- What is known is joined in at this offset; what was covered at any offset is still covered there.
 pub record Arrives (old new : List (Option Known)) (place : ℕ) (come : Plain) : Type 0 where
   pub keeps : Keeps old new
   pub brings : (h : Held) → Covers come h → CoversAt new place h
 
--- A jump that is taken if `jumps` is TRUE: what is known is joined in at both places, or at one
--- alone if the other is ruled out.
+-- A jump that is taken if `jumps` is TRUE: what is known is joined in at its target and at the next
+-- instruction, or at one alone if the other is ruled out.
 pub record Branches (jumps : Range) (distance next : ℕ) (come : Plain)
     (old new : List (Option Known))
     : Type 0 where
@@ -79,8 +80,8 @@ pub record Branches (jumps : Range) (distance next : ℕ) (come : Plain)
   pub near : (h : Held) → IsIn h.setting (Truth false) jumps → Covers come h
       → CoversAt new next h
 
--- A step goes to a place from `next` on, where it is covered; or it halts, and is covered at the
--- end; or it traps.
+-- A step goes to an offset from `next` on, where its state is covered; or it halts, and its state
+-- is covered at the end; or it traps.
 abbrev pub Lands : StepResult → ℕ → ℕ → Held → List (Option Known) → Type 0
 Lands (Goes s) next end h pending =
     (next ≤ s.place) × CoversAt pending s.place (held_by h.now h.setting s)
@@ -94,8 +95,9 @@ pub record Moves (instr : Instr) (next : ℕ) (come : Plain) (old new : List (Op
   pub lands : (now end : ℕ) (w : Setting) (s : State) → Covers come (held_by now w s)
       → Lands (act now instr next s) next end (held_by now w s) new
 
--- Each step of the instruction at a place from a state that is covered there lands after it; what
--- was covered at other places is still covered. The end of the code represents the end of a run.
+-- Each step of the instruction at an offset, from a state that is covered there, lands after it;
+-- what was covered at other offsets is still covered. The end of the code represents the end of a
+-- run.
 pub record Visits (code : List ℕ) (place : ℕ) (old new : List (Option Known)) : Type 0 where
   pub keeps : (q : ℕ) → q ≢ place → (h : Held) → CoversAt old q h → CoversAt new q h
   pub lands : (instr : Instr) (next now : ℕ) (w : Setting) (s : State)

@@ -66,8 +66,8 @@ IsFalseValue (Long z) = ⊥
 IsFalseValue (Wide z) = ⊥
 IsFalseValue (Span n) = ⊥
 
--- The value is one of the range, in this setting: its number is between both
--- ends, or it is a BOOL; or it is whether a switch has one of some positions.
+-- The value is one of the range, in this setting: its number is between both ends, or it is a BOOL;
+-- or it is whether a switch has one of some positions.
 abbrev pub IsIn : Setting → Value → Range → Type 0
 IsIn w v Any = Unit {0}
 IsIn w v No = IsFalseValue v

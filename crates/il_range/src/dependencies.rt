@@ -42,8 +42,9 @@ fn is_known(range: Range) -> bool {
     }
 }
 
-// Returns what a value depends on: nothing if its range has one value; of the positions of switches
-// that are distinguished only those of the range, if it is one of a switch.
+// Reduces the set of what a value depends on by the value's range: to nothing if the range has one
+// value; and if the range is one of a switch's positions, to these positions and the slots and
+// timers of the set.
 fn settled(set: SourceSet, range: Range) -> SourceSet {
     match range {
         Range::Among(switch, positions) => set

@@ -336,8 +336,9 @@ fn merged(one: Known, other: Known) -> Result<Known, PassStop>
     })
 }
 
-/// Brings a path to a place: joins what is known with what is pending there. Returns `Undecided` if
-/// there is no such place, or if the two differ in their numbers of cells, slots or timers.
+/// Brings a path to an offset in the code: joins what is known with what is pending there. Returns
+/// `Undecided` if there is no such offset, or if the two differ in their numbers of cells, slots or
+/// timers.
 pub(crate) fn arrive(
     pending: &mut Vec<Option<Known>>,
     place: usize,

@@ -6,7 +6,7 @@
 // - `delay`: what is known of the delay of a timer.
 // - `timer`: what is known of a timer, and after a call of it.
 // - `known`: what is known of the stack, the slots and the timers before an instruction.
-// - `pass`: the pass over the places of the code.
+// - `pass`: the pass over the code.
 // - `start`: what is known at the start of a scan.
 // - `scan`: what is known of the slots after a scan.
 // - `memory`: what the slots may hold between scans.

@@ -1,4 +1,5 @@
-// The pass over the places of the code, in order.
+// The pass over the code, from instruction to instruction. An offset counts octets of the code from
+// 0.
 ghost use Rattle.std.specs.Prelude.{◌≡◌, ◌+◌, ◌<◌, [], List, length, slice_get, slice_set, IfOk, OnOk, Some, None, Vec};
 ghost use Rattle.std.specs.Global.{Global};
 ghost use Rattle.il_range.specs.Outcomes.{Predicts};
@@ -29,7 +30,7 @@ fn step(
     arrive(pending, next, here)
 }
 
-// Brings what is known to the place `distance` octets past the next instruction.
+// Brings what is known to the offset that is `distance` octets after `next`.
 fn jump_past(
     distance: u16,
     next: usize,
@@ -98,7 +99,7 @@ fn jump(
     }
 }
 
-// Removes what is pending at a place, and returns it.
+// Removes what is pending at an offset, and returns it.
 fn taken(pending: &mut Vec<Option<Known>>, place: usize) -> Option<Known>
     requires { place < length pending.old.items }
     ensures value { slice_get pending.old.items place ≡ Some result }
@@ -108,7 +109,7 @@ fn taken(pending: &mut Vec<Option<Known>>, place: usize) -> Option<Known>
     pending[place].take()
 }
 
-// Applies the instruction at a place to what is pending there. The end of the code represents the
+// Applies the instruction at an offset to what is pending there. The end of the code represents the
 // end of a run.
 fn visit(
     alloc: Global,
@@ -133,7 +134,7 @@ fn visit(
     }
 }
 
-// Returns `count` places at which nothing is pending.
+// Returns a list for `count` offsets, with nothing pending at any of them.
 fn none_pending(alloc: Global, count: usize) -> Result<Vec<Option<Known>>, PassStop>
     ensures { IfOk result (λ v. length v.items ≡ count) }
 {

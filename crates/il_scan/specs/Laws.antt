@@ -15,8 +15,8 @@ pub record Ends (old : MachineData) (inputs : List Value) (now : ℕ) : Type 0 w
   pub steps : ℕ
   pub scans : Scans old inputs now new steps (outputs_of old.image.points new.slots)
 
--- If a table of stack types agrees with an image's code, and the code writes no point that is read
--- only, then each scan ends: from any slots and timers of its types, with any inputs that fit, at
+-- If a table of kinds agrees with an image's code, and the code writes no point that may only be
+-- read, then each scan ends: from any slots and timers of its types, with any inputs that fit, at
 -- any moment.
 abbrev pub NeverGoesWrong : Type 0
 NeverGoesWrong =

@@ -7,7 +7,7 @@
 -- memory. `Laws`: each scan of verified code ends so, from all slots and timers of its types.
 --
 -- `Words`: words of 64 bits encode typed values, each by its number. `Places`: the value of a point
--- that may be written, by its place. `Loan`: what the outputs of a scan are borrowed from.
+-- that may be written, by its index. `Loan`: what the outputs of a scan are borrowed from.
 -- `MachineStates` is for invariants and proofs: words that encode a state that an agreeing table
 -- allows, and what a machine holds between scans.
 

@@ -1,5 +1,5 @@
 -- Inner: the states of the machine of typed values in verified code, and what one step of the
--- machine of words does there.
+-- machine of words does there. An offset counts octets of the code from 0.
 use Rattle.std.specs.Prelude.{ℕ, ℤ, ◌≡◌, ◌≤◌, IsSome, if◌then◌else◌, true, List, [], ◌∷◌, length, slice_get, Option, Some, None}
 use Rattle.bay_base.specs.declared.types.ElementaryType.{ElementaryType}
 use Rattle.il_image.specs.declared.kind.CellKind.{CellKind}
@@ -38,7 +38,7 @@ pub record Typed (types : List ElementaryType) (count : ℕ) (slots : List Value
   pub so_many : length timers ≡ count
   pub times : Each IsTimer timers
 
--- An agreeing table allows the cells at the state's place, and the code writes only what it may.
+-- An agreeing table allows the cells at the state's offset, and the code writes only what it may.
 pub record StandsAs (image : Image) (s : State) : Type 0 where
   pub table : Table
   pub agrees : Agrees image table
@@ -52,13 +52,13 @@ pub record StandsAs (image : Image) (s : State) : Type 0 where
 abbrev pub words_at : State → Words
 words_at s = words (words_of s.cells) (words_of s.slots) s.timers
 
--- The words encode this state, which is at this place of the code.
+-- The words encode this state, which is at this offset in the code.
 pub record StandsAt (image : Image) (place : ℕ) (w : Words) (s : State) : Type 0 where
   pub standing : StandsAs image s
   pub there : s.place ≡ place
   pub are : words_at s ≡ w
 
--- The words encode a state of some image with this code, at this place.
+-- The words encode a state of some image with this code, at this offset.
 abbrev pub IsAt : List ℕ → ℕ → Words → Type 0
 IsAt code place w =
     (image : Image) × (s : State) × (image.code ≡ code) × StandsAt image place w s
@@ -68,8 +68,8 @@ abbrev pub KeepsSlots : Image → Words → Words → Type 0
 KeepsSlots image old new = (n : ℕ) → is_read_only (slots_of image) n ≡ true
     → slice_get new.slots n ≡ slice_get old.slots n
 
--- One step of the machine of typed values from the state results in these words: it halts if there
--- is no next place, and otherwise goes to that place.
+-- One step of the machine of typed values from the state results in these words: the machine halts
+-- if there is no next offset, and otherwise goes to that offset.
 abbrev pub Turns : Image → ℕ → State → Option ℕ → Words → Type 0
 Turns image now s None after =
     (step_at image.code now s ≡ Halts) × (after ≡ words_at s) × IsHalt image.code s.place
@@ -107,8 +107,8 @@ pub record RunsTo (image : Image) (now : ℕ) (slots : List ℤ) (timers : List 
 
 -- ---- the machine
 
--- The content of a machine: the words of its slots, its timers, the places of its points, and room
--- for an output for each point that may be written.
+-- The content of a machine: the words of its slots, its timers, the indices of the points that may
+-- only be read and of those that may be written, and room for an output for each of the latter.
 pub record IsKept (image : Image) (slots : List ℤ) (timers : List TimerState)
     (reads writes : List ℕ) (outputs : List Value) : Type 0 where
   pub held : IsHeld image slots timers

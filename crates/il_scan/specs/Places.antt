@@ -10,7 +10,7 @@ abbrev pub value_there : Option ImagePoint → ℤ → Value
 value_there None w = Truth false
 value_there (Some p) w = value_at p.elementary w
 
--- the value of the point at a place
+-- the value of the point at an index
 abbrev pub output_value : List ImagePoint → List ℤ → ℕ → Value
 output_value points slots n = value_there (slice_get points n) (slot_at slots n)
 

@@ -1,4 +1,4 @@
--- Inner: the places of an image's points, and the test of inputs.
+-- Inner: the indices of an image's points, by access, and the test of inputs.
 use Rattle.std.specs.Prelude.{ℕ, ℤ, ◌≡◌, ◌+◌, ◌<◌, ◌&&◌, Bool, true, false, is_some, List, [], ◌∷◌, drop, slice_get, slice_index_or, slice_set, Some, if◌then◌else◌}
 use Rattle.bay_base.specs.Types.{same_type}
 use Rattle.bay_base.specs.declared.types.ElementaryType.{ElementaryType}
@@ -8,44 +8,45 @@ use Rattle.il_image.specs.declared.image.ImagePoint.{ImagePoint}
 use Rattle.il_image.specs.declared.value.Value.{Value}
 use Rattle.il_scan.specs.Words.{slot_at}
 
--- ---- places
+-- ---- indices
 
--- the places of the points that may only be read; the first point has the place n
+-- the indices of the points that may only be read; the first point has the index n
 abbrev pub read_places : ℕ → List ImagePoint → List ℕ
 read_places n [] = []
 read_places n (p ∷ points) =
     if p.writable then read_places (n + 1) points else n ∷ read_places (n + 1) points
 
--- the places of the points that may be written; the first point has the place n
+-- the indices of the points that may be written; the first point has the index n
 abbrev pub write_places : ℕ → List ImagePoint → List ℕ
 write_places n [] = []
 write_places n (p ∷ points) =
     if p.writable then n ∷ write_places (n + 1) points else write_places (n + 1) points
 
--- the slots with words at these places
+-- the slots with the words at these indices
 abbrev pub with_words : List ℕ → List ℤ → List ℤ → List ℤ
 with_words [] words slots = slots
 with_words (n ∷ places) [] slots = slots
 with_words (n ∷ places) (w ∷ words) slots = with_words places words (slice_set slots n w)
 
--- Each place is below the bound.
+-- Each index is below the bound.
 abbrev pub AllBelow : ℕ → List ℕ → Type 0
 AllBelow most [] = Unit {0}
 AllBelow most (n ∷ places) = (n < most) × AllBelow most places
 
--- Each place is above this one.
+-- Each index is above this one.
 abbrev pub AllAbove : ℕ → List ℕ → Type 0
 AllAbove least [] = Unit {0}
 AllAbove least (n ∷ places) = (least < n) × AllAbove least places
 
--- Each place is above those before it.
+-- Each index is above those before it.
 abbrev pub IsRising : List ℕ → Type 0
 IsRising [] = Unit {0}
 IsRising (n ∷ places) = AllAbove n places × IsRising places
 
 -- ---- inputs and outputs
 
--- The k-th input, if there is one, is of its type, and the slot at its place has its word.
+-- The k-th input, if there is one, is of the k-th type, and the slot at the k-th index has its
+-- word.
 pub record IsPut (places : List ℕ) (types : List ElementaryType) (values : List Value)
     (slots : List ℤ) (k : ℕ) : Type 0 where
   pub word : (v : Value) → slice_get values k ≡ Some v

@@ -1,5 +1,5 @@
 -- Inner: the effect of each instruction on words, which are not tested, and what the instruction
--- requires for that.
+-- requires for that. An offset counts octets of the code from 0.
 use Rattle.std.specs.Prelude.{ℕ, ℤ, zero, suc, pos, ◌≡◌, ◌+◌, ◌<◌, ◌≤◌, Bool, not, List, ◌∷◌, length, drop, slice_index_or, slice_set, unsigned_abs, Option, Some, None, if◌then◌else◌}
 use Rattle.std.specs.Ordering.{int_eq}
 use Rattle.il_image.specs.declared.instr.Instr.{Instr}
@@ -110,7 +110,7 @@ words_after now (Widen w) m = m
 words_after now (Jump when distance) m = m
 words_after now (Timer use_of n) m = timer_worked now use_of n m
 
--- the place of the next instruction, if there is one
+-- the offset of the next instruction, if there is one
 abbrev pub leads : Instr → ℕ → List ℤ → Option ℕ
 leads Halt next stack = None
 leads (Jump Always distance) next stack = Some (next + distance)
@@ -159,7 +159,7 @@ IsReady (Timer LoadElapsed n) m = (length m.stack < most_cells) × (n < length m
 
 -- ---- instructions of code
 
--- one instruction at a place: its effect on words, and the place of the next one
+-- one instruction at an offset: its effect on words, and the offset of the next one
 pub record Step (now : ℕ) (code : List ℕ) (place : ℕ) (w : Words) (to : Option ℕ) (after : Words)
     : Type 0 where
   pub instr : Instr
@@ -168,7 +168,7 @@ pub record Step (now : ℕ) (code : List ℕ) (place : ℕ) (w : Words) (to : Op
   pub leads_to : to ≡ leads instr next w.stack
   pub words_are : after ≡ words_after now instr w
 
--- n instructions from a place on, one after the other
+-- n instructions from an offset on, one after the other
 abbrev pub Steps : ℕ → List ℕ → ℕ → ℕ → Words → Option ℕ → Words → Type 0
 Steps now code zero place w to after = ⊥
 Steps now code (suc zero) place w to after = Step now code place w to after

@@ -1,4 +1,5 @@
-// The effect of each instruction on the stack, the slots and the timers.
+// The effect of each instruction on the stack, the slots and the timers. An offset counts octets of
+// the code from 0.
 ghost use Rattle.std.specs.Prelude.{◌≡◌, ◌+◌, ◌^◌, ◌<◌, ◌∷◌, length, slice_set, drop, pos, unsigned_abs, if◌then◌else◌};
 ghost use Rattle.std.specs.Ordering.{int_eq};
 ghost use Rattle.il_image.specs.Arithmetic.{DividesBy, comparison_holds, computation_of};
@@ -169,7 +170,7 @@ fn set_if(stack: &OperandStack, slots: &mut [i64], number: u16, word: i64)
     slots[place] = if stack.top() == 0 { old } else { word };
 }
 
-// Returns the place of the next instruction after a conditional jump: `where_false` if the top is
+// Returns the offset of the next instruction after a conditional jump: `where_false` if the top is
 // FALSE, otherwise `where_true`.
 #[inline(always)]
 fn choose(stack: &OperandStack, where_false: usize, where_true: usize) -> usize
@@ -246,8 +247,8 @@ fn load_elapsed(stack: &mut OperandStack, timers: &[TimerState], number: u16)
     stack.push(i64::from(timer.elapsed));
 }
 
-/// Executes an instruction at this time, and returns the place of the next one, or `None` if there
-/// is none. `next` is the place after the instruction.
+/// Executes an instruction at this time, and returns the offset of the next one, or `None` if there
+/// is none. `next` is the offset after the instruction.
 #[inline(always)]
 pub(crate) fn act(
     now: u64,
@@ -295,10 +296,10 @@ pub(crate) fn act(
     Some(next)
 }
 
-/// Executes two instructions at this time, each with the place after it; the first leads to the
-/// second. Returns the place of the next one, or `None` if there is none. A LOAD followed by a NOT,
-/// an AND or an OR, and a DROP followed by a LOAD, are executed as one, so that nothing is pushed
-/// and popped again.
+/// Executes two instructions at this time, each with the offset after it; the first leads to the
+/// second. Returns the offset of the next one, or `None` if there is none. A LOAD followed by a
+/// NOT, an AND or an OR, and a DROP followed by a LOAD, are executed as one, so that nothing is
+/// pushed and popped again.
 #[inline(always)]
 pub(crate) fn act_both(
     now: u64,

@@ -1,4 +1,5 @@
-// Reads the instruction at a place of verified code, without testing what is there.
+// Reads the instruction at an offset in verified code, without testing what is there. An offset
+// counts octets of the code from 0.
 ghost use Rattle.std.specs.Prelude.{◌≡◌, ◌+◌, ◌≤◌, ◌<◌, IsOk, IsSome, Ok, Some, drop, length};
 ghost use Rattle.std.specs.Int.{w16, from_be_bytes};
 ghost use Rattle.il_image.specs.declared.opcode.Version.TheVariants.{Two};
@@ -69,7 +70,7 @@ fn size(elementary: ElementaryType) -> usize
     }
 }
 
-// Reads the value of the type at a place.
+// Reads the value of the type at an offset.
 #[inline(always)]
 fn value(elementary: ElementaryType, code: &[u8], at: usize) -> Value
     requires { IsOk (value_at (size_of elementary) elementary (drop at code.now)) }
@@ -82,7 +83,7 @@ fn value(elementary: ElementaryType, code: &[u8], at: usize) -> Value
     }
 }
 
-// Reads the width at a place.
+// Reads the width at an offset.
 #[inline(always)]
 fn width(code: &[u8], at: usize) -> Width
     requires { IsOk (width_at Two (drop at code.now)) }
@@ -96,7 +97,7 @@ fn width(code: &[u8], at: usize) -> Width
     }
 }
 
-// Returns the instruction of an opcode whose operand is at a place, and the place after it.
+// Returns the instruction with this opcode and the operand at an offset, and the offset after it.
 #[inline(always)]
 fn operand(opcode: Opcode, code: &[u8], at: usize) -> (Instr, usize)
     requires whole { IsOk (operand_from Two opcode (drop at code.now)) }
@@ -123,8 +124,8 @@ fn operand(opcode: Opcode, code: &[u8], at: usize) -> (Instr, usize)
     }
 }
 
-/// Returns the instruction at a place and the place after it. An instruction must begin at the
-/// place.
+/// Returns the instruction at an offset, and the offset after it. An instruction must begin at the
+/// offset.
 #[inline(always)]
 pub(crate) fn fetch(code: &[u8], place: usize) -> (Instr, usize)
     requires { IsSome (instr_at code.now place) }

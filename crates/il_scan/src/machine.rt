@@ -56,8 +56,8 @@ pub struct Scan<'a> {
     pub outputs: &'a [Value],
 }
 
-// The slots and timers of a machine, the places of its inputs and outputs, and room for the
-// outputs.
+// The slots and timers of a machine, the indices of its read-only and of its writable points, and
+// room for the outputs.
 #[derive(Drop)]
 struct Memory {
     slots: Vec<i64>,

@@ -83,7 +83,7 @@ impl<'a> Model for Outputs<'a> {
 }
 
 impl<'a> Outputs<'a> {
-    /// Creates the values of the points at these places.
+    /// Creates the values of the points at these indices.
     #[inline(always)]
     pub(crate) fn new(points: &'a [ImagePoint], writes: &'a [usize], slots: &'a [i64]) -> Self
         requires words { AreWords points.now slots.now }

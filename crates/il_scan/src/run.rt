@@ -1,4 +1,5 @@
-// A run of verified code, from its first instruction to a HALT.
+// A run of verified code, from its first instruction to a HALT. An offset counts octets of the code
+// from 0.
 ghost use Rattle.std.specs.Prelude.{ℕ, ◌≡◌, ◌≤◌, Some};
 ghost use Rattle.il_image.specs.declared.instr.Instr.TheVariants.{Drop};
 ghost use Rattle.il_image.specs.Reading.{instr_at};
@@ -14,8 +15,9 @@ use il_image::instr::Instr;
 use il_image::opcode::SlotUse;
 use il_image::timer::TimerState;
 
-// Executes the DROP at a place, and a LOAD that follows it with a NOT that follows the LOAD.
-// Returns the place of the next instruction, and the number of instructions executed.
+// Executes the DROP at an offset, a LOAD if one follows the DROP, and a NOT if one follows the
+// LOAD. Returns the offset of the next instruction, or `None` if there is none, and the number of
+// instructions executed.
 #[inline(always)]
 fn turn_drop(
     code: &[u8],
@@ -46,9 +48,9 @@ fn turn_drop(
     }
 }
 
-// Executes the instruction at a place, and a NOT, an AND or an OR that follows a LOAD. Returns the
-// place of the next instruction, or `None` if there is none, and the number executed. Each pair is
-// a call of its own, so that the compiler knows both instructions at their opcodes.
+// Executes the instruction at an offset, and a NOT, an AND or an OR that follows a LOAD. Returns
+// the offset of the next instruction, or `None` if there is none, and the number executed. Each
+// pair is a call of its own, so that the compiler knows both instructions at their opcodes.
 #[inline(always)]
 fn turn(
     code: &[u8],

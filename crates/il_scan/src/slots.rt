@@ -63,16 +63,16 @@ pub(crate) fn are_inputs(points: &[ImagePoint], inputs: &[Value]) -> bool
     left.len() == 0
 }
 
-/// The places of inputs and outputs.
+/// The indices of the points that are inputs, and of those that are outputs.
 #[derive(Drop)]
 pub(crate) struct Places {
-    /// The places of the read-only points.
+    /// The indices of the read-only points.
     pub reads: Vec<usize>,
-    /// The places of the writable points.
+    /// The indices of the writable points.
     pub writes: Vec<usize>,
 }
 
-/// Returns the places of the points.
+/// Returns the indices of the read-only points and of the writable points.
 pub(crate) fn places_of(alloc: Global, points: &[ImagePoint]) -> Result<Places, AllocError>
     ensures reads { IfOk result (λ places. places.reads.items ≡ read_places 0 points.now) }
     ensures writes { IfOk result (λ places. places.writes.items ≡ write_places 0 points.now) }
@@ -90,7 +90,7 @@ pub(crate) fn places_of(alloc: Global, points: &[ImagePoint]) -> Result<Places, 
     Ok(Places { reads, writes })
 }
 
-// Writes an input to the slot at a place.
+// Writes an input to the slot at an index.
 #[inline(always)]
 fn take_input(slots: &mut [i64], place: usize, input: Value)
     requires { place < length slots.old }
@@ -99,8 +99,8 @@ fn take_input(slots: &mut [i64], place: usize, input: Value)
     slots[place] = input.number();
 }
 
-/// Writes the inputs of a span to the slots at their places. The slots already hold the other
-/// inputs, so after that they hold all.
+/// Writes the inputs of a span to the slots of their points. The slots already hold the other
+/// inputs, so they then hold all of them.
 #[inline(always)]
 pub(crate) fn read_inputs<I: Inputs>(reads: &[usize], inputs: &I, span: Span, slots: &mut [i64])
     requires within { AllBelow (length slots.old) reads.now }
@@ -130,7 +130,7 @@ fn value_of(elementary: ElementaryType, word: i64) -> Value
     }
 }
 
-/// Returns the value of the point at a place.
+/// Returns the value of the point at an index.
 #[inline(always)]
 pub(crate) fn output_value(points: &[ImagePoint], slots: &[i64], place: usize) -> Value
     requires words { AreWords points.now slots.now }
@@ -151,7 +151,7 @@ fn is_true_word(elementary: ElementaryType, word: i64) -> bool
     }
 }
 
-/// Returns whether the value of the point at a place is TRUE.
+/// Returns whether the value of the point at an index is TRUE.
 #[inline(always)]
 pub(crate) fn is_output_true(points: &[ImagePoint], slots: &[i64], place: usize) -> bool
     requires words { AreWords points.now slots.now }
@@ -161,7 +161,7 @@ pub(crate) fn is_output_true(points: &[ImagePoint], slots: &[i64], place: usize)
     is_true_word(points[place].elementary, slots[place])
 }
 
-/// Copies the values of the points at these places to the outputs, one for each.
+/// Copies the values of the points at these indices to the outputs, one for each.
 pub(crate) fn give_outputs(
     points: &[ImagePoint],
     writes: &[usize],

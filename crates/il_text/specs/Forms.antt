@@ -70,13 +70,13 @@ is_one other = false
 
 -- ---- IEC 61131-3 B.2.1: operands, arguments and instructions
 
--- place ::= name | name "." ("Q" | "ET")
+-- `place ::= name | name "." ("Q" | "ET")`
 unfoldable pub place : Form Place
 place =
     choose_by is_one (map_form named (one name_of))
     (bind_form name_of (λ timer. after_mark mark.Dot (map_form (output timer) (one output_of))))
 
--- operand ::= literal | place
+-- `operand ::= literal | place`
 unfoldable pub operand : Form OperandData
 operand = either (map_form constant (one literal_of)) (map_form variable place)
 
@@ -90,7 +90,7 @@ input_named w =
 abbrev pub input_of : Symbol → Option Input
 input_of s = option_and_then input_named (name_of s)
 
--- arg ::= ("IN" | "PT") ":=" operand
+-- `arg ::= ("IN" | "PT") ":=" operand`
 unfoldable pub argument : Form (Input × OperandData)
 argument = bind_form input_of (λ k. after_mark mark.Assign (map_form (λ x. (k, x)) operand))
 
@@ -158,8 +158,8 @@ statement (mnemonic.Return c) = no_token (acting (leave c) ∷ [])
 statement (mnemonic.Jump c) = acts (map_form (jump c) (one name_of))
 statement mnemonic.Call = acts call_action
 
--- instr ::= op0 | op1 operand | bin operand | bin "(" [operand] | jump name
---     | "CAL" name "(" [arg {"," arg}] ")"
+-- `instr ::= op0 | op1 operand | bin operand | bin "(" [operand] | jump name
+--     | "CAL" name "(" [arg {"," arg}] ")"`
 unfoldable pub instruction : Form (List LineContent)
 instruction = bind_form mnemonic_of statement
 
@@ -195,7 +195,7 @@ declared_part ns t = declaring ns t.kind t.initial ∷ []
 abbrev pub declared_names : Tail → List Symbol → Option (List LineContent)
 declared_names t ss = option_map (λ ns. declared_part ns t) (names_from false ss)
 
--- decl ::= name {"," name} ":" type [":=" literal] ";"
+-- `decl ::= name {"," name} ":" type [":=" literal] ";"`
 unfoldable pub declaration : Form (List LineContent)
 declaration = map_form (λ p. declared_part p.0 p.1) (split_form mark.Colon names tail)
 

@@ -120,7 +120,7 @@ is_outer (block line operator negated es end) = is_parenthesis es
 
 -- ---- IEC 61131-3 B.1.5.3: a program
 
--- text ::= "PROGRAM" name, {block}, {entry}, "END_PROGRAM"
+-- `text ::= "PROGRAM" name, {block}, {entry}, "END_PROGRAM"`
 pub record Derives (ps : List Numbered) (program : PlainProgram) : Type 0 where
   pub first : ℕ
   pub blocks : List Block

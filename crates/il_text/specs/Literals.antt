@@ -21,7 +21,7 @@ is_underscore x = x == byte "_"
 abbrev pub is_hash : ℕ → Bool
 is_hash x = x == byte "#"
 
--- integer ::= digit {['_'] digit}; `wanted`: a digit must come next
+-- `integer ::= digit {['_'] digit}`; `wanted`: a digit must come next
 unfoldable pub is_integer : ℕ → Bool → List ℕ → Bool
 is_integer radix wanted [] = not wanted
 is_integer radix wanted (x ∷ xs) =
@@ -54,7 +54,7 @@ base_of w =
 abbrev pub Signed : Type 0
 Signed = Bool × ℕ
 
--- signed_integer ::= ['+' | '-'] integer
+-- `signed_integer ::= ['+' | '-'] integer`
 unfoldable pub decimal : List ℕ → Option Signed
 decimal w =
     if slice_index w 0 == byte "-" then option_map (λ n. (true, n)) (number 10 (drop 1 w))

@@ -54,8 +54,7 @@ join x [] = (x ∷ []) ∷ []
 join x (p ∷ ps) = if joins x p then (x ∷ p) ∷ ps else (x ∷ []) ∷ p ∷ ps
 
 -- The lexemes of a text without comments: the longest runs of characters that belong together. They
--- are joined from the right, so each lexeme is complete before the character in front of it is
--- considered.
+-- are joined from the right: when a character is considered, each lexeme after it is complete.
 unfoldable pub pieces : List ℕ → List (List ℕ)
 pieces [] = []
 pieces (x ∷ xs) = join x (pieces xs)

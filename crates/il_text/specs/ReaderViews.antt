@@ -23,13 +23,13 @@ result_from r =
     read_on r.last (read_of r.listing) r.line (symbols_of r.tokens.items)
     (pieces_of r.in_comment (drop r.at r.text.now))
 
--- the result of reading on from a state of the reader, if the line ends at this place
+-- the result of reading on from a state of the reader, if the line ends here
 abbrev pub result_at_line_end : code.Reader → Result PlainProgram TextFault
 result_at_line_end r =
     after_line r.line r.last (read_of r.listing) (symbols_of r.tokens.items)
     >>= (λ s. read_on r.last s (r.line + 1) [] (pieces_of r.in_comment (drop r.at r.text.now)))
 
--- the result of reading, if the text ends at this place
+-- the result of reading, if the text ends here
 abbrev pub result_at_text_end : code.Reader → Result PlainProgram TextFault
 result_at_text_end r =
     after_line r.line r.last (read_of r.listing) (symbols_of r.tokens.items)

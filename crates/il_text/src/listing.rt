@@ -65,7 +65,7 @@ pub(crate) struct Draft<'a> {
     pub(crate) parentheses: Vec<Open<'a>>,
 }
 
-/// The position of a line: its number, and the number of the last line of the text.
+/// The number of a line, and the number of the last line of the text.
 #[derive(Clone, Copy)]
 pub(crate) struct Position {
     pub(crate) line: usize,

@@ -1,4 +1,5 @@
--- Inner: the frames of the places that are still to come, and how one instruction changes them.
+-- Inner: the pending frames, those of offsets that the pass has yet to reach, and how one
+-- instruction changes them. An offset counts octets of the code from 0.
 use Rattle.std.specs.Prelude.{ℕ, ◌≡◌, ◌≢◌, ◌+◌, ◌<◌, ◌≤◌, ◌==◌, ◌⊎◌, ◌↔◌, Bool, true, false, List, [], ◌∷◌, length, reverse, Option, Some, None, option_and_then, option_map, slice_get, if◌then◌else◌}
 use Rattle.il_image.specs.declared.instr.Instr.{Instr}
 use Rattle.il_image.specs.declared.instr.Instr.TheVariants.{Halt, Push, Drop, Slot, Not, Combine, Compute, Compare, Widen, Jump, Timer}
@@ -18,7 +19,7 @@ use Rattle.il_verify.specs.Slots.{slots_of, types_of}
 
 -- ---- what the pass looks up
 
--- The list is true exactly at the places of the code's instructions.
+-- The list is true exactly at the offsets of the code's instructions.
 abbrev pub MarksPlaces : List ℕ → List Bool → Type 0
 MarksPlaces code starts = (place : ℕ) → (slice_get starts place ≡ Some true) ↔ IsPlace code place
 
@@ -31,7 +32,7 @@ pub record IsPlan (image : Image) (plan : Plan) : Type 0 where
 
 -- ---- plain frames
 
--- the kinds before a place, the top first, and the number of places on a longest path to it
+-- the kinds at an offset, the top first, and the number of offsets on a longest path to it
 pub record PlainFrame : Type 0 where
   pub kinds : List CellKind
   pub longest : ℕ
@@ -40,11 +41,11 @@ pub record PlainFrame : Type 0 where
 abbrev pub plain_frame : Frame → PlainFrame
 plain_frame f = record { kinds = reverse f.kinds.items; longest = f.longest }
 
--- the plain frame of each place, if a path has led there so far
+-- the plain frame at each offset, if a path has led there so far
 abbrev pub PlainFrames : Type 0
 PlainFrames = ℕ → Option PlainFrame
 
--- the frame pending at a place, if there is one
+-- the frame pending at an offset, if there is one
 abbrev pub frame_at : List (Option Frame) → ℕ → Option Frame
 frame_at pending place = option_and_then (λ o. o) (slice_get pending place)
 
@@ -52,12 +53,12 @@ frame_at pending place = option_and_then (λ o. o) (slice_get pending place)
 unfoldable pub plain_frames : List (Option Frame) → PlainFrames
 plain_frames pending place = option_map plain_frame (frame_at pending place)
 
--- the values `others`, with the value `known` at one place
+-- the values `others`, with the value `known` at one index
 abbrev pub with_value_at : {A : Type 0} → ℕ → Option A → (ℕ → Option A) → ℕ → Option A
 with_value_at place known others q = if q == place then known else others q
 
--- Another path leads to a place: the new frame is the join of the old one, if there is one, and of
--- `come`, the frame that the path brings.
+-- Another path leads to an offset: the new frame is the join of the old one, if there is one, and
+-- of `come`, the frame that the path brings.
 pub record Grows (come : PlainFrame) (old : Option PlainFrame) (new : PlainFrame) : Type 0 where
   pub over : AreWithin come.kinds new.kinds
   pub keeps : (m : PlainFrame) → old ≡ Some m → AreWithin m.kinds new.kinds
@@ -73,7 +74,7 @@ abbrev pub ComesWhere : Type 0 → PlainFrame → Option PlainFrame → Option P
 ComesWhere P come old new = (P × ((frame : PlainFrame) × (new ≡ Some frame) × Grows come old frame))
     ⊎ ((P → ⊥) × (new ≡ old))
 
--- A frame at the place has another number of kinds.
+-- There is an old frame, and it has another number of kinds.
 abbrev pub Clashing : Option PlainFrame → List CellKind → Type 0
 Clashing old kinds = (m : PlainFrame) × (old ≡ Some m) × (length m.kinds ≢ length kinds)
 
@@ -83,7 +84,7 @@ join_all [] others = []
 join_all (a ∷ kinds) [] = a ∷ kinds
 join_all (a ∷ kinds) (b ∷ others) = join a b ∷ join_all kinds others
 
--- A path brings a frame to this place; the frames of all other places are unchanged.
+-- A path brings a frame to this offset; the frames at all other offsets are unchanged.
 pub record Pends (old new : PlainFrames) (place : ℕ) (come : PlainFrame) : Type 0 where
   pub frame : PlainFrame
   pub is : new place ≡ Some frame
@@ -108,47 +109,48 @@ falls_through (Compare c) = true
 falls_through (Widen w) = true
 falls_through (Timer timer_use n) = true
 
--- The instruction falls through to this place.
+-- The instruction falls through to this offset.
 abbrev pub GoesOn : Instr → ℕ → ℕ → Type 0
 GoesOn instr next to = (falls_through instr ≡ true) × (to ≡ next)
 
--- The instruction leads only to places of instructions.
+-- The instruction leads only to offsets at which instructions begin.
 pub record LeadsRight (code : List ℕ) (instr : Instr) (next : ℕ) : Type 0 where
   pub jumps : (to : ℕ) → JumpsTo instr next to → IsPlace code to
   pub falls : falls_through instr ≡ true → next < length code
 
--- The instruction jumps to a place without an instruction.
+-- The instruction jumps to an offset at which no instruction begins.
 pub record JumpsWrong (code : List ℕ) (instr : Instr) (next : ℕ) : Type 0 where
   pub to : ℕ
   pub jumps : JumpsTo instr next to
   pub bad : IsPlace code to → ⊥
 
--- The instruction jumps only to places of instructions, but falls through past the end of the code.
+-- The instruction jumps only to instructions, but falls through past the end of the code.
 pub record FallsOff (code : List ℕ) (instr : Instr) (next : ℕ) : Type 0 where
   pub jumps : (to : ℕ) → JumpsTo instr next to → IsPlace code to
   pub falls : falls_through instr ≡ true
   pub past : length code ≤ next
 
--- The instruction leads to a place without an instruction. The fault of a wrong jump comes before
--- that of the end of the code.
+-- The instruction leads to an offset at which no instruction begins. The fault of a wrong jump
+-- comes before that of the end of the code.
 abbrev pub LeadsWrong : List ℕ → Instr → ℕ → VerifyFault → Type 0
 LeadsWrong code instr next fault = ((fault ≡ BadTarget) × JumpsWrong code instr next)
     ⊎ ((fault ≡ NoHalt) × FallsOff code instr next)
 
--- The instruction brings a frame to the place that it jumps to; other frames are unchanged.
+-- The instruction brings a frame to the offset that it jumps to; other frames are unchanged.
 abbrev pub Jumps : Instr → ℕ → PlainFrame → PlainFrames → PlainFrames → Type 0
 Jumps instr next come old new = (to : ℕ) → ComesWhere (JumpsTo instr next to) come (old to) (new to)
 
--- The instruction jumps to a place whose frame has another number of kinds.
+-- The instruction jumps to an offset whose frame has another number of kinds.
 abbrev pub JumpClash : Instr → ℕ → PlainFrames → List CellKind → Type 0
 JumpClash instr next old kinds = (to : ℕ) × JumpsTo instr next to × Clashing (old to) kinds
 
--- The instruction brings a frame to the place that it falls through to; other frames are unchanged.
+-- The instruction brings a frame to the offset that it falls through to; other frames are
+-- unchanged.
 abbrev pub Falls : Instr → ℕ → PlainFrame → PlainFrames → PlainFrames → Type 0
 Falls instr next come old new = (to : ℕ) → ComesWhere (GoesOn instr next to) come (old to) (new to)
 
--- The instruction of the image has no fault on the kinds at its place, and brings the kinds after
--- it to the places that it leads to.
+-- The instruction of the image has no fault on the kinds before it, and brings the kinds after it
+-- to the offsets that it leads to.
 pub record Visits (image : Image) (instr : Instr) (next : ℕ) (come : PlainFrame)
     (old new : PlainFrames) : Type 0 where
   pub gives : List CellKind
@@ -160,7 +162,7 @@ pub record Visits (image : Image) (instr : Instr) (next : ℕ) (come : PlainFram
   pub jumps : Jumps instr next (record { kinds = gives; longest = come.longest + 1 }) old mid
   pub falls : Falls instr next (record { kinds = gives; longest = come.longest + 1 }) mid new
 
--- The instruction has no fault of its own, but leads to a place without an instruction.
+-- The instruction has no fault of its own, but leads to an offset at which no instruction begins.
 pub record MisLeads (image : Image) (instr : Instr) (next : ℕ) (come : PlainFrame)
     (fault : VerifyFault) : Type 0 where
   pub faultless : fault_of (slots_of image) (length image.timers) instr come.kinds ≡ None
@@ -179,8 +181,8 @@ pub record Collides (image : Image) (instr : Instr) (next : ℕ) (come : PlainFr
   pub leads : JumpsTo instr next to ⊎ GoesOn instr next to
   pub clash : Clashing (old to) gives
 
--- The first fault of an instruction at its place: its own, that of a target, or that of the depth
--- of a stack.
+-- The first fault of an instruction with this frame before it: its own, that of a target, or that
+-- of stacks of different depths.
 abbrev pub FailsVisit : Image → Instr → ℕ → PlainFrame → PlainFrames → VerifyFault → Type 0
 FailsVisit image instr next come old fault =
     (fault_of (slots_of image) (length image.timers) instr come.kinds ≡ Some fault)

@@ -1,8 +1,8 @@
 -- Which images can't go wrong, and the first fault of the others.
 --
--- `Verdicts` is the main file: what holds of an accepted image. It fits the bay; some table of
--- kinds agrees with its code, and the code writes only what it may; the budget is the number of
--- places on a longest path to a HALT; the depth is the length of a longest list of kinds.
+-- `Verdicts` is the main file: what holds of an accepted image. The image fits the bay; some table
+-- of kinds agrees with its code, and the code writes only what it may; the budget is the number of
+-- instructions on a longest path to a HALT; the depth is the length of a longest list of kinds.
 --
 -- `Binding`: an image fits a bay if each of its points is one of the bay's, with the same name (as
 -- Instruction List compares names), type and access, none occurs twice, and it has at most 512
@@ -14,10 +14,10 @@
 -- may only be read, more than 32 values. It uses `Effects` of il_image, so no rule of kinds is
 -- stated twice.
 --
--- `Refusals`: the first fault of an image. The kinds at a place are the least that include all
+-- `Refusals`: the first fault of an image. The kinds at an offset are the least that include all
 -- kinds that reach it; the definition refers to all of these, while the code has one frame for each
--- place. It also defines for which images verifying may run out of memory. `Codes` numbers the
--- faults.
+-- offset. `Refusals` also defines for which images verifying may run out of memory. `Codes` numbers
+-- the faults.
 
 -- What public clauses cite of the crates below.
 pub use Rattle.il_image.specs.Images

@@ -1,6 +1,6 @@
--- Inner: the budget as the pass over the places counts it.
+-- Inner: the budget as the pass over the code counts it.
 use Rattle.std.specs.Prelude.{ℕ, Bool, max, cond}
 
--- the budget after a place, raised if its instruction is HALT
+-- the budget after an instruction, raised if the instruction is HALT
 abbrev pub raised_budget : Bool → ℕ → ℕ → ℕ
 raised_budget halts longest budget = cond halts (max longest budget) budget

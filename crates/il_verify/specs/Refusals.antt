@@ -1,4 +1,5 @@
--- What is known before each place of code, and why code is refused at a place.
+-- What is known before each instruction of code, and why code is refused at an offset. An offset
+-- counts octets of the code from 0.
 use Rattle.std.specs.Prelude.{ℕ, ◌≡◌, ◌+◌, ◌<◌, ◌⊎◌, true, false, List, [], length, Option, Some, None}
 use Rattle.bay_base.specs.declared.point.Point.{Point}
 use Rattle.il_image.specs.declared.instr.Instr.{Instr}
@@ -15,14 +16,14 @@ use Rattle.il_verify.specs.Binding.{fits}
 use Rattle.il_verify.specs.Judging.{fault_of}
 use Rattle.il_verify.specs.Slots.{slots_of}
 
--- ---- the kinds before a place
+-- ---- the kinds at an offset
 
 -- the kinds after an instruction of the image, if it is allowed
 abbrev pub kinds_after_in : Image → Instr → List CellKind → Option (List CellKind)
 kinds_after_in image instr kinds = kinds_after (slot_types image) (length image.timers) instr kinds
 
--- The table has kinds before the instruction at the place `from`; the instruction leads to the
--- place `to`, and these are the kinds after it.
+-- The table has kinds before the instruction at the offset `from`; the instruction leads to the
+-- offset `to`, and these are the kinds after it.
 pub record ComesFrom (image : Image) (table : Table) (from to : ℕ) (kinds : List CellKind)
     : Type 0 where
   pub instr : Instr
@@ -33,14 +34,14 @@ pub record ComesFrom (image : Image) (table : Table) (from to : ℕ) (kinds : Li
   pub gives : kinds_after_in image instr before ≡ Some kinds
   pub leads : LeadsTo instr next to
 
--- These kinds reach the place: an empty list at the start of the code, and the kinds after each
--- instruction before `done` that leads there.
+-- These kinds reach the offset `to`: an empty list at the start of the code, and the kinds after
+-- each instruction before `done` that leads there.
 abbrev pub Comes : Image → Table → ℕ → ℕ → List CellKind → Type 0
 Comes image table done to kinds =
     ((to ≡ 0) × (kinds ≡ [])) ⊎ ((from : ℕ) × (from < done) × ComesFrom image table from to kinds)
 
--- Some kinds reach the place, and these are the join of all that do: the least kinds that include
--- them.
+-- Some kinds reach the offset `to`, and these are the join of all that do: the least kinds that
+-- include them.
 pub record IsJoin (image : Image) (table : Table) (done to : ℕ) (kinds : List CellKind)
     : Type 0 where
   pub some : (first : List CellKind) × Comes image table done to first
@@ -49,8 +50,8 @@ pub record IsJoin (image : Image) (table : Table) (done to : ℕ) (kinds : List 
       → ((others : List CellKind) → Comes image table done to others → AreWithin others top)
       → AreWithin kinds top
 
--- The place has no fault: its instruction has none on the kinds there, leads only to instructions,
--- and leaves as many kinds as reach each of these from earlier places.
+-- There is no fault at the offset: its instruction has none on the kinds before it, leads only to
+-- instructions, and leaves as many kinds as reach each of these from earlier offsets.
 pub record Passes (image : Image) (table : Table) (place : ℕ) : Type 0 where
   pub instr : Instr
   pub next : ℕ
@@ -64,8 +65,8 @@ pub record Passes (image : Image) (table : Table) (place : ℕ) : Type 0 where
   pub depths : (to : ℕ) → LeadsTo instr next to → (others : List CellKind)
       → Comes image table place to others → length others ≡ length gives
 
--- The table has the least kinds at each place below `done`, and none elsewhere; and none of these
--- places has a fault.
+-- The table has the least kinds at each offset below `done`, and none elsewhere; and there is no
+-- fault at these offsets.
 pub record IsFront (image : Image) (table : Table) (done : ℕ) : Type 0 where
   pub only : (place : ℕ) (kinds : List CellKind) → table place ≡ Some kinds
       → (place < done) × IsPlace image.code place
@@ -73,9 +74,9 @@ pub record IsFront (image : Image) (table : Table) (done : ℕ) : Type 0 where
       → IsJoin image table place place kinds
   pub passes : (place : ℕ) → place < done → IsPlace image.code place → Passes image table place
 
--- ---- the faults of a place, of which at most one is its first
+-- ---- the faults at an offset, of which at most one is the first
 
--- the instruction at a place, and the least kinds before it
+-- the instruction at an offset, and the least kinds before it
 pub record Arrives (image : Image) (table : Table) (place : ℕ) : Type 0 where
   pub instr : Instr
   pub next : ℕ
@@ -83,12 +84,12 @@ pub record Arrives (image : Image) (table : Table) (place : ℕ) : Type 0 where
   pub here : instr_at image.code place ≡ Some (instr, next)
   pub joined : IsJoin image table place place kinds
 
--- the own fault of the place's instruction, on the kinds before it
+-- the fault that the instruction at the offset has of its own, on the kinds before it
 abbrev pub own_fault : {image : Image} {table : Table} {place : ℕ} → Arrives image table place
     → Option VerifyFault
 own_fault {image} a = fault_of (slots_of image) (length image.timers) a.instr a.kinds
 
--- The instruction jumps to this place.
+-- The instruction jumps to this offset.
 abbrev pub JumpsTo : Instr → ℕ → ℕ → Type 0
 JumpsTo (Jump when distance) next to = to ≡ next + distance
 JumpsTo Halt next to = ⊥
@@ -102,7 +103,7 @@ JumpsTo (Compare c) next to = ⊥
 JumpsTo (Widen w) next to = ⊥
 JumpsTo (Timer timer_use n) next to = ⊥
 
--- The instruction has no fault of its own, but jumps to a place without an instruction.
+-- The instruction has no fault of its own, but jumps to an offset at which no instruction begins.
 pub record JumpsBadly (image : Image) (table : Table) (place : ℕ) : Type 0 where
   pub at : Arrives image table place
   pub faultless : own_fault at ≡ None
@@ -120,7 +121,7 @@ pub record GoesPast (image : Image) (table : Table) (place : ℕ) : Type 0 where
   pub past : at.next ≡ length image.code
 
 -- The instruction has no fault of its own and leads only to instructions, but leaves another number
--- of kinds than reaches one of these from an earlier place.
+-- of kinds than reaches one of these from an earlier offset.
 pub record Clashes (image : Image) (table : Table) (place : ℕ) : Type 0 where
   pub at : Arrives image table place
   pub gives : List CellKind
@@ -133,11 +134,11 @@ pub record Clashes (image : Image) (table : Table) (place : ℕ) : Type 0 where
   pub comes : Comes image table place to others
   pub unequal : length others ≡ length gives → ⊥
 
--- The instruction at the place has this fault of its own.
+-- The instruction at the offset has this fault of its own.
 abbrev pub HasOwn : Image → Table → ℕ → VerifyFault → Type 0
 HasOwn image table place fault = (a : Arrives image table place) × (own_fault a ≡ Some fault)
 
--- This is the first fault of the place.
+-- This is the first fault at the offset.
 abbrev pub IsFaultAt : Image → Table → ℕ → VerifyFault → Type 0
 IsFaultAt image table place Unreachable =
     (kinds : List CellKind) → Comes image table place place kinds → ⊥
@@ -163,7 +164,7 @@ DoesNotFit bay image fault place = (fits bay image ≡ false) × (fault ≡ BadB
 abbrev pub IsWithoutCode : Image → VerifyFault → ℕ → Type 0
 IsWithoutCode image fault place = (image.code ≡ []) × (fault ≡ NoHalt) × (place ≡ 0)
 
--- This place is the first one with a fault, and this is its fault.
+-- This offset is the first one with a fault, and this is the first fault there.
 abbrev pub FailsAt : Image → VerifyFault → ℕ → Type 0
 FailsAt image fault place =
     (table : Table) × IsFront image table place × IsPlace image.code place
@@ -173,7 +174,7 @@ FailsAt image fault place =
 abbrev pub TakesMemory : List Point → Image → Type 0
 TakesMemory bay image = (fits bay image ≡ true) × (0 < length image.code)
 
--- This is the image's first fault, at this place.
+-- This is the image's first fault, at this offset.
 abbrev pub IsRefusal : List Point → Image → VerifyFault → ℕ → Type 0
 IsRefusal bay image fault place =
     DoesNotFit bay image fault place

@@ -21,7 +21,7 @@ pub record IsSafe (image : Image) : Type 0 where
   pub table : HasTable image
   pub writes : KeepsReadOnly image
 
--- The number of places of a longest path that ends at a HALT.
+-- The number of instructions on a longest path that ends at a HALT.
 pub record IsBudget (code : List ℕ) (budget : ℕ) : Type 0 where
   pub some : Ends code budget
   pub most : (n : ℕ) → Ends code n → n ≤ budget
@@ -32,7 +32,7 @@ pub record IsLongest (table : Table) (depth : ℕ) : Type 0 where
       × (length kinds ≡ depth)
   pub most : (place : ℕ) (kinds : List CellKind) → table place ≡ Some kinds → length kinds ≤ depth
 
--- A table agrees with the code, and in each that does a longest list has this length.
+-- Some table agrees with the code, and each table that does has a longest list of this length.
 pub record IsDepth (image : Image) (depth : ℕ) : Type 0 where
   pub some : HasTable image
   pub each : (table : Table) → Agrees image table → IsLongest table depth

@@ -6,10 +6,11 @@ ghost use Rattle.il_verify.specs.declared.fault.VerifyFault.TheVariants.{OutOfMe
 use std::alloc::{AllocError, AllocFailed};
 use thiserror::Error;
 
-/// Why an image is refused. At one place, the first of these is returned: no predecessor; no such
-/// slot or timer; too few values on the stack; a value of a wrong kind; a divisor that may be zero;
-/// a write to a read-only point; too many values on the stack; a jump to a place without an
-/// instruction; an end without HALT or JUMP; stacks of different depths at one place.
+/// Why an image is refused. If an instruction has several faults, the first of these is returned:
+/// no predecessor; no such slot or timer; too few values on the stack; a value of a wrong kind; a
+/// divisor that may be zero; a write to a read-only point; too many values on the stack; a jump to
+/// an offset at which no instruction begins; an end without HALT or JUMP; stacks of different
+/// depths at one instruction.
 #[derive(Clone, Copy, Debug, PartialEq, Eq, Error)]
 pub enum VerifyFault {
     /// An instruction needs more values than are on the stack.

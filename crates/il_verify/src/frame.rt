@@ -1,4 +1,5 @@
-// The frames of the places that are still to come, and how frames are joined.
+// The pending frames, those of offsets that the pass has yet to reach, and how frames are joined.
+// An offset counts octets of the code from 0.
 ghost use Rattle.std.specs.Prelude.{ℕ, ◌-◌, ◌≡◌, ◌≢◌, ◌+◌, ◌<◌, ◌≤◌, ◌^◌, [], Some, None, length, reverse, OnOk, IfOk, IfErr, IfSome, IsSome, option_map, true};
 ghost use Rattle.il_verify.specs.declared.frame.Frame.{Frame};
 ghost use Rattle.il_verify.specs.Frames.{Clashing, Falls, Grows, JumpClash, Jumps, PlainFrame, Pends, with_value_at, frame_at, join_all, plain_frame, plain_frames};
@@ -27,7 +28,7 @@ pub(crate) type KindStack = ArrayVec<CellKind, ROOM>;
 pub(crate) struct Frame {
     /// The kinds on the stack.
     pub kinds: KindStack,
-    /// The number of places on a longest path from the first place to this one.
+    /// The number of offsets on a longest path from offset 0 to this one.
     pub longest: u32,
 }
 
@@ -54,8 +55,8 @@ fn join_all(kinds: &mut KindStack, others: &[CellKind])
     }
 }
 
-// Joins a frame with what another path brings to its place. Returns `DepthClash` if the depths
-// differ, and leaves the frame unchanged.
+// Joins a frame with what another path brings to the same offset. If the depths differ, returns
+// `DepthClash` and leaves the frame unchanged.
 fn join_frame(frame: &mut Frame, kinds: &[CellKind], longest: u32) -> Result<(), VerifyFault>
     ensures ok { OnOk result
         (Grows (record { kinds = reverse kinds.now; longest = longest })
@@ -71,7 +72,7 @@ fn join_frame(frame: &mut Frame, kinds: &[CellKind], longest: u32) -> Result<(),
     Ok(())
 }
 
-/// Extends the pending frames up to a place, with nothing pending at the new places.
+/// Extends the pending frames up to an offset, with nothing pending at the new offsets.
 pub(crate) fn grow(pending: &mut Vec<Option<Frame>>, place: usize) -> Result<(), AllocError>
     requires { place < 2 ^ 64 - 1 }
     ensures room { OnOk result (place < length pending.new.items) }
@@ -84,7 +85,7 @@ pub(crate) fn grow(pending: &mut Vec<Option<Frame>>, place: usize) -> Result<(),
     Ok(())
 }
 
-// Brings a path to a place, at which a frame may be pending.
+// Brings a path to an offset, at which a frame may be pending.
 fn arrive(slot: &mut Option<Frame>, kinds: &[CellKind], longest: u32) -> Result<(), VerifyFault>
     requires { length kinds.now ≤ most_cells }
     ensures ok { OnOk result
@@ -161,7 +162,7 @@ pub(crate) fn falls_through(instr: Instr) -> bool
     }
 }
 
-// Removes the frame pending at a place and returns it, if there is one.
+// Removes the frame pending at an offset and returns it, if there is one.
 fn taken(pending: &mut Vec<Option<Frame>>, place: usize) -> Option<Frame>
     ensures value { result ≡ frame_at pending.old.items place }
     ensures size { length pending.new.items ≡ length pending.old.items }
@@ -175,9 +176,9 @@ fn taken(pending: &mut Vec<Option<Frame>>, place: usize) -> Option<Frame>
     }
 }
 
-/// Returns the frame of the next place: the frame pending there, joined with this one if the
-/// instruction falls through to it, or `None` if no path leads there. Returns `DepthClash` if the
-/// two have different depths.
+/// Returns the frame at the next offset: the frame pending there, joined with this one if the
+/// instruction falls through, or `None` if no path leads there. Returns `DepthClash` if the two
+/// have different depths.
 pub(crate) fn fall(
     instr: Instr,
     next: usize,

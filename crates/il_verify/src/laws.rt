@@ -6,7 +6,7 @@ ghost use Rattle.il_verify.specs.Refusals.{IsRefusal};
 ghost use Rattle.il_verify.specs.Verdicts.{IsVerified};
 ghost use Rattle.il_verify.specs.declared.fault.VerifyFault.{VerifyFault};
 
-/// An image has at most one first fault, at one place.
+/// An image has at most one first fault, at one offset.
 pub fn one_refusal()
     ensures { (points : List Point) (image : Image) (f g : VerifyFault) (p q : ℕ)
         → IsRefusal points image f p → IsRefusal points image g q → (f ≡ g) × (p ≡ q) }

@@ -7,9 +7,10 @@
 // - `plan`: what the pass looks up: the slots, and where instructions begin.
 // - `effect`: the transfer function of each instruction on the kinds on the stack, and its own
 // faults.
-// - `frame`: the frames of the places that are still to come, and how frames are joined.
-// - `visit`: one place of the code.
-// - `pass`: the pass over all places.
+// - `frame`: the pending frames, those of offsets that the pass has yet to reach, and how frames
+// are joined.
+// - `visit`: one instruction of the code.
+// - `pass`: the pass over the code.
 // - `laws`: laws of the definitions that the contracts cite.
 // - `verify`: `verify`, and the verified image that it returns.
 #![tactic(auto)]

@@ -1,4 +1,5 @@
-// The pass over the places of the code, in order.
+// The pass over the code, from instruction to instruction. An offset counts octets of the code from
+// 0.
 ghost use Rattle.std.specs.Prelude.{◌≡◌, ◌<◌, ◌≤◌, ◌↔◌, ℕ, None, IfErr, IfOk, IsTrue, length, max};
 ghost use Rattle.il_image.specs.Images.{IsImage};
 ghost use Rattle.il_verify.specs.Frames.{IsPlan, plain_frames};
@@ -18,13 +19,13 @@ use il_image::read::instr_at;
 /// The measures of code without a fault.
 #[derive(Drop)]
 pub(crate) struct Measures {
-    /// The number of places on a longest path to a HALT.
+    /// The number of instructions on a longest path to a HALT.
     pub budget: u32,
     /// The maximum number of values on the stack before an instruction.
     pub depth: u32,
 }
 
-/// A fault and its place.
+/// A fault and the offset of its instruction.
 #[derive(Drop)]
 pub(crate) struct PlacedFault {
     pub fault: VerifyFault,
@@ -41,15 +42,16 @@ fn is_halt(instr: Instr) -> bool
     }
 }
 
-// Returns the budget after a place, raised if its instruction is HALT.
+// Returns the budget after an instruction, raised if the instruction is HALT.
 fn raised(halts: bool, longest: u32, budget: u32) -> u32
     ensures { result ≡ spec.raised_budget halts longest budget }
 {
     if halts { longest.max(budget) } else { budget }
 }
 
-/// Goes through the places in order, with room for a frame at each, and returns the measures, or
-/// the first fault with its place. A frame moves to the next place; it is copied only for a jump.
+/// Goes through the instructions in order, with room for a frame at each offset, and returns the
+/// measures, or the first fault with its offset. A frame moves to the next instruction; it is
+/// copied only for a jump.
 pub(crate) fn pass(
     image: &Image,
     plan: &Plan,

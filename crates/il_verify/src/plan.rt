@@ -52,7 +52,7 @@ fn starts_of(alloc: Global, code: &[u8]) -> Result<Vec<bool>, AllocError>
     Ok(starts)
 }
 
-/// Returns whether an instruction begins at the place.
+/// Returns whether an instruction begins at this offset in the code.
 pub(crate) fn is_place(starts: &[bool], place: usize) -> bool
     ensures { IsTrue result ↔ (slice_get starts.now place ≡ Some true) }
 {

@@ -63,8 +63,8 @@ impl Verified {
     }
 }
 
-/// A refused image with its first fault and the fault's place: the octet of the code at which the
-/// instruction begins, counted from 0. The place is 0 if the image does not fit the bay or has no
+/// A refused image with its first fault and the fault's offset: the octet of the code at which the
+/// instruction begins, counted from 0. The offset is 0 if the image does not fit the bay or has no
 /// code, and for out of memory.
 #[derive(Drop)]
 pub struct Refused {
@@ -122,10 +122,10 @@ fn check(alloc: Global, image: &Image, points: &[Point]) -> Result<Measures, Pla
 /// Accepts an image exactly if it fits the bay with these points, a table of kinds agrees with its
 /// code, and no instruction writes a read-only point, unless an allocation fails. Otherwise refuses
 /// it with its first fault in the format's order: that it does not fit the bay, or else that there
-/// is no code, or else the first fault of the first place that has one. A refused image is returned
-/// unchanged. Out of memory is possible only if the image fits the bay and has code. All memory is
-/// allocated before a place is checked: room for a frame for each octet of the code. The time of
-/// the pass is proportional to the length of the code.
+/// is no code, or else the first fault of the first instruction that has one. A refused image is
+/// returned unchanged. Out of memory is possible only if the image fits the bay and has code. All
+/// memory is allocated before an instruction is checked: room for a frame for each octet of the
+/// code. The time of the pass is proportional to the length of the code.
 pub fn verify(alloc: Global, image: Image, points: &[Point]) -> Result<Verified, Refused>
     ensures same { IfOk result (λ v. v ≡ image) }
     ensures accepted { IfOk result (λ v. IsVerified points.now image) }

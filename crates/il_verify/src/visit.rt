@@ -1,5 +1,5 @@
-// One instruction at its place: its effect there, and what it brings to the places that it leads
-// to.
+// One instruction of the code: its effect on the frame before it, and what it brings to the offsets
+// that it leads to. An offset counts octets of the code from 0.
 ghost use Rattle.std.specs.Prelude.{◌≡◌, ◌<◌, ◌≤◌, ◌-◌, ◌^◌, ℕ, length, IfErr, IfOk, OnOk, option_map};
 ghost use Rattle.std.specs.Bool.{OnFalse, OnTrue};
 ghost use Rattle.il_image.specs.Tables.{IsPlace};
@@ -43,8 +43,8 @@ fn check_targets(code: &[u8], starts: &[bool], instr: Instr, next: usize) -> Res
     Ok(())
 }
 
-/// Applies the instruction at a place, and returns the frame of the next place, or `None` if no
-/// path leads there. Returns the first fault of the instruction, if it has one.
+/// Applies an instruction to the frame before it, and returns the frame at the next offset, or
+/// `None` if no path leads there. Returns the first fault of the instruction, if it has one.
 pub(crate) fn visit(
     image: &Image,
     plan: &Plan,

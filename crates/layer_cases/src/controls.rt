@@ -5,8 +5,8 @@
 // K POSITION` whether it ends the execution; `close A`, which ends the association's selection,
 // `ok`; `selected` the index of the selected switch.
 //
-// An ASK is `POSITION CATEGORY IDENTITY` with `on` or `off` and the octets of the identity,
-// followed by `test` for a test. A VIEW is the position, `fresh` or `stale` (`lost-fresh` or
+// An `ASK` is `POSITION CATEGORY IDENTITY` with `on` or `off` and the octets of the identity,
+// followed by `test` for a test. A `VIEW` is the position, `fresh` or `stale` (`lost-fresh` or
 // `lost-stale` if the process is lost), and EnaOpn and EnaCls, as `01`.
 use crate::tree::position_of;
 use anyhow::{Result, bail};

@@ -1,5 +1,5 @@
-// Runs the cases of the layers below the device on standard input, and prints each with another
-// result than it requires, and the number of these.
+// Runs the cases of the layers below the device on standard input. Prints each case whose result is
+// not the expected one, and the number of these cases.
 //
 // The cases are sections, each with a head `== NAME`. Most lines are cases, `ASKED -> ANSWER`;
 // others are a part of the next cases, or a note after `#`. Octets are in hexadecimal digits, `-`
@@ -28,7 +28,7 @@
 //   line and the message of the fault that the checks find, or `0 0`; line 1 is that of PROGRAM,
 //   and the declarations begin at line 2. `octets LINES` is the image of a program as text and in
 //   octets, `decoded OCTETS` that of an image. `report LINES` and `image OCTETS` are the
-//   instructions, the depth and the budget of a program and of an image, or the number, the place
+//   instructions, the depth and the budget of a program and of an image, or the number, the offset
 //   and the message of its fault; the next scans run it. `scan MS INPUTS` is the steps and the
 //   outputs of a scan, with commas between the numbers of the inputs. `changed OCTETS` counts the
 //   results for an image with each octet changed to each other value: an image, or refused with 80,

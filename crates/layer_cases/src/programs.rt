@@ -127,7 +127,7 @@ impl<'a> Programs<'a> {
         Ok(())
     }
 
-    // Returns the report of an image, whose machine runs the next scans, or the number, the place
+    // Returns the report of an image, whose machine runs the next scans, or the number, the offset
     // and the message of its fault.
     fn verdict(&mut self, image: Image) -> Result<String, AllocError> {
         match verify(self.alloc, image, self.points.as_slice()) {

@@ -6,7 +6,7 @@ use il_text::program::{Item, Program};
 use il_text::read::read_program;
 use std::alloc::{AllocError, Global};
 
-/// Returns the text of which a case has the short form.
+/// Returns the text that a short form denotes.
 pub fn expand_text(alloc: Global, spelled: &str) -> Result<String> {
     let mut text = String::new(alloc);
     for part in spelled.split("\\n") {
