@@ -23,7 +23,7 @@ UNSEEN = 100  # ms: for so long a driver can't have seen the coil of another mas
 AROUND = 5_000, 300  # ms before and behind what is wrong that is shown
 OUTCOMES = {
     'done': r'done: ', 'time limit over (16)': r'\(16\)', 'interlocking (10)': r'\(10\)',
-    'process lost (9)': r'\(9\)', 'position reached (5)': r'\(5\)'}
+    'process lost (9)': r'\(9\)', 'at local (2)': r'\(2\)', 'position reached (5)': r'\(5\)'}
 
 
 @dataclass(frozen=True)

@@ -16,7 +16,9 @@ FOR_USERS = {
     'is_hazard',  # whether an operation is a hazard; no command uses it yet
     'is_tree',  # whether rows are a tree
     'job_of',  # the job that words ask for
+    'judge',  # a release by the hazards in a diagram; no command uses it yet
     'names_after',  # a page of a tree's names
+    'read_diagram',  # a diagram file; no command uses it yet
     'replay_run',  # a replay between any reader and any writer
     'scan',  # a scan with a list of inputs and of outputs
     'scan_ranges',  # what a scan may leave, without limits on timers

@@ -101,8 +101,9 @@ class Limits(unittest.TestCase):
         """Its file has as many bytes as DECISIONS says, and its rows are those of RESULTS."""
         names = ''.join(f'[[input]]\nname = "I{at:015}"\n' for at in range(64)) + ''.join(
             f'[[meter]]\nid = "M{at:015}"\n' for at in range(8)) + ''.join(
-            f'[[switch]]\nid = "S{at:015}"\nkind = "disconnector"\ncontrol = "sbo-enhanced"\n'
-            'sbo_timeout_ms = 600000\ntravel_ms = 600000\n' for at in range(32))
+            f'[[switch]]\nid = "S{at:015}"\nkind = "breaker"\ncontrol = "sbo-enhanced"\n'
+            f'sbo_timeout_ms = 600000\ntravel_ms = 600000\nremote = "I{at:015}"\n'
+            'synchrocheck = "refuse"\n' for at in range(32))
         texts = ''.join(f'{key} = "{"x" * 64}"\n' for key in ('vendor', 'model', 'revision'))
         file = f'[bay]\ndomain = "{"D" * 32}"\n{texts}scan_max_age_ms = 600000\n{names}'
         page = (TOP / 'docs' / 'DECISIONS.md').read_text(encoding='utf-8')

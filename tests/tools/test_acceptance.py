@@ -39,6 +39,7 @@ name = "KEY"
 id = "M1"
 '''
 FILE = tomllib.loads(BAY)
+KEYED = tomllib.loads(BAY.replace('travel_ms = 2000\n', 'travel_ms = 2000\nremote = "Key"\n'))
 BITS_OF = {place: bits for place, bits in zip('0123', OF_BITS)}
 STEPS = '''section Off load
 expect position QA1 unknown   # comment
@@ -135,6 +136,25 @@ class Steps(unittest.TestCase):
         self.assertEqual([it.time for it in first.steps if it.kind == 'wait'], [20])
         self.assertEqual([it.cause for it in second.steps if it.kind == 'refused'], [10])
 
+    def test_keys(self):
+        def tried(text):
+            return [it.tried for it in steps_of(read_steps('steps', text, KEYED)) if it.is_expected]
+
+        local = 'do key QA1 local\ndo operate QA1 open\n'
+        self.assertEqual([it.told for it in steps_of(read_steps(
+            'steps', 'do key qa1 remote\n' + local, KEYED)) if it.told],
+            ['input KEY 1', 'input KEY 0'])
+        for text, found in (
+                (local + 'expect refused 2\n', ['QA1']), (local + 'expect refused\n', ['']),
+                (local + 'expect refused 10\n', ['']), (local + 'expect accepted\n', ['']),
+                ('do operate QA1 open\nexpect refused 2\n', ['QA1']),  # it begins at local
+                ('do key QA1 remote\ndo operate QA1 open\nexpect refused 2\n', ['']),
+                ('do input KEY 1\ndo operate QB1 open\nexpect refused\n', ['']),
+                ('do key QB1 remote\ndo lost\ndo operate QB1 open\nexpect refused\n', ['QB1']),
+                ('do select QB1 open\nexpect refused\n', ['']),
+                (local + 'do key QA1 remote\nexpect refused 2\n', ['QA1'])):
+            self.assertEqual(tried(text), found, text)
+
     def test_lines_that_are_no_steps(self):
         for text, told in (
                 ('', 'it has no step'), ('section X\n', 'it has no step'),
@@ -142,6 +162,7 @@ class Steps(unittest.TestCase):
                 ('do contact QX open\n', 'QX'), ('do input NONE 1\n', 'NONE'),
                 ('\ndo contact QA1 ajar\n', 'line 2: the form is do contact SWITCH'),
                 ('do contact QA1\n', 'the form is'), ('do input KEY 2\n', '0 or 1'),
+                ('do key QA1 local\n', 'QA1 has no key'), ('do key QA1 1\n', 'the form is do key'),
                 ('do measure M1 XX 1\n', 'XX'), ('do wait soon\n', 'soon is not a time'),
                 ('do operate QX open\n', 'QX is not a switch'), ('do lost now\n', 'the form is'),
                 ('expect refused\n', 'nothing was asked before'),
@@ -188,6 +209,18 @@ class Replays(Tools):
             self.assertIn(told, found.out)
             self.assertIn('FAILED: 16 steps, 8 expectations, of which 1 failed\n', found.out)
 
+    def test_a_key_that_no_step_tries(self):
+        self.bay = self.file('bay', BAY.replace('[[input]]', 'remote = "KEY"\n[[input]]'))
+        found = self.accept(STEPS)
+        self.assertEqual((found.out, found.status), (
+            'FAILED: 16 steps, 8 expectations: no step tries the key of QB1 at local\n', 1))
+        tried = 'do key QB1 local\ndo operate QB1 close\nexpect refused\n'
+        self.assertEqual(self.accept(STEPS + tried, '--html', 'page.html').status, 0)
+        self.assertIn('PASSED: 19 steps', (self.folder / 'page.html').read_text())
+        failed = self.accept(f'{STEPS}do contact QA1 open\n{tried}')
+        self.assertIn('line 22: expect refused: FAILED: accepted\n', failed.out)
+        self.assertEqual(failed.status, 1)
+
     def test_nothing_is_expected(self):
         found = self.accept('do lost\n')
         self.assertEqual((found.out, found.status),
@@ -224,6 +257,10 @@ class Replays(Tools):
             self.assertEqual((found.status, found.out, found.error.count('\n')), (status, '', 1))
         refused = self.bayctl('load refused 72 line 7\n', 1)
         steps.write_text('do lost\n')
+        number = self.file('number', BAY.replace('2000\n[[input]]', '2000\nremote = 5\n[[input]]'))
+        found = self.call_tool('acceptance', steps, '--bay', number, '--logic', self.logic)
+        self.assertEqual((found.status, found.error.count('\n')), (3, 1))
+        self.assertIn('this is not a bay file; tools/diagnose tells what is wrong', found.error)
         found = self.call_tool('acceptance', *base, '--logic', self.logic, '--bayctl', refused)
         self.assertEqual((found.status, found.error),
                          (1, 'acceptance: load refused 72 line 7 (tools/diagnose tells why)\n'))

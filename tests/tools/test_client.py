@@ -328,13 +328,14 @@ class Bays:
     """Two switches, one selected with value, one operated at once, and what is written there."""
 
     def __init__(self) -> None:
-        self.written = []
+        self.written, self.checks = [], []
 
     def __call__(self, pdu):
         if pdu.service == 'write':
-            _, origin, count, *_ = pdu.data[0].value
+            _, origin, count, _, _, *check = pdu.data[0].value
             verb = pdu.names[0].rpartition('$')[2]
             self.written.append((verb, count.value, origin.value[1].value))
+            self.checks.append([it.value for it in check])
             yield respond(pdu.invoke, 0xA5, element(0x81))
         elif pdu.service == 'names':
             yield respond(pdu.invoke, 0xA1, element(0xA0, element(0x1A, b'D')),
@@ -348,14 +349,17 @@ class Bays:
 class Asking(Tools):
     """Who asks, and for which time."""
 
-    def written(self, act):
+    def asked(self, act):
         bay = Bays()
         server = served(Bay(bay))
         try:
             act(server.getsockname()[1])
         finally:
             server.close()
-        return bay.written
+        return bay
+
+    def written(self, act):
+        return self.asked(act).written
 
     def test_numbers_of_controls(self):
         def act(port):
@@ -378,6 +382,14 @@ class Asking(Tools):
             self.assertEqual(found, [(verb, 1, ident.encode()) for verb in ('SBOw', 'Oper')])
         self.assertRegex(own_name(), '^[^@]+@[^@]+$')
 
+    def test_which_check_is_wanted(self):
+        for verb, more, checks in (('operate', [], [['00'], ['00']]),
+                                   ('operate', ['--synchrocheck'], [['10'], ['10']]),
+                                   ('cancel', [], [['00'], []])):
+            found = self.asked(lambda port: self.call_tool('client', port, verb, 'CSWI1', 'close',
+                                                           *more))
+            self.assertEqual(found.checks, checks)
+
 
 class Words(unittest.TestCase):
     def test_octets(self):
@@ -391,6 +403,7 @@ class Words(unittest.TestCase):
         self.assertEqual((bay.node('qs1'), bay.node('q\u017f1'), bay.node('cswi1'),
                           bay.node('CSWI\u0661')), ('CSWI1', None, 'CSWI1', None))
         self.assertEqual((bay.travel('QS1'), bay.travel('X')), (70, None))
+        self.assertEqual((bay.key('QS1'), Names().key('QS1')), ('', ''))
 
 
 if __name__ == '__main__':

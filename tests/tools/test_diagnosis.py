@@ -115,6 +115,11 @@ class Warnings(unittest.TestCase):
                      'no line reads the position of QC9', 'no line reads the input ES'):
             self.assertIn(told, found)
 
+    def test_a_key_that_no_line_reads(self):
+        file = FILE + 'remote = "ES"\n[[input]]\nname = "es"\n[[input]]\nname = "ET"\n'
+        found = [it for it in warned(ASKED.format('QC2_ENA_CLS'), file) if 'the input' in it]
+        self.assertEqual(found, ['no line reads the input ET'])
+
     HEAD = ('PROGRAM p\nVAR_EXTERNAL\nQC2_OPEN, QC9_OPEN, ES, QC2_ENA_CLS : BOOL;\nEND_VAR\n'
             'VAR\na, no : BOOL;\nt1 : TON;\nEND_VAR\n{}\nEND_PROGRAM\n')
 
@@ -216,6 +221,38 @@ class Bays(unittest.TestCase):
         for value in ('9' * 5000, '[' * 3000 + ']' * 3000):
             text = FILE.replace('1000', value)
             self.assertEqual(bay_file.refusals(text.encode())[0].code, 50)
+
+    def test_keys_and_synchrochecks(self):
+        text = FILE.replace('"earthing"', '"breaker"', 1) + '[[input]]\nname = "Remote"\n'
+
+        def told(first='', second='', file=text):
+            head, one, other = file.split('[[switch]]')
+            other, sign, more = other.partition('[[')
+            return first_told(f'{head}[[switch]]{one}{first}[[switch]]{other}{second}{sign}{more}')
+
+        key, none = 'remote = "REMOTE"\n', 'remote = "NONE"\n'
+        self.assertIsNone(told(key + 'synchrocheck = "refuse"\n', 'remote = "remote"\n'))
+        for found, code, why in (
+                (told(none, key), 53, 'there is no input NONE'),
+                (told('remote = "QC2_OPEN"\n'), 53, 'there is no input QC2_OPEN'),
+                (told(none, file=text.replace('"Remote"', '"TIME"')), 53, 'the point TIME'),
+                (told(none, file=text.replace('"QC9"', '"QC2"')), 54, 'QC2'),
+                (told('remote = "1"\n'), 53, '"1" must begin with a letter'),
+                (told('remote = 1\n'), 53, 'the value must be a text'),
+                (told('remote = "A234567890123456x"\n'), 53, '17 characters'),
+                (told('synchrocheck = "Refuse"\n'), 53, 'must be in lower case'),
+                (told('synchrocheck = "check"\n'), 53, '"check" is not refuse'),
+                (told('', 'synchrocheck = "refuse"\n'), 52,
+                 'kind = "earthing" has no synchrocheck'),
+                (told('Remote = "REMOTE"\n'), 52, 'no key Remote here; is remote meant?'),
+                (told('remote = 5\n', file=text.replace('travel_ms = 500\n', '', 1)), 51,
+                 'the key travel_ms is missing')):
+            self.assertEqual(found[0], code, why)
+            self.assertIn(why, found[1])
+        status = text.replace('control = "direct"\ntravel_ms = 500', 'control = "status"', 1)
+        for key in ('remote = "REMOTE"', 'synchrocheck = "refuse"'):
+            self.assertEqual(told(key + '\n', file=status)[:2], (
+                52, f'control = "status" has no {key.partition(" ")[0]}'))
 
     def test_two_points_of_one_name(self):
         found = first_told(FILE.replace('QC9', 'qc2'))

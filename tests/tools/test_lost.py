@@ -64,9 +64,10 @@ class Lost(Tools):
         self.assertIn('the process is lost at 2000 ms', drawn)
 
     def test_the_cause_of_a_refused_operate(self):
-        self.assertEqual([cause_told(code) for code in (9, 10, 99)], [
+        self.assertEqual([cause_told(code) for code in (2, 9, 10, 11, 99)], [
+            'blocked by switching hierarchy (2): its key is not at remote',
             'blocked by process (9): the process is lost', 'blocked by interlocking (10)',
-            'cause (99)'])
+            'blocked by synchrocheck (11): the switch has no synchrocheck', 'cause (99)'])
 
     def test_joined(self):
         bay, logic = self.file('bay', BAY), self.file('logic', LOGIC)

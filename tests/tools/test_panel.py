@@ -142,6 +142,9 @@ class Values(unittest.TestCase):
                          ('closed', 'invalid', True, '5 ms'))
         self.assertEqual((found['open'], found['close']), ({'free': True}, {'free': False}))
         self.assertEqual(place_told(found), 'closed (invalid)')
+        keyed = switch_of({**SWITCHES[0], 'remote': 'ER'}, position, Data(BOOLEAN, True),
+                          Data(BOOLEAN, False))
+        self.assertEqual((found['key'], keyed['key']), ('', 'ER'))
         odd = Data(STRUCTURE, [Data(INTEGER, 1)])
         for words in ((odd, Data(BOOLEAN, True), Data(BOOLEAN, True)),
                       (position, odd, Data(BOOLEAN, True)), (position, Data(BOOLEAN, True), odd)):
@@ -534,13 +537,13 @@ class Losses(unittest.TestCase):
 class States(unittest.TestCase):
     """What a client and a panel tell of a refused operate."""
 
-    def told(self, *bits):
-        model = Model(BAY)
+    def told(self, *bits, text=BAY):
+        model = Model(text)
         for place, it in enumerate(bits, 1):
             model.rows[f'CSWI{place}$ST$Pos$stVal'] = Data(BITS, it)
         nodes = [f'CSWI{place}' for place in range(1, len(bits) + 1)]
         with served(Bay(model)) as server, mock.patch.object(Client, 'names', lambda it: nodes):
-            with contextlib.closing(Client(*server.getsockname(), Names(BAY))) as client:
+            with contextlib.closing(Client(*server.getsockname(), Names(text))) as client:
                 return Control(client, 'QA1').state(False)
 
     def test_a_process_that_is_lost(self):
@@ -550,6 +553,14 @@ class States(unittest.TestCase):
     def test_a_switch_that_is_bad(self):
         for bits in (['11', '11', '10', '11'], ['11']):
             self.assertEqual(self.told(*bits), 'QA1 is bad, may be opened and may be closed')
+
+    def test_a_key_of_which_no_cause_tells(self):
+        told = 'QA1 is closed, may be opened and may be closed'
+        for control, more in (('sbo', '; its key ER must be at remote, which is not seen here'),
+                              ('sbo-enhanced', '')):
+            text = BAY.replace('sbo_timeout_ms = 2000\n', 'sbo_timeout_ms = 2000\nremote = "ER"\n')
+            text = text.replace('"sbo"', f'"{control}"') + '[[input]]\nname = "ER"\n'
+            self.assertEqual(self.told('10', text=text), told + more)
 
 
 @needs_loopback

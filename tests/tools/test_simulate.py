@@ -42,12 +42,12 @@ def now():
 class Simulations(unittest.TestCase):
     """A simulator of this bay whose server is the test."""
 
-    def play(self, *words):
+    def play(self, *words, text=BAY):
         """The connection of a simulator, and the simulator."""
         folder = tempfile.TemporaryDirectory()
         self.addCleanup(folder.cleanup)
         bay = pathlib.Path(folder.name) / 'bay.toml'
-        bay.write_text(BAY)
+        bay.write_text(text)
         server = socket.create_server(('127.0.0.1', 0))
         self.addCleanup(server.close)
         server.settimeout(10)
@@ -98,6 +98,29 @@ class Simulated(Simulations):
         self.lines(file, 2)
         self.tell(file, f'{now()} command QA1 on')
         self.assertEqual(self.lines(file, 2), ['0 contact QA1 0', '0 contact QA1 2'])
+        file.close()
+
+    def test_a_key(self):
+        file, run = self.play(text=BAY.replace('[[input]]', 'remote = "es"\n[[input]]'))
+        self.assertEqual(self.lines(file, 2), ['0 contact QA1 1', '0 input ES 1'])
+        run.stdin.write(b'qa1 local\n')
+        run.stdin.flush()
+        self.assertEqual(self.lines(file, 1), ['0 input ES 0'])
+        self.tell(file, f'{now()} command QA1 on')
+        self.waits_for('QA1 is not carried out: its key is not at remote')
+        run.stdin.write(b'QA1 remote\n')
+        run.stdin.flush()
+        self.assertEqual(self.lines(file, 1), ['0 input ES 1'])
+        self.tell(file, f'{now()} command QA1 on')
+        self.assertEqual(self.lines(file, 2), ['0 contact QA1 0', '0 contact QA1 2'])
+        file.close()
+
+    def test_a_switch_without_a_key(self):
+        file, run = self.play()
+        self.lines(file, 2)
+        run.stdin.write(b'QA1 local\n')
+        run.stdin.flush()
+        self.waits_for('QA1 has no key in the bay file')
         file.close()
 
     def test_lines_that_come_at_once(self):

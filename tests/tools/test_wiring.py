@@ -1,6 +1,7 @@
 """The wiring of a bay to modules: what is refused, what samples come to, and the table of
 terminals."""
 import unittest
+from unittest import mock
 
 from baytools.fieldbus.gpio_lines import GPIO
 from baytools.fieldbus.keyed import Miswired
@@ -164,6 +165,38 @@ WRONG = [
 ]
 
 
+class Keys(unittest.TestCase):
+    """An input that is the key of a switch."""
+    KEYED = {**BAY, 'switch': [{**BAY['switch'][0], 'remote': 'es'}, BAY['switch'][1]]}
+
+    def test_what_is_read_of_it(self):
+        text = put('contact = 2', 'contact = 6')
+        found, = wiring_of(text, self.KEYED, MODBUS)
+        key, = found.inputs
+        self.assertEqual((key.contact, key.fault), (found.switches[0].remote, False))
+        sampled = Sampled(found)
+        self.assertEqual(sampled.forget()['input', 'ES'], 0)
+        for is_on, at, told in ((True, 1.0, 0), (True, 2.0, 1), (False, 2.1, 0)):
+            bits = dict.fromkeys(found.contacts(), is_on)
+            self.assertEqual(sampled.take(bits, {0: 0}, at)['input', 'ES'], told)
+            self.assertEqual(sampled.is_remote(found.switches[0]), is_on)
+
+    def test_what_is_refused(self):
+        for told, text in (
+                ('input ES: it is TRUE while the key of QA1 is at remote: write fault = false',
+                 put('fault = false', 'fault = true')),
+                ('input ES: .* the same contact is inverted the other way',
+                 put('contact = 2', 'contact = 6\ninvert = true')),
+                ('module io: OK is the key of QA1: name another input', None)):
+            bay = self.KEYED
+            if text is None:
+                text = WIRING
+                bay = {**BAY, 'switch': [{**BAY['switch'][0], 'remote': 'OK'}, BAY['switch'][1]]}
+            with self.assertRaisesRegex(Miswired, told):
+                wiring_of(text, bay, MODBUS)
+        wiring_of(put('fault = false', 'fault = true'), BAY, MODBUS)
+
+
 class Wirings(unittest.TestCase):
     def test_a_wiring(self):
         module, = wiring_of(WIRING, BAY, MODBUS)
@@ -307,6 +340,26 @@ id = "M1"
                      '1 module, 2 switches, 1 input, 1 measure: 10 terminals; on none: M1 TOTW, M1 '
                      'TOTVAR, M1 HZ, M1 AB, M1 AC'):
             self.assertIn(line, found.out)
+
+    def test_a_key_at_which_the_driver_does_not_look(self):
+        words = self.wired(put('remote = 6\n', ''))
+        bay = words[1]
+        bay.write_text(bay.read_text().replace('travel_ms = 400\n',
+                                               'travel_ms = 400\nremote = "ES"\n'))
+        told = 'WARNING: QA1 has a key in the bay file, and no remote here'
+        found = self.call_tool('modbus', *words, '--check')
+        self.assertEqual((found.status, found.error), (0, ''))
+        self.assertIn(told, found.out)
+        words[3].write_text(WIRING)
+        self.assertNotIn(told, self.call_tool('modbus', *words, '--check').out)
+        words[3].write_text(without('input', put('["M1 TOTW"', '["ES", "M1 TOTW"')))
+        self.assertIn('WARNING: ES, the key of QA1, is wired to nothing: every operate of QA1 is '
+                      'refused.', self.call_tool('modbus', *words, '--check').out)
+        words[3].write_text(put('fault = false', 'fault = true'))
+        self.assertIn('write fault = false', self.call_tool('modbus', *words, '--check').error)
+        with mock.patch('baytools.fieldbus.command_line.all_off', mock.AsyncMock()) as off:
+            self.assertEqual(self.call_tool('modbus', *words, '--off').status, 0)
+        off.assert_awaited_once()
 
     def test_inputs_of_a_lost_module(self):
         for value, frees, lost in (('true', 'FALSE', 'TRUE'), ('false', 'TRUE', 'FALSE')):

@@ -11,8 +11,9 @@ use Rattle.bay_base.specs.Exact.{unless_refused}
 use Rattle.bay_config.specs.Key.{first_of, unknown_refusal}
 use Rattle.bay_nodes.specs.Node.{rows_of_all}
 use Rattle.bay_config.specs.Point.{points_of_all, names_refusal}
+use Rattle.bay_config.specs.Remote.{remotes_refusal}
 use Rattle.bay_config.specs.Section.{section_refusal}
-use Rattle.bay_config.proofs.KeyLemmas.{then, judged-step}
+use Rattle.bay_config.proofs.KeyLemmas.{then, judged-last, judged-step}
 
 abbrev pub sections_in : Members → Sections
 sections_in f =
@@ -57,10 +58,10 @@ sections-by-section f =
     (judged-step inputs (meters ∷ []) (names_in f Input) (sections_in f) _
     (judged-step meters [] (names_in f Meter) (sections_in f) _ refl))))
 
--- the last check, behind the others
-judged-last_of : {S R : Type 0} (checks : List (Option BayFault)) (last : Option BayFault) (x : S)
-    (v : R) (g : S → Result R BayFault) → unless_refused (first_of (last ∷ [])) v ≡ g x
-    → unless_refused (first_of (checks ++ last ∷ [])) v
+-- the last checks, after the others
+judged-last_of : {S R : Type 0} (checks last : List (Option BayFault)) (x : S) (v : R)
+    (g : S → Result R BayFault) → unless_refused (first_of last) v ≡ g x
+    → unless_refused (first_of (checks ++ last)) v
     ≡ then (unless_refused (first_of checks) x) g
 judged-last_of [] last x v g e = e
 judged-last_of (None ∷ checks) last x v g e = judged-last_of checks last x v g e
@@ -73,11 +74,26 @@ lists_in s =
       rows = rows_of_all s.nameplate s.switches s.meters;
     }
 
+-- the checks of the lists: the names of the points, and then the keys of the switches
+abbrev pub list_checks_in : Sections → List (Option BayFault)
+list_checks_in s =
+    names_refusal (lists_in s).points ∷ remotes_refusal s.inputs s.switches ∷ []
+
+pub lists-by-check : (s : Sections)
+    → unless_refused (first_of (list_checks_in s)) (lists_in s)
+    ≡ then (unless_refused {B = Unit {0}} (names_refusal (lists_in s).points) tt)
+    (λ _. then (unless_refused {B = Unit {0}} (remotes_refusal s.inputs s.switches) tt)
+    (λ _. Ok (lists_in s)))
+lists-by-check s =
+    judged-step (names_refusal (lists_in s).points)
+    (remotes_refusal s.inputs s.switches ∷ []) (tt {0}) (lists_in s) _
+    (judged-step (remotes_refusal s.inputs s.switches) [] (tt {0}) (lists_in s) _ refl)
+
 -- the bay: the sections, and then the lists
 abbrev pub bay_by_parts : Members → Result Bay BayFault
 bay_by_parts f =
     then (unless_refused (first_of (section_checks f)) (sections_in f))
-    (λ s. then (unless_refused (names_refusal (lists_in s).points) (lists_in s))
+    (λ s. then (unless_refused (first_of (list_checks_in s)) (lists_in s))
     (λ l. Ok (record {
       domain = s.nameplate.domain;
       vendor = s.nameplate.vendor;
@@ -93,6 +109,6 @@ bay_by_parts f =
 
 pub by-parts : (f : Members) → bay_of_table f ≡ bay_by_parts f
 by-parts f =
-    let lists = lists_in (sections_in f) in
-    judged-last_of (section_checks f) (names_refusal lists.points) (sections_in f) (bay_in f) _
-    (judged-step (names_refusal lists.points) [] lists (bay_in f) _ refl)
+    let s = sections_in f in
+    judged-last_of (section_checks f) (list_checks_in s) s (bay_in f) _
+    (judged-last (first_of (list_checks_in s)) (lists_in s) (bay_in f) _ refl)

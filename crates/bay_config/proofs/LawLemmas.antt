@@ -17,6 +17,7 @@ use Rattle.bay_config.specs.declared.names.NameSection.TheVariants.{Input, Meter
 use Rattle.bay_config.specs.Bay.{bay_section, switch_section, name_section, max_names, name_in, name_keys, sections, switches_in, names_in, bay_table, nameplate_in, bay_in, bay_of_table, file_refusal}
 use Rattle.bay_config.specs.Key.{Key, is_among, unknown_refusal, refused_if}
 use Rattle.bay_config.specs.Laws.{IsOwned, IsBay}
+use Rattle.bay_config.specs.Remote.{are_inputs, remotes_refusal}
 use Rattle.bay_config.specs.Point.{points_of, points_from, inputs_from, meter_points, meters_from, points_of_all, has_twin, names_refusal}
 use Rattle.bay_config.specs.Section.{are_tables, count_of, tables_of, items_at, items_refusal, list_refusal, section_refusal, section_tables}
 use Rattle.bay_config.specs.Switch.{switch_keys, switch_in}
@@ -216,18 +217,20 @@ sound-bay f h =
     let is = names_in f Input in
     let ms = names_in f Meter in
     let names = names_refusal (points_of_all ss is ms) in
+    let keys = remotes_refusal is ss in
     let bay = section_refusal f bay_section in
     let switches = section_refusal f switch_section in
     let inputs = section_refusal f (name_section Input) in
     let meters = section_refusal f (name_section Meter) in
     let one =
     none-first (unknown_refusal (map (λ section. section.name) sections) f)
-    (bay ∷ switches ∷ inputs ∷ meters ∷ names ∷ []) h in
-    let two = none-first bay (switches ∷ inputs ∷ meters ∷ names ∷ []) one.1 in
-    let three = none-first switches (inputs ∷ meters ∷ names ∷ []) two.1 in
-    let four = none-first inputs (meters ∷ names ∷ []) three.1 in
-    let five = none-first meters (names ∷ []) four.1 in
-    let six = none-first names [] five.1 in
+    (bay ∷ switches ∷ inputs ∷ meters ∷ names ∷ keys ∷ []) h in
+    let two = none-first bay (switches ∷ inputs ∷ meters ∷ names ∷ keys ∷ []) one.1 in
+    let three = none-first switches (inputs ∷ meters ∷ names ∷ keys ∷ []) two.1 in
+    let four = none-first inputs (meters ∷ names ∷ keys ∷ []) three.1 in
+    let five = none-first meters (names ∷ keys ∷ []) four.1 in
+    let six = none-first names (keys ∷ []) five.1 in
+    let seven = none-first keys [] six.1 in
     let counts = list-counts 1 32 switch_keys (items_at (get_member (codes "switch") f)) three.0 in
     let long : length ss ≡ length (section_tables f switch_section) =
     length-map (section_tables f switch_section) switch_in in
@@ -250,6 +253,7 @@ sound-bay f h =
       rows = refl;
       names = pairs-differ (points_of_all ss is ms) differ;
       owners = all-owned ss is ms;
+      keyed = not-false (are_inputs is ss) (refused_if-None _ BadValue seven.0);
       tree = rows-make-tree (nameplate_in (bay_table f)) ss ms (omega arith) (omega arith);
     }
 

@@ -5,6 +5,7 @@ use Rattle.bay_nodes.specs.declared.switch.Switch.{Switch}
 use Rattle.bay_config.specs.Bay.{bay_in, bay_of, bay_of_document, document_of, bay_section, file_refusal, name_section, names_in, sections, switch_section, switches_in}
 use Rattle.bay_config.specs.Key.{entry_refusal, first_of, unknown_refusal}
 use Rattle.bay_config.specs.Point.{names_refusal, points_of_all}
+use Rattle.bay_config.specs.Remote.{remotes_refusal}
 use Rattle.bay_config.specs.Section.{items_at, list_checks, list_refusal, section_refusal, tables_of}
 use Rattle.bay_config.specs.Switch.{switch_in, switch_keys}
 use Rattle.bay_config.specs.declared.bay.Bay.{Bay}
@@ -59,15 +60,16 @@ module _
         let names =
         names_refusal (points_of_all (switches_in file) (names_in file Input) (names_in file Meter))
         in
+        let keys = remotes_refusal (names_in file Input) (switches_in file) in
         let bay = section_refusal file bay_section in
         let switches = section_refusal file switch_section in
         let inputs = section_refusal file (name_section Input) in
         let meters = section_refusal file (name_section Meter) in
         let one =
         none-first (unknown_refusal (map (λ section. section.name) sections) file)
-        (bay ∷ switches ∷ inputs ∷ meters ∷ names ∷ []) none in
-        let two = none-first bay (switches ∷ inputs ∷ meters ∷ names ∷ []) one.1 in
-        let three = none-first switches (inputs ∷ meters ∷ names ∷ []) two.1 in
+        (bay ∷ switches ∷ inputs ∷ meters ∷ names ∷ keys ∷ []) none in
+        let two = none-first bay (switches ∷ inputs ∷ meters ∷ names ∷ keys ∷ []) one.1 in
+        let three = none-first switches (inputs ∷ meters ∷ names ∷ keys ∷ []) two.1 in
         list-passes (items_at (get_member (codes "switch") file)) three.0
 
     document-passes : (o : Option Members) (bay : Bay) → bay_of_document o ≡ Ok bay

@@ -13,6 +13,7 @@ use Rattle.bay_base.specs.Exact.{unless_refused}
 use Rattle.bay_config.specs.Key.{Key, identifier, description, number, first_of, unknown_refusal, text_in, number_in}
 use Rattle.bay_nodes.specs.Node.{rows_of_all}
 use Rattle.bay_config.specs.Point.{points_of_all, names_refusal}
+use Rattle.bay_config.specs.Remote.{remotes_refusal}
 use Rattle.bay_config.specs.Section.{Section, one, many, section_refusal, section_tables}
 use Rattle.bay_config.specs.Switch.{switch_keys, switch_in}
 
@@ -111,13 +112,14 @@ bay_in file =
     (names_in file Meter)
 
 -- the first refusal of a file: a key that is not a section, then section by section, then the names
--- of the points
+-- of the points, then the inputs of the switches' keys
 abbrev pub file_refusal : Members → Option BayFault
 file_refusal file =
     first_of
     (unknown_refusal (map (λ section. section.name) sections) file
     ∷ map (section_refusal file) sections
     ++ names_refusal (points_of_all (switches_in file) (names_in file Input) (names_in file Meter))
+    ∷ remotes_refusal (names_in file Input) (switches_in file)
     ∷ [])
 
 -- the bay of a file, or its first refusal

@@ -19,6 +19,8 @@ pub data Form : Type 0 where
   number : ℕ → ℕ → Form
   -- one of these words
   word : List (List ℕ) → Form
+  -- a value of this form, or no value
+  optional : Form → Form
 
 -- a key of a table, and the form of its value
 pub record Key : Type 0 where
@@ -62,10 +64,19 @@ accepts (identifier most) d = passes (is_identifier most) (as_str d)
 accepts description d = passes is_description (as_str d)
 accepts (number least most) d = passes (is_within least most) (as_integer d)
 accepts (word words) d = passes (is_among words) (as_str d)
+accepts (optional form) d = accepts form d
+
+-- the refusal of a missing value
+abbrev pub missing_refusal : Form → Option BayFault
+missing_refusal (identifier most) = Some MissingKey
+missing_refusal description = Some MissingKey
+missing_refusal (number least most) = Some MissingKey
+missing_refusal (word words) = Some MissingKey
+missing_refusal (optional form) = None
 
 -- the refusal of the value at a key, or of a missing value
 abbrev pub held_refusal : Form → Option Data → Option BayFault
-held_refusal form None = Some MissingKey
+held_refusal form None = missing_refusal form
 held_refusal form (Some d) = if accepts form d then None else Some BadValue
 
 -- the refusal of a key of a table

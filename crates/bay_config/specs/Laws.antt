@@ -1,5 +1,5 @@
 -- The properties of every bay that is read, whatever its file holds.
-use Rattle.std.specs.Prelude.{◌≡◌, ◌≢◌, ℕ, ◌+◌, ◌≤◌, ◌++◌, pos, false, codes, Some, None, List, [], length, slice_get, All, AllPairs, Contains}
+use Rattle.std.specs.Prelude.{◌≡◌, ◌≢◌, ℕ, ◌+◌, ◌≤◌, ◌++◌, pos, false, true, codes, Some, None, List, [], length, slice_get, All, AllPairs, Contains}
 use Rattle.bay_tree.specs.declared.row.Row.{Row}
 use Rattle.bay_tree.specs.declared.leaf.Leaf.{Leaf}
 use Rattle.bay_tree.specs.declared.leaf.Leaf.TheVariants.{Truth, Dbpos, Quality, Int8, Int32, Unsigned8, Octets, Reference, Utc}
@@ -18,6 +18,7 @@ use Rattle.bay_nodes.specs.declared.nameplate.Nameplate.{Nameplate}
 use Rattle.bay_nodes.specs.Node.{Node, row, node_rows, node_name, class_of, node_number, position_parts, control_parts, interlocking_parts, meter_parts, rows_of_all}
 use Rattle.bay_nodes.specs.Names.{StatusNames, position_names, operation_names, opening_names, closing_names, ControlNames, control_names_of, MeterNames, meter_names_of}
 use Rattle.bay_config.specs.Point.{points_of, input_point, meter_points, points_of_all}
+use Rattle.bay_config.specs.Remote.{are_inputs}
 
 -- the point is one of those of the switch at this index
 pub record Owns (switches : List Switch) (place : ℕ) (point : Point) : Type 0 where
@@ -71,6 +72,8 @@ pub record IsBay (bay : Bay) : Type 0 where
   -- no two points have the same name, and each is one of the object that its source names
   pub names : AllPairs (λ p q. p.name ≢ q.name) bay.points
   pub owners : All (IsOwned bay.switches bay.inputs bay.meters) bay.points
+  -- the key of each switch, if it has one, is an input
+  pub keyed : are_inputs bay.inputs bay.switches ≡ true
   -- names of rows are distinct, and each row's parent is a structure before it
   pub tree : IsTree bay.rows
 

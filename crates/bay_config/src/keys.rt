@@ -1,14 +1,14 @@
 // The value at a key of a table, and the keys that a table may have.
-ghost use Rattle.std.specs.Prelude.{◌≡◌, not, map, option_map, string_bytes, IfOk, IfErr};
+ghost use Rattle.std.specs.Prelude.{◌≡◌, not, map, option_and_then, option_map, string_bytes, IfOk, IfErr};
 ghost use Rattle.std.specs.BTreeMap.{keys};
 ghost use Rattle.std.specs.Int.{is_in_range};
 ghost use Rattle.std.specs.List.{list_all, list_any};
 ghost use Rattle.std.specs.Str.{bytes_eq};
-ghost use Rattle.toml.specs.Data.{get_member};
+ghost use Rattle.toml.specs.Data.{as_str, get_member};
 ghost use Rattle.toml.specs.View.{view, table_view};
 ghost use Rattle.bay_config.specs.declared.fault.BayFault.TheVariants.{OutOfMemory};
 ghost use Rattle.bay_base.specs.Exact.{Gives, unless_refused};
-ghost use Rattle.bay_config.specs.Key.{identifier, description, number, unknown_refusal, key_refusal, text_in, number_in};
+ghost use Rattle.bay_config.specs.Key.{identifier, description, number, optional, unknown_refusal, key_refusal, text_in, number_in};
 ghost use Rattle.bay_config.specs.Key as spec;
 
 use crate::fault::BayFault;
@@ -112,6 +112,29 @@ pub fn identifier_at(alloc: Global, table: &Table, key: &str, most: usize) -> Re
             _ => Err(BayFault::BadValue),
         },
         None => Err(BayFault::MissingKey),
+    }
+}
+
+/// Reads the identifier at a key, of at most `most` characters; `None` if the table does not have
+/// the key. `BadValue` if its value is not such an identifier, `OutOfMemory` if an allocation fails.
+pub fn identifier_if(
+    alloc: Global,
+    table: &Table,
+    key: &str,
+    most: usize,
+) -> Result<Option<Text>, BayFault>
+    ensures { let file = table_view table.now in
+        Gives OutOfMemory (λ x. x) result
+        (unless_refused
+        (key_refusal file (record { name = key.now; form = optional (identifier most) }))
+        (option_and_then as_str (get_member key.now file))) }
+{
+    match find(table, key) {
+        Some(value) => match value.as_str() {
+            Some(text) if is_identifier(text, most) => Ok(Some(Text::from_str(alloc, text)?)),
+            _ => Err(BayFault::BadValue),
+        },
+        None => Ok(None),
     }
 }
 

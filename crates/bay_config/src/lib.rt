@@ -11,6 +11,7 @@
 // - `switches`: the section `switch`.
 // - `names`: the sections `input` and `meter`.
 // - `points`: the points of switches, inputs and meters, and their names.
+// - `remotes`: the inputs of the switches' keys.
 // - `nodes`: the names of the logical nodes.
 // - `read`: `read_bay`, which reads all of them.
 #![tactic(auto)]
@@ -24,4 +25,5 @@ mod names;
 pub mod nodes;
 mod points;
 pub mod read;
+mod remotes;
 mod switches;

@@ -1,5 +1,5 @@
 // Reads a bay from the text of its file.
-ghost use Rattle.std.specs.Prelude.{◌≡◌, ◌∷◌, map, IfOk};
+ghost use Rattle.std.specs.Prelude.{◌≡◌, ◌∷◌, [], map, IfOk};
 ghost use Rattle.std.specs.Option.{ok_or};
 ghost use Rattle.toml.specs.View.{table_view};
 ghost use Rattle.bay_config.specs.Bay.{bay_table, bay_of_table, bay_of, document_of, nameplate_in, names_in, sections, switches_in};
@@ -10,6 +10,7 @@ ghost use Rattle.bay_config.specs.Key.{first_of, unknown_refusal};
 ghost use Rattle.bay_config.specs.Laws.{IsBay};
 ghost use Rattle.bay_nodes.specs.Node.{rows_of_all};
 ghost use Rattle.bay_config.specs.Point.{names_refusal, points_of_all};
+ghost use Rattle.bay_config.specs.Remote.{remotes_refusal};
 ghost use Rattle.bay_config.specs.Section.{section_refusal};
 
 use crate::bay::{Bay, Point, Switch};
@@ -18,6 +19,7 @@ use crate::keys::check_keys;
 use crate::nameplate::nameplate_at;
 use crate::names::{NameSection, names_at};
 use crate::points::{check_names, points_of};
+use crate::remotes::check_remotes;
 use crate::switches::switches_at;
 use bay_base::listing::Listing;
 use bay_base::text::Text;
@@ -69,18 +71,21 @@ struct Lists {
     rows: Listing<Row>,
 }
 
-// Returns the points and the rows. Refuses two points with the same name, and a point with the name
-// of a reserved word.
+// Returns the points and the rows. Refuses two points with the same name, then a point with the
+// name of a reserved word, then a switch whose key is not an input.
 fn lists_of(alloc: Global, sections: &Sections) -> Result<Lists, BayFault>
     ensures { let s = sections.now in let points = points_of_all s.switches s.inputs s.meters in
         Gives OutOfMemory (λ x. x) result
-        (unless_refused (names_refusal points)
+        (unless_refused
+        (first_of (names_refusal points ∷ remotes_refusal s.inputs s.switches ∷ []))
         (record { points = points; rows = rows_of_all s.nameplate s.switches s.meters })) }
 {
     let switches = sections.switches.as_slice();
     let meters = sections.meters.as_slice();
-    let points = points_of(alloc, switches, sections.inputs.as_slice(), meters)?;
+    let inputs = sections.inputs.as_slice();
+    let points = points_of(alloc, switches, inputs, meters)?;
     check_names(points.as_slice())?;
+    check_remotes(inputs, switches)?;
     let rows = rows_of(alloc, &sections.nameplate, switches, meters)?;
     Ok(Lists { points, rows })
 }

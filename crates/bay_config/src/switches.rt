@@ -1,5 +1,5 @@
 // The section `switch` of a file.
-ghost use Rattle.std.specs.Prelude.{◌≡◌, ◌∷◌, [], false, map, codes, IfOk, unwrap_or};
+ghost use Rattle.std.specs.Prelude.{◌≡◌, ◌∷◌, ◌++◌, [], false, map, codes, IfOk, unwrap_or};
 ghost use Rattle.toml.specs.View.{table_view, items_view};
 ghost use Rattle.bay_base.specs.declared.switch.SwitchKind.TheVariants.{Breaker};
 ghost use Rattle.bay_config.specs.declared.fault.BayFault.TheVariants.{OutOfMemory};
@@ -8,13 +8,14 @@ ghost use Rattle.bay_config.specs.Bay.{switch_section, switches_in};
 ghost use Rattle.bay_base.specs.Exact.{Gives, unless_refused};
 ghost use Rattle.bay_config.specs.Key.{first_of, has_unknown, key_refusal, entry_refusal, value_named, number_in};
 ghost use Rattle.bay_config.specs.Section.{tables_of, items_refusal, section_refusal};
-ghost use Rattle.bay_config.specs.Switch.{kinds, controls, kind_of, control_of, kind_key, control_key, sbo_timeout_key, travel_key, time_keys, switch_keys, switch_in};
+ghost use Rattle.bay_config.specs.Switch.{kinds, controls, kind_of, control_of, kind_key, control_key, sbo_timeout_key, travel_key, time_keys, remote_key, synchrocheck_key, synchrocheck_keys, optional_keys, remote_in, refuses_in, switch_keys, switch_in};
 
 use crate::bay::{Control, Switch, SwitchKind};
 use crate::fault::BayFault;
-use crate::keys::{check_keys, find, identifier_at, number_at};
+use crate::keys::{check_keys, find, identifier_at, identifier_if, number_at};
 use crate::lists::check_list;
 use bay_base::listing::Listing;
+use bay_base::text::Text;
 use std::alloc::Global;
 use toml::{Table, Value};
 
@@ -43,11 +44,25 @@ fn control_named(word: &str) -> Option<Control>
     }
 }
 
+// Returns the kind of a switch in a table; `None` if it is missing or invalid.
+fn readable_kind(table: &Table) -> Option<SwitchKind>
+    ensures { result ≡ kind_of (table_view table.now) }
+{
+    match find(table, "kind") {
+        Some(value) => match value.as_str() {
+            Some(word) => kind_named(word),
+            None => None,
+        },
+        None => None,
+    }
+}
+
 // Reads the kind of a switch: one of three words.
 #[tactic(auto, using(crate::proofs::KeyLemmas::among_named))]
 fn kind_at(table: &Table) -> Result<SwitchKind, BayFault>
-    ensures { let t = table_view table.now in
+    ensures held { let t = table_view table.now in
         result ≡ unless_refused (key_refusal t kind_key) (unwrap_or (kind_of t) Breaker) }
+    ensures readable { IfOk result (λ k. kind_of (table_view table.now) ≡ Some k) }
 {
     match find(table, "kind") {
         Some(value) => match value.as_str() {
@@ -93,20 +108,41 @@ fn control_at(table: &Table) -> Result<Control, BayFault>
     }
 }
 
-// Returns the names of the keys of a switch with this control.
-fn switch_key_names(control: Option<Control>) -> &'static [&'static str]
+// Returns the names of the keys of a switch with this control and of this kind.
+fn switch_key_names(control: Option<Control>, kind: Option<SwitchKind>) -> &'static [&'static str]
     ensures { map (λ k. k.now) result.now
-        ≡ codes "id" ∷ codes "kind" ∷ codes "control" ∷ map (λ k. k.name) (time_keys control) }
+        ≡ codes "id" ∷ codes "kind" ∷ codes "control"
+        ∷ map (λ k. k.name) (time_keys control ++ optional_keys control kind) }
 {
-    match control {
-        Some(Control::Status) => &["id", "kind", "control"],
-        Some(Control::Direct) => &["id", "kind", "control", "travel_ms"],
-        Some(Control::Sbo | Control::SboEnhanced) | None => &[
+    match (control, kind) {
+        (Some(Control::Status), _) => &["id", "kind", "control"],
+        (Some(Control::Direct), Some(SwitchKind::Disconnector | SwitchKind::Earthing)) => {
+            &["id", "kind", "control", "travel_ms", "remote"]
+        }
+        (Some(Control::Direct), Some(SwitchKind::Breaker) | None) => &[
+            "id",
+            "kind",
+            "control",
+            "travel_ms",
+            "remote",
+            "synchrocheck",
+        ],
+        (_, Some(SwitchKind::Disconnector | SwitchKind::Earthing)) => &[
             "id",
             "kind",
             "control",
             "sbo_timeout_ms",
             "travel_ms",
+            "remote",
+        ],
+        (_, Some(SwitchKind::Breaker) | None) => &[
+            "id",
+            "kind",
+            "control",
+            "sbo_timeout_ms",
+            "travel_ms",
+            "remote",
+            "synchrocheck",
         ],
     }
 }
@@ -143,23 +179,111 @@ fn times_at(table: &Table, control: Control) -> Result<(u32, u32), BayFault>
     }
 }
 
+// Reads whether a breaker refuses a synchrocheck: only the word `refuse` may be there.
+fn refusal_at(table: &Table) -> Result<bool, BayFault>
+    ensures { let t = table_view table.now in
+        result ≡ unless_refused (key_refusal t synchrocheck_key) (refuses_in t) }
+{
+    match find(table, "synchrocheck") {
+        Some(value) => match value.as_str() {
+            Some(word) => {
+                if word == "refuse" {
+                    Ok(true)
+                } else {
+                    Err(BayFault::BadValue)
+                }
+            }
+            None => Err(BayFault::BadValue),
+        },
+        None => Ok(false),
+    }
+}
+
+// Reads whether a switch of this kind refuses a synchrocheck; `false` if its kind excludes the key.
+fn refusal_of(table: &Table, kind: SwitchKind) -> Result<bool, BayFault>
+    requires known { has_unknown (map (λ k. k.name) (switch_keys (table_view table.now)))
+        (table_view table.now) ≡ false }
+    requires readable { kind_of (table_view table.now) ≡ Some kind }
+    ensures { let t = table_view table.now in
+        result ≡ unless_refused (first_of (map (key_refusal t) (synchrocheck_keys (Some kind))))
+        (refuses_in t) }
+{
+    match kind {
+        SwitchKind::Breaker => refusal_at(table),
+        SwitchKind::Disconnector => Ok(false),
+        SwitchKind::Earthing => Ok(false),
+    }
+}
+
+// Reads the name of the input of a controlled switch's key, and whether it refuses a synchrocheck.
+fn both_options_at(
+    alloc: Global,
+    table: &Table,
+    kind: SwitchKind,
+) -> Result<(Option<Text>, bool), BayFault>
+    requires known { has_unknown (map (λ k. k.name) (switch_keys (table_view table.now)))
+        (table_view table.now) ≡ false }
+    requires readable { kind_of (table_view table.now) ≡ Some kind }
+    ensures { let t = table_view table.now in
+        Gives OutOfMemory (λ x. x) result
+        (unless_refused
+        (first_of (map (key_refusal t) (remote_key ∷ synchrocheck_keys (Some kind))))
+        (remote_in t, refuses_in t)) }
+{
+    let remote = identifier_if(alloc, table, "remote", 16)?;
+    let refuses_synchrocheck = refusal_of(table, kind)?;
+    Ok((remote, refuses_synchrocheck))
+}
+
+// Reads the keys that a switch may leave out: the name of the input of its key, and whether it
+// refuses a synchrocheck. A switch without control has neither.
+fn options_at(
+    alloc: Global,
+    table: &Table,
+    control: Control,
+    kind: SwitchKind,
+) -> Result<(Option<Text>, bool), BayFault>
+    requires known { has_unknown (map (λ k. k.name) (switch_keys (table_view table.now)))
+        (table_view table.now) ≡ false }
+    requires control { control_of (table_view table.now) ≡ Some control }
+    requires kind { kind_of (table_view table.now) ≡ Some kind }
+    ensures { let t = table_view table.now in
+        Gives OutOfMemory (λ x. x) result
+        (unless_refused
+        (first_of (map (key_refusal t) (optional_keys (Some control) (Some kind))))
+        (remote_in t, refuses_in t)) }
+{
+    match control {
+        Control::Status => Ok((None, false)),
+        Control::Direct => both_options_at(alloc, table, kind),
+        Control::Sbo => both_options_at(alloc, table, kind),
+        Control::SboEnhanced => both_options_at(alloc, table, kind),
+    }
+}
+
 // Reads the switch in a table.
 fn switch_from(alloc: Global, table: &Table) -> Result<Switch, BayFault>
     ensures { let t = table_view table.now in
         Gives OutOfMemory (λ x. x) result
         (unless_refused (entry_refusal (switch_keys t) t) (switch_in t)) }
 {
-    check_keys(table, switch_key_names(readable_control(table)))?;
+    check_keys(
+        table,
+        switch_key_names(readable_control(table), readable_kind(table)),
+    )?;
     let id = identifier_at(alloc, table, "id", 16)?;
     let kind = kind_at(table)?;
     let control = control_at(table)?;
     let (sbo_timeout_ms, travel_ms) = times_at(table, control)?;
+    let (remote, refuses_synchrocheck) = options_at(alloc, table, control, kind)?;
     Ok(Switch {
         id,
         kind,
         control,
         sbo_timeout_ms,
         travel_ms,
+        remote,
+        refuses_synchrocheck,
     })
 }
 

@@ -9,7 +9,7 @@ use Rattle.bay_base.specs.declared.switch.Operation.TheVariants as operation
 use Rattle.bay_control.specs.Acts.{Act, Entry}
 use Rattle.bay_control.specs.Acts as act
 use Rattle.bay_control.specs.Backing.{AreBacked, AreBackedAfter, IsBacked}
-use Rattle.bay_control.specs.Happenings.{AreOrderly, Call, Open, Close, Select, SelectWith, Operate, Cancel, Contact, Advance, Happening, Leads, act_of, entries_of, history, is_open_after, outcome_of}
+use Rattle.bay_control.specs.Happenings.{AreOrderly, Call, Open, Close, Select, SelectWith, Operate, Cancel, Contact, Advance, Happening, Leads, act_of, after_all, entries_of, history, is_open_after, outcome_of}
 use Rattle.bay_control.specs.Decisions.{State, is_choice, is_chosen, is_selected_by, operate_outcome, selection_at}
 use Rattle.bay_control.specs.Requests.{asked_choice, control_of, is_enhanced, is_sbo, same_choice, same_operation}
 use Rattle.bay_control.specs.declared.cause.AddCause.{AddCause}
@@ -151,7 +151,7 @@ operate-backed is_open past a k ask view now s h ok sbo =
 
 -- ---- whole runs
 
-after-controls : (call : Call) (now : ℕ) (s : State)
+pub after-controls : (call : Call) (now : ℕ) (s : State)
     → (outcome_of call now s).after.controls ≡ s.controls
 after-controls (Open a) now s = refl
 after-controls (Close a) now s = refl
@@ -161,6 +161,12 @@ after-controls (Operate a k ask view) now s = refl
 after-controls (Cancel a k) now s = refl
 after-controls (Contact k position) now s = refl
 after-controls Advance now s = refl
+
+-- no call changes the settings of the controls
+pub all-controls : (hs : List Happening) (s : State) → (after_all hs s).controls ≡ s.controls
+all-controls [] s = refl
+all-controls (h ∷ hs) s =
+    all-controls hs (outcome_of h.call h.now s).after ∙ after-controls h.call h.now s
 
 -- an accepted operate that was seen of a call
 call-backed : (is_open : ℕ → Bool) (past : List Entry) (call : Call) (now : ℕ) (s : State)

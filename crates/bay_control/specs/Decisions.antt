@@ -1,12 +1,13 @@
 -- The decisions on select, operate and cancel (IEC 61850-7-2, 20): their answers, and the state of
 -- the controls after them.
-use Rattle.std.specs.Prelude.{ℕ, ◌+◌, Bool, false, not, ◌&&◌, ◌||◌, ◌==◌, nat_le, if◌then◌else◌, List, [], ◌∷◌, map, Option, None, Some, Result, Ok, Err, is_ok}
+use Rattle.std.specs.Prelude.{ℕ, ◌+◌, Bool, false, not, ◌&&◌, ◌||◌, ◌==◌, nat_le, if◌then◌else◌, List, [], ◌∷◌, length, map, position, unwrap_or, Option, None, Some, option_map, Result, Ok, Err, is_ok}
+use Rattle.bay_base.specs.Names.{same_name}
 use Rattle.bay_base.specs.declared.switch.Operation.{Operation}
 use Rattle.bay_nodes.specs.declared.switch.Switch.{Switch}
 use Rattle.bay_base.specs.declared.position.Dbpos.{Dbpos}
-use Rattle.bay_control.specs.Requests.{asked_choice, control_of, is_controlled, is_enhanced, is_normal, is_reached, is_released, is_sbo, same_choice}
+use Rattle.bay_control.specs.Requests.{asked_choice, closes_checked, control_of, is_controlled, is_enhanced, is_normal, is_reached, is_released, is_sbo, same_choice}
 use Rattle.bay_control.specs.declared.cause.AddCause.{AddCause}
-use Rattle.bay_control.specs.declared.cause.AddCause.TheVariants.{NotSupported, SelectFailed, PositionReached, BlockedByMode, BlockedByProcess, BlockedByInterlocking, CommandAlreadyInExecution, OneOfNControl, ObjectNotSelected}
+use Rattle.bay_control.specs.declared.cause.AddCause.TheVariants.{NotSupported, BlockedBySwitchingHierarchy, SelectFailed, PositionReached, BlockedByMode, BlockedByProcess, BlockedByInterlocking, BlockedBySynchrocheck, CommandAlreadyInExecution, OneOfNControl, ObjectNotSelected}
 use Rattle.bay_control.specs.declared.control.SwitchControl.{SwitchControl}
 use Rattle.bay_control.specs.declared.controls.Controls.{Controls}
 use Rattle.bay_control.specs.declared.request.Ask.{Ask}
@@ -29,18 +30,29 @@ abbrev pub state_of : List SwitchControl → Controls → State
 state_of controls kept =
     record { controls = controls; selection = kept.selection; execution = kept.execution }
 
--- the settings of a switch's control, from the bay file
-abbrev pub control_in : Switch → SwitchControl
-control_in switch =
+-- the index of the input with a name; that of no input if there is none
+abbrev pub input_at : List (List ℕ) → List ℕ → ℕ
+input_at inputs name =
+    unwrap_or (position (λ input. same_name input name) inputs) (length inputs)
+
+-- the index of the input of a switch's key, if the switch has a key
+abbrev pub key_in : List (List ℕ) → Switch → Option ℕ
+key_in inputs switch = option_map (input_at inputs) switch.remote
+
+-- the settings of a switch's control, from the bay file, which has these inputs
+abbrev pub control_in : List (List ℕ) → Switch → SwitchControl
+control_in inputs switch =
     record {
       model = switch.control;
       sbo_timeout_ms = switch.sbo_timeout_ms;
       travel_ms = switch.travel_ms;
+      key = key_in inputs switch;
+      refuses_synchrocheck = switch.refuses_synchrocheck;
     }
 
 -- the settings of each switch's control
-abbrev pub controls_of : List Switch → List SwitchControl
-controls_of switches = map control_in switches
+abbrev pub controls_of : List (List ℕ) → List Switch → List SwitchControl
+controls_of inputs switches = map (control_in inputs) switches
 
 -- no selection and no execution
 abbrev pub initial : List SwitchControl → State
@@ -166,8 +178,10 @@ rows_of_operate a k ask view s =
     ∷ row (other_is_executing k s.execution) OneOfNControl
     ∷ row (is_reached ask.operation view.pos) PositionReached
     ∷ row view.lost BlockedByProcess
+    ∷ row view.local BlockedBySwitchingHierarchy
     ∷ row (not view.fresh) BlockedByInterlocking
     ∷ row (not (is_released ask.operation view)) BlockedByInterlocking
+    ∷ row (c.refuses_synchrocheck && closes_checked ask) BlockedBySynchrocheck
     ∷ []
 
 -- the checks of a cancel

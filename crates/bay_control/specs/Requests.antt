@@ -1,6 +1,6 @@
 -- The tests of a switch's control, of a request and of a view (IEC 61850-7-2, 20; IEC 61850-7-3:
 -- ctlModel, Originator, Dbpos).
-use Rattle.std.specs.Prelude.{ℕ, Bool, true, false, ◌&&◌, List, nat_eq, slice_get, Option, None, Some}
+use Rattle.std.specs.Prelude.{ℕ, Bool, true, false, not, ◌&&◌, List, nat_eq, slice_get, unwrap_or, Option, None, Some}
 use Rattle.std.specs.Cmp.Lexicographic.{pointwise}
 use Rattle.std.specs.Ordering.{int_eq}
 use Rattle.bay_base.specs.declared.switch.Control.{Control}
@@ -19,7 +19,14 @@ use Rattle.bay_control.specs.declared.request.View.{View}
 
 -- the control of a switch that does not exist
 abbrev pub no_control : SwitchControl
-no_control = record { model = Status; sbo_timeout_ms = 0; travel_ms = 0 }
+no_control =
+    record {
+      model = Status;
+      sbo_timeout_ms = 0;
+      travel_ms = 0;
+      key = None;
+      refuses_synchrocheck = false;
+    }
 
 -- a switch that does not exist has no control
 abbrev pub control_or_none : Option SwitchControl → SwitchControl
@@ -60,6 +67,13 @@ is_sbo Direct = false
 is_sbo Sbo = true
 is_sbo SboEnhanced = true
 
+-- ---- own: the key of a switch
+
+-- the input of the switch's key is not TRUE; a switch without a key is never at local
+abbrev pub is_local : Option ℕ → List Bool → Bool
+is_local None inputs = false
+is_local (Some input) inputs = not (unwrap_or (slice_get inputs input) false)
+
 -- ---- own: requests
 
 -- the operation and the originator of a request
@@ -73,6 +87,10 @@ same_operation c d = false
 
 abbrev pub same_origin : Originator → Originator → Bool
 same_origin c d = int_eq c.cat d.cat && pointwise nat_eq c.ident d.ident
+
+-- the request is to close the switch with a synchrocheck (IEC 61850-7-2, Check)
+abbrev pub closes_checked : Ask → Bool
+closes_checked ask = ask.synchrocheck && same_operation ask.operation Close
 
 -- the operation and the originator are the same
 abbrev pub same_choice : Choice → Choice → Bool

@@ -11,6 +11,9 @@ pub enum AddCause {
     /// The switch has no control of this kind.
     #[error("the switch has no control of this kind")]
     NotSupported,
+    /// The key of the switch was not last reported to be at remote.
+    #[error("the key of the switch is at local")]
+    BlockedBySwitchingHierarchy,
     /// Another association has selected the switch.
     #[error("another association has selected the switch")]
     SelectFailed,
@@ -26,6 +29,9 @@ pub enum AddCause {
     /// The interlocking does not release the operation, or the last scan is not fresh.
     #[error("the interlocking does not release the operation")]
     BlockedByInterlocking,
+    /// The request is to close with a synchrocheck, which the bay file refuses for this switch.
+    #[error("the switch has no synchrocheck")]
+    BlockedBySynchrocheck,
     /// The switch is operating.
     #[error("the switch is operating")]
     CommandAlreadyInExecution,
@@ -49,11 +55,13 @@ impl AddCause {
     {
         match self {
             AddCause::NotSupported => 1,
+            AddCause::BlockedBySwitchingHierarchy => 2,
             AddCause::SelectFailed => 3,
             AddCause::PositionReached => 5,
             AddCause::BlockedByMode => 8,
             AddCause::BlockedByProcess => 9,
             AddCause::BlockedByInterlocking => 10,
+            AddCause::BlockedBySynchrocheck => 11,
             AddCause::CommandAlreadyInExecution => 12,
             AddCause::OneOfNControl => 14,
             AddCause::TimeLimitOver => 16,

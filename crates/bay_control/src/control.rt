@@ -1,12 +1,16 @@
 // The settings of the switches' controls, from the bay file.
-ghost use Rattle.std.specs.Prelude.{◌≡◌, ◌≤◌, ◌+◌, length, nat_le};
-ghost use Rattle.bay_control.specs.Decisions.{controls_of};
+ghost use Rattle.std.specs.Prelude.{◌≡◌, ◌≤◌, ◌+◌, length, nat_le, position};
+ghost use Rattle.bay_base.specs.Names.{same_name};
+ghost use Rattle.bay_control.specs.Decisions.{controls_of, key_in};
+ghost use Rattle.bay_control.specs.Decisions as spec_decisions;
 ghost use Rattle.bay_control.specs.Requests.{control_of, no_control};
 ghost use Rattle.bay_control.specs.Requests as spec;
 
 use arrayvec::ArrayVec;
+use bay_base::names::same_name;
 use bay_base::switch::Control;
-use bay_config::bay::Bay;
+use bay_base::text::Text;
+use bay_config::bay::{Bay, Switch};
 use std::marker::Model;
 
 /// The control of a switch, as the bay file defines it.
@@ -18,6 +22,11 @@ pub struct SwitchControl {
     pub sbo_timeout_ms: u32,
     /// The time that an execution lasts, in milliseconds.
     pub travel_ms: u32,
+    /// The index of the input that is TRUE while the key of the switch is at remote; `None` if the
+    /// switch has no key.
+    pub key: Option<usize>,
+    /// Whether an operate to close that requests a synchrocheck is refused.
+    pub refuses_synchrocheck: bool,
 }
 
 impl SwitchControl {
@@ -39,7 +48,38 @@ impl Default for SwitchControl {
             model: Control::Status,
             sbo_timeout_ms: 0,
             travel_ms: 0,
+            key: None,
+            refuses_synchrocheck: false,
         }
+    }
+}
+
+// Returns the index of the input with a name; `None` if there is none.
+fn place_named(inputs: &[Text], name: &str) -> Option<usize>
+    ensures { result ≡ position (λ input. same_name input name.now) inputs.now }
+{
+    inputs
+        .iter()
+        .position(|input| same_name(input.as_str(), name))
+}
+
+// Returns the index of the input with a name; an index without an input if there is none.
+fn input_at(inputs: &[Text], name: &str) -> usize
+    ensures { result ≡ spec_decisions.input_at inputs.now name.now }
+{
+    match place_named(inputs, name) {
+        Some(place) => place,
+        None => inputs.len(),
+    }
+}
+
+// Returns the index of the input of a switch's key; `None` if the switch has no key.
+fn key_of(inputs: &[Text], switch: &Switch) -> Option<usize>
+    ensures { result ≡ key_in inputs.now switch.now }
+{
+    match &switch.remote {
+        Some(name) => Some(input_at(inputs, name.as_str())),
+        None => None,
     }
 }
 
@@ -62,7 +102,7 @@ impl ControlTable {
     /// Makes the table of a bay's switches, at most 32.
     pub fn new(bay: &Bay) -> Self
         requires { length bay.now.switches ≤ 32 }
-        ensures { result ≡ controls_of bay.now.switches }
+        ensures { result ≡ controls_of bay.now.inputs bay.now.switches }
     {
         let mut controls = ArrayVec::new();
         for switch in bay.switches.as_slice() {
@@ -70,6 +110,8 @@ impl ControlTable {
                 model: switch.control,
                 sbo_timeout_ms: switch.sbo_timeout_ms,
                 travel_ms: switch.travel_ms,
+                key: key_of(bay.inputs.as_slice(), switch),
+                refuses_synchrocheck: switch.refuses_synchrocheck,
             });
         }
         ControlTable { controls }
@@ -83,6 +125,13 @@ impl ControlTable {
             Some(control) => *control,
             None => SwitchControl::default(),
         }
+    }
+
+    /// Returns the index of the input of a switch's key; `None` if the switch has no key.
+    pub fn key(&self, switch: usize) -> Option<usize>
+        ensures { result ≡ (control_of self.now switch).key }
+    {
+        self.of(switch).key
     }
 
     /// Returns whether the control of a switch has enhanced security: its client receives reports

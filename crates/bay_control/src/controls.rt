@@ -265,8 +265,14 @@ impl Controls {
         if view.lost {
             return Err(AddCause::BlockedByProcess);
         }
+        if view.local {
+            return Err(AddCause::BlockedBySwitchingHierarchy);
+        }
         if !view.fresh || !view.is_released(ask.operation) {
             return Err(AddCause::BlockedByInterlocking);
+        }
+        if control.refuses_synchrocheck && ask.closes_checked() {
+            return Err(AddCause::BlockedBySynchrocheck);
         }
         Ok(())
     }
@@ -279,7 +285,9 @@ impl Controls {
     /// selected first, and the association has not selected it, or has selected it with enhanced
     /// security for another operation or originator, 18; the request is a test, 8; the switch is
     /// operating, 12; another switch is operating, 14; the position is reached, 5; the process is
-    /// lost, 9; the scan is not fresh, or the interlocking does not release the operation, 10.
+    /// lost, 9; the key of the switch is at local, 2; the scan is not fresh, or the interlocking
+    /// does not release the operation, 10; the request is to close with a synchrocheck, which the
+    /// switch refuses, 11.
     pub fn operate(
         &mut self,
         table: &ControlTable,

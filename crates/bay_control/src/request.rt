@@ -96,6 +96,8 @@ pub struct Ask {
     pub operation: Operation,
     /// Whether the request is a test, which moves nothing (Test).
     pub test: bool,
+    /// Whether a synchrocheck is requested (Check).
+    pub synchrocheck: bool,
     pub origin: Originator,
 }
 
@@ -106,12 +108,23 @@ pub struct View {
     pub pos: Dbpos,
     /// Whether the process is lost: nothing has been received from it since.
     pub lost: bool,
+    /// Whether the key of the switch is at local: the switch has a key, whose input is FALSE.
+    pub local: bool,
     /// Whether the last scan is fresh: no input has changed since, and it is not too old.
     pub fresh: bool,
     /// Whether the interlocking releases opening (IEC 61850-7-4, CILO: EnaOpn).
     pub ena_opn: bool,
     /// Whether the interlocking releases closing (EnaCls).
     pub ena_cls: bool,
+}
+
+impl Ask {
+    /// Returns whether the request is to close the switch with a synchrocheck.
+    pub(crate) fn closes_checked(&self) -> bool
+        ensures { result ≡ spec.closes_checked self.now }
+    {
+        self.synchrocheck && matches!(self.operation, Operation::Close)
+    }
 }
 
 impl View {

@@ -15,9 +15,13 @@ use Rattle.il_check.specs.declared.fault.CheckFault.{CheckFault}
 use Rattle.il_image.specs.Images.{Image}
 use Rattle.il_compile.specs.Compiled.{compiled_of, image_of, image_size}
 use Rattle.il_compile.specs.declared.fault.CompileFault.TheVariants.{CodeTooLong}
+use Rattle.bay_load.specs.Errors.{check_error}
+use Rattle.bay_load.specs.Loads.{checked_in, of_bay, of_checked, of_compiled, of_program}
+use Rattle.bay_load.specs.Names.{NamesData, names_of}
+use Rattle.bay_load.specs.declared.error.LoadError.{LoadError}
 use Rattle.bay_device.specs.Accepts.{IsRight}
 use Rattle.bay_device.specs.Device.{State}
-use Rattle.bay_device.specs.Load.{check_refusal, checked_in, of_bay, of_checked, of_compiled, of_program}
+use Rattle.bay_device.specs.Load.{device_from}
 use Rattle.bay_device.specs.declared.fault.LoadFault.{LoadFault}
 use Rattle.bay_device.specs.declared.fault.LoadFault.TheVariants.{OutOfMemory, Refused}
 use Rattle.bay_device.specs.Meaning.{Runs}
@@ -25,8 +29,8 @@ use Rattle.bay_device.specs.Meaning.{Runs}
 -- ---- what is accepted
 
 checked-is : (r : Result Checked CheckFault) (c : Checked)
-    → elim r as (λ _. Result Checked LoadFault)
-    [ Ok x ↦ Ok x | Err fault ↦ Err (check_refusal fault) ] ≡ Ok c → r ≡ Ok c
+    → elim r as (λ _. Result Checked LoadError)
+    [ Ok x ↦ Ok x | Err fault ↦ Err (check_error fault) ] ≡ Ok c → r ≡ Ok c
 checked-is (Ok x) c e = let is : x ≡ c =
     cc in ap (λ (y : Checked). let r : Result Checked CheckFault = Ok y in r) is
 checked-is (Err fault) c e = absurd (cc)
@@ -51,22 +55,26 @@ accepted bay logic c is = right-by (bay_of bay) (program_of logic) bay logic c r
 
 -- ---- what is refused
 
-compiled-if : (b : Bay) (fits : Bool) (image : Image) (e : LoadFault)
-    → of_compiled b (cond fits (Ok image) (Err CodeTooLong)) ≡ Err e → e ≡ Refused 85 0
-compiled-if b true image e is = absurd (cc)
-compiled-if b false image e is = cc
+compiled-if : (b : Bay) (names : NamesData) (fits : Bool) (image : Image) (e : LoadFault)
+    → device_from (of_compiled b names (cond fits (Ok image) (Err CodeTooLong))) ≡ Err e
+    → e ≡ Refused 85 0
+compiled-if b names true image e is = absurd (cc)
+compiled-if b names false image e is = cc
 
-pub refused : (bay logic : List ℕ) (e : LoadFault) → of_bay (bay_of bay) (program_of logic) ≡ Err e
+pub refused : (bay logic : List ℕ) (e : LoadFault)
+    → device_from (of_bay (bay_of bay) (program_of logic)) ≡ Err e
     → IsRight bay logic → e ≡ Refused 85 0
 refused bay logic e is right =
     let b = right.read in
     let program = right.program in
     let text : program_of logic ≡ Ok program = (program_is_read logic (Ok program)).0 right.text in
     let checked = (right_programs_pass b.points program).1 right.right in
-    let whole : of_bay (bay_of bay) (program_of logic) ≡ of_compiled b (compiled_of checked.0) =
-    ap (λ (r : Result Bay BayFault). of_bay r (program_of logic)) right.file
-    ∙ ap (of_program b) text ∙ ap (of_checked b) checked.1 in
-    compiled-if b (nat_le (image_size checked.0) 65_535) (image_of checked.0) e (sym whole ∙ is)
+    let names = names_of program.declarations in
+    let whole : of_bay (bay_of bay) (program_of logic) ≡ of_compiled b names (compiled_of checked.0)
+    = ap (λ (r : Result Bay BayFault). of_bay r (program_of logic)) right.file
+    ∙ ap (of_program b) text ∙ ap (of_checked b names) checked.1 in
+    compiled-if b names (nat_le (image_size checked.0) 65_535) (image_of checked.0) e
+    (sym (ap device_from whole) ∙ is)
 
 -- ---- the answer of load
 
@@ -77,13 +85,14 @@ accepted-ok bay logic (Ok device) runs = accepted bay logic runs.0 runs.1
 accepted-ok bay logic (Err e) runs = tt
 
 refused-by : (bay logic : List ℕ) (e : LoadFault)
-    → (e ≡ OutOfMemory) ⊎ (of_bay (bay_of bay) (program_of logic) ≡ Err e) → e ≢ OutOfMemory
+    → (e ≡ OutOfMemory) ⊎ (device_from (of_bay (bay_of bay) (program_of logic)) ≡ Err e)
+    → e ≢ OutOfMemory
     → IsRight bay logic → e ≡ Refused 85 0
 refused-by bay logic e (inl memory) other right = absurd (other memory)
 refused-by bay logic e (inr is) other right = refused bay logic e is right
 
 pub refused-err : (bay logic : List ℕ) (r : Result State LoadFault)
-    → Gives OutOfMemory (λ device. device) r (of_bay (bay_of bay) (program_of logic))
+    → Gives OutOfMemory (λ device. device) r (device_from (of_bay (bay_of bay) (program_of logic)))
     → IfErr r (λ e. e ≢ OutOfMemory → IsRight bay logic → e ≡ Refused 85 0)
 refused-err bay logic (Ok device) gives = tt
 refused-err bay logic (Err e) gives = λ other right. refused-by bay logic e gives other right

@@ -1,16 +1,19 @@
 -- Each command of a step is released, and there is one at most.
-use Rattle.std.proofs.Common.{◌≡◌, ◌≢◌, ◌≤◌, ℕ, zero, suc, Bool, true, false, not, ◌&&◌, cond, nat_lt, List, [], ◌∷◌, ◌++◌, map, slice_get, Option, Some, None, Result, IfOk, refl, ap, sym, subst, ◌∙◌, arith}
+use Rattle.std.proofs.Common.{◌≡◌, ◌≢◌, ◌≤◌, ℕ, zero, suc, Bool, true, false, not, ◌&&◌, cond, nat_lt, List, [], ◌∷◌, ◌++◌, map, slice_get, Option, Some, None, Result, IfOk, refl, ap, ap₂, sym, subst, ◌∙◌, arith}
 use Rattle.std.specs.List.{AllByRecursion}
 use Rattle.bay_base.specs.declared.position.Dbpos.{Dbpos}
 use Rattle.bay_nodes.specs.declared.switch.Switch.{Switch}
 use Rattle.bay_base.specs.declared.point.MeterField.{MeterField}
 use Rattle.bay_control.specs.Decisions as control
+use Rattle.bay_control.specs.Requests.{control_of, is_local}
+use Rattle.bay_control.specs.declared.control.SwitchControl.{SwitchControl}
 use Rattle.bay_connection.specs.ConnectionStates.{Indication, answers, tells, releases, ends as ends-heard, fails, ConnectionState, Terms, indications, octets_to_send}
 use Rattle.bay_mms_services.specs.Answers.{pdu_answer}
 use Rattle.bay_mms_services.specs.Released.{AreTimed, Leaves}
 use Rattle.bay_mms_services.specs.Released as services
 use Rattle.bay_mms_services.specs.declared.answer.Command.{Command}
 use Rattle.bay_mms_services.proofs.ReleaseLemmas.{Sole, all-of, answer-sent, at-most-one, busy-still, commands-each, idle-now, leaves-then, leaves-with, request-leaves, sole-said}
+use Rattle.bay_mms_services.proofs.EntryLemmas.{inputs-stay, settings-stay}
 use Rattle.bay_device.specs.Commands.{AreCommanded, CommandsReleased, IsReleasedAt, IsSingle}
 use Rattle.bay_device.specs.Device.{State, device_at, bay_of, ended_at, is_recent}
 use Rattle.bay_device.specs.Receiving.{Done, ReceiveResult, client_at, after_indications, on_indication, after_pdu, sent_on, with_sent}
@@ -22,13 +25,15 @@ use Rattle.bay_device.specs.declared.event.Sent.{Sent}
 use Rattle.bay_device.specs.declared.event.Step.{Step}
 use Rattle.bay_device.specs.declared.fault.StepFault.{StepFault}
 
--- what a device notes of its scans and of the process, and its inputs, which no client changes
+-- what a device notes of its scans and of the process, its inputs and the settings of its controls,
+-- which no client changes
 pub record Notes : Type 0 where
   pub last_scan : Option ℕ
   pub is_stale : Bool
   pub age : ℕ
   pub inputs : List Bool
   pub is_lost : Bool
+  pub settings : List SwitchControl
 
 abbrev pub notes_of : State → Notes
 notes_of s = record {
@@ -37,6 +42,7 @@ notes_of s = record {
   age = s.scan_max_age_ms;
   inputs = s.input_values;
   is_lost = s.is_lost;
+  settings = s.controls.controls;
 }
 
 -- what is made of octets: nothing is operated that was not released before them
@@ -63,6 +69,9 @@ released-before : (now a : ℕ) (terms : Terms) (s : State) (d : Done) (command 
     → IsReleasedAt now s command
 released-before now a terms s d command makes is = record {
   heard = sym (ap (λ (n : Notes). n.is_lost) makes.notes) ∙ is.heard;
+  remote = sym (ap (λ (n : Notes). is_local (control_of n.settings command.switch).key n.inputs)
+      makes.notes)
+      ∙ is.remote;
   fresh = sym (ap (λ (n : Notes). is_recent now n.age n.last_scan && not n.is_stale) makes.notes)
       ∙ is.fresh;
   enabled = rw makes.leaves.rows at is.enabled;
@@ -100,7 +109,9 @@ makes-said now a terms pdu s d makes =
       leaves =
           leaves-then now (bay_of s) b (pdu_answer c pdu b).after makes.leaves
           (request-leaves c pdu b);
-      notes = makes.notes;
+      notes = ap₂ (λ (inputs : List Bool) (settings : List SwitchControl).
+          record (notes_of d.state) { inputs = inputs; settings = settings })
+          (inputs-stay c pdu b) (settings-stay c pdu b) ∙ makes.notes;
       released =
           joined now s d.commands (pdu_answer c pdu b).commands makes.released
           (all-before now a terms s d (pdu_answer c pdu b).commands makes (commands-each c pdu b));

@@ -5,8 +5,8 @@ pub mod ConnectionLemmas
 pub mod EntryLemmas
 pub mod FreshLemmas
 pub mod HeldLemmas
-pub mod IdleLemmas
 pub mod LoadLemmas
+pub mod LoadedLemmas
 pub mod LostLemmas
 pub mod MeaningLemmas
 pub mod MessageLemmas
@@ -14,6 +14,7 @@ pub mod NameLemmas
 pub mod OperateLemmas
 pub mod ProcessLemmas
 pub mod RecvLemmas
+pub mod RemoteLemmas
 pub mod ReleaseLemmas
 pub mod RunLemmas
 pub mod SameLemmas

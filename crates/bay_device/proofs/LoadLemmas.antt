@@ -1,5 +1,5 @@
 -- What load makes of a bay and a verified image.
-use Rattle.std.proofs.Common.{◌≡◌, ◌≢◌, ℕ, Bool, true, false, cond, nat_le, Result, Ok, Err, List, length, refl, subst, ap, sym, ◌∙◌}
+use Rattle.std.proofs.Common.{◌≡◌, ◌≢◌, ℕ, Bool, true, false, cond, nat_le, Result, Ok, Err, List, [], length, refl, subst, ap, sym, ◌∙◌}
 use Rattle.std.proofs.lemmas.List.{length-map}
 use Rattle.bay_process.specs.Layout.{AreBound, Layout, bound_from, switches_of}
 use Rattle.bay_process.specs.Nodes.{AreAllNodes}
@@ -19,15 +19,13 @@ use Rattle.il_compile.specs.declared.fault.CompileFault.TheVariants.{CodeTooLong
 use Rattle.il_scan.specs.Scans.{MachineData}
 use Rattle.bay_device.specs.Device.{State, bay_of, with_bay}
 use Rattle.bay_device.specs.Load.{initial_device}
-use Rattle.bay_device.specs.declared.fault.LoadFault.{LoadFault}
-use Rattle.bay_device.specs.declared.fault.LoadFault.TheVariants.{Refused, OutOfMemory}
 
 -- a device before its first event, of a bay that is bound
 pub loaded-view : (bay : Bay) (image : Image) (served : services.Bay) (age : ℕ)
     (inputs : List (List ℕ)) (input_values : List Bool) (meters : List (List ℕ))
     (reads writes : List Source) (machine : MachineData)
     → let s : State = initial_device bay image in
-    served ≡ bay_of s → age ≡ s.scan_max_age_ms → inputs ≡ s.inputs
+    served ≡ record (bay_of s) { inputs = [] } → age ≡ s.scan_max_age_ms → inputs ≡ s.inputs
     → input_values ≡ s.input_values → meters ≡ s.meters → reads ≡ s.reads → writes ≡ s.writes
     → machine ≡ s.machine
     → record (with_bay served s) {
@@ -102,11 +100,6 @@ bound-to bay nodes layout writes taken bound named sized same did =
       placed = subst (λ (bs : List BoundSwitch). AreBound layout writes bs) (sym is)
           (are-bound bay nodes layout writes did.rows named did.named sized did.sized);
     }
-
--- a fault that can't be another is want of memory
-pub only-memory : (e : LoadFault) → (e ≢ OutOfMemory → ⊥) → e ≡ OutOfMemory
-only-memory OutOfMemory h = refl
-only-memory (Refused code line) h = absurd (h (λ f. cc))
 
 image-if : (b : Bool) (image made : Image)
     → cond b (Ok made) (Err CodeTooLong) ≡ (let r : Result Image CompileFault = Ok image in r)

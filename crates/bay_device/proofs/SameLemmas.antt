@@ -4,7 +4,10 @@ use Rattle.std.proofs.Common.{◌≡◌, ℕ, zero, suc, Bool, true, false, cond
 use Rattle.bay_base.specs.declared.point.Source.{Source}
 use Rattle.bay_connection.specs.ConnectionStates.{Indication, ConnectionState, Terms, answers, tells, releases, ends, fails, indications, connection_after}
 use Rattle.bay_nodes.specs.declared.switch.Switch.{Switch}
+use Rattle.bay_control.specs.declared.control.SwitchControl.{SwitchControl}
+use Rattle.bay_mms_services.specs.Answers.{pdu_answer}
 use Rattle.bay_mms_services.proofs.AcceptedLemmas.{alike-after}
+use Rattle.bay_mms_services.proofs.EntryLemmas.{inputs-stay, settings-stay}
 use Rattle.bay_mms_services.proofs.ReleaseLemmas.{request-leaves}
 use Rattle.bay_tree.specs.declared.row.Row.{Row}
 use Rattle.il_scan.specs.Scans.{MachineData}
@@ -29,6 +32,8 @@ pub record Parts : Type 0 where
   pub stale : Bool
   pub lost : Bool
   pub age : ℕ
+  pub names : List (List ℕ)
+  pub settings : List SwitchControl
 
 abbrev pub parts_of : State → Parts
 parts_of s = record {
@@ -43,6 +48,8 @@ parts_of s = record {
   stale = s.is_stale;
   lost = s.is_lost;
   age = s.scan_max_age_ms;
+  names = s.inputs;
+  settings = s.controls.controls;
 }
 
 -- all of this is the same
@@ -62,9 +69,17 @@ same-said now a terms pdu d =
     let c = client_at now a terms d.state in
     let b = bay_of d.state in
     ap₂ (λ (switches : List Switch) (rows : List Row).
-    record (parts_of d.state) { switches = switches; rows = rows })
+    record (parts_of d.state) {
+      switches = switches;
+      rows = rows;
+      inputs = (pdu_answer c pdu b).after.inputs;
+      settings = (pdu_answer c pdu b).after.controls.controls;
+    })
     (alike-after b c pdu b (record { domain = refl; switches = refl; names = refl })).switches
     (request-leaves c pdu b).rows
+    ∙ ap₂ (λ (inputs : List Bool) (settings : List SwitchControl).
+    record (parts_of d.state) { inputs = inputs; settings = settings }) (inputs-stay c pdu b)
+    (settings-stay c pdu b)
 
 same-one : (now a : ℕ) (i : Indication) (s : State) (d : Done) (later : Done → ReceiveResult)
     → Same s d.state → ((e : Done) → Same s e.state → Same s (later e).done.state)

@@ -1,5 +1,5 @@
 -- A switch of a bay file that can be operated takes some time.
-use Rattle.std.proofs.Common.{◌≡◌, ◌≤◌, ℕ, ℤ, pos, negsuc, zero, suc, true, nat_le, List, [], ◌∷◌, map, codes, option_map, option_and_then, unwrap_or, Option, Some, None, Ok}
+use Rattle.std.proofs.Common.{◌≡◌, ◌≤◌, ℕ, ℤ, pos, negsuc, zero, suc, true, nat_le, List, [], ◌∷◌, ◌++◌, map, codes, option_map, option_and_then, unwrap_or, Option, Some, None, Ok}
 use Rattle.std.proofs.lemmas.Bool.{and_parts, leb-true}
 use Rattle.toml.specs.Data.{Data, Members, get_member, as_integer}
 use Rattle.bay_base.specs.declared.switch.Control.{Control}
@@ -8,10 +8,11 @@ use Rattle.bay_nodes.specs.declared.switch.Switch.{Switch}
 use Rattle.bay_config.specs.Bay.{bay_of}
 use Rattle.bay_config.specs.Key.{Key, entry_refusal, first_of, held_refusal, is_within, key_refusal, natural, number, number_in, passes, unknown_refusal}
 use Rattle.bay_config.specs.Laws.{IsBay}
-use Rattle.bay_config.specs.Switch.{control_key, control_of, id_key, kind_key, sbo_timeout_key, switch_in, switch_keys, time_keys, travel_key}
+use Rattle.bay_config.specs.Switch.{control_key, control_of, id_key, kind_key, kind_of, optional_keys, sbo_timeout_key, switch_in, switch_keys, time_keys, travel_key}
 use Rattle.bay_config.specs.declared.bay.Bay.{Bay}
 use Rattle.bay_config.specs.declared.fault.BayFault.{BayFault}
 use Rattle.bay_config.proofs.PassedLemmas.{accepted-is, none-behind, none-first, switches-pass}
+use Rattle.bay_config.proofs.SwitchLemmas.{first-keys}
 use Rattle.bay_control.specs.Decisions.{controls_of}
 use Rattle.bay_control.specs.Requests.{is_controlled}
 use Rattle.bay_mms_services.specs.Released.{AreTimed}
@@ -59,18 +60,21 @@ table-travels t none controlled =
     unknown_refusal (map (λ (key : Key). key.name) (switch_keys t)) t
     ∷ map (key_refusal t) (id_key ∷ kind_key ∷ control_key ∷ []) in
     by-control t (control_of t)
-    (none-behind first (map (key_refusal t) (time_keys (control_of t))) none) controlled
+    (first-keys t (time_keys (control_of t)) (optional_keys (control_of t) (kind_of t))
+    (none-behind first (map (key_refusal t)
+    (time_keys (control_of t) ++ optional_keys (control_of t) (kind_of t))) none)) controlled
 
 -- ---- a file
 
-one-travels : (t : Members) (ss : List Switch) → entry_refusal (switch_keys t) t ≡ None
-    → AreTimed (controls_of ss) → AreTimed (controls_of (switch_in t ∷ ss))
-one-travels t ss none rest zero controlled = table-travels t none controlled
-one-travels t ss none rest (suc k) controlled = rest k controlled
+one-travels : (inputs : List (List ℕ)) (t : Members) (ss : List Switch)
+    → entry_refusal (switch_keys t) t ≡ None
+    → AreTimed (controls_of inputs ss) → AreTimed (controls_of inputs (switch_in t ∷ ss))
+one-travels inputs t ss none rest zero controlled = table-travels t none controlled
+one-travels inputs t ss none rest (suc k) controlled = rest k controlled
 
-none-travels : AreTimed (controls_of [])
-none-travels zero controlled = absurd cc
-none-travels (suc k) controlled = absurd cc
+none-travels : (inputs : List (List ℕ)) → AreTimed (controls_of inputs [])
+none-travels inputs zero controlled = absurd cc
+none-travels inputs (suc k) controlled = absurd cc
 
 -- a bay that was read is so
 pub timed-bay : (text : List ℕ) (bay : Bay) → IsBay bay → bay_of text ≡ Ok bay → IsTimedBay bay
@@ -78,5 +82,6 @@ timed-bay text bay is read =
     record {
       sound = is;
       timed =
-          switches-pass (λ ss. AreTimed (controls_of ss)) none-travels one-travels text bay read;
+          switches-pass (λ ss. AreTimed (controls_of bay.inputs ss)) (none-travels bay.inputs)
+          (one-travels bay.inputs) text bay read;
     }

@@ -1,5 +1,5 @@
 -- The parts of a device that load makes from a bay, apart from the machine of its program.
-use Rattle.std.specs.Prelude.{◌≡◌, List, length, None}
+use Rattle.std.specs.Prelude.{◌≡◌, List, [], length, None}
 use Rattle.bay_config.specs.declared.bay.Bay.{Bay}
 use Rattle.bay_base.specs.declared.point.Source.{Source}
 use Rattle.bay_config.specs.Laws.{IsBay}
@@ -9,12 +9,12 @@ use Rattle.bay_process.specs.ReportedRows.{AreKept}
 use Rattle.bay_mms_services.specs.Bay.{rows_with_selection}
 use Rattle.bay_mms_services.specs.Released.{AreTimed}
 use Rattle.bay_mms_services.specs.Views.{bay_view}
-use Rattle.bay_device.specs.declared.load.BoundBay.{BoundBay}
+use Rattle.bay_device.specs.declared.initial.BoundBay.{BoundBay}
 
 -- A file describes the bay, and the travel time of each controlled switch is at least 1 ms.
 pub record IsTimedBay (bay : Bay) : Type 0 where
   pub sound : IsBay bay
-  pub timed : AreTimed (controls_of bay.switches)
+  pub timed : AreTimed (controls_of bay.inputs bay.switches)
 
 -- The bay is bound, without a selection: clients see the contents of the file, its switches and
 -- meters have the rows with their names, and the text of the releases has the values of its rows.
@@ -26,7 +26,8 @@ pub record IsBoundBay (bay : Bay) (writes : List Source) (b : BoundBay) : Type 0
     revision = bay.revision;
     switches = bay.switches;
     rows = rows_with_selection None (length bay.switches) bay.rows;
-    controls = initial (controls_of bay.switches);
+    inputs = [];
+    controls = initial (controls_of bay.inputs bay.switches);
   }
   pub age : b.scan_max_age_ms ≡ bay.scan_max_age_ms
   pub inputs : b.inputs ≡ bay.inputs

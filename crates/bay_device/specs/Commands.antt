@@ -3,6 +3,7 @@ use Rattle.std.specs.Prelude.{ℕ, ◌≡◌, ◌≢◌, ◌≤◌, true, false,
 use Rattle.bay_tree.specs.Rows.{leaf_of}
 use Rattle.bay_process.specs.Values.{is_truth}
 use Rattle.bay_control.specs.Decisions as control
+use Rattle.bay_control.specs.Requests.{control_of, is_local}
 use Rattle.bay_mms_services.specs.Released.{enable_name}
 use Rattle.bay_mms_services.specs.declared.answer.Command.{Command}
 use Rattle.bay_device.specs.Device.{State, is_fresh}
@@ -10,11 +11,12 @@ use Rattle.bay_device.specs.declared.event.Event.{Event}
 use Rattle.bay_device.specs.declared.event.Step.{Step}
 use Rattle.bay_device.specs.declared.fault.StepFault.{StepFault}
 
--- When a command is issued at a time, the process is not lost, the last scan is fresh, the
--- interlocking value of the operation (EnaOpn for Open, EnaCls for Close) is TRUE in the tree, and
--- no switch of the bay is operating.
+-- When a command is issued at a time, the process is not lost, the key of the switch is not at
+-- local, the last scan is fresh, the interlocking value of the operation (EnaOpn for Open, EnaCls
+-- for Close) is TRUE in the tree, and no switch of the bay is operating.
 pub record IsReleasedAt (now : ℕ) (s : State) (command : Command) : Type 0 where
   pub heard : s.is_lost ≡ false
+  pub remote : is_local (control_of s.controls.controls command.switch).key s.input_values ≡ false
   pub fresh : is_fresh now s ≡ true
   pub enabled : is_truth true (leaf_of (enable_name command.switch command.operation) s.rows) ≡ true
   pub idle : (control.controls_at now s.controls).execution ≡ None

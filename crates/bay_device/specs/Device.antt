@@ -56,7 +56,7 @@ pub record State : Type 0 where
   pub due : Option PendingTermination
   pub connections : List (Option ConnectionState)
 
--- the bay as clients see it
+-- the bay as clients see it and control it
 abbrev pub bay_of : State → Bay
 bay_of s = record {
   domain = s.domain;
@@ -65,6 +65,7 @@ bay_of s = record {
   revision = s.revision;
   switches = s.switches;
   rows = s.rows;
+  inputs = s.input_values;
   controls = s.controls;
 }
 
@@ -77,6 +78,7 @@ with_bay b s = record s {
   revision = b.revision;
   switches = b.switches;
   rows = b.rows;
+  input_values = b.inputs;
   controls = b.controls;
 }
 

@@ -12,7 +12,7 @@
 -- of a step: its answer and the device after it are the outcome of some choice; a run is such
 -- steps, one after the other.
 --
--- `Load`: the device that results from a bay file and a program or an image, or the first refusal.
+-- `Load`: the device of what was loaded, or the number and the line of the load's error.
 -- `Accepts`: the texts that load accepts, by what they spell. `BoundBay`: the parts that load makes
 -- from a bay. `Meaning`: each scan ends at HALT within the budget, and leaves the values that the
 -- program's text means.
@@ -20,17 +20,19 @@
 -- On commands: `Commands`: each is issued after a fresh scan with EnaCls or EnaOpn TRUE, while no
 -- switch operates. `Operates`: each is an operate that a PDU requested and a response accepted;
 -- responses belong to PDUs by their order. `Fresh`: a scan precedes it that is not too old and
--- since which no value of the process has changed, and the process is not lost. `Entries`: the
+-- since which no value of the process has changed, and the process is not lost. `Remote`: if the
+-- switch has a key, the process has reported that it is at remote. `Entries`: the
 -- requests on controls and which of them were accepted, with the state of the device;
 -- `EntriesTold`: the same by events and answers alone, through the layers of transport, session and
--- presentation. These are the entries that `Backing` of bay_control is about. `Report`:
--- instructions, depth and budget of a program. `LookUps`, `Table`: the indices of names. `Code`
--- numbers the faults. `StateView`, `Connections` and `ReceivingViews` map the code's fields to the
--- definitions.
+-- presentation. These are the entries that `Backing` of bay_control is about. `LookUps`,
+-- `Table`: the indices of names. `Code` numbers the faults. `StateView`, `Connections` and
+-- `ReceivingViews` map the code's fields to the definitions.
 
 -- The definitions of lower crates that public clauses cite.
 pub use Rattle.bay_base.specs.Exact
 pub use Rattle.bay_config.specs.Bay
+pub use Rattle.bay_load.specs.Loads
+pub use Rattle.bay_load.specs.Report
 pub use Rattle.il_check.specs.Program
 pub use Rattle.il_image.specs.Decoding
 pub use Rattle.il_image.specs.Images
@@ -51,7 +53,7 @@ pub mod LookUps
 pub mod Meaning
 pub mod Operates
 pub mod Outcomes
-pub mod Report
+pub mod Remote
 pub mod StateView
 pub mod Steps
 pub mod Table

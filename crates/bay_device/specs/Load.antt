@@ -1,25 +1,12 @@
 -- The device that results from a bay file and a program or an image, or why they are refused.
-use Rattle.std.specs.Prelude.{◌≡◌, ℕ, true, false, length, map, replicate, Option, None, Some, Result, Ok, Err}
-use Rattle.bay_config.specs.Code as bay_code
+use Rattle.std.specs.Prelude.{◌≡◌, ℕ, List, true, false, length, map, replicate, Option, None, Some, Result, Ok, Err}
 use Rattle.bay_config.specs.declared.bay.Bay.{Bay}
 use Rattle.bay_config.specs.declared.fault.BayFault.{BayFault}
-use Rattle.il_text.specs.Code as text_code
-use Rattle.il_text.specs.Listing.{PlainProgram}
-use Rattle.il_text.specs.declared.fault.TextFault.{TextFault}
-use Rattle.il_check.specs.Code as check_code
-use Rattle.il_check.specs.Checking.{checked_of}
-use Rattle.il_check.specs.Program.{Checked}
-use Rattle.il_check.specs.declared.fault.CheckFault.{CheckFault}
-use Rattle.il_image.specs.Codes as image_code
 use Rattle.il_image.specs.Images.{Image}
-use Rattle.il_image.specs.declared.fault.ImageFault.{ImageFault}
-use Rattle.il_compile.specs.Compiled.{compiled_of}
-use Rattle.il_compile.specs.Faults as compile_code
-use Rattle.il_compile.specs.declared.fault.CompileFault.{CompileFault}
-use Rattle.il_verify.specs.Codes as verify_code
-use Rattle.il_verify.specs.Refusals.{IsRefusal}
-use Rattle.il_verify.specs.Verdicts.{IsVerified}
-use Rattle.il_verify.specs.declared.fault.VerifyFault.{VerifyFault}
+use Rattle.bay_load.specs.Errors.{code_of, line_of}
+use Rattle.bay_load.specs.Loads.{LoadData, LoadsTo}
+use Rattle.bay_load.specs.declared.error.LoadError.{LoadError}
+use Rattle.bay_load.specs.declared.load.Form.{Form}
 use Rattle.il_scan.specs.Scans.{first_machine}
 use Rattle.bay_device.specs.Device.{State}
 use Rattle.bay_device.specs.Outcomes.{associations}
@@ -50,75 +37,39 @@ initial_device bay image = record {
   last_scan = None;
   is_stale = false;
   is_lost = false;
-  controls = initial (controls_of bay.switches);
+  controls = initial (controls_of bay.inputs bay.switches);
   due = None;
   connections = replicate associations None;
 }
+
+-- the device of what was loaded
+abbrev pub device_of : LoadData → State
+device_of loaded = initial_device loaded.bay loaded.image
 
 -- a refusal has a number and a line; out of memory has no number
 abbrev pub fault_of : Option ℕ → ℕ → LoadFault
 fault_of (Some code) line = Refused code line
 fault_of None line = OutOfMemory
 
--- the refusals of a bay file, a program's text, a program and an image
-abbrev pub bay_refusal : BayFault → LoadFault
-bay_refusal fault = fault_of (bay_code.code_of fault) 0
+-- the number and the line of a load's error
+abbrev pub refusal_of : LoadError → LoadFault
+refusal_of error = fault_of (code_of error) (line_of error)
 
-abbrev pub text_refusal : TextFault → LoadFault
-text_refusal fault = fault_of (text_code.code_of fault) (text_code.line_of fault)
+-- the device of a load, or the refusal
+abbrev pub device_from : Result LoadData LoadError → Result State LoadFault
+device_from (Ok loaded) = Ok (device_of loaded)
+device_from (Err error) = Err (refusal_of error)
 
-abbrev pub check_refusal : CheckFault → LoadFault
-check_refusal fault = fault_of (check_code.code_of fault) (check_code.line_of fault)
+-- the same for what may be loaded
+abbrev pub LoadsAs : (Result LoadData LoadError → Type 0) → Result State LoadFault → Type 0
+LoadsAs IsResult (Ok s) = (loaded : LoadData) × IsResult (Ok loaded) × (s ≡ device_of loaded)
+LoadsAs IsResult (Err fault) =
+    (error : LoadError) × IsResult (Err error) × (fault ≡ refusal_of error)
 
-abbrev pub compile_refusal : CompileFault → LoadFault
-compile_refusal fault = fault_of (compile_code.code_of fault) 0
-
-abbrev pub image_refusal : ImageFault → LoadFault
-image_refusal fault = fault_of (image_code.code_of fault) 0
-
-abbrev pub verify_refusal : VerifyFault → LoadFault
-verify_refusal fault = fault_of (verify_code.code_of fault) 0
-
--- the device of a bay and the compiler's result for its program
-abbrev pub of_compiled : Bay → Result Image CompileFault → Result State LoadFault
-of_compiled bay (Ok image) = Ok (initial_device bay image)
-of_compiled bay (Err fault) = Err (compile_refusal fault)
-
--- the device of a bay and the result of the checks of its program
-abbrev pub of_checked : Bay → Result Checked CheckFault → Result State LoadFault
-of_checked bay (Ok checked) = of_compiled bay (compiled_of checked)
-of_checked bay (Err fault) = Err (check_refusal fault)
-
--- the device of a bay and the parsed text of a program
-abbrev pub of_program : Bay → Result PlainProgram TextFault → Result State LoadFault
-of_program bay (Ok program) = of_checked bay (checked_of bay.points program)
-of_program bay (Err fault) = Err (text_refusal fault)
-
--- the device of a bay file and a program: a fault of the bay file comes before one of the program's
--- text, that before one of its checks, and that before the refusal of an image that would be too
--- long
-abbrev pub of_bay : Result Bay BayFault → Result PlainProgram TextFault → Result State LoadFault
-of_bay (Ok bay) program = of_program bay program
-of_bay (Err fault) program = Err (bay_refusal fault)
-
--- the checked program of a bay file and a text, if neither is refused before the program is
--- compiled
-abbrev pub checked_in : Result Bay BayFault → Result PlainProgram TextFault
-    → Result Checked LoadFault
-checked_in (Ok bay) (Ok program) =
-    elim (checked_of bay.points program) [ Ok c ↦ Ok c | Err fault ↦ Err (check_refusal fault) ]
-checked_in (Ok bay) (Err fault) = Err (text_refusal fault)
-checked_in (Err fault) program = Err (bay_refusal fault)
-
--- A program's text is compiled to an image: it spells a program, which passes its checks with the
--- points of the bay.
-pub record IsCompiled (text : Result PlainProgram TextFault) (bay : Bay) (image : Image)
-    : Type 0 where
-  pub program : PlainProgram
-  pub reads : text ≡ Ok program
-  pub checked : Checked
-  pub passes : checked_of bay.points program ≡ Ok checked
-  pub compiles : compiled_of checked ≡ Ok image
+-- the device of the octets of a bay file and of a program or an image
+abbrev pub LoadsDevice : List ℕ → Form → List ℕ → State → Type 0
+LoadsDevice bay form program s =
+    (loaded : LoadData) × LoadsTo bay form program (Ok loaded) × (s ≡ device_of loaded)
 
 -- The device as load made it, before its first event: of the bay that a bay file describes, and of
 -- its program's image.
@@ -129,21 +80,3 @@ pub record IsLoaded (file : Result Bay BayFault) (IsImage : Bay → Image → Ty
   pub image : Image
   pub made : IsImage bay image
   pub is : s ≡ initial_device bay image
-
--- The image is loaded if it is verified for the bay's points; otherwise it is refused with its
--- first fault.
-abbrev pub LoadsImage : Bay → Image → Result State LoadFault → Type 0
-LoadsImage bay image (Ok device) = IsVerified bay.points image × (device ≡ initial_device bay image)
-LoadsImage bay image (Err refusal) =
-    (fault : VerifyFault) × (place : ℕ) × IsRefusal bay.points image fault place
-    × (refusal ≡ verify_refusal fault)
-
-abbrev pub LoadsRead : Bay → Result Image ImageFault → Result State LoadFault → Type 0
-LoadsRead bay (Ok image) result = LoadsImage bay image result
-LoadsRead bay (Err fault) result = result ≡ Err (image_refusal fault)
-
--- A bay file and the octets of an image are loaded, or refused: a fault of the bay file comes
--- before one of the octets, and that before one of the image.
-abbrev pub Loads : Result Bay BayFault → Result Image ImageFault → Result State LoadFault → Type 0
-Loads (Ok bay) image result = LoadsRead bay image result
-Loads (Err fault) image result = result ≡ Err (bay_refusal fault)

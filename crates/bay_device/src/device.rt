@@ -8,17 +8,19 @@ ghost use Rattle.bay_transport.specs.Feeding.{IsGoing};
 ghost use Rattle.il_check.specs.Program.{Checked};
 ghost use Rattle.il_image.specs.Images.{image_octets};
 ghost use Rattle.il_image.specs.declared.opcode.Version.TheVariants.{Two};
+ghost use Rattle.bay_load.specs.Report.{IsReport};
 ghost use Rattle.bay_device.specs.Commands.{CommandsReleased, IsSingle};
 ghost use Rattle.bay_device.specs.Device as spec_device;
 ghost use Rattle.bay_device.specs.Device.{bay_of};
-ghost use Rattle.bay_device.specs.Entries.{Leading};
+ghost use Rattle.bay_device.specs.Entries.{IsIdle, Leading};
 ghost use Rattle.bay_device.specs.Fresh.{FreshAt};
+ghost use Rattle.bay_device.specs.Load.{device_of};
 ghost use Rattle.bay_device.specs.LookUps.{switch_place, input_place, meter_place, enabled_of, operating_in, position_of, switches_text};
 ghost use Rattle.bay_device.specs.Meaning.{HaltsAt, MeansAt, Runs, is_refused};
 ghost use Rattle.bay_device.specs.Operates.{AllOperate, AreOperates};
 ghost use Rattle.bay_device.specs.Outcomes.{associations, connection_at, event_outcome, outcome, recv_after, refusal_of, without_connection};
 ghost use Rattle.bay_device.specs.Outcomes as spec;
-ghost use Rattle.bay_device.specs.Report.{IsReport};
+ghost use Rattle.bay_device.specs.Remote.{RemoteAt};
 ghost use Rattle.bay_device.specs.StateView.{state_view};
 ghost use Rattle.bay_device.specs.Steps.{EachStep, IsOutcome, HandlesOctets, IsWithoutOctets, Receives, Steps, quiet_answer, scan_answer};
 ghost use Rattle.bay_device.specs.EntriesTold.{AreAgreed, EntriesLead, entries_of_run};
@@ -27,17 +29,19 @@ ghost use Rattle.bay_device.specs.declared.event.Event.{Event};
 ghost use Rattle.bay_device.specs.declared.event.Event.TheVariants.{Open, Recv, Close, Contact, Input, Measure, BadMeasure, Lost, Scan};
 
 use crate::connections::Connections;
-use crate::event::{Event, LAST_MOMENT, Scanned, Sent, Step, Why, place_of};
+use crate::event::{Event, LAST_MOMENT, Scanned, Sent, Step, Why, closed_by, place_of};
 use crate::fault::StepFault;
+use crate::initial::state_of;
 use crate::message::EventEffects;
 use crate::octets::handle_octets;
-use crate::report::{Report, report_of};
 use crate::state::DeviceState;
 use crate::termination::forget;
 use bay_base::listing::Listing;
 use bay_base::position::Dbpos;
 use bay_config::bay::MeterField;
 use bay_connection::connection::Connection;
+use bay_load::loaded::Loaded;
+use bay_load::report::{Report, report_of};
 use bay_tree::tree::Tree;
 use il_image::encode::encode;
 use il_verify::verify::Verified;
@@ -67,19 +71,15 @@ impl Model for Device {
     ghost view = { λ d. state_view d.connections.value d.state.value };
 }
 
-// Returns the report that the device has closed an association, if it has.
-fn closed_by(association: u16, why: Option<Why>) -> Option<(u16, Why)>
-    ensures { result ≡ spec.closed_by association why }
-{
-    Some((association, why?))
-}
-
 impl Device {
-    /// Makes the device of a state, without clients. Fails only if an allocation fails.
-    pub(crate) fn from_state(alloc: Global, state: Box<DeviceState>) -> Result<Self, AllocError>
-        ensures { IfOk result (λ device. device
-            ≡ state_view (replicate associations None) state.value) }
+    /// Makes the device of what was loaded, before its first event: there is no selection, and no
+    /// association is open. Fails only if an allocation fails.
+    pub fn new(alloc: Global, loaded: Loaded) -> Result<Self, AllocError>
+        ensures device { IfOk result (λ device. device ≡ device_of loaded) }
+        ensures idle { IfOk result IsIdle }
     {
+        let (bay, verified) = loaded.into_parts();
+        let state = state_of(alloc, bay, verified)?;
         let connections = Box::new(alloc, Connections::new())?;
         Ok(Device {
             alloc,
@@ -386,6 +386,9 @@ impl Device {
         // If there is a command, the events since load include a scan that is not too old, since
         // which the process has not changed, and after all of them the process is not lost.
         ensures fresh { FreshAt now event.entry self.old result self.new }
+        // Each command is to a switch without a key, or to one whose key the process last reported
+        // to be at remote, and the process was not lost since.
+        ensures remote { RemoteAt now event.entry self.old result self.new }
         // There is at most one command.
         ensures single { IsSingle result }
         // With such a choice, the entries of the event lead from the controls before it to those
@@ -449,6 +452,10 @@ impl Device {
         // process has not changed, and after all of them the process is not lost;
         ensures fresh { IfOk result
             (λ answers. EachStep FreshAt events.now self.old answers.items self.new) }
+        // the key of its switch, if there is one, was last reported to be at remote, since the last
+        // loss of the process;
+        ensures remote { IfOk result
+            (λ answers. EachStep RemoteAt events.now self.old answers.items self.new) }
         // there is at most one command for each event;
         ensures single { IfOk result (λ answers. All IsSingle answers.items) }
         // and after each scan a device that runs a text has the values that the text means.

@@ -74,6 +74,13 @@ pub fn place_of(association: u16) -> Option<usize>
     }
 }
 
+/// Returns the report that the device has closed an association, if it has.
+pub(crate) fn closed_by(association: u16, why: Option<Why>) -> Option<(u16, Why)>
+    ensures { result ≡ spec.closed_by association why }
+{
+    Some((association, why?))
+}
+
 /// Octets to send to a client.
 #[derive(Drop)]
 pub struct Sent {
@@ -92,6 +99,13 @@ pub enum Why {
     Fault(u8),
     /// An allocation failed. The PDU in which it failed had no effect.
     Memory,
+}
+
+// Returns the report that the device has closed an association, if it has.
+pub(crate) fn closed_by(association: u16, why: Option<Why>) -> Option<(u16, Why)>
+    ensures { result ≡ spec.closed_by association why }
+{
+    Some((association, why?))
 }
 
 /// The result of an accepted scan.

@@ -1,20 +1,13 @@
 // Why texts and images are not loaded, and why an event is refused.
 ghost use Rattle.std.specs.Prelude.{◌≡◌};
 ghost use Rattle.bay_device.specs.Code.{step_code_of};
-ghost use Rattle.bay_device.specs.Load.{bay_refusal, text_refusal, check_refusal, compile_refusal, image_refusal, verify_refusal};
+ghost use Rattle.bay_device.specs.Load.{refusal_of};
 ghost use Rattle.bay_device.specs.Load as spec;
-ghost use Rattle.bay_device.specs.declared.fault.LoadFault.TheVariants.{OutOfMemory};
 
-use bay_config::fault::BayFault;
-use il_check::fault::CheckFault;
-use il_compile::fault::CompileFault;
-use il_image::fault::ImageFault;
-use il_text::fault::TextFault;
-use il_verify::fault::VerifyFault;
-use std::alloc::{AllocError, AllocFailed};
+use bay_load::error::LoadError;
 use thiserror::Error;
 
-/// Why a bay with a program or an image is not loaded.
+/// Why a bay with a program or an image is not loaded: the number and the line of a load's error.
 #[derive(Clone, Copy, Debug, PartialEq, Eq, Error)]
 pub enum LoadFault {
     /// The number of the fault, and for a fault of the program (60 to 79) its line, counted from 1;
@@ -36,67 +29,11 @@ fn fault_of(code: Option<u8>, line: usize) -> LoadFault
     }
 }
 
-impl From<BayFault> for LoadFault {
-    ghost from_gives = { λ fault e. e ≡ bay_refusal fault };
+impl From<LoadError> for LoadFault {
+    ghost from_gives = { λ error e. e ≡ refusal_of error };
 
-    fn from(fault: BayFault) -> LoadFault {
-        fault_of(fault.code(), 0)
-    }
-}
-
-impl From<TextFault> for LoadFault {
-    ghost from_gives = { λ fault e. e ≡ text_refusal fault };
-
-    fn from(fault: TextFault) -> LoadFault {
-        fault_of(fault.code(), fault.line())
-    }
-}
-
-impl From<CheckFault> for LoadFault {
-    ghost from_gives = { λ fault e. e ≡ check_refusal fault };
-
-    fn from(fault: CheckFault) -> LoadFault {
-        fault_of(fault.code(), fault.line())
-    }
-}
-
-impl From<CompileFault> for LoadFault {
-    ghost from_gives = { λ fault e. e ≡ compile_refusal fault };
-
-    fn from(fault: CompileFault) -> LoadFault {
-        fault_of(fault.code(), 0)
-    }
-}
-
-impl From<ImageFault> for LoadFault {
-    ghost from_gives = { λ fault e. e ≡ image_refusal fault };
-
-    fn from(fault: ImageFault) -> LoadFault {
-        fault_of(fault.code(), 0)
-    }
-}
-
-impl From<VerifyFault> for LoadFault {
-    ghost from_gives = { λ fault e. e ≡ verify_refusal fault };
-
-    fn from(fault: VerifyFault) -> LoadFault {
-        fault_of(fault.code(), 0)
-    }
-}
-
-impl From<AllocError> for LoadFault {
-    ghost from_gives = { λ _ e. e ≡ OutOfMemory };
-
-    fn from(_error: AllocError) -> LoadFault {
-        LoadFault::OutOfMemory
-    }
-}
-
-impl<T: Drop> From<AllocFailed<T>> for LoadFault {
-    ghost from_gives = { λ _ e. e ≡ OutOfMemory };
-
-    fn from(_error: AllocFailed<T>) -> LoadFault {
-        LoadFault::OutOfMemory
+    fn from(error: LoadError) -> LoadFault {
+        fault_of(error.code(), error.line())
     }
 }
 

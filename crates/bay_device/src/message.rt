@@ -188,7 +188,13 @@ fn answer(
     ensures decisions { take (length made.old.decisions.items) made.new.decisions.items
         ≡ made.old.decisions.items }
 {
-    let answer = state.bay.answer(alloc, client, connection.pdu(), controls)?;
+    let answer = state.bay.answer(
+        alloc,
+        client,
+        &state.input_values,
+        connection.pdu(),
+        controls,
+    )?;
     record_answer(connection, client.association, answer, made)
 }
 

@@ -7,12 +7,12 @@ use Rattle.bay_device.specs.Commands.{AreCommanded, CommandsReleased, IsReleased
 use Rattle.bay_device.specs.Device.{State}
 use Rattle.bay_device.specs.declared.event.Event.{Event}
 use Rattle.bay_device.specs.declared.event.Step.{Step}
-use Rattle.bay_device_example_laws.specs.Commands.{Tells, close_command, interlocked_state, open_command, operating_state, released_state}
+use Rattle.bay_device_example_laws.specs.Commands.{Tells, close_command, interlocked_state, keyed_state, open_command, operating_state, released_state}
 use Rattle.bay_device_example_laws.proofs.SplitLemmas.{all-one}
 
 is-released : (s : State) → IsReleasedAt 5 (released_state s) open_command
 unfolding digits
-is-released s = record { heard = refl; fresh = refl; enabled = refl; idle = refl }
+is-released s = record { heard = refl; remote = refl; fresh = refl; enabled = refl; idle = refl }
 
 -- the command of a step that is released is issued
 issued : (command : Command) (s t : State) (event : Event) (step : Step) → IsReleasedAt 5 s command
@@ -61,6 +61,19 @@ not-lost s t event step told h =
     (its 5 (record (released_state s) { is_lost = true }) step told h).heard in
     absurd cc
 
+-- with a key it must be at remote
+pub is-at-remote : (s t : State) (event : Event) (step : Step) → Tells open_command step
+    → CommandsReleased 5 event (keyed_state true s) (Ok step) t
+unfolding digits
+is-at-remote s t event step told =
+    issued open_command (keyed_state true s) t event step
+    (record { heard = refl; remote = refl; fresh = refl; enabled = refl; idle = refl }) told
+
+pub not-local : (s t : State) (event : Event) (step : Step) → Tells open_command step
+    → CommandsReleased 5 event (keyed_state false s) (Ok step) t → ⊥
+not-local s t event step told h =
+    let no : true ≡ false = (its 5 (keyed_state false s) step told h).remote in absurd cc
+
 pub not-blocked : (s t : State) (event : Event) (step : Step) → Tells open_command step
     → CommandsReleased 5 event (record (released_state s) { rows = [] }) (Ok step) t → ⊥
 not-blocked s t event step told h =
@@ -88,14 +101,14 @@ pub closes-alone : (opn : Bool) (s t : State) (event : Event) (step : Step)
 unfolding digits
 closes-alone opn s t event step told =
     issued close_command (interlocked_state (codes "CILO1") opn true s) t event step
-    (record { heard = refl; fresh = refl; enabled = refl; idle = refl }) told
+    (record { heard = refl; remote = refl; fresh = refl; enabled = refl; idle = refl }) told
 
 pub opens-alone : (cls : Bool) (s t : State) (event : Event) (step : Step) → Tells open_command step
     → CommandsReleased 5 event (interlocked_state (codes "CILO1") true cls s) (Ok step) t
 unfolding digits
 opens-alone cls s t event step told =
     issued open_command (interlocked_state (codes "CILO1") true cls s) t event step
-    (record { heard = refl; fresh = refl; enabled = refl; idle = refl }) told
+    (record { heard = refl; remote = refl; fresh = refl; enabled = refl; idle = refl }) told
 
 pub no-close : (opn : Bool) (s t : State) (event : Event) (step : Step) → Tells close_command step
     → CommandsReleased 5 event (interlocked_state (codes "CILO1") opn false s) (Ok step) t → ⊥

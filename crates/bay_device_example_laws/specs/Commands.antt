@@ -33,11 +33,36 @@ released_state s = record s {
   controls = record { controls = []; selection = None; execution = None };
 }
 
--- the same, but switch 0 began at time 5 to open, which takes half a second
+-- the same, but switch 0 has a key, whose input has this value
+abbrev pub keyed_state : Bool → State → State
+keyed_state value s = record (released_state s) {
+  input_values = value ∷ [];
+  controls = record {
+    controls = record {
+      model = Direct;
+      sbo_timeout_ms = 0;
+      travel_ms = 500;
+      key = Some 0;
+      refuses_synchrocheck = false;
+    }
+        ∷ [];
+    selection = None;
+    execution = None;
+  };
+}
+
+-- as `released_state`, but switch 0 began at time 5 to open, which takes half a second
 abbrev pub operating_state : State → State
 operating_state s = record (released_state s) {
   controls = record {
-    controls = record { model = Direct; sbo_timeout_ms = 0; travel_ms = 500 } ∷ [];
+    controls = record {
+      model = Direct;
+      sbo_timeout_ms = 0;
+      travel_ms = 500;
+      key = None;
+      refuses_synchrocheck = false;
+    }
+        ∷ [];
     selection = None;
     execution = Some (record { switch = 0; start = 5; operation = Open });
   };

@@ -1,8 +1,8 @@
 -- Small runs, right and wrong, that the relations of the headline accept and refuse. `Selects`: for
--- `IsBacked`; `Commands`:
--- for `CommandedAt`; `Operates`: for `AreOperates` and `AllOperate`; `Scans`: for `HasScan`,
--- `HaltsAt` and `MeansAt`.
+-- `IsBacked`; `Commands`: for `CommandedAt`; `Keys`: for `IsAtRemote`; `Operates`: for
+-- `AreOperates` and `AllOperate`; `Scans`: for `HasScan`, `HaltsAt` and `MeansAt`.
 pub mod Commands
+pub mod Keys
 pub mod Operates
 pub mod Scans
 pub mod Selects

@@ -1,14 +1,26 @@
 -- Small runs of selects and operates of one switch.
-use Rattle.std.specs.Prelude.{ℕ, false, true, List, [], ◌∷◌}
+use Rattle.std.specs.Prelude.{ℕ, false, true, List, [], ◌∷◌, None}
+use Rattle.bay_base.specs.declared.switch.Control.{Control}
 use Rattle.bay_base.specs.declared.switch.Control.TheVariants.{Sbo, SboEnhanced}
 use Rattle.bay_control.specs.Acts.{Act, Entry, Opened, Closed, Select, SelectWith, Cancel, Operate}
 use Rattle.bay_control.specs.Backing.{IsBacked}
 use Rattle.bay_control.specs.declared.control.SwitchControl.{SwitchControl}
 use Rattle.bay_control.specs.declared.request.Choice.{Choice}
 
+-- the settings of a switch of this control model, without a key
+abbrev pub sbo_control : Control → SwitchControl
+sbo_control model =
+    record {
+      model = model;
+      sbo_timeout_ms = 2000;
+      travel_ms = 500;
+      key = None;
+      refuses_synchrocheck = false;
+    }
+
 -- one switch, which must be selected before it is operated; a selection lasts two seconds
 abbrev pub one_switch : List SwitchControl
-one_switch = record { model = Sbo; sbo_timeout_ms = 2000; travel_ms = 500 } ∷ []
+one_switch = sbo_control Sbo ∷ []
 
 -- an act that was accepted at time 0
 abbrev pub accepted_entry : Act → Entry
@@ -46,7 +58,7 @@ unrelated_entries choice =
 
 -- one switch with enhanced security, and a select with value of it by association 1
 abbrev pub enhanced_switch : List SwitchControl
-enhanced_switch = record { model = SboEnhanced; sbo_timeout_ms = 2000; travel_ms = 500 } ∷ []
+enhanced_switch = sbo_control SboEnhanced ∷ []
 
 abbrev pub selected_with : Choice → Entry
 selected_with choice = accepted_entry (SelectWith 1 0 choice)

@@ -14,11 +14,13 @@ ghost use Rattle.bay_device.specs.Fresh.{Came, FreshAt, HasScan, IsSameProcess, 
 ghost use Rattle.bay_device.specs.Meaning.{HaltsAt, MeansAt};
 ghost use Rattle.bay_device.specs.Operates.{AllOperate, AreOperates, AreRepliedForEvent};
 ghost use Rattle.bay_device.specs.Outcomes.{initial_connection};
+ghost use Rattle.bay_device.specs.Remote.{IsAtRemote};
 ghost use Rattle.bay_device.specs.declared.event.Event.{Event};
 ghost use Rattle.bay_device.specs.declared.event.Event.TheVariants.{BadMeasure, Close, Contact, Input, Lost, Measure, Open, Recv, Scan};
 ghost use Rattle.bay_device.specs.declared.event.Step.{Step};
 ghost use Rattle.bay_device.specs.declared.fault.StepFault.{StepFault};
-ghost use Rattle.bay_device_example_laws.specs.Commands.{Tells, close_command, interlocked_state, open_command, operating_state, released_state};
+ghost use Rattle.bay_device_example_laws.specs.Commands.{Tells, close_command, interlocked_state, keyed_state, open_command, operating_state, released_state};
+ghost use Rattle.bay_device_example_laws.specs.Keys.{input_past, open_switch, refused_input, two_switches};
 ghost use Rattle.bay_device_example_laws.specs.Operates.{IsAccepted, IsOther, IsRefused, step_with_commands};
 ghost use Rattle.bay_device_example_laws.specs.Scans.{contact_past, halting_device, is_heard_after_loss, lost_past, empty_program, refused_past, scan_past, state_after_reports, with_code, with_slot};
 ghost use Rattle.bay_device_example_laws.specs.Selects.{IsBackedBehind, IsMatchedBehind, accepted_entry, cancel_entry, unrelated_entries, operate_entry, refused_select, selected_by, selected_with};
@@ -77,9 +79,10 @@ pub fn a_select_with_value_backs_what_it_asked_for()
         → ⊥ }
 {}
 
-/// A device may issue a command to open after a fresh scan that has released it. It may not if one
-/// thing differs: there is no scan, the scan is too old or stale, the process is lost, the switch
-/// is not released, a switch is operating, or the step sends nothing.
+/// A device may issue a command to open after a fresh scan that has released it, with the key of the
+/// switch, if it has one, at remote. It may not if one thing differs: there is no scan, the scan is
+/// too old or stale, the process is lost, the key is at local, the switch is not released, a switch
+/// is operating, or the step sends nothing.
 pub fn a_command_needs_each_of_its_parts()
     ensures commanded { (s t : State) (event : Event) (step : Step) → Tells open_command step
         → CommandsReleased 5 event (released_state s) (Ok step) t }
@@ -92,6 +95,10 @@ pub fn a_command_needs_each_of_its_parts()
         → CommandsReleased 5 event (record (released_state s) { is_stale = true }) (Ok step) t → ⊥ }
     ensures lost { (s t : State) (event : Event) (step : Step) → Tells open_command step
         → CommandsReleased 5 event (record (released_state s) { is_lost = true }) (Ok step) t → ⊥ }
+    ensures remote { (s t : State) (event : Event) (step : Step) → Tells open_command step
+        → CommandsReleased 5 event (keyed_state true s) (Ok step) t }
+    ensures local { (s t : State) (event : Event) (step : Step) → Tells open_command step
+        → CommandsReleased 5 event (keyed_state false s) (Ok step) t → ⊥ }
     ensures blocked { (s t : State) (event : Event) (step : Step) → Tells open_command step
         → CommandsReleased 5 event (record (released_state s) { rows = [] }) (Ok step) t → ⊥ }
     ensures busy { (s t : State) (event : Event) (step : Step) → Tells open_command step
@@ -245,6 +252,32 @@ pub fn a_loss_lasts_until_the_process_is_heard()
     ensures scan { (s : State) (step : Step) → is_heard_after_loss Scan (Ok step) s step ≡ false }
     ensures again { (s : State) (step : Step)
         → is_heard_after_loss Lost (Ok step) s step ≡ false }
+{}
+
+/// A command to a switch with a key needs an accepted report that its own key is at remote, since
+/// the last loss of the process and with no later report that it is at local. Other reports between
+/// the two do not matter, and a switch without a key needs none.
+pub fn a_command_needs_its_key_at_remote()
+    ensures remote { (s : State) (step : Step)
+        → IsAtRemote (two_switches s) (input_past 1 true s step ∷ []) (open_switch 0) }
+    ensures still { (s : State) (step : Step) → IsAtRemote (two_switches s)
+        (input_past 0 false s step ∷ contact_past s step ∷ input_past 1 true s step ∷ [])
+        (open_switch 0) }
+    ensures again { (s : State) (step : Step) → IsAtRemote (two_switches s)
+        (input_past 1 true s step ∷ lost_past s step ∷ input_past 1 true s step ∷ [])
+        (open_switch 0) }
+    ensures untold { (s : State) → IsAtRemote (two_switches s) [] (open_switch 0) → ⊥ }
+    ensures local { (s : State) (step : Step) → IsAtRemote (two_switches s)
+        (input_past 1 false s step ∷ input_past 1 true s step ∷ []) (open_switch 0) → ⊥ }
+    ensures of_another { (s : State) (step : Step)
+        → IsAtRemote (two_switches s) (input_past 0 true s step ∷ []) (open_switch 0) → ⊥ }
+    ensures lost { (s : State) (step : Step) → IsAtRemote (two_switches s)
+        (contact_past s step ∷ lost_past s step ∷ input_past 1 true s step ∷ []) (open_switch 0)
+        → ⊥ }
+    ensures refused { (s : State) (fault : StepFault) → IsAtRemote (two_switches s)
+        (refused_input 1 true s fault ∷ []) (open_switch 0) → ⊥ }
+    ensures keyless { (s : State) (past : List Past)
+        → IsAtRemote (two_switches s) past (open_switch 1) }
 {}
 
 /// A command of a device implies that such a scan precedes it among the events since load, no older

@@ -4,6 +4,12 @@
 #![tactic(auto)]
 
 #[cfg(test)]
+mod bays;
+#[cfg(test)]
+mod diagram_files;
+#[cfg(test)]
 mod diagrams;
+#[cfg(test)]
+mod judged;
 #[cfg(test)]
 mod states;

@@ -1,25 +1,26 @@
 -- What follows the line of a load that is compiled.
 use Rattle.bay_io.specs.Calls.{WriteCall}
 use Rattle.std.proofs.Common.{◌≡◌, ℕ, List, Option, Some, None, is_some, option_map, Result, Ok, Err, IsErr, Bor, refl}
-use Rattle.bay_device.specs.Device.{State}
-use Rattle.bay_device.specs.Report.{IsReport}
-use Rattle.bay_device.specs.declared.report.Report.{Report}
+use Rattle.il_image.specs.Images.{Image}
+use Rattle.bay_load.specs.Report.{IsReport}
+use Rattle.bay_load.specs.declared.report.Report.{Report}
 use Rattle.bay_files.specs.Files.{FileWrites}
 use Rattle.bay_io.specs.Watched.{Writing}
 use Rattle.bay_io.specs.declared.outbox.WriteFault.{WriteFault}
-use Rattle.bay_main.specs.Commands.{CompilesDevice}
+use Rattle.bay_main.specs.Commands.{CompilesImage}
 use Rattle.bay_report.specs.Report.{IsLast, Prints, report_text}
 
 -- the line could not be written
 pub line-fails : {F W : Type 0} (writes : FileWrites F) (contents : W → Option (List ℕ))
     (asks : W → WriteCall → W → Type 0)
-    (out : List ℕ) (s : State) (report : Report) → IsReport s.machine.image report → (files : F)
+    (out : List ℕ) (image : Image) (report : Report) → IsReport image report → (files : F)
     (old middle : Writing W) (fault : WriteFault)
     → Prints contents asks (IsLast (report_text report) 0) old middle (Err fault)
     → (answer : Result ℕ WriteFault) → IsErr answer
-    → CompilesDevice writes contents asks out s files files old middle answer
-line-fails writes contents asks out s report is files old middle fault printed (Ok n) e = absurd cc
-line-fails writes contents asks out s report is files old middle fault printed (Err f) e =
+    → CompilesImage writes contents asks out image files files old middle answer
+line-fails writes contents asks out image report is files old middle fault printed (Ok n) e =
+    absurd cc
+line-fails writes contents asks out image report is files old middle fault printed (Err f) e =
     record {
       report = report;
       is = is;

@@ -1,13 +1,14 @@
 -- What the commands do: what is printed, the exit status, and what becomes of files.
 use Rattle.bay_io.specs.Calls.{WriteCall}
 use Rattle.std.specs.Prelude.{◌≡◌, ℕ, Bool, true, false, List, codes, Option, None, Some, is_some, unwrap_or, Result, Ok, Err, is_err, ◌⊎◌, if◌then◌else◌}
-use Rattle.il_image.specs.Images.{image_octets}
+use Rattle.il_image.specs.Images.{Image as Code, image_octets}
 use Rattle.il_image.specs.declared.opcode.Version.TheVariants.{Two}
-use Rattle.bay_device.specs.Device.{State}
-use Rattle.bay_device.specs.Report.{IsReport as IsReportOf}
-use Rattle.bay_device.specs.declared.report.Report.{Report}
-use Rattle.bay_device.specs.declared.fault.LoadFault.{LoadFault}
-use Rattle.bay_device.specs.declared.fault.LoadFault.TheVariants.{OutOfMemory as wants_memory}
+use Rattle.bay_load.specs.Loads.{LoadData, MayLoadTo}
+use Rattle.bay_load.specs.Report.{IsReport as IsReportOf}
+use Rattle.bay_load.specs.declared.error.LoadError.{LoadError}
+use Rattle.bay_load.specs.declared.load.Form.{Form}
+use Rattle.bay_load.specs.declared.load.Form.TheVariants as form
+use Rattle.bay_load.specs.declared.report.Report.{Report}
 use Rattle.bay_io.specs.Watched.{Reading, Writing}
 use Rattle.bay_io.specs.declared.outbox.WriteFault.{WriteFault}
 use Rattle.bay_files.specs.Files.{FileGuards, FileReads, FileWrites, FilesData, ReadsBoth, UnreadData, WritesWhole}
@@ -15,8 +16,6 @@ use Rattle.bay_files.specs.declared.files.FileFault.{FileFault}
 use Rattle.bay_files.specs.declared.files.FileFault.TheVariants as unwritten
 use Rattle.std.specs.declared.io.ErrorKind.{ErrorKind}
 use Rattle.std.specs.declared.io.ErrorKind.TheVariants as kind
-use Rattle.bay_report.specs.declared.load.Form.{Form}
-use Rattle.bay_report.specs.declared.load.Form.TheVariants as form
 use Rattle.bay_cli.specs.Jobs.{task_in}
 use Rattle.bay_cli.specs.declared.task.ProgramFile.{ProgramFile}
 use Rattle.bay_cli.specs.declared.task.ProgramFile.TheVariants.{Logic, Image}
@@ -25,7 +24,6 @@ use Rattle.bay_cli.specs.declared.task.Task.{Task}
 use Rattle.bay_cli.specs.declared.task.Task.TheVariants.{Check, Replay, Serve, Compile, Audit}
 use Rattle.bay_main.specs.declared.ending.CommandResult.{CommandResult}
 use Rattle.bay_main.specs.declared.ending.CommandResult.TheVariants.{Status, WriteFailed, Refused}
-use Rattle.bay_report.specs.Load.{load_of}
 use Rattle.bay_main.specs.Check.{ChecksOctets}
 use Rattle.bay_io.specs.Sent.{Logs}
 use Rattle.bay_report.specs.LogLines.{LogsSome, PrintsLogs, Refuses, UnreadReport, unwritten_line}
@@ -74,45 +72,44 @@ EndsWritten contents asks out (Some unwritten.OutOfMemory) old new answer =
 -- after the line of the load, a command makes the image, and writes it to the file of this name; or
 -- memory runs out for it, which is printed, and no file is touched
 abbrev pub WritesImage : {F W : Type 0} → FileWrites F
-    → (W → Option (List ℕ)) → (W → WriteCall → W → Type 0) → List ℕ → State → F → F → Writing W
+    → (W → Option (List ℕ)) → (W → WriteCall → W → Type 0) → List ℕ → Code → F → F → Writing W
     → Writing W → Result ℕ WriteFault
     → Type 0
-WritesImage writes contents asks out s before after old new answer =
+WritesImage writes contents asks out image before after old new answer =
     ((fault : Option FileFault)
-    × WritesWhole writes 100 0 out (image_octets Two s.machine.image) before after fault
+    × WritesWhole writes 100 0 out (image_octets Two image) before after fault
     × EndsWritten contents asks out fault old new answer)
     ⊎ (Prints contents asks (IsLast (codes "fault memory\n") 3) old new answer × (after ≡ before))
 
 -- the continuation after a load's line, if this was printed: writing the image
 abbrev pub GoesOn : {F W : Type 0} → FileWrites F → (W → Option (List ℕ))
-    → (W → WriteCall → W → Type 0) → List ℕ → State → F → F
+    → (W → WriteCall → W → Type 0) → List ℕ → Code → F → F
     → Writing W → Writing W → Result ℕ WriteFault → Result ℕ WriteFault → Type 0
-GoesOn writes contents asks out s before after old new (Err fault) answer =
+GoesOn writes contents asks out image before after old new (Err fault) answer =
     (new ≡ old) × (after ≡ before) × (answer ≡ Err fault)
-GoesOn writes contents asks out s before after old new (Ok status) answer =
-    WritesImage writes contents asks out s before after old new answer
+GoesOn writes contents asks out image before after old new (Ok status) answer =
+    WritesImage writes contents asks out image before after old new answer
 
--- a device is compiled: the line of its load is printed, and then its image is written
-pub record CompilesDevice {F W : Type 0} (writes : FileWrites F) (contents : W → Option (List ℕ))
+-- what was loaded is compiled: the line of the load is printed, and then the image is written
+pub record CompilesImage {F W : Type 0} (writes : FileWrites F) (contents : W → Option (List ℕ))
     (asks : W → WriteCall → W → Type 0)
-    (out : List ℕ) (s : State) (before after : F) (old new : Writing W)
+    (out : List ℕ) (image : Code) (before after : F) (old new : Writing W)
     (answer : Result ℕ WriteFault) : Type 0 where
   pub report : Report
-  pub is : IsReportOf s.machine.image report
+  pub is : IsReportOf image report
   pub middle : Writing W
   pub told : Result ℕ WriteFault
   pub printed : Prints contents asks (IsLast (report_text report) 0) old middle told
-  pub goes_on : GoesOn writes contents asks out s before after middle new told answer
+  pub goes_on : GoesOn writes contents asks out image before after middle new told answer
 
--- a loaded device is compiled; the refusal of a load is reported, and no file is touched
+-- what was loaded is compiled; the refusal of a load is reported, and no file is touched
 abbrev pub CompilesLoaded : {F W : Type 0} → FileWrites F
-    → (W → Option (List ℕ)) → (W → WriteCall → W → Type 0) → List ℕ → Result State LoadFault → F → F
-    → Writing W → Writing W
-    → Result ℕ WriteFault → Type 0
-CompilesLoaded writes contents asks out (Err fault) before after old new answer =
-    PrintsLogs contents asks (Refuses fault) old new answer × (after ≡ before)
-CompilesLoaded writes contents asks out (Ok s) before after old new answer =
-    CompilesDevice writes contents asks out s before after old new answer
+    → (W → Option (List ℕ)) → (W → WriteCall → W → Type 0) → List ℕ → Result LoadData LoadError
+    → F → F → Writing W → Writing W → Result ℕ WriteFault → Type 0
+CompilesLoaded writes contents asks out (Err error) before after old new answer =
+    PrintsLogs contents asks (Refuses error) old new answer × (after ≡ before)
+CompilesLoaded writes contents asks out (Ok loaded) before after old new answer =
+    CompilesImage writes contents asks out loaded.image before after old new answer
 
 -- the files that were read are loaded and compiled; memory may run out for the load
 abbrev pub CompilesOctets : {F W : Type 0} → FileWrites F
@@ -120,8 +117,8 @@ abbrev pub CompilesOctets : {F W : Type 0} → FileWrites F
     → F → Writing W → Writing W
     → Result ℕ WriteFault → Type 0
 CompilesOctets writes contents asks out both before after old new answer =
-    (loaded : Result State LoadFault)
-    × ((load_of both.bay both.program ≡ loaded) ⊎ (loaded ≡ Err wants_memory))
+    (loaded : Result LoadData LoadError)
+    × MayLoadTo both.bay form.Logic both.program loaded
     × CompilesLoaded writes contents asks out loaded before after old new answer
 
 -- the same if the files could be read; otherwise this is reported, and no file is touched

@@ -11,7 +11,7 @@
 -- What public clauses cite of the crates below.
 pub use Rattle.bay_files.specs.Files
 pub use Rattle.cmd_replay.specs.Replay
-pub use Rattle.bay_report.specs.Load
+pub use Rattle.bay_load.specs.Loads
 pub use Rattle.bay_report.specs.Report
 pub use Rattle.bay_server_turn.specs.Calls
 pub use Rattle.bay_server.specs.Host

@@ -4,7 +4,7 @@ ghost use Rattle.bay_main.specs.Check.{ChecksOctets};
 use bay_io::calls::Sink;
 use bay_io::outbox::WriteFault;
 use bay_io::writer::WatchedWriter;
-use bay_report::load::{Form, load_program};
+use bay_load::load::{Form, load_files};
 use bay_report::log::report_load_refusal;
 use bay_report::output::write_report;
 use std::alloc::Global;
@@ -21,8 +21,8 @@ pub fn check_run<W: Sink>(
 ) -> Result<u8, WriteFault>
     ensures { ChecksOctets W.contents W.does bay.now form program.now writer.old writer.new result }
 {
-    match load_program(alloc, bay, form, program) {
-        Ok(device) => write_report(writer, device.report()),
-        Err(fault) => report_load_refusal(writer, fault),
+    match load_files(alloc, bay, form, program) {
+        Ok(loaded) => write_report(writer, loaded.report()),
+        Err(error) => report_load_refusal(writer, error),
     }
 }

@@ -1,7 +1,7 @@
 // Executes a command, over files by their names, a reader and a writer.
 ghost use Rattle.std.specs.Prelude.{◌≡◌, map, is_some, None, Result, Ok, option_map};
 ghost use Rattle.bay_server_turn.specs.Calls.{Called};
-ghost use Rattle.bay_main.specs.Commands.{Checks, Compiles, CompilesDevice, CompilesOctets, DoesTask, Obeys, Unwritten, WritesImage, logging, name_of, unprinted_line};
+ghost use Rattle.bay_main.specs.Commands.{Checks, Compiles, CompilesImage, CompilesOctets, DoesTask, Obeys, Unwritten, WritesImage, logging, name_of, unprinted_line};
 ghost use Rattle.bay_main.specs.Commands as spec;
 ghost use Rattle.bay_report.specs.LogLines.{LogsSome};
 ghost use Rattle.bay_cli.specs.JobView.{program_view, task_view};
@@ -10,13 +10,13 @@ use crate::check::check_run;
 use crate::ending::CommandResult;
 use bay_cli::parse::{WordsFault, task_of};
 use bay_cli::task::{Invoked, ProgramFile, Task};
-use bay_device::device::Device;
 use bay_files::files::{BothFiles, FileFault, FileSystem, read_files, write_atomically};
 use bay_io::calls::{OctetSource, Sink};
 use bay_io::outbox::WriteFault;
 use bay_io::reader::WatchedReader;
 use bay_io::writer::WatchedWriter;
-use bay_report::load::{Form, load_octets};
+use bay_load::load::{Form, load_files};
+use bay_load::loaded::Loaded;
 use bay_report::log::{log_unwritten, report_load_refusal, report_unread};
 use bay_report::output::{NO_MEMORY, Status, write_report, write_text};
 use bay_server::host::Host;
@@ -24,6 +24,8 @@ use bay_server_turn::link::Link;
 use cmd_audit::audit_files::audit_files;
 use cmd_replay::replay::run_replay;
 use cmd_serve::serve::{NamedFiles, Numbers, serve};
+use il_image::encode::encode;
+use il_image::image::Image;
 use std::alloc::{AllocError, Global};
 use std::io::ErrorKind;
 
@@ -68,43 +70,43 @@ fn fail_unwritten<W: Sink>(
     Err(WriteFault)
 }
 
-// Makes a device's image, and writes it to the file with this name.
+// Writes an image to the file with this name.
 fn write_image<F: FileSystem, W: Sink>(
     alloc: Global,
-    device: &Device,
+    image: &Image,
     out: &str,
     files: &mut F,
     writer: &mut WatchedWriter<W>,
 ) -> Result<u8, WriteFault>
-    ensures { WritesImage F.writes W.contents W.does out.now device.now files.old files.new
+    ensures { WritesImage F.writes W.contents W.does out.now image.now files.old files.new
         writer.old
         writer.new result }
 {
-    let image = match device.image() {
-        Ok(image) => image,
+    let octets = match encode(alloc, image) {
+        Ok(octets) => octets,
         Err(AllocError) => return write_text(writer, NO_MEMORY, Status::Fault),
     };
-    match write_atomically(alloc, files, out, image.as_slice()) {
+    match write_atomically(alloc, files, out, octets.as_slice()) {
         Ok(()) => Ok(Status::Clean.code()),
         Err(FileFault::OutOfMemory) => write_text(writer, NO_MEMORY, Status::Fault),
         Err(FileFault::Failed(kind)) => fail_unwritten(writer, out, kind),
     }
 }
 
-// Writes the line of a device's load, and then its image to the file with this name.
-fn compile_device<F: FileSystem, W: Sink>(
+// Writes the line of a load, and then the image to the file with this name.
+fn compile_loaded<F: FileSystem, W: Sink>(
     alloc: Global,
-    device: &Device,
+    loaded: &Loaded,
     out: &str,
     files: &mut F,
     writer: &mut WatchedWriter<W>,
 ) -> Result<u8, WriteFault>
-    ensures { CompilesDevice F.writes W.contents W.does out.now device.now files.old files.new
+    ensures { CompilesImage F.writes W.contents W.does out.now loaded.now.image files.old files.new
         writer.old
         writer.new result }
 {
-    write_report(writer, device.report())?;
-    write_image(alloc, device, out, files, writer)
+    write_report(writer, loaded.report())?;
+    write_image(alloc, loaded.verified().image(), out, files, writer)
 }
 
 // Compiles the contents of a bay file and a program to the file with this name.
@@ -119,9 +121,14 @@ fn compile_files<F: FileSystem, W: Sink>(
         (record { bay = both.now.bay.items; program = both.now.program.items }) files.old
         files.new writer.old writer.new result }
 {
-    match load_octets(alloc, both.bay.as_slice(), both.program.as_slice()) {
-        Ok(device) => compile_device(alloc, &device, out, files, writer),
-        Err(fault) => report_load_refusal(writer, fault),
+    match load_files(
+        alloc,
+        both.bay.as_slice(),
+        Form::Logic,
+        both.program.as_slice(),
+    ) {
+        Ok(loaded) => compile_loaded(alloc, &loaded, out, files, writer),
+        Err(error) => report_load_refusal(writer, error),
     }
 }
 

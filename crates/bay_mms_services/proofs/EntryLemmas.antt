@@ -1,10 +1,11 @@
 -- What a PDU asks of controls leads them from those before it to those after it. No request opens
 -- or closes an association.
-use Rattle.std.proofs.Common.{◌≡◌, ℕ, Bool, true, List, [], ◌∷◌, Option, Result, refl}
+use Rattle.std.proofs.Common.{◌≡◌, ℕ, Bool, true, List, [], ◌∷◌, Option, Result, refl, ap, ◌∙◌}
 use Rattle.bay_control.specs.Acts.{Entry}
 use Rattle.bay_control.specs.Decisions.{State}
 use Rattle.bay_control.specs.Happenings as call
 use Rattle.bay_control.specs.Happenings.{Leads}
+use Rattle.bay_control.proofs.BackingLemmas.{all-controls}
 use Rattle.bay_control.proofs.LeadsLemmas.{none-leads, one-leads, two-lead}
 use Rattle.bay_mms.specs.Data.{Datum}
 use Rattle.bay_mms.specs.Grammar.{answer_to}
@@ -89,3 +90,17 @@ pub request-leads : (c : ClientContext) (pdu : List ℕ) (b : Bay) (opens : ℕ 
     → opens c.association ≡ true
     → Leads (entries_in c pdu b) opens b.controls opens (pdu_answer c pdu b).after.controls
 request-leads c pdu b opens is_open = message-leads c b opens is_open (answer_to pdu)
+
+-- no request changes the values of the inputs
+pub inputs-stay : (c : ClientContext) (pdu : List ℕ) (b : Bay)
+    → (pdu_answer c pdu b).after.inputs ≡ b.inputs
+inputs-stay c pdu b =
+    answer-by c b (λ entries x. x.after.inputs ≡ b.inputs) (λ pdu few. refl) (λ id ns is. refl)
+    (λ id ns values is. refl) (answer_to pdu)
+
+-- no request changes the settings of the controls
+pub settings-stay : (c : ClientContext) (pdu : List ℕ) (b : Bay)
+    → (pdu_answer c pdu b).after.controls.controls ≡ b.controls.controls
+settings-stay c pdu b =
+    let leads = request-leads c pdu b (λ a. true) refl in
+    ap (λ (s : State). s.controls) leads.ends ∙ all-controls leads.happened b.controls

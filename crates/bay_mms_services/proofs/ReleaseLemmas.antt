@@ -77,6 +77,7 @@ record Saw (k : ℕ) (ask : Ask) (view : View) (t : State) : Type 0 where
   controlled : not (is_controlled (control_of t.controls k).model) ≡ false
   idle : t.execution ≡ None
   heard : view.lost ≡ false
+  remote : view.local ≡ false
   fresh : not view.fresh ≡ false
   released : not (is_released ask.operation view) ≡ false
 
@@ -88,8 +89,9 @@ saw a k ask view t ok =
       controlled = all.0;
       idle = idle-if k t.execution all.1.1.1.0 all.1.1.1.1.0;
       heard = all.1.1.1.1.1.1.0;
-      fresh = all.1.1.1.1.1.1.1.0;
-      released = all.1.1.1.1.1.1.1.1.0;
+      remote = all.1.1.1.1.1.1.1.0;
+      fresh = all.1.1.1.1.1.1.1.1.0;
+      released = all.1.1.1.1.1.1.1.1.1.0;
     }
 
 -- ---- what an answer to a control leaves operating
@@ -260,6 +262,7 @@ module _ (c : ClientContext) (b : Bay) (s : State) (k : ℕ) (o : asked.Operate)
       let seen = saw c.association k (ask_of o) (view_of c k b) (controls_at c.now s) ok in
       record {
         heard = seen.heard;
+        remote = seen.remote;
         fresh = not-false c.fresh seen.fresh;
         enabled =
             enabled-now c b k (operation_of o.control.ctl_val)

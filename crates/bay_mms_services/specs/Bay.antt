@@ -7,7 +7,8 @@ use Rattle.bay_tree.specs.declared.row.Row.{Row}
 use Rattle.bay_tree.specs.declared.leaf.Leaf.TheVariants as leaf
 use Rattle.bay_control.specs.Decisions.{State, selected_switch}
 
--- a bay: its name and its nameplate, its switches, the rows of its tree, and its controls
+-- a bay: its name and its nameplate, its switches, the rows of its tree, the values of its inputs,
+-- and its controls
 pub record Bay : Type 0 where
   pub domain : List ℕ
   pub vendor : List ℕ
@@ -15,6 +16,7 @@ pub record Bay : Type 0 where
   pub revision : List ℕ
   pub switches : List Switch
   pub rows : List Row
+  pub inputs : List Bool
   pub controls : State
 
 -- this switch is the selected one

@@ -10,7 +10,7 @@ use Rattle.bay_nodes.specs.Names.{opening_of, closing_of}
 use Rattle.bay_base.specs.declared.switch.Operation.{Operation}
 use Rattle.bay_base.specs.declared.switch.Operation.TheVariants.{Open, Close}
 use Rattle.bay_process.specs.Values.{is_truth, position_leaf}
-use Rattle.bay_control.specs.Requests.{control_of, is_enhanced}
+use Rattle.bay_control.specs.Requests.{control_of, is_enhanced, is_local}
 use Rattle.bay_control.specs.Causes as cause
 use Rattle.bay_control.specs.declared.cause.AddCause.{AddCause}
 use Rattle.bay_control.specs.declared.cause.AddCause.TheVariants.{TimeLimitOver}
@@ -36,11 +36,13 @@ abbrev pub dbpos_of : Option Leaf → Dbpos
 dbpos_of (Some (leaf.Dbpos position)) = position
 dbpos_of other = Intermediate
 
--- the view of the switch at index k: its position and its interlocking values, from the rows
+-- the view of the switch at index k: its position and its interlocking values, from the rows, and
+-- whether its key is at local, from the inputs
 abbrev pub view_of : ClientContext → ℕ → Bay → View
 view_of c k b = record {
   pos = dbpos_of (position_leaf b.switches b.rows k (slice_get b.switches k));
   lost = c.lost;
+  local = is_local (control_of b.controls.controls k).key b.inputs;
   fresh = c.fresh;
   ena_opn = is_truth true (leaf_of (opening_of k).value b.rows);
   ena_cls = is_truth true (leaf_of (closing_of k).value b.rows);
@@ -61,6 +63,7 @@ ask_of o =
     record {
       operation = operation_of o.control.ctl_val;
       test = o.control.test;
+      synchrocheck = o.check.synchrocheck;
       origin = origin_of o.control.origin;
     }
 

@@ -6,7 +6,7 @@ use Rattle.bay_base.specs.declared.switch.Operation.{Operation}
 use Rattle.bay_base.specs.declared.switch.Operation.TheVariants.{Open, Close}
 use Rattle.bay_process.specs.Values.{is_truth}
 use Rattle.bay_control.specs.Decisions.{controls_at}
-use Rattle.bay_control.specs.Requests.{control_of, is_controlled}
+use Rattle.bay_control.specs.Requests.{control_of, is_controlled, is_local}
 use Rattle.bay_control.specs.declared.control.SwitchControl.{SwitchControl}
 use Rattle.bay_control.specs.declared.selection.Execution.{Execution}
 use Rattle.bay_mms_services.specs.Bay.{Bay}
@@ -18,10 +18,12 @@ abbrev pub enable_name : ℕ → Operation → List ℕ
 enable_name k Open = (opening_of k).value
 enable_name k Close = (closing_of k).value
 
--- A command is issued only while the process is not lost, the last scan is fresh, the interlocking
--- value of the operation is TRUE in the tree, and no switch of the bay is operating.
+-- A command is issued only while the process is not lost, the key of the switch is not at local,
+-- the last scan is fresh, the interlocking value of the operation is TRUE in the tree, and no switch
+-- of the bay is operating.
 pub record IsReleased (c : ClientContext) (b : Bay) (command : Command) : Type 0 where
   pub heard : c.lost ≡ false
+  pub remote : is_local (control_of b.controls.controls command.switch).key b.inputs ≡ false
   pub fresh : c.fresh ≡ true
   pub enabled : is_truth true (leaf_of (enable_name command.switch command.operation) b.rows) ≡ true
   pub idle : (controls_at c.now b.controls).execution ≡ None

@@ -1,5 +1,5 @@
 -- Maps the code's values to those of the definitions.
-use Rattle.std.specs.Prelude.{ℕ, ◌≡◌, List, Result, Ok, Err}
+use Rattle.std.specs.Prelude.{ℕ, ◌≡◌, Bool, List, [], Result, Ok, Err}
 use Rattle.bay_mms.specs.RequestViews.{request_view}
 use Rattle.bay_mms.specs.Requests.{Message}
 use Rattle.bay_mms.specs.declared.fault.MmsFault.{MmsFault}
@@ -21,21 +21,26 @@ use Rattle.bay_mms_services.specs.declared.writing.Written.{Written}
 abbrev pub controls_view : ServedBay → Controls → State
 controls_view b controls = state_of b.control_table controls
 
--- the bay of the definitions for a served bay
-abbrev pub bay_view : ServedBay → Bay
-bay_view b = record {
+-- the bay of the definitions for a served bay with these values of its inputs
+abbrev pub bay_with : List Bool → ServedBay → Bay
+bay_with inputs b = record {
   domain = b.domain;
   vendor = b.vendor;
   model = b.model;
   revision = b.revision;
   switches = switches_of b.switches;
   rows = b.tree;
+  inputs = inputs;
   controls = controls_view b b.controls;
 }
 
+-- the same without inputs, on which only the view of a switch depends
+abbrev pub bay_view : ServedBay → Bay
+bay_view b = bay_with [] b
+
 -- the bay that receives a request
 abbrev pub bay_of : Invocation → Bay
-bay_of i = bay_view i.bay.now
+bay_of i = bay_with i.inputs.now i.bay.now
 
 -- a read and a write after some of their variables, with the controls after these
 abbrev pub reading_view : ServedBay → Controls → List ControlDecision → List ℕ → Reading

@@ -3,9 +3,11 @@ ghost use Rattle.std.specs.Prelude.{◌≡◌, ◌<◌, length};
 ghost use Rattle.bay_process.specs.Controls.{AreAllControlRows};
 ghost use Rattle.bay_process.specs.Layout.{layout_of};
 ghost use Rattle.bay_mms_services.specs.Bay.{rows_with_selection, client_rows};
+ghost use Rattle.bay_control.specs.Requests.{control_of};
+ghost use Rattle.bay_control.specs.Requests as spec_requests;
 ghost use Rattle.bay_mms_services.specs.Controls.{view_of};
 ghost use Rattle.bay_mms_services.specs.Places.{marked_row};
-ghost use Rattle.bay_mms_services.specs.Views.{bay_view, controls_view};
+ghost use Rattle.bay_mms_services.specs.Views.{bay_view, bay_with, controls_view};
 
 use crate::bay::ServedBay;
 use crate::client::ClientContext;
@@ -14,6 +16,7 @@ use bay_control::request::View;
 use bay_mms::client_view::ClientView;
 use bay_process::controls::ControlRows;
 use bay_process::rows::{is_truth, position_at, put};
+use bay_process::values::InputValues;
 use bay_tree::leaf::Leaf;
 use bay_tree::tree::{Handle, Tree};
 
@@ -49,15 +52,27 @@ impl ServedBay {
         ClientView::new(&self.tree, self.mark(controls.selected()))
     }
 
-    /// Returns the view of a switch on which a decision depends.
-    pub(crate) fn view(&self, client: ClientContext, switch: usize) -> View
+    // Returns whether the key of a switch is at local, with these values of the inputs.
+    fn is_local(&self, inputs: &InputValues, switch: usize) -> bool
+        ensures { result
+            ≡ spec_requests.is_local (control_of self.now.control_table switch).key inputs.now }
+    {
+        match self.control_table.key(switch) {
+            Some(input) => !inputs.get(input).unwrap_or(false),
+            None => false,
+        }
+    }
+
+    /// Returns the view of a switch on which a decision depends, with these values of the inputs.
+    pub(crate) fn view(&self, inputs: &InputValues, client: ClientContext, switch: usize) -> View
         requires { switch < length self.now.switches }
-        ensures { result ≡ view_of client switch (bay_view self.now) }
+        ensures { result ≡ view_of client switch (bay_with inputs.now self.now) }
     {
         let rows = &self.switches.as_slice()[switch].rows;
         View {
             pos: position_at(&self.tree, rows.position.value),
             lost: client.lost,
+            local: self.is_local(inputs, switch),
             fresh: client.fresh,
             ena_opn: is_truth(&self.tree, rows.ena_opn.value, true),
             ena_cls: is_truth(&self.tree, rows.ena_cls.value, true),

@@ -13,7 +13,7 @@ ghost use Rattle.bay_mms_services.specs.Rows.{row_named};
 ghost use Rattle.bay_mms.specs.declared.fault.MmsFault.TheVariants as MmsFault;
 ghost use Rattle.bay_mms_services.specs.Controls.{IsShort};
 ghost use Rattle.bay_mms_services.specs.Reads.{read_all};
-ghost use Rattle.bay_mms_services.specs.Views.{bay_of, bay_view, controls_view, request_result_view, reading_view, AnswersAs};
+ghost use Rattle.bay_mms_services.specs.Views.{bay_of, bay_with, controls_view, request_result_view, reading_view, AnswersAs};
 
 use crate::answer::{ControlDecision, PduAnswer};
 use crate::bay::ServedBay;
@@ -31,6 +31,7 @@ use bay_mms::response::{
     write_response,
 };
 use bay_mms::results::{ReadResponse, WriteResponse};
+use bay_process::values::InputValues;
 use std::alloc::{AllocError, Global};
 
 // Returns an answer of one PDU, with decisions and without commands.
@@ -282,14 +283,17 @@ impl ServedBay {
         &self,
         alloc: Global,
         client: ClientContext,
+        inputs: &InputValues,
         request: Result<Request<'_>, MmsFault>,
         controls: &mut Controls,
     ) -> Result<PduAnswer, AllocError>
         requires sized { IsPduSize client.size }
         requires first { controls.old ≡ self.now.controls }
         ensures ok { IfOk result
-            (λ answer. AnswersAs answer (controls_view self.now controls.new) (bay_view self.now)
-            (answer_of client (bay_view self.now) (request_result_view request.entry))) }
+            (λ answer. AnswersAs answer (controls_view self.now controls.new)
+            (bay_with inputs.now self.now)
+            (answer_of client (bay_with inputs.now self.now)
+            (request_result_view request.entry))) }
         ensures memory { IfOk result (λ _. request.entry ≢ Err MmsFault.OutOfMemory) }
     {
         match request {
@@ -299,6 +303,7 @@ impl ServedBay {
                 let bay = self;
                 let invocation = Invocation {
                     bay,
+                    inputs,
                     client,
                     id,
                     alloc,
@@ -309,8 +314,9 @@ impl ServedBay {
         }
     }
 
-    /// Answers the octets that a client sent as a PDU of MMS. Does not change the bay: `controls`
-    /// becomes the controls after the PDU, which the caller stores once the answer can be sent.
+    /// Answers the octets that a client sent as a PDU of MMS, with these values of the bay's inputs.
+    /// Does not change the bay: `controls` becomes the controls after the PDU, which the caller
+    /// stores once the answer can be sent.
     ///
     /// Each PDU of the answer has at most 65,000 octets, and so have the reports for the end of an
     /// operate. If the response is longer than the agreed size, the answer is an error of the class
@@ -319,19 +325,21 @@ impl ServedBay {
         &self,
         alloc: Global,
         client: ClientContext,
+        inputs: &InputValues,
         pdu: &[u8],
         controls: &mut Controls,
     ) -> Result<PduAnswer, AllocError>
         requires { IsPduSize client.size }
         ensures ok { IfOk result
-            (λ answer. AnswersAs answer (controls_view self.now controls.new) (bay_view self.now)
-            (pdu_answer client pdu.now (bay_view self.now))) }
+            (λ answer. AnswersAs answer (controls_view self.now controls.new)
+            (bay_with inputs.now self.now)
+            (pdu_answer client pdu.now (bay_with inputs.now self.now))) }
         ensures short { IfOk result
             (λ answer. All (λ pdu. length pdu ≤ longest_pdu) answer.sent.items) }
         ensures ending { IfOk result (λ answer. IsShort answer.ending) }
     {
         *controls = self.controls.duplicate();
         let request = read_request(alloc, pdu);
-        self.respond(alloc, client, request, controls)
+        self.respond(alloc, client, inputs, request, controls)
     }
 }

@@ -92,6 +92,7 @@ fn ask_of(operate: &OperateData<'_>) -> Ask
     Ask {
         operation: operation_of(control.ctl_val),
         test: control.test,
+        synchrocheck: operate.check.synchrocheck,
         origin: origin_of(&control.origin),
     }
 }
@@ -384,7 +385,7 @@ impl Invocation<'_> {
             self.client.association,
             switch,
             ask_of(&operate),
-            self.bay.view(self.client, switch),
+            self.bay.view(self.inputs, self.client, switch),
             self.client.now,
         );
         let to = ControlPart::Operate;

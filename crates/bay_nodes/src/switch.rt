@@ -14,4 +14,9 @@ pub struct Switch {
     pub sbo_timeout_ms: u32,
     /// How long the switch may travel, in milliseconds, 1 to 600,000; 0 if it is not controlled.
     pub travel_ms: u32,
+    /// The name of the input that is TRUE while the key of the switch is at remote, as the file
+    /// spells it; `None` if the switch has no key. Clients operate the switch at remote only.
+    pub remote: Option<Text>,
+    /// Whether an operate to close that requests a synchrocheck is refused.
+    pub refuses_synchrocheck: bool,
 }

@@ -16,6 +16,7 @@ use Rattle.bay_device.specs.Fresh.{Past}
 use Rattle.bay_device.specs.Receiving.{ReceiveResult, Done, after_indications, after_pdu, on_indication, sent_on, with_sent}
 use Rattle.bay_device.specs.Operates.{AreOperates, AreReplied, AreRepliedForEvent, IsReplied}
 use Rattle.bay_device.specs.Outcomes.{Outcome, connection_at, last_moment, nothing_done, outcome, place_of, recv_outcome, refusal_of}
+use Rattle.bay_device.specs.Remote.{AreAtRemote, IsAtRemote}
 use Rattle.bay_device.specs.Steps.{Steps}
 use Rattle.bay_device.specs.EntriesTold.{AreAgreed, pdu_in, pdus_in, connection_state_at}
 use Rattle.bay_device.specs.declared.event.Event.{Event}
@@ -31,7 +32,7 @@ use Rattle.bay_report.specs.Lines.{closed_text, commands_text, ended_text, ran_t
 use Rattle.bay_report.specs.Report.{report_text}
 use Rattle.cmd_replay.specs.Scenario.{ScenarioParts}
 use Rattle.bay_replay_laws.specs.Answered.{AreAnswered, CommandsAreAnswered, IsAnswered}
-use Rattle.cmd_replay.specs.History.{EachPast, device_after}
+use Rattle.cmd_replay.specs.History.{AllRemote, EachPast, device_after}
 use Rattle.bay_replay_laws.specs.Printed.{PrintedCommand, PrintedSend, ended, lines_in, printed_command}
 use Rattle.bay_replay_laws.specs.ReadBack.{HaveIds}
 use Rattle.bay_replay_laws.specs.Released.{IsCommandLineFor}
@@ -267,9 +268,20 @@ sent-stands now answer s ids step done front x back split =
 
 -- ---- a command
 
+-- what the events before one of a history say of the keys
+remote-in : (first : State) (later : List Past) (p : Past) (earlier past : List Past)
+    → past ≡ later ++ p ∷ earlier → AllRemote first past → AreAtRemote first earlier p.answer
+remote-in first later p earlier past split all = at later (subst (AllRemote first) split all)
+  where
+    at : (later : List Past) → AllRemote first (later ++ p ∷ earlier)
+        → AreAtRemote first earlier p.answer
+    at [] all = all.0
+    at (x ∷ later) all = at later all.1
+
 module _ (first : State) (past : List Past) (steps : EachPast Steps first past)
     (ids : HaveIds first.switches) (begin load_text : List ℕ)
-    (load_is : begin ≡ load_text ++ 10 ∷ []) (heard : Heard (bay_of first) first) where
+    (load_is : begin ≡ load_text ++ 10 ∷ []) (heard : Heard (bay_of first) first)
+    (keys : AllRemote first past) where
   command-answered : (before : List (List ℕ)) (line : List ℕ) (at : Placed past before line)
       (l : IsCommandLine at.order.now at.order.answer at.order.after line)
       → (command : PrintedCommand) → printed_command line ≡ Some command
@@ -336,6 +348,9 @@ module _ (first : State) (past : List Past) (steps : EachPast Steps first past)
         accepts = subst (λ response. Contains (operates_in (accepted_in order.now from.association
             from.replied.pdu (bay_of first) response)) l.command) (sym sent.1.1.2)
             from.replied.accepts;
+        remote = All-contains (IsAtRemote first at.earlier) l.step.commands l.command
+            (subst (AreAtRemote first at.earlier) l.done
+            (remote-in first at.later order at.earlier past at.split keys)) l.has;
       })
 
 run-answered : (parts : ScenarioParts) (first : State) (text : List ℕ) (status : ℕ)
@@ -358,6 +373,7 @@ run-answered parts first text status run before after line command e reads =
       sized = idle-talks first quiet;
       eight = ap (λ talks. length talks) quiet.closed;
     })
+    run.guarded.remote
     o.behind line o.at l command reads)
 
 pub commands-are-answered : CommandsAreAnswered

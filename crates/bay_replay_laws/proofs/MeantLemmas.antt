@@ -29,7 +29,7 @@ use Rattle.cmd_replay.specs.Runs.{IsRun}
 use Rattle.cmd_replay.specs.Scenario.{ScenarioParts}
 use Rattle.cmd_replay.proofs.HistoryLemmas.{past-fixed}
 use Rattle.cmd_replay.proofs.KeptLemmas.{Scanned, scan_told, step-on-time, turned}
-use Rattle.cmd_replay.proofs.LoadedLemmas.{file-sound}
+use Rattle.bay_device.proofs.LoadedLemmas.{file-sound}
 use Rattle.bay_replay_laws.specs.Meant.{AreMeant, AreValues, IsMeant, ScansAreMeant}
 use Rattle.bay_replay_laws.specs.Printed.{PrintedScan, PrintedSwitch, printed_scan, lines_in, printed_budget}
 use Rattle.bay_replay_laws.specs.ReadBack.{HaveIds, switches_told}

@@ -6,7 +6,7 @@ use Rattle.std.specs.Str.{is_utf8}
 use Rattle.toml.specs.Data.{Data, Members, as_str, get_member}
 use Rattle.bay_config.specs.Bay.{bay_of}
 use Rattle.bay_config.specs.Key.{Key, begins_with_letter, entry_refusal, held_refusal, identifier, is_identifier, is_name_character, key_refusal, passes, unknown_refusal}
-use Rattle.bay_config.specs.Switch.{control_key, control_of, id_key, kind_key, switch_in, switch_keys, time_keys}
+use Rattle.bay_config.specs.Switch.{control_key, control_of, id_key, kind_key, kind_of, optional_keys, switch_in, switch_keys, time_keys}
 use Rattle.bay_config.specs.declared.bay.Bay.{Bay}
 use Rattle.bay_config.specs.declared.fault.BayFault.{BayFault}
 use Rattle.bay_config.specs.declared.fault.BayFault.TheVariants.{BadToml}
@@ -57,7 +57,9 @@ held-named (Some d) none =
 table-named : (t : Members) → entry_refusal (switch_keys t) t ≡ None
     → is_identifier 16 (switch_in t).id ≡ true
 table-named t none =
-    let keys : List Key = kind_key ∷ control_key ∷ [] ++ time_keys (control_of t) in
+    let keys : List Key =
+    kind_key ∷ control_key ∷ []
+    ++ (time_keys (control_of t) ++ optional_keys (control_of t) (kind_of t)) in
     let behind =
     none-first (unknown_refusal (map (λ (key : Key). key.name) (switch_keys t)) t)
     (key_refusal t id_key ∷ map (key_refusal t) keys) none in

@@ -7,12 +7,13 @@ use Rattle.bay_device.specs.Fresh.{Past}
 use Rattle.bay_device.specs.Outcomes.{last_moment}
 use Rattle.bay_device.specs.Steps.{Steps}
 use Rattle.bay_device.specs.declared.event.Step.{Step}
-use Rattle.bay_device.specs.declared.fault.LoadFault.{LoadFault}
 use Rattle.bay_device.specs.declared.fault.StepFault.{StepFault}
-use Rattle.bay_device.specs.declared.fault.LoadFault.TheVariants.{OutOfMemory}
-use Rattle.bay_device.specs.declared.report.Report.{Report}
+use Rattle.bay_device.specs.Load.{device_of}
+use Rattle.bay_load.specs.declared.error.LoadError.{LoadError}
+use Rattle.bay_load.specs.declared.error.LoadError.TheVariants.{OutOfMemory}
+use Rattle.bay_load.specs.declared.report.Report.{Report}
 use Rattle.bay_report.specs.Lines.{step_text}
-use Rattle.bay_report.specs.Load.{load_of}
+use Rattle.bay_load.specs.Loads.{LoadData, load_of}
 use Rattle.cmd_replay.specs.Replay.{LoadReport, PartsReport}
 use Rattle.cmd_replay.specs.Scenario.{ScenarioParts, scenario_of}
 use Rattle.cmd_replay.specs.History.{EachPast, device_after}
@@ -23,9 +24,8 @@ use Rattle.bay_replay_laws.specs.Reports.{HasNone, IsOf, OfEach}
 use Rattle.cmd_replay.specs.Runs.{IsRun, printed_of}
 use Rattle.cmd_replay.proofs.HistoryLemmas.{past-fixed}
 use Rattle.cmd_replay.proofs.KeptLemmas.{step-on-time}
-use Rattle.cmd_replay.proofs.RunLemmas.{run-of}
+use Rattle.cmd_replay.proofs.RunLemmas.{run-loaded, run-of}
 use Rattle.bay_replay_laws.proofs.LineLemmas.{AreLines, Each, decimal-free, each-append, each-line, ended-append, lines-are}
-use Rattle.cmd_replay.proofs.LoadedLemmas.{loaded-from}
 use Rattle.bay_replay_laws.proofs.NameLemmas.{name-plain}
 use Rattle.bay_replay_laws.proofs.PlaceLemmas.{AreGroups, Groups, Placed, cut, flat, groups-whole, heads, placed, tails}
 use Rattle.bay_replay_laws.proofs.PrintLemmas.{IsCommandLine, IsLineOf, id-at, load-is, step-lines}
@@ -221,14 +221,14 @@ module _ {A : Type 0} (read : List ℕ → Option A)
     OfReport scenario text status = HasNone read text ⊎ IsOf Are scenario text status
 
     by-load : (scenario : List ℕ) (parts : ScenarioParts) (log : Option (List ℕ))
-        (text : List ℕ) (status : ℕ) (loaded : Result State LoadFault)
+        (text : List ℕ) (status : ℕ) (loaded : Result LoadData LoadError)
         → scenario_of scenario ≡ Some parts
         → load_of parts.bay parts.logic ≡ loaded → LoadReport loaded parts.trace log text status
         → OfReport scenario text status
-    by-load scenario parts log text status (Ok first) cut is told =
+    by-load scenario parts log text status (Ok l) cut is told =
+        let first : State = device_of l in
         let run : IsRun parts first text status =
-        run-of parts.bay parts.logic first (loaded-from parts.bay parts.logic first is) parts.trace
-        log
+        run-of parts.bay parts.logic first (run-loaded parts.bay parts.logic l is) parts.trace log
         text status told in
         inr (record {
           parts = parts;

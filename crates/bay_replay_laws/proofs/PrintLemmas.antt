@@ -16,7 +16,7 @@ use Rattle.bay_device.specs.declared.event.Step.{Step}
 use Rattle.bay_device.specs.declared.event.Why.{Why}
 use Rattle.bay_device.specs.declared.event.Why.TheVariants.{Ended, Fault, Memory}
 use Rattle.bay_device.specs.declared.fault.StepFault.{StepFault}
-use Rattle.bay_device.specs.declared.report.Report.{Report}
+use Rattle.bay_load.specs.declared.report.Report.{Report}
 use Rattle.bay_report.specs.Report.{report_text}
 use Rattle.bay_report.specs.Lines.{closed_text, closing_text, command_line, command_part, commands_text, done_text, ended_text, order_text, ran_text, refusal_line, scan_text, send_text, sends_text, step_text, why_text}
 use Rattle.bay_process.specs.Releases.{digit_text}

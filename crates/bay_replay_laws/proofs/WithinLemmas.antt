@@ -1,5 +1,5 @@
 -- What is known of a run, and the lines of a report that are of no event.
-use Rattle.std.proofs.Common.{◌≡◌, ℕ, ◌+◌, ◌<◌, ◌≤◌, ◌^◌, ◌==◌, Bool, true, false, cond, List, [], ◌∷◌, ◌++◌, codes, Some, None, Result, inl, inr, refl, ap, sym, subst, append_assoc, arith}
+use Rattle.std.proofs.Common.{◌≡◌, ℕ, ◌+◌, ◌<◌, ◌≤◌, ◌^◌, ◌==◌, Bool, true, false, cond, List, [], ◌∷◌, ◌++◌, codes, Option, Some, None, Result, inl, inr, refl, ap, sym, subst, append_assoc, arith}
 use Rattle.std.specs.Fmt.{decimal}
 use Rattle.il_check.specs.Program.{Checked}
 use Rattle.il_check.proofs.TypedLemmas.{typed-of}
@@ -10,13 +10,13 @@ use Rattle.bay_device.specs.Meaning.{Runs}
 use Rattle.bay_device.specs.Steps.{Steps}
 use Rattle.bay_device.specs.declared.event.Event.{Event}
 use Rattle.bay_device.specs.declared.event.Step.{Step}
-use Rattle.bay_device.specs.declared.fault.LoadFault.{LoadFault}
-use Rattle.bay_device.specs.declared.fault.LoadFault.TheVariants.{Refused, OutOfMemory}
+use Rattle.bay_load.specs.Errors.{code_of, line_of}
+use Rattle.bay_load.specs.declared.error.LoadError.{LoadError}
 use Rattle.bay_device.specs.declared.fault.StepFault.{StepFault}
-use Rattle.bay_device.specs.declared.report.Report.{Report}
+use Rattle.bay_load.specs.declared.report.Report.{Report}
 use Rattle.bay_device.proofs.LoadLemmas.{image-is}
 use Rattle.bay_report.specs.Lines.{unreadable_text}
-use Rattle.bay_report.specs.Report.{refusal_of}
+use Rattle.bay_report.specs.Report.{refusal_by, refusal_of}
 use Rattle.cmd_replay.specs.Scenario.{ScenarioParts}
 use Rattle.cmd_replay.specs.History.{EachPast}
 use Rattle.bay_replay_laws.specs.Printed.{printed_scan}
@@ -26,7 +26,7 @@ use Rattle.cmd_replay.proofs.BudgetLemmas.{IsWithin, step-within}
 use Rattle.cmd_replay.proofs.HistoryLemmas.{past-does, past-fixed}
 use Rattle.cmd_replay.proofs.KeptLemmas.{scan_told}
 use Rattle.bay_replay_laws.proofs.LineLemmas.{AreLines, decimal-free, free, free-append, no-lines, one-line}
-use Rattle.cmd_replay.proofs.LoadedLemmas.{loaded-runs}
+use Rattle.bay_device.proofs.LoadedLemmas.{loaded-runs}
 use Rattle.bay_replay_laws.proofs.NameLemmas.{bay-named}
 use Rattle.cmd_replay.proofs.PathLemmas.{budget-small}
 use Rattle.bay_replay_laws.proofs.ReadLemmas.{IsOther, load_line, no-end, no-scan-line, no-space, other-line}
@@ -93,10 +93,13 @@ numbered-lines false code line =
     (decimal-free 10 code no-end) (decimal-free 10 line no-end))
     (other-line (codes "load") (codes "refused") rest refl refl refl refl))
 
-pub refused-lines : (fault : LoadFault) → AreLines IsOther (refusal_of fault)
-refused-lines OutOfMemory =
+refused-by : (code : Option ℕ) (line : ℕ) → AreLines IsOther (refusal_by code line)
+refused-by None line =
     one-line (codes "load refused memory") refl (record { no_scan = refl; no_command = refl })
-refused-lines (Refused code line) = numbered-lines (line == 0) code line
+refused-by (Some code) line = numbered-lines (line == 0) code line
+
+pub refused-lines : (error : LoadError) → AreLines IsOther (refusal_of error)
+refused-lines error = refused-by (code_of error) (line_of error)
 
 -- ---- a report
 

@@ -12,6 +12,7 @@ use Rattle.bay_mms_services.specs.declared.answer.Command.{Command}
 use Rattle.bay_device.specs.Device.{State, bay_of}
 use Rattle.bay_device.specs.Fresh.{Past}
 use Rattle.bay_device.specs.Outcomes.{connection_at, place_of}
+use Rattle.bay_device.specs.Remote.{IsAtRemote}
 use Rattle.bay_device.specs.EntriesTold.{pdu_in}
 use Rattle.bay_device.specs.declared.event.Event.TheVariants.{Recv}
 use Rattle.bay_report.specs.Lines.{step_text}
@@ -26,7 +27,8 @@ use Rattle.cmd_replay.specs.Runs.{IsRun}
 -- A command's line is one of the lines for octets of a client. One of the PDUs in these octets
 -- requests the operate of this switch; and among the lines that are printed for these octets is one
 -- of octets sent on the same association, by their digits, whose PDU, read as the response to that
--- request, has a success as its result.
+-- request, has a success as its result. If the switch has a key, the events before these octets say
+-- that it is at remote.
 pub record IsAnswered (begin : List ℕ) (first : State) (past : List Past)
     (before : List (List ℕ)) (line : List ℕ) (command : PrintedCommand) : Type 0 where
   pub later : List Past
@@ -55,6 +57,7 @@ pub record IsAnswered (begin : List ℕ) (first : State) (past : List Past)
       ≡ Some (record { association = decimal association; octets = encode_lower sent })
   pub accepts : Contains (operates_in (accepted_in order.now association pdu (bay_of first)
       (pdu_in sent))) operate
+  pub remote : IsAtRemote first earlier operate
 
 abbrev pub AreAnswered : (parts : ScenarioParts) (first : State) (text : List ℕ) (status : ℕ)
     → IsRun parts first text status → Type 0

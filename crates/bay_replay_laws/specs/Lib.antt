@@ -2,7 +2,7 @@
 --
 -- `Printed`: how a line is read, by its words alone; `ReadBack`: each line that is printed is read
 -- so. `Released` is the main file: the scan before a command's line; `Answered`: the request and
--- the response of a command. `Texts`: scans are within the budget; `Meant`: their lines have what
+-- the response of a command, and the key of its switch. `Texts`: scans are within the budget; `Meant`: their lines have what
 -- the program means; `Reports`: statements on each report.
 
 -- What public clauses cite of the crates below.

@@ -8,7 +8,7 @@ use Rattle.bay_nodes.specs.declared.switch.Switch.{Switch}
 use Rattle.bay_device.specs.Device.{State}
 use Rattle.bay_device.specs.LookUps.{may_close, may_open}
 use Rattle.bay_device.specs.declared.event.Sent.{Sent}
-use Rattle.bay_device.specs.declared.report.Report.{Report}
+use Rattle.bay_load.specs.declared.report.Report.{Report}
 use Rattle.bay_report.specs.Lines.{command_line, scan_text, send_text}
 use Rattle.bay_report.specs.Report.{report_text}
 use Rattle.bay_replay_laws.specs.Printed.{PrintedSwitch, printed_budget, printed_command, printed_scan, printed_send}

@@ -34,7 +34,8 @@ pub fn printed_commands_are_released()
 /// client. One of the PDUs in these octets requests the operate of this switch; and among the lines
 /// for the same line of the trace is one of octets sent on the same association, by their
 /// hexadecimal digits, whose PDU, read as the response to that request, has a success as its
-/// result.
+/// result. If the switch has a key, the process had last reported before these octets that the key
+/// is at remote, and it was not lost since.
 pub fn printed_commands_are_answered()
     ensures { CommandsAreAnswered }
 {}

@@ -3,8 +3,6 @@ use Rattle.std.specs.Prelude.{◌≡◌, ℕ, ◌==◌, List, [], ◌++◌, code
 use Rattle.std.specs.Fmt.{decimal}
 use Rattle.std.specs.declared.io.ErrorKind.{ErrorKind}
 use Rattle.std.specs.declared.io.ErrorKind.TheVariants as kind
-use Rattle.bay_device.specs.declared.fault.LoadFault.{LoadFault}
-use Rattle.bay_device.specs.declared.fault.LoadFault.TheVariants.{Refused, OutOfMemory}
 use Rattle.bay_io.specs.Calls.{WriteCall}
 use Rattle.bay_io.specs.Sent.{Logs}
 use Rattle.bay_io.specs.Watched.{Writing}
@@ -12,6 +10,9 @@ use Rattle.bay_io.specs.declared.input.ReadFault.{ReadFault}
 use Rattle.bay_io.specs.declared.input.ReadFault.TheVariants as unread
 use Rattle.bay_io.specs.declared.outbox.WriteFault.{WriteFault}
 use Rattle.bay_lines.specs.Escaped.{shown_text}
+use Rattle.bay_load.specs.Errors.{code_of, line_of}
+use Rattle.bay_load.specs.Words.{words_of}
+use Rattle.bay_load.specs.declared.error.LoadError.{LoadError}
 use Rattle.bay_report.specs.Report.{IsLast, Prints, refusal_of}
 
 -- a line is logged, if there is one
@@ -68,60 +69,21 @@ UnreadReport name fault = IsReported (unread_line name fault) (unread_text fault
 
 -- ---- loads
 
--- the meaning of a fault of a load, by its number
-abbrev pub fault_words : ℕ → List ℕ
-fault_words code =
-    if code == 50 then codes "the text is not a TOML document, or is too long"
-    else if code == 51 then codes "a section or a key is missing"
-    else if code == 52 then codes "a key is unknown, or the kind of control excludes it"
-    else if code == 53 then codes "a value is of a wrong kind or out of its range"
-    else if code == 54 then codes "two points have one name"
-    else if code == 55 then codes "a section has too many entries"
-    else if code == 60 then codes "a token cannot be read"
-    else if code == 61 then codes "a line cannot be read"
-    else if code == 62 then codes "parentheses are too deep"
-    else if code == 63 then codes "a literal is out of range"
-    else if code == 64 then codes "the program is too long"
-    else if code == 70 then codes "the name is unknown"
-    else if code == 71 then codes "the name is declared twice"
-    else if code == 72 then codes "the type is not the one that is needed"
-    else if code == 73 then codes "the result is not set"
-    else if code == 74 then codes "the jump goes backward"
-    else if code == 75 then codes "the label is unknown"
-    else if code == 76 then codes "the instruction can't be reached"
-    else if code == 77 then codes "the variable may only be read"
-    else if code == 78 then codes "the divisor is not a literal other than 0"
-    else if code == 79 then codes "too many names are declared, or parentheses are too deep"
-    else if code == 80 then codes "this is no image"
-    else if code == 81 then codes "the version of the image is not known"
-    else if code == 82 then codes "an octet of the image stands for nothing"
-    else if code == 83 then codes "the image ends too early or too late"
-    else if code == 85 then codes "the image of the program would have more than 65,535 octets"
-    else if code == 90 then codes "too few values lie on the stack"
-    else if code == 91 then codes "too many values lie on the stack"
-    else if code == 92 then codes "a value is of a wrong kind"
-    else if code == 93 then codes "a divisor may be zero"
-    else if code == 94 then codes "there is no such slot"
-    else if code == 95 then codes "there is no such timer"
-    else if code == 96 then codes "a jump leads to no instruction"
-    else if code == 97 then codes "an instruction is not reached"
-    else if code == 98 then codes "stacks of two depths meet"
-    else if code == 99 then codes "the code does not end at a HALT or a JUMP"
-    else if code == 100 then codes "the image does not fit the bay"
-    else codes "the text cannot be loaded"
-
--- the log line of a refused load, with the line of the program, if the fault has one; none if
--- memory ran out
-abbrev pub refused_line : LoadFault → Option (List ℕ)
-refused_line (Refused code line) =
+-- the log line of a refused load, by the number, the line and the words of its error, with the line
+-- of the program, if it has one; none if memory ran out
+abbrev pub refused_by : Option ℕ → ℕ → List ℕ → Option (List ℕ)
+refused_by (Some code) line words =
     Some (codes "bayctl: load refused " ++ (decimal code
     ++ ((if line == 0 then [] else codes " line " ++ decimal line)
-    ++ (codes ": " ++ (fault_words code ++ codes "\n")))))
-refused_line OutOfMemory = None
+    ++ (codes ": " ++ (words ++ codes "\n")))))
+refused_by None line words = None
+
+abbrev pub refused_line : LoadError → Option (List ℕ)
+refused_line error = refused_by (code_of error) (line_of error) (words_of error)
 
 -- the log line, the text and the status of a refused load
-abbrev pub Refuses : LoadFault → Option (List ℕ) → List ℕ → ℕ → Type 0
-Refuses fault = IsReported (refused_line fault) (refusal_of fault) 1
+abbrev pub Refuses : LoadError → Option (List ℕ) → List ℕ → ℕ → Type 0
+Refuses error = IsReported (refused_line error) (refusal_of error) 1
 
 -- ---- traces
 

@@ -1,9 +1,9 @@
 -- The text that is printed for a load and for a fault, with which status, and how it reached a
 -- writer.
 use Rattle.bay_io.specs.Calls.{CallsMade, Unlogged, WriteCall, write_failed}
-use Rattle.bay_device.specs.declared.fault.LoadFault.TheVariants.{Refused, OutOfMemory}
-use Rattle.bay_device.specs.declared.fault.LoadFault.{LoadFault}
-use Rattle.bay_device.specs.declared.report.Report.{Report}
+use Rattle.bay_load.specs.Errors as error
+use Rattle.bay_load.specs.declared.error.LoadError.{LoadError}
+use Rattle.bay_load.specs.declared.report.Report.{Report}
 use Rattle.bay_io.specs.Sent.{SendsPart}
 use Rattle.bay_io.specs.Watched.{Writing}
 use Rattle.bay_io.specs.declared.outbox.WriteFault.{WriteFault}
@@ -11,7 +11,7 @@ use Rattle.bay_report.specs.declared.output.Status.{Status}
 use Rattle.bay_report.specs.declared.output.Status.TheVariants.{Clean, Refused as Refuses, Usage, Fault, Unproved}
 use Rattle.std.specs.Fmt.{decimal}
 use Rattle.std.specs.Io.KnownBytes.{Appends}
-use Rattle.std.specs.Prelude.{◌≡◌, ℕ, ◌==◌, true, false, List, [], ◌++◌, codes, Option, Result, Ok, Err, if◌then◌else◌}
+use Rattle.std.specs.Prelude.{◌≡◌, ℕ, ◌==◌, true, false, List, [], ◌++◌, codes, Option, None, Some, Result, Ok, Err, if◌then◌else◌}
 
 -- the line of a refusal, with the line of the program, if it has one
 abbrev pub numbered_refusal : ℕ → ℕ → List ℕ
@@ -19,10 +19,13 @@ numbered_refusal code line =
     if line == 0 then codes "load refused " ++ (decimal code ++ codes "\n")
     else codes "load refused " ++ decimal code ++ codes " line " ++ (decimal line ++ codes "\n")
 
--- the line of a refused load
-abbrev pub refusal_of : LoadFault → List ℕ
-refusal_of OutOfMemory = codes "load refused memory\n"
-refusal_of (Refused code line) = numbered_refusal code line
+-- the line of a refused load, by the number and the line of its error; out of memory has no number
+abbrev pub refusal_by : Option ℕ → ℕ → List ℕ
+refusal_by None line = codes "load refused memory\n"
+refusal_by (Some code) line = numbered_refusal code line
+
+abbrev pub refusal_of : LoadError → List ℕ
+refusal_of fault = refusal_by (error.code_of fault) (error.line_of fault)
 
 -- the line of a load: the number of instructions of the program, the maximum number of values on
 -- its stack, and the maximum number of instructions that a scan executes

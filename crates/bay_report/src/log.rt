@@ -7,12 +7,12 @@ ghost use Rattle.bay_report.specs.Report.{code_of};
 ghost use Rattle.bay_report.specs.LogLines as spec;
 
 use crate::output::{NO_MEMORY, Status, write_refusal, write_text};
-use bay_device::fault::LoadFault;
 use bay_io::calls::{LinePart, Sink};
 use bay_io::input::ReadFault;
 use bay_io::outbox::WriteFault;
 use bay_io::writer::WatchedWriter;
 use bay_lines::escaped::EscapedText;
+use bay_load::error::LoadError;
 use std::io::ErrorKind;
 
 // Returns why the system can't read a file, in words.
@@ -30,61 +30,16 @@ fn kind_words(kind: ErrorKind) -> &'static [u8]
     }
 }
 
-// Returns the meaning of a fault of a load, by its number.
-fn fault_words(code: u8) -> &'static [u8]
-    ensures { result.now ≡ spec.fault_words code }
-{
-    match code {
-        50 => b"the text is not a TOML document, or is too long",
-        51 => b"a section or a key is missing",
-        52 => b"a key is unknown, or the kind of control excludes it",
-        53 => b"a value is of a wrong kind or out of its range",
-        54 => b"two points have one name",
-        55 => b"a section has too many entries",
-        60 => b"a token cannot be read",
-        61 => b"a line cannot be read",
-        62 => b"parentheses are too deep",
-        63 => b"a literal is out of range",
-        64 => b"the program is too long",
-        70 => b"the name is unknown",
-        71 => b"the name is declared twice",
-        72 => b"the type is not the one that is needed",
-        73 => b"the result is not set",
-        74 => b"the jump goes backward",
-        75 => b"the label is unknown",
-        76 => b"the instruction can't be reached",
-        77 => b"the variable may only be read",
-        78 => b"the divisor is not a literal other than 0",
-        79 => b"too many names are declared, or parentheses are too deep",
-        80 => b"this is no image",
-        81 => b"the version of the image is not known",
-        82 => b"an octet of the image stands for nothing",
-        83 => b"the image ends too early or too late",
-        85 => b"the image of the program would have more than 65,535 octets",
-        90 => b"too few values lie on the stack",
-        91 => b"too many values lie on the stack",
-        92 => b"a value is of a wrong kind",
-        93 => b"a divisor may be zero",
-        94 => b"there is no such slot",
-        95 => b"there is no such timer",
-        96 => b"a jump leads to no instruction",
-        97 => b"an instruction is not reached",
-        98 => b"stacks of two depths meet",
-        99 => b"the code does not end at a HALT or a JUMP",
-        100 => b"the image does not fit the bay",
-        _ => b"the text cannot be loaded",
-    }
-}
-
 // Logs why a load is refused; nothing if memory ran out.
-fn log_refusal<W: Sink>(writer: &mut WatchedWriter<W>, fault: LoadFault)
-    ensures { LogsSome W.contents W.does writer.old (refused_line fault) writer.new }
+fn log_refusal<W: Sink>(writer: &mut WatchedWriter<W>, error: LoadError)
+    ensures { LogsSome W.contents W.does writer.old (refused_line error) writer.new }
 {
-    let LoadFault::Refused { code, line } = fault else {
+    let Some(code) = error.code() else {
         return;
     };
+    let line = error.line();
     let number = LinePart::Number(u64::from(code));
-    let words = LinePart::Text(fault_words(code));
+    let words = LinePart::Text(error.words().as_bytes());
     if line == 0 {
         let colon = LinePart::Text(b": ");
         writer.log(&[
@@ -215,11 +170,11 @@ pub fn report_unread<W: Sink>(
 /// memory ran out. Returns the status 1. Fails if a write or a flush fails or failed before.
 pub fn report_load_refusal<W: Sink>(
     writer: &mut WatchedWriter<W>,
-    fault: LoadFault,
+    error: LoadError,
 ) -> Result<u8, WriteFault>
-    ensures { PrintsLogs W.contents W.does (Refuses fault) writer.old writer.new result }
+    ensures { PrintsLogs W.contents W.does (Refuses error) writer.old writer.new result }
 {
-    let status = write_refusal(writer, fault)?;
-    log_refusal(writer, fault);
+    let status = write_refusal(writer, error)?;
+    log_refusal(writer, error);
     Ok(status)
 }

@@ -4,11 +4,11 @@ ghost use Rattle.bay_io.specs.Sent.{Finishes};
 ghost use Rattle.bay_report.specs.Report.{IsLast, Prints, code_of, refusal_of, report_text};
 
 use crate::report::{put_load_refusal, put_report};
-use bay_device::fault::LoadFault;
-use bay_device::report::Report;
 use bay_io::calls::Sink;
 use bay_io::outbox::WriteFault;
 use bay_io::writer::WatchedWriter;
+use bay_load::error::LoadError;
+use bay_load::report::Report;
 
 /// The line that is printed when memory runs out, except in a load.
 pub const NO_MEMORY: &[u8] = b"fault memory\n";
@@ -71,11 +71,11 @@ pub fn write_text<W: Sink>(
 /// flush fails or failed before.
 pub(crate) fn write_refusal<W: Sink>(
     writer: &mut WatchedWriter<W>,
-    fault: LoadFault,
+    error: LoadError,
 ) -> Result<u8, WriteFault>
-    ensures { Prints W.contents W.does (IsLast (refusal_of fault) 1) writer.old writer.new result }
+    ensures { Prints W.contents W.does (IsLast (refusal_of error) 1) writer.old writer.new result }
 {
-    put_load_refusal(writer, fault);
+    put_load_refusal(writer, error);
     finish(writer, Status::Refused)
 }
 

@@ -5,10 +5,10 @@ ghost use Rattle.bay_io.specs.Sent.{Puts};
 ghost use Rattle.bay_report.specs.Report.{refusal_of};
 ghost use Rattle.bay_report.specs.Report as spec;
 
-use bay_device::fault::LoadFault;
-use bay_device::report::Report;
 use bay_io::calls::Sink;
 use bay_io::writer::WatchedWriter;
+use bay_load::error::LoadError;
+use bay_load::report::Report;
 
 // Writes a number at the end of its line.
 fn put_last_number<W: Sink>(writer: &mut WatchedWriter<W>, number: u64)
@@ -42,12 +42,12 @@ fn put_numbered_refusal<W: Sink>(writer: &mut WatchedWriter<W>, code: u8, line: 
 }
 
 /// Writes the line of a refused load.
-pub fn put_load_refusal<W: Sink>(writer: &mut WatchedWriter<W>, fault: LoadFault)
-    ensures { Puts W.contents W.does writer.old (refusal_of fault) writer.new }
+pub fn put_load_refusal<W: Sink>(writer: &mut WatchedWriter<W>, error: LoadError)
+    ensures { Puts W.contents W.does writer.old (refusal_of error) writer.new }
 {
-    match fault {
-        LoadFault::OutOfMemory => writer.put(b"load refused memory\n"),
-        LoadFault::Refused { code, line } => put_numbered_refusal(writer, code, line),
+    match error.code() {
+        None => writer.put(b"load refused memory\n"),
+        Some(code) => put_numbered_refusal(writer, code, error.line()),
     }
 }
 

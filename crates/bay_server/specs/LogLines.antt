@@ -7,7 +7,7 @@ use Rattle.std.specs.Net.Socket.{v4_ip, v4_port}
 use Rattle.std.specs.declared.net.socket_addr.SocketAddrV4.{SocketAddrV4}
 use Rattle.bay_io.specs.Moments.{utc_text}
 use Rattle.bay_control.specs.declared.cause.AddCause.{AddCause}
-use Rattle.bay_control.specs.declared.cause.AddCause.TheVariants.{NotSupported, SelectFailed, PositionReached, BlockedByMode, BlockedByProcess, BlockedByInterlocking, CommandAlreadyInExecution, OneOfNControl, TimeLimitOver, ObjectNotSelected}
+use Rattle.bay_control.specs.declared.cause.AddCause.TheVariants.{NotSupported, BlockedBySwitchingHierarchy, SelectFailed, PositionReached, BlockedByMode, BlockedByProcess, BlockedByInterlocking, BlockedBySynchrocheck, CommandAlreadyInExecution, OneOfNControl, TimeLimitOver, ObjectNotSelected}
 use Rattle.bay_device.specs.Device.{State}
 use Rattle.bay_lines.specs.Escaped.{shown_text}
 use Rattle.bay_base.specs.declared.switch.Operation.{Operation}
@@ -139,6 +139,8 @@ abbrev pub verdict_words : Result (Unit {0}) AddCause → List ℕ
 verdict_words (Ok done) = codes ": done\n"
 verdict_words (Err NotSupported) =
     codes ": refused 1: the switch has no control of this kind\n"
+verdict_words (Err BlockedBySwitchingHierarchy) =
+    codes ": refused 2: the key of the switch is at local\n"
 verdict_words (Err SelectFailed) =
     codes ": refused 3: another association has selected the switch\n"
 verdict_words (Err PositionReached) =
@@ -147,6 +149,8 @@ verdict_words (Err BlockedByMode) = codes ": refused 8: the request is a test re
 verdict_words (Err BlockedByProcess) = codes ": refused 9: the process is lost\n"
 verdict_words (Err BlockedByInterlocking) =
     codes ": refused 10: the interlocking does not release the operation\n"
+verdict_words (Err BlockedBySynchrocheck) =
+    codes ": refused 11: the switch has no synchrocheck\n"
 verdict_words (Err CommandAlreadyInExecution) = codes ": refused 12: the switch is operating\n"
 verdict_words (Err OneOfNControl) =
     codes ": refused 14: another switch is selected or operating\n"

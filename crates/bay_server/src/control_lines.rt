@@ -35,6 +35,9 @@ fn verdict_words(answer: Result<(), AddCause>) -> &'static [u8]
     match answer {
         Ok(()) => b": done\n",
         Err(AddCause::NotSupported) => { b": refused 1: the switch has no control of this kind\n" }
+        Err(AddCause::BlockedBySwitchingHierarchy) => {
+            b": refused 2: the key of the switch is at local\n"
+        }
         Err(AddCause::SelectFailed) => {
             b": refused 3: another association has selected the switch\n"
         }
@@ -45,6 +48,9 @@ fn verdict_words(answer: Result<(), AddCause>) -> &'static [u8]
         Err(AddCause::BlockedByProcess) => b": refused 9: the process is lost\n",
         Err(AddCause::BlockedByInterlocking) => {
             b": refused 10: the interlocking does not release the operation\n"
+        }
+        Err(AddCause::BlockedBySynchrocheck) => {
+            b": refused 11: the switch has no synchrocheck\n"
         }
         Err(AddCause::CommandAlreadyInExecution) => b": refused 12: the switch is operating\n",
         Err(AddCause::OneOfNControl) => {

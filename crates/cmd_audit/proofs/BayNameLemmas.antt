@@ -10,9 +10,10 @@ use Rattle.bay_base.specs.declared.point.Point.{Point}
 use Rattle.bay_nodes.specs.declared.switch.Switch.{Switch}
 use Rattle.bay_config.specs.Bay.{bay_in, bay_of, bay_of_document, document_of, bay_section, file_refusal, name_key, name_keys, name_section, names_in, sections, switch_section, switches_in}
 use Rattle.bay_config.specs.Key.{Key, begins_with_letter, entry_refusal, first_of, held_refusal, identifier, is_identifier, is_name_character, key_refusal, passes, text_in, unknown_refusal}
+use Rattle.bay_config.specs.Remote.{remotes_refusal}
 use Rattle.bay_config.specs.Point.{inputs_from, meter_points, meters_from, names_refusal, points_from, points_of, points_of_all}
 use Rattle.bay_config.specs.Section.{items_at, list_checks, list_refusal, section_refusal, tables_of}
-use Rattle.bay_config.specs.Switch.{control_key, control_of, kind_key, switch_in, switch_keys, time_keys}
+use Rattle.bay_config.specs.Switch.{control_key, control_of, kind_key, kind_of, optional_keys, switch_in, switch_keys, time_keys}
 use Rattle.bay_config.specs.declared.bay.Bay.{Bay}
 use Rattle.bay_config.specs.declared.fault.BayFault.{BayFault}
 use Rattle.bay_config.specs.declared.fault.BayFault.TheVariants.{BadToml}
@@ -79,7 +80,9 @@ module _
 switch-word : (t : Members) → entry_refusal (switch_keys t) t ≡ None
     → IsWord (text_in t (codes "id"))
 switch-word t none =
-    table-word t (codes "id") (kind_key ∷ control_key ∷ [] ++ time_keys (control_of t)) none
+    table-word t (codes "id")
+    (kind_key ∷ control_key ∷ []
+    ++ (time_keys (control_of t) ++ optional_keys (control_of t) (kind_of t))) none
 
 name-word : (which : NameSection) (t : Members) → entry_refusal (name_keys which) t ≡ None
     → IsWord (text_in t (name_key which))
@@ -172,17 +175,18 @@ file-words : (file : Members) → file_refusal file ≡ None → HasWords (bay_i
 file-words file none =
     let names =
     names_refusal (points_of_all (switches_in file) (names_in file Input) (names_in file Meter)) in
+    let keys = remotes_refusal (names_in file Input) (switches_in file) in
     let bay = section_refusal file bay_section in
     let switches = section_refusal file switch_section in
     let inputs = section_refusal file (name_section Input) in
     let meters = section_refusal file (name_section Meter) in
     let one =
     none-first (unknown_refusal (map (λ section. section.name) sections) file)
-    (bay ∷ switches ∷ inputs ∷ meters ∷ names ∷ []) none in
-    let two = none-first bay (switches ∷ inputs ∷ meters ∷ names ∷ []) one.1 in
-    let three = none-first switches (inputs ∷ meters ∷ names ∷ []) two.1 in
-    let four = none-first inputs (meters ∷ names ∷ []) three.1 in
-    let five = none-first meters (names ∷ []) four.1 in
+    (bay ∷ switches ∷ inputs ∷ meters ∷ names ∷ keys ∷ []) none in
+    let two = none-first bay (switches ∷ inputs ∷ meters ∷ names ∷ keys ∷ []) one.1 in
+    let three = none-first switches (inputs ∷ meters ∷ names ∷ keys ∷ []) two.1 in
+    let four = none-first inputs (meters ∷ names ∷ keys ∷ []) three.1 in
+    let five = none-first meters (names ∷ keys ∷ []) four.1 in
     let ids : Each IsSwitchWord (switches_in file) =
     ids-of (tables_of (unwrap_or (items_at (get_member (codes "switch") file)) no_items))
     (list-words switch_keys (codes "id") switch-word 1 32

@@ -7,7 +7,7 @@ use Rattle.bay_audit.specs.declared.answer.RuleAnswer.{RuleAnswer}
 use Rattle.bay_audit.specs.declared.answer.Release.{Release}
 use Rattle.bay_replay_laws.proofs.LineLemmas.{AreLines, each-line, map-lines, more-lines, no-lines, one-line}
 use Rattle.cmd_audit.specs.Auditing.{IsCut, IsWhole}
-use Rattle.cmd_audit.specs.Names.{AreWords, HasWords, Known}
+use Rattle.cmd_audit.specs.Names.{AreWords, HasWords, Known, known_of}
 use Rattle.cmd_audit.specs.Text as spec
 use Rattle.cmd_audit.specs.Verdicts.{HoldsAreRead}
 use Rattle.cmd_audit.proofs.VerdictLemmas as lines
@@ -60,8 +60,10 @@ module _ (bay : Bay) (names : Known) (g : BoundProgram) (words : HasWords bay)
       (fault-line (zip rules answers))))
 
 pub holds-are-read : HoldsAreRead
-holds-are-read bay names image rules text status words known said line hold at e =
-    let g = program_of bay image in
+holds-are-read loaded rules text status words known said line hold at e =
+    let bay = loaded.bay in
+    let names = known_of loaded in
+    let g = program_of bay loaded.image in
     let pairs = zip rules said.answers in
     each-line
     (said-lines bay names g words known rules said.answers said.releases text status said.right

@@ -1,12 +1,9 @@
 -- Lemmas on the verdict on a text of rules.
 use Rattle.std.proofs.Common.{◌≡◌, ◌≢◌, ◌⊎◌, inl, inr, List, ℕ, Result, Ok, Err, IfOk}
-use Rattle.bay_config.specs.declared.bay.Bay.{Bay}
-use Rattle.bay_config.specs.declared.fault.BayFault.{BayFault}
+use Rattle.bay_load.specs.Loads.{LoadData}
 use Rattle.bay_audit_rules.specs.Meaning.{TextRead}
 use Rattle.bay_audit_rules.specs.declared.fault.RuleFault.{RuleFault}
 use Rattle.bay_audit_rules.specs.declared.fault.RuleFault.TheVariants as fault
-use Rattle.il_image.specs.Images.{Image}
-use Rattle.il_text.specs.Listing.{Declared}
 use Rattle.cmd_audit.specs.Judging.{JudgesText}
 use Rattle.cmd_audit.specs.declared.judging.RulesVerdict.{RulesVerdict}
 use Rattle.cmd_audit.specs.declared.judging.RulesVerdict.TheVariants.{Refused}
@@ -17,16 +14,10 @@ not-memory why (inl memory) other = absurd (other memory)
 not-memory why (inr a) other = a
 
 -- a text that is refused has its fault
-pub refused-text : {E : Type 0} (file : Result Bay BayFault) (declared : List Declared)
-    (text : List ℕ) (image : Image) (bay : Bay) → file ≡ Ok bay → (why : RuleFault)
-    → (why ≡ fault.OutOfMemory) ⊎ TextRead bay text (Err why) → (r : Result RulesVerdict E)
+pub refused-text : {E : Type 0} (loaded : LoadData) (text : List ℕ) (why : RuleFault)
+    → (why ≡ fault.OutOfMemory) ⊎ TextRead loaded.bay text (Err why) → (r : Result RulesVerdict E)
     → IfOk r (λ verdict. (verdict ≡ Refused why) × (why ≢ fault.OutOfMemory))
-    → IfOk r (JudgesText file declared text image)
-refused-text file declared text image bay read why means (Ok verdict) said = record {
-  bay = bay;
-  read = read;
-  meant = Err why;
-  means = not-memory why means said.1;
-  judges = said.0;
-}
-refused-text file declared text image bay read why means (Err e) said = tt
+    → IfOk r (JudgesText loaded text)
+refused-text loaded text why means (Ok verdict) said =
+    record { meant = Err why; means = not-memory why means said.1; judges = said.0 }
+refused-text loaded text why means (Err e) said = tt

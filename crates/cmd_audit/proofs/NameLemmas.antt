@@ -19,9 +19,11 @@ use Rattle.std.specs.Str.{is_utf8}
 use Rattle.bay_base.specs.Names.{same_name}
 use Rattle.bay_base.specs.Results.{◌>>=◌}
 use Rattle.bay_config.specs.Key.{is_name_character}
-use Rattle.bay_report.specs.Load.{text_of}
-use Rattle.bay_report.specs.declared.load.Form.{Form}
-use Rattle.bay_report.specs.declared.load.Form.TheVariants.{Logic, Image}
+use Rattle.bay_load.specs.Loads.{declarations_of, declared_in, text_of}
+use Rattle.bay_load.specs.Names.{NamesData, timer_in, timer_names, variable_in, variable_names}
+use Rattle.bay_load.specs.declared.load.Form.{Form}
+use Rattle.bay_load.specs.declared.load.Form.TheVariants.{Logic, Image}
+use Rattle.bay_load.proofs.LoadLemmas.{load-made}
 use Rattle.il_image.specs.Images.{Each, HasName, is_name_octet}
 use Rattle.il_image.specs.declared.image.ImagePoint.{ImagePoint}
 use Rattle.il_text.specs.Characters.{are_linked, begins_name, begins_word, is_blank, is_word}
@@ -49,7 +51,7 @@ use Rattle.il_text.specs.declared.program.VariableScope.{VariableScope}
 use Rattle.il_text.specs.declared.program.VariableScope.TheVariants.{Local, External}
 use Rattle.il_text.proofs.LineLemmas.{lines_are_produced}
 use Rattle.il_text.proofs.UniqueLemmas.{program_is_read}
-use Rattle.cmd_audit.specs.Names.{IsWord, NamesAreWords, declarations_of, declared_in, timer_in, timer_names, variable_in, variable_names}
+use Rattle.cmd_audit.specs.Names.{IsWord, NamesAreWords}
 
 -- ---- lists
 
@@ -497,10 +499,13 @@ declared-named Logic program = text-named (text_of program) program (is_utf8 pro
 declared-named Image program = tt
 
 pub names-are-words : NamesAreWords
-names-are-words image form program is =
+names-are-words bay form program l loads is =
     let declared = declared-named form program in
+    let named = (load-made bay form program l loads).named in
     record {
-      points = points-named image.points is.names;
-      variables = variables-named (declared_in form program) declared;
-      timers = timers-named (declared_in form program) declared;
+      points = points-named l.image.points is.names;
+      variables = subst (λ (n : NamesData). Each IsWord n.variables) (sym named)
+          (variables-named (declared_in form program) declared);
+      timers = subst (λ (n : NamesData). Each IsWord n.timers) (sym named)
+          (timers-named (declared_in form program) declared);
     }

@@ -23,7 +23,8 @@ use Rattle.bay_io.specs.Sent.{Finishes, Puts, SendsPart}
 use Rattle.bay_io.specs.Watched.{Writing}
 use Rattle.bay_io.proofs.SentLemmas.{Puts-as, Puts-nil, Puts-out, Puts-then}
 use Rattle.cmd_audit.specs.Auditing.{Answers}
-use Rattle.cmd_audit.specs.Names.{Known}
+use Rattle.bay_load.specs.Loads.{LoadData}
+use Rattle.cmd_audit.specs.Names.{Known, known_of}
 use Rattle.cmd_audit.specs.Text.{answer_text, answers_text, is_passed, release_text, states_text}
 use Rattle.cmd_audit.specs.Written.{PutsAnswers, PutsFirst, PutsMaybe, PutsRelease, PutsReleases, PutsSome, PutsText}
 use Rattle.il_image.specs.Images.{Image}
@@ -260,31 +261,31 @@ module _ {W : Type 0} {contents : W → Option (List ℕ)} {does : W → WriteCa
 
   -- ---- texts
 
-  module _ (bay : Bay) (names : Known) (image : Image) (rules : List Rule) where
+  module _ (loaded : LoadData) (rules : List Rule) where
     pub cut-answers : {old new : Writing W}
-        → PutsFirst contents does bay names (program_of bay image) rules old new
-        → PutsText contents does bay names image rules (codes "fault memory\n") 3 old new
+        → PutsFirst contents does loaded.bay (known_of loaded) (program_of loaded.bay loaded.image) rules old new
+        → PutsText contents does loaded rules (codes "fault memory\n") 3 old new
     cut-answers {old} {new} p =
         let many = map too_many p.others in
         record {
-          text = answers_text bay names (zip p.answered p.put.answers);
+          text = answers_text loaded.bay (known_of loaded) (zip p.answered p.put.answers);
           put = p.put.put;
           says = record {
             answers = p.put.answers ++ many;
-            right = subst (λ rs. AreRight (program_of bay image) rs (p.put.answers ++ many))
+            right = subst (λ rs. AreRight (program_of loaded.bay loaded.image) rs (p.put.answers ++ many))
                 (sym p.parts)
-                (right-append (program_of bay image) p.answered p.others p.put.answers many
+                (right-append (program_of loaded.bay loaded.image) p.answered p.others p.put.answers many
                 p.put.right
-                (many-right (program_of bay image) p.others));
+                (many-right (program_of loaded.bay loaded.image) p.others));
             releases = [];
             released = tt;
             said = inr (record {
               shown = zip p.answered p.put.answers;
               hidden = zip p.others many;
               parts = ap (λ rs. zip rs (p.put.answers ++ many)) p.parts
-                  ∙ zip-parts (program_of bay image) p.answered p.others p.put.answers many
+                  ∙ zip-parts (program_of loaded.bay loaded.image) p.answered p.others p.put.answers many
                   p.put.right;
-              later = ways (length bay.switches);
+              later = ways (length loaded.bay.switches);
               first = refl;
               order = inr refl;
               said = refl;
@@ -294,19 +295,19 @@ module _ {W : Type 0} {contents : W → Option (List ℕ)} {does : W → WriteCa
         }
 
     pub cut-none : (w : Writing W)
-        → PutsText contents does bay names image rules (codes "fault memory\n") 3 w w
-    cut-none w = cut-answers (first-of bay names (program_of bay image) rules [] rules true refl
-        (no-answers bay names (program_of bay image) w))
+        → PutsText contents does loaded rules (codes "fault memory\n") 3 w w
+    cut-none w = cut-answers (first-of loaded.bay (known_of loaded) (program_of loaded.bay loaded.image) rules [] rules true refl
+        (no-answers loaded.bay (known_of loaded) (program_of loaded.bay loaded.image) w))
 
     pub cut-releases : (passed : Bool) {old mid new : Writing W}
-        → PutsAnswers contents does bay names (program_of bay image) rules passed old mid
-        → PutsSome contents does bay names (program_of bay image) (ways (length bay.switches)) mid
+        → PutsAnswers contents does loaded.bay (known_of loaded) (program_of loaded.bay loaded.image) rules passed old mid
+        → PutsSome contents does loaded.bay (known_of loaded) (program_of loaded.bay loaded.image) (ways (length loaded.bay.switches)) mid
         new
-        → PutsText contents does bay names image rules (codes "fault memory\n") 3 old new
+        → PutsText contents does loaded rules (codes "fault memory\n") 3 old new
     cut-releases passed {old} {mid} {new} a s =
         let pairs = zip rules a.answers in
-        let said = answers_text bay names pairs in
-        let lines = flat_map (release_text bay names) s.releases in
+        let said = answers_text loaded.bay (known_of loaded) pairs in
+        let lines = flat_map (release_text loaded.bay (known_of loaded)) s.releases in
         record {
           text = said ++ lines;
           put = Puts-then a.put s.put.put;
@@ -330,16 +331,16 @@ module _ {W : Type 0} {contents : W → Option (List ℕ)} {does : W → WriteCa
 
     pub whole-text : (passed : Bool) (releases : List Release) (status : ℕ)
         {old mid last new : Writing W}
-        → PutsAnswers contents does bay names (program_of bay image) rules passed old mid
-        → PutsReleases contents does bay names (program_of bay image) (ways (length bay.switches))
+        → PutsAnswers contents does loaded.bay (known_of loaded) (program_of loaded.bay loaded.image) rules passed old mid
+        → PutsReleases contents does loaded.bay (known_of loaded) (program_of loaded.bay loaded.image) (ways (length loaded.bay.switches))
         releases mid last
-        → Puts contents does last (states_text bay names releases) new
+        → Puts contents does last (states_text loaded.bay (known_of loaded) releases) new
         → status ≡ cond passed 0 4
-        → PutsText contents does bay names image rules [] status old new
+        → PutsText contents does loaded rules [] status old new
     whole-text passed releases status {old} {mid} {last} {new} a r lost ends =
-        let said = answers_text bay names (zip rules a.answers) in
-        let lines = flat_map (release_text bay names) releases in
-        let lasts = states_text bay names releases in
+        let said = answers_text loaded.bay (known_of loaded) (zip rules a.answers) in
+        let lines = flat_map (release_text loaded.bay (known_of loaded)) releases in
+        let lasts = states_text loaded.bay (known_of loaded) releases in
         record {
           text = said ++ (lines ++ lasts);
           put = Puts-then a.put (Puts-then r.put lost);
@@ -358,51 +359,51 @@ module _ {W : Type 0} {contents : W → Option (List ℕ)} {does : W → WriteCa
 
     -- ---- the same, by the names and the program that were made
 
-    module _ (these : Known) (g : BoundProgram) (e : these ≡ names) (f : g ≡ program_of bay image)
+    module _ (these : Known) (g : BoundProgram) (e : these ≡ (known_of loaded)) (f : g ≡ program_of loaded.bay loaded.image)
       where
         pub stopped-answers : {old new : Writing W}
-            → PutsFirst contents does bay these g rules old new
-            → PutsText contents does bay names image rules (codes "fault memory\n") 3 old new
+            → PutsFirst contents does loaded.bay these g rules old new
+            → PutsText contents does loaded rules (codes "fault memory\n") 3 old new
         stopped-answers {old} {new} p =
-            cut-answers (subst (λ (n : Known). PutsFirst contents does bay n (program_of bay image)
+            cut-answers (subst (λ (n : Known). PutsFirst contents does loaded.bay n (program_of loaded.bay loaded.image)
             rules old new) e
-            (subst (λ (h : BoundProgram). PutsFirst contents does bay these h rules old new) f p))
+            (subst (λ (h : BoundProgram). PutsFirst contents does loaded.bay these h rules old new) f p))
 
         pub stopped-releases : (passed : Bool) {old mid new : Writing W}
-            → PutsAnswers contents does bay these g rules passed old mid
-            → PutsSome contents does bay these g (ways (length bay.switches)) mid new
-            → PutsText contents does bay names image rules (codes "fault memory\n") 3 old new
+            → PutsAnswers contents does loaded.bay these g rules passed old mid
+            → PutsSome contents does loaded.bay these g (ways (length loaded.bay.switches)) mid new
+            → PutsText contents does loaded rules (codes "fault memory\n") 3 old new
         stopped-releases passed {old} {mid} {new} a s =
             cut-releases passed
-            (subst (λ (n : Known). PutsAnswers contents does bay n (program_of bay image)
+            (subst (λ (n : Known). PutsAnswers contents does loaded.bay n (program_of loaded.bay loaded.image)
             rules passed old mid) e
-            (subst (λ (h : BoundProgram). PutsAnswers contents does bay these h rules passed old
+            (subst (λ (h : BoundProgram). PutsAnswers contents does loaded.bay these h rules passed old
             mid)
             f a))
-            (subst (λ (n : Known). PutsSome contents does bay n (program_of bay image)
-            (ways (length bay.switches)) mid new) e
-            (subst (λ (h : BoundProgram). PutsSome contents does bay these h
-            (ways (length bay.switches)) mid new) f s))
+            (subst (λ (n : Known). PutsSome contents does loaded.bay n (program_of loaded.bay loaded.image)
+            (ways (length loaded.bay.switches)) mid new) e
+            (subst (λ (h : BoundProgram). PutsSome contents does loaded.bay these h
+            (ways (length loaded.bay.switches)) mid new) f s))
 
         pub whole : (passed : Bool) (releases : List Release) (status : ℕ) (text : List ℕ)
             {old mid last new : Writing W}
-            → PutsAnswers contents does bay these g rules passed old mid
-            → PutsReleases contents does bay these g (ways (length bay.switches)) releases mid last
-            → text ≡ states_text bay these releases
+            → PutsAnswers contents does loaded.bay these g rules passed old mid
+            → PutsReleases contents does loaded.bay these g (ways (length loaded.bay.switches)) releases mid last
+            → text ≡ states_text loaded.bay these releases
             → Puts contents does last text new
             → status ≡ cond passed 0 4
-            → PutsText contents does bay names image rules [] status old new
+            → PutsText contents does loaded rules [] status old new
         whole passed releases status text {old} {mid} {last} {new} a r is put ends =
             whole-text passed releases status
-            (subst (λ (n : Known). PutsAnswers contents does bay n (program_of bay image)
+            (subst (λ (n : Known). PutsAnswers contents does loaded.bay n (program_of loaded.bay loaded.image)
             rules passed old mid) e
-            (subst (λ (h : BoundProgram). PutsAnswers contents does bay these h rules passed old
+            (subst (λ (h : BoundProgram). PutsAnswers contents does loaded.bay these h rules passed old
             mid)
             f a))
-            (subst (λ (n : Known). PutsReleases contents does bay n (program_of bay image)
-            (ways (length bay.switches)) releases mid last) e
-            (subst (λ (h : BoundProgram). PutsReleases contents does bay these h
-            (ways (length bay.switches)) releases mid last) f r))
-            (Puts-as (states_text bay names releases)
-            (is ∙ ap (λ (n : Known). states_text bay n releases) e) put)
+            (subst (λ (n : Known). PutsReleases contents does loaded.bay n (program_of loaded.bay loaded.image)
+            (ways (length loaded.bay.switches)) releases mid last) e
+            (subst (λ (h : BoundProgram). PutsReleases contents does loaded.bay these h
+            (ways (length loaded.bay.switches)) releases mid last) f r))
+            (Puts-as (states_text loaded.bay (known_of loaded) releases)
+            (is ∙ ap (λ (n : Known). states_text loaded.bay n releases) e) put)
             ends

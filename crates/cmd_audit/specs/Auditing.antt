@@ -6,26 +6,21 @@ use Rattle.bay_audit.specs.declared.answer.RuleAnswer.{RuleAnswer}
 use Rattle.bay_audit.specs.declared.answer.Release.{Release}
 use Rattle.bay_base.specs.declared.switch.Operation.{Operation}
 use Rattle.bay_config.specs.declared.bay.Bay.{Bay}
-use Rattle.bay_config.specs.declared.fault.BayFault.{BayFault}
-use Rattle.bay_device.specs.Device.{State}
-use Rattle.bay_device.specs.Load.{IsLoaded}
-use Rattle.bay_device.specs.Report.{IsReport}
-use Rattle.bay_device.specs.declared.fault.LoadFault.{LoadFault}
-use Rattle.bay_device.specs.declared.report.Report.{Report}
 use Rattle.bay_files.specs.Files.{FileReads, FilesData, ReadsBoth, ReadsFile, UnreadData}
 use Rattle.bay_io.specs.Calls.{WriteCall}
 use Rattle.bay_io.specs.Watched.{Writing}
 use Rattle.bay_io.specs.declared.outbox.WriteFault.{WriteFault}
-use Rattle.bay_report.specs.Load.{IsImageOf, MayLoadTo, file_of}
+use Rattle.bay_load.specs.Loads.{LoadData, LoadsTo, MayLoadTo}
+use Rattle.bay_load.specs.Report.{IsReport}
+use Rattle.bay_load.specs.declared.error.LoadError.{LoadError}
+use Rattle.bay_load.specs.declared.load.Form.{Form}
+use Rattle.bay_load.specs.declared.report.Report.{Report}
 use Rattle.bay_report.specs.LogLines.{IsReported, PrintsLogs, Refuses, UnreadReport}
 use Rattle.bay_report.specs.Report.{report_text}
-use Rattle.bay_report.specs.declared.load.Form.{Form}
 use Rattle.bay_audit_rules.specs.Meaning.{TextRead}
 use Rattle.bay_audit_rules.specs.declared.fault.RuleFault.{RuleFault}
 use Rattle.bay_audit_rules.specs.declared.rule.Rule.{Rule}
-use Rattle.il_image.specs.Images.{Image}
-use Rattle.il_text.specs.Listing.{Declared}
-use Rattle.cmd_audit.specs.Names.{Known, declared_in, known_of}
+use Rattle.cmd_audit.specs.Names.{Known, known_of}
 use Rattle.cmd_audit.specs.Text.{answers_text, is_passed, refusal_text, refused_log, release_text, releases_text}
 
 -- The text has the lines of all answers and releases: there is a release for each switch and
@@ -54,65 +49,61 @@ pub record IsCut (bay : Bay) (names : Known) (rules : List Rule) (answers : List
 -- There is an answer for each rule, in their order, and there are releases of switches. Each is
 -- right, and the text has their lines, with these names for what the program retains; or only the
 -- first of these lines, because memory ran out.
-pub record Answers (bay : Bay) (names : Known) (image : Image) (rules : List Rule) (text : List ℕ)
-    (status : ℕ) : Type 0 where
+pub record Answers (loaded : LoadData) (rules : List Rule) (text : List ℕ) (status : ℕ)
+    : Type 0 where
   pub answers : List RuleAnswer
-  pub right : AreRight (program_of bay image) rules answers
+  pub right : AreRight (program_of loaded.bay loaded.image) rules answers
   pub releases : List Release
-  pub released : AreReleases bay (program_of bay image) releases
-  pub said : IsWhole bay names rules answers releases text status
-      ⊎ IsCut bay names rules answers releases text status
+  pub released : AreReleases loaded.bay (program_of loaded.bay loaded.image) releases
+  pub said : IsWhole loaded.bay (known_of loaded) rules answers releases text status
+      ⊎ IsCut loaded.bay (known_of loaded) rules answers releases text status
 
 -- the log line, if rules are refused
 abbrev pub log_in : Option RuleFault → Option (List ℕ)
 log_in refused = option_and_then refused_log refused
 
 -- the text for rules; or for a text that has a fault, with the line that is logged then
-abbrev pub SaysOf : Bay → Known → Image → Result (List Rule) RuleFault → Option (List ℕ) → List ℕ
-    → ℕ → Type 0
-SaysOf bay names image (Ok rules) log text status =
-    (log ≡ None) × Answers bay names image rules text status
-SaysOf bay names image (Err fault) log text status =
+abbrev pub SaysOf : LoadData → Result (List Rule) RuleFault → Option (List ℕ) → List ℕ → ℕ
+    → Type 0
+SaysOf loaded (Ok rules) log text status = (log ≡ None) × Answers loaded rules text status
+SaysOf loaded (Err fault) log text status =
     IsReported (refused_log fault) (refusal_text fault) 1 log text status
 
--- the same for the bay that a file spells, and the names that a program declares
-pub record SaysFor (file : Result Bay BayFault) (declared : List Declared) (rules : List ℕ)
-    (image : Image) (log : Option (List ℕ)) (text : List ℕ) (status : ℕ) : Type 0 where
-  pub bay : Bay
-  pub read : file ≡ Ok bay
+-- the same for what was loaded and a text of rules
+pub record SaysFor (loaded : LoadData) (rules : List ℕ) (log : Option (List ℕ)) (text : List ℕ)
+    (status : ℕ) : Type 0 where
   pub meant : Result (List Rule) RuleFault
-  pub means : TextRead bay rules meant
-  pub says : SaysOf bay (known_of image.points declared) image meant log text status
+  pub means : TextRead loaded.bay rules meant
+  pub says : SaysOf loaded meant log text status
 
--- for a device: the line of its load, and the text for rules, unless memory runs out before they
--- are read
-pub record DeviceReport (file : Result Bay BayFault) (declared : List Declared) (rules : List ℕ)
-    (s : State) (log : Option (List ℕ)) (text : List ℕ) (status : ℕ) : Type 0 where
+-- the line of a load, and the text for rules, unless memory runs out before they are read
+pub record LoadedReport (loaded : LoadData) (rules : List ℕ) (log : Option (List ℕ))
+    (text : List ℕ) (status : ℕ) : Type 0 where
   pub report : Report
-  pub is : IsReport s.machine.image report
+  pub is : IsReport loaded.image report
   pub rest : List ℕ
   pub whole : text ≡ report_text report ++ rest
-  pub says : SaysFor file declared rules s.machine.image log rest status
+  pub says : SaysFor loaded rules log rest status
       ⊎ IsReported None (codes "fault memory\n") 3 log rest status
 
--- the load of the bay file and the program results in a device
-pub record LoadedReport (bay : List ℕ) (form : Form) (program rules : List ℕ)
+-- the bay file and the program are loaded
+pub record LoadReport (bay : List ℕ) (form : Form) (program rules : List ℕ)
     (log : Option (List ℕ)) (text : List ℕ) (status : ℕ) : Type 0 where
-  pub device : State
-  pub loaded : IsLoaded (file_of bay) (IsImageOf form program) device
-  pub tells : DeviceReport (file_of bay) (declared_in form program) rules device log text status
+  pub loaded : LoadData
+  pub loads : LoadsTo bay form program (Ok loaded)
+  pub tells : LoadedReport loaded rules log text status
 
 -- the load is refused
 pub record LoadRefused (bay : List ℕ) (form : Form) (program : List ℕ)
     (log : Option (List ℕ)) (text : List ℕ) (status : ℕ) : Type 0 where
-  pub fault : LoadFault
-  pub refused : MayLoadTo bay form program (Err fault)
-  pub tells : Refuses fault log text status
+  pub error : LoadError
+  pub refused : MayLoadTo bay form program (Err error)
+  pub tells : Refuses error log text status
 
 -- an audit of these octets
 abbrev pub AuditReport : List ℕ → Form → List ℕ → List ℕ → Option (List ℕ) → List ℕ → ℕ → Type 0
 AuditReport bay form program rules log text status =
-    LoadedReport bay form program rules log text status
+    LoadReport bay form program rules log text status
     ⊎ LoadRefused bay form program log text status
 
 -- the same, by the result of reading the rules; the text of a fault if they can't be read

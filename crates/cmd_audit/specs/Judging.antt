@@ -5,13 +5,11 @@ use Rattle.std.specs.List.{list_all}
 use Rattle.bay_audit.specs.Rules.{AreRight, program_of}
 use Rattle.bay_audit.specs.declared.answer.RuleAnswer.{RuleAnswer}
 use Rattle.bay_config.specs.declared.bay.Bay.{Bay}
-use Rattle.bay_config.specs.declared.fault.BayFault.{BayFault}
+use Rattle.bay_load.specs.Loads.{LoadData}
 use Rattle.bay_report.specs.LogLines.{IsReported}
 use Rattle.bay_audit_rules.specs.Meaning.{TextRead}
 use Rattle.bay_audit_rules.specs.declared.fault.RuleFault.{RuleFault}
 use Rattle.bay_audit_rules.specs.declared.rule.Rule.{Rule}
-use Rattle.il_image.specs.Images.{Image}
-use Rattle.il_text.specs.Listing.{Declared}
 use Rattle.cmd_audit.specs.Names.{Known, known_of}
 use Rattle.cmd_audit.specs.Text.{answer_text, is_passed, refusal_text, refused_log}
 use Rattle.cmd_audit.specs.declared.judging.RulesVerdict.{RulesVerdict}
@@ -37,31 +35,26 @@ IsJudged bay names rules answers (Refused fault) = ⊥
 IsJudged bay names rules answers OutOfMemory = ⊥
 
 -- There is an answer for each rule, each answer is right, and the verdict is that on these answers.
-pub record Judges (bay : Bay) (names : Known) (image : Image) (rules : List Rule)
-    (verdict : RulesVerdict) : Type 0 where
+pub record Judges (loaded : LoadData) (rules : List Rule) (verdict : RulesVerdict)
+    : Type 0 where
   pub answers : List RuleAnswer
-  pub right : AreRight (program_of bay image) rules answers
-  pub judged : IsJudged bay names rules answers verdict
+  pub right : AreRight (program_of loaded.bay loaded.image) rules answers
+  pub judged : IsJudged loaded.bay (known_of loaded) rules answers verdict
 
 -- the verdict on the rules of a text, or on a text that has a fault
-abbrev pub JudgesRead : Bay → Known → Image → Result (List Rule) RuleFault → RulesVerdict → Type 0
-JudgesRead bay names image (Ok rules) verdict = Judges bay names image rules verdict
-JudgesRead bay names image (Err fault) verdict = verdict ≡ Refused fault
+abbrev pub JudgesRead : LoadData → Result (List Rule) RuleFault → RulesVerdict → Type 0
+JudgesRead loaded (Ok rules) verdict = Judges loaded rules verdict
+JudgesRead loaded (Err fault) verdict = verdict ≡ Refused fault
 
--- the same for the bay that a file spells, and the names that a program declares
-pub record JudgesText (file : Result Bay BayFault) (declared : List Declared) (text : List ℕ)
-    (image : Image) (verdict : RulesVerdict) : Type 0 where
-  pub bay : Bay
-  pub read : file ≡ Ok bay
+-- the same for a text
+pub record JudgesText (loaded : LoadData) (text : List ℕ) (verdict : RulesVerdict) : Type 0 where
   pub meant : Result (List Rule) RuleFault
-  pub means : TextRead bay text meant
-  pub judges : JudgesRead bay (known_of image.points declared) image meant verdict
+  pub means : TextRead loaded.bay text meant
+  pub judges : JudgesRead loaded meant verdict
 
 -- the same, unless memory ran out
-abbrev pub IsVerdictOn : Result Bay BayFault → List Declared → List ℕ → Image → RulesVerdict
-    → Type 0
-IsVerdictOn file declared text image verdict =
-    (verdict ≡ OutOfMemory) ⊎ JudgesText file declared text image verdict
+abbrev pub IsVerdictOn : LoadData → List ℕ → RulesVerdict → Type 0
+IsVerdictOn loaded text verdict = (verdict ≡ OutOfMemory) ⊎ JudgesText loaded text verdict
 
 -- what is printed of a verdict, with which status, and what is logged
 abbrev pub VerdictReport : RulesVerdict → Option (List ℕ) → List ℕ → ℕ → Type 0

@@ -9,10 +9,10 @@ use Rattle.bay_config.specs.declared.bay.Bay.{Bay}
 use Rattle.bay_audit_rules.specs.declared.rule.Rule.{Rule}
 use Rattle.bay_audit.specs.Rules.{BoundProgram, IsRight, program_of}
 use Rattle.bay_audit.specs.declared.answer.RuleAnswer.{RuleAnswer}
-use Rattle.il_image.specs.Images.{Image}
+use Rattle.bay_load.specs.Loads.{LoadData}
 use Rattle.bay_replay_laws.specs.Printed.{lines_in, words_in}
 use Rattle.cmd_audit.specs.Auditing.{Answers}
-use Rattle.cmd_audit.specs.Names.{AreWords, HasWords, Known}
+use Rattle.cmd_audit.specs.Names.{AreWords, HasWords, known_of}
 use Rattle.cmd_audit.specs.Text.{id_of, is_passed}
 
 -- a line of a rule that holds: the digits of the line of the rule, the id of its switch, and its
@@ -59,8 +59,9 @@ pub record IsHold (bay : Bay) (g : BoundProgram) (pairs : List (Rule × RuleAnsw
 -- Each such line of the answers to rules is that of such a rule.
 abbrev pub HoldsAreRead : Type 0
 HoldsAreRead =
-    (bay : Bay) (names : Known) (image : Image) (rules : List Rule) (text : List ℕ) (status : ℕ)
-    → HasWords bay → AreWords names → (said : Answers bay names image rules text status)
+    (loaded : LoadData) (rules : List Rule) (text : List ℕ) (status : ℕ)
+    → HasWords loaded.bay → AreWords (known_of loaded)
+    → (said : Answers loaded rules text status)
     → (line : List ℕ) (hold : PrintedHold) → Contains (lines_in text) line
     → printed_hold line ≡ Some hold
-    → IsHold bay (program_of bay image) (zip rules said.answers) hold
+    → IsHold loaded.bay (program_of loaded.bay loaded.image) (zip rules said.answers) hold

@@ -1,5 +1,5 @@
 -- Inner: what was put into a writer so far.
-use Rattle.std.specs.Prelude.{◌≡◌, ℕ, Bool, List, [], ◌∷◌, ◌++◌, ◌⊎◌, codes, flat_map, length, map, zip, Option, None, Result}
+use Rattle.std.specs.Prelude.{◌≡◌, ℕ, Bool, List, [], ◌∷◌, ◌++◌, ◌⊎◌, codes, flat_map, length, map, zip, Option, None}
 use Rattle.std.specs.List.{list_all}
 use Rattle.bay_audit.specs.Rules.{AreReleases, AreRight, IsRelease, BoundProgram, way_of, ways}
 use Rattle.bay_audit.specs.declared.answer.Release.{Release}
@@ -7,18 +7,16 @@ use Rattle.bay_audit.specs.declared.answer.RuleAnswer.{RuleAnswer}
 use Rattle.bay_audit_rules.specs.declared.rule.Rule.{Rule}
 use Rattle.bay_base.specs.declared.switch.Operation.{Operation}
 use Rattle.bay_config.specs.declared.bay.Bay.{Bay}
-use Rattle.bay_config.specs.declared.fault.BayFault.{BayFault}
 use Rattle.bay_io.specs.Calls.{WriteCall}
 use Rattle.bay_io.specs.Sent.{Puts}
 use Rattle.bay_io.specs.Watched.{Writing}
+use Rattle.bay_load.specs.Loads.{LoadData}
 use Rattle.bay_report.specs.LogLines.{IsReported}
 use Rattle.bay_report.specs.Report.{code_of}
 use Rattle.bay_report.specs.declared.output.Status.{Status}
 use Rattle.cmd_audit.specs.Auditing.{Answers, SaysFor}
 use Rattle.cmd_audit.specs.Names.{Known}
 use Rattle.cmd_audit.specs.Text.{answers_text, is_passed, release_text}
-use Rattle.il_image.specs.Images.{Image}
-use Rattle.il_text.specs.Listing.{Declared}
 
 module _ {W : Type 0} (contents : W → Option (List ℕ)) (does : W → WriteCall → W → Type 0) where
   -- the lines of right answers to these rules, and whether each holds
@@ -69,31 +67,30 @@ module _ {W : Type 0} (contents : W → Option (List ℕ)) (does : W → WriteCa
     pub put : PutsReleases bay names g found releases old new
 
   -- the text of an audit, up to the line of a fault if it stopped
-  pub record PutsText (bay : Bay) (names : Known) (image : Image) (rules : List Rule)
-      (fault : List ℕ) (status : ℕ) (old new : Writing W) : Type 0 where
+  pub record PutsText (loaded : LoadData) (rules : List Rule) (fault : List ℕ) (status : ℕ)
+      (old new : Writing W) : Type 0 where
     pub text : List ℕ
     pub put : Puts contents does old text new
-    pub says : Answers bay names image rules (text ++ fault) status
+    pub says : Answers loaded rules (text ++ fault) status
 
   -- the text after the line of a load
-  pub record PutsSaid (file : Result Bay BayFault) (declared : List Declared) (rules : List ℕ)
-      (image : Image) (log : Option (List ℕ)) (status : ℕ) (old new : Writing W) : Type 0 where
+  pub record PutsSaid (loaded : LoadData) (rules : List ℕ) (log : Option (List ℕ)) (status : ℕ)
+      (old new : Writing W) : Type 0 where
     pub text : List ℕ
     pub put : Puts contents does old text new
-    pub says : SaysFor file declared rules image log text status
+    pub says : SaysFor loaded rules log text status
 
   -- the same without the line of a fault, before which it stopped; or nothing
-  pub record PutsStopped (file : Result Bay BayFault) (declared : List Declared) (rules : List ℕ)
-      (image : Image) (old new : Writing W) : Type 0 where
+  pub record PutsStopped (loaded : LoadData) (rules : List ℕ) (old new : Writing W)
+      : Type 0 where
     pub text : List ℕ
     pub put : Puts contents does old text new
-    pub says : SaysFor file declared rules image None (text ++ codes "fault memory\n") 3
-        ⊎ (text ≡ [])
+    pub says : SaysFor loaded rules None (text ++ codes "fault memory\n") 3 ⊎ (text ≡ [])
 
   -- the text after the line of a load, also if it stopped
-  pub record PutsRest (file : Result Bay BayFault) (declared : List Declared) (rules : List ℕ)
-      (image : Image) (log : Option (List ℕ)) (status : ℕ) (old new : Writing W) : Type 0 where
+  pub record PutsRest (loaded : LoadData) (rules : List ℕ) (log : Option (List ℕ)) (status : ℕ)
+      (old new : Writing W) : Type 0 where
     pub rest : List ℕ
     pub put : Puts contents does old rest new
-    pub says : SaysFor file declared rules image log rest status
+    pub says : SaysFor loaded rules log rest status
         ⊎ IsReported None (codes "fault memory\n") 3 log rest status

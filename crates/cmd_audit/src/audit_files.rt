@@ -1,20 +1,17 @@
 // Reads and loads files, and answers rules.
-ghost use Rattle.std.specs.Prelude.{◌≡◌, true, is_ok};
-ghost use Rattle.bay_report.specs.Load.{file_of};
 ghost use Rattle.bay_report.specs.LogLines.{LogsSome, PrintsLogs};
-ghost use Rattle.cmd_audit.specs.Names.{declared_in};
-ghost use Rattle.cmd_audit.specs.Auditing.{Audits, DeviceReport, log_in};
+ghost use Rattle.cmd_audit.specs.Auditing.{Audits, LoadedReport, log_in};
 
 use crate::loaded::write_rest;
 use crate::text::fault_words;
 use bay_audit::effort::EFFORT;
 use bay_audit_rules::fault::RuleFault;
-use bay_device::device::Device;
-use bay_files::files::{BothFiles, FileSystem, read_file, read_files};
+use bay_files::files::{FileSystem, read_file, read_files};
 use bay_io::calls::{LinePart, Sink};
 use bay_io::outbox::WriteFault;
 use bay_io::writer::WatchedWriter;
-use bay_report::load::{Form, load_program};
+use bay_load::load::{Form, load_files};
+use bay_load::loaded::Loaded;
 use bay_report::log::{report_load_refusal, report_unread};
 use bay_report::output::finish;
 use bay_report::report::put_report;
@@ -42,32 +39,19 @@ pub(crate) fn log_refused<W: Sink>(writer: &mut WatchedWriter<W>, refused: Optio
 }
 
 // Writes the line of a load and the text after it, then logs why rules are refused, if they are.
-fn write_device<W: Sink>(
+fn write_loaded<W: Sink>(
     alloc: Global,
     writer: &mut WatchedWriter<W>,
-    both: &BothFiles,
-    form: Form,
+    loaded: &Loaded,
     rules: &[u8],
     effort: u32,
-    device: &Device,
 ) -> Result<u8, WriteFault>
-    requires { is_ok (file_of both.now.bay.items) ≡ true }
-    ensures { PrintsLogs W.contents W.does
-        (DeviceReport (file_of both.now.bay.items) (declared_in form both.now.program.items)
-        rules.now device.now) writer.old writer.new result }
+    ensures { PrintsLogs W.contents W.does (LoadedReport loaded.now rules.now) writer.old writer.new
+        result }
 {
-    put_report(writer, device.report());
+    put_report(writer, loaded.report());
     let _ = writer.finish();
-    let end = write_rest(
-        alloc,
-        writer,
-        both.bay.as_slice(),
-        form,
-        both.program.as_slice(),
-        rules,
-        effort,
-        device.verified(),
-    );
+    let end = write_rest(alloc, writer, loaded, rules, effort);
     let status = finish(writer, end.status)?;
     log_refused(writer, end.refused);
     Ok(status)
@@ -99,18 +83,10 @@ pub fn audit_files<F: FileSystem, W: Sink>(
         Ok(rules) => rules,
         Err(unread) => return report_unread(writer, unread.name, unread.fault),
     };
-    let device = match load_program(alloc, both.bay.as_slice(), form, both.program.as_slice()) {
-        Ok(device) => device,
-        Err(fault) => return report_load_refusal(writer, fault),
+    let loaded = match load_files(alloc, both.bay.as_slice(), form, both.program.as_slice()) {
+        Ok(loaded) => loaded,
+        Err(error) => return report_load_refusal(writer, error),
     };
     let effort = effort.unwrap_or(EFFORT);
-    write_device(
-        alloc,
-        writer,
-        &both,
-        form,
-        rules.as_slice(),
-        effort,
-        &device,
-    )
+    write_loaded(alloc, writer, &loaded, rules.as_slice(), effort)
 }

@@ -1,15 +1,12 @@
 // Whether each rule of a text holds for a loaded program.
-ghost use Rattle.std.specs.Prelude.{◌≡◌, ◌≢◌, ◌++◌, true, is_ok, IfOk, OnOk, zip};
+ghost use Rattle.std.specs.Prelude.{◌≡◌, ◌≢◌, ◌++◌, IfOk, OnOk, zip};
 ghost use Rattle.bay_io.specs.Sent.{Puts};
-ghost use Rattle.bay_report.specs.Load.{file_of};
 ghost use Rattle.bay_report.specs.LogLines.{IsReported, PrintsLogs};
 ghost use Rattle.cmd_audit.specs.Judging.{IsVerdictOn, Judges, JudgesText, VerdictReport, unproved_line, unproved_text};
-ghost use Rattle.cmd_audit.specs.Names.{declared_in, known_of};
 ghost use Rattle.cmd_audit.specs.Text.{refusal_text, refused_log};
 
 use crate::audit_files::log_refused;
-use crate::loaded::reread_bay;
-use crate::state_names::{StateNames, names_of};
+use crate::state_names::StateNames;
 use crate::text::{are_passed, is_passed, put_answer};
 use bay_audit::answer::RuleAnswer;
 use bay_audit::audit::answer_rules;
@@ -18,15 +15,12 @@ use bay_audit_rules::fault::RuleFault;
 use bay_audit_rules::read::read_rules;
 use bay_audit_rules::rule::Rule;
 use bay_config::bay::Bay;
-use bay_device::device::Device;
-use bay_files::files::BothFiles;
 use bay_io::calls::Sink;
 use bay_io::outbox::WriteFault;
 use bay_io::writer::WatchedWriter;
-use bay_report::load::Form;
+use bay_load::loaded::Loaded;
 use bay_report::log::write_out_of_memory;
 use bay_report::output::{Status, finish, write_text};
-use il_verify::verify::Verified;
 use std::alloc::{AllocError, Global};
 
 /// The verdict on the rules of a text for a loaded program.
@@ -81,23 +75,15 @@ fn unproved_lines(
 }
 
 // Answers rules for a program, and returns the verdict on them.
-fn verdict_on(
-    alloc: Global,
-    bay: &Bay,
-    verified: &Verified,
-    form: Form,
-    program: &[u8],
-    rules: &[Rule],
-) -> Result<RulesVerdict, AllocError>
-    ensures { IfOk result (λ verdict. Judges bay.now
-        (known_of verified.now.points (declared_in form program.now)) verified.now rules.now
-        verdict) }
+fn verdict_on(alloc: Global, loaded: &Loaded, rules: &[Rule]) -> Result<RulesVerdict, AllocError>
+    ensures { IfOk result (λ verdict. Judges loaded.now rules.now verdict) }
 {
-    let answers = answer_rules(alloc, bay, verified, rules, EFFORT)?;
+    let bay = loaded.bay();
+    let answers = answer_rules(alloc, bay, loaded.verified(), rules, EFFORT)?;
     if are_passed(answers.as_slice()) {
         return Ok(RulesVerdict::Hold(rules.len()));
     }
-    let names = names_of(alloc, verified.image().points(), form, program)?;
+    let names = StateNames::of(loaded);
     let text = unproved_lines(alloc, bay, &names, rules, answers.as_slice())?;
     Ok(RulesVerdict::Unproved(text))
 }
@@ -119,46 +105,21 @@ fn refused_verdict(fault: RuleFault) -> Result<RulesVerdict, AllocError>
 }
 
 // Reads a text of rules, and returns the verdict on them.
-fn verdict_on_text(
-    alloc: Global,
-    both: &BothFiles,
-    form: Form,
-    rules: &[u8],
-    device: &Device,
-) -> Result<RulesVerdict, AllocError>
-    requires { is_ok (file_of both.now.bay.items) ≡ true }
-    ensures { IfOk result (λ verdict. JudgesText (file_of both.now.bay.items)
-        (declared_in form both.now.program.items) rules.now device.now.machine.image verdict) }
+fn verdict_on_text(alloc: Global, loaded: &Loaded, rules: &[u8]) -> Result<RulesVerdict, AllocError>
+    ensures { IfOk result (λ verdict. JudgesText loaded.now rules.now verdict) }
 {
-    let bay = reread_bay(alloc, both.bay.as_slice())?;
-    match read_rules(alloc, &bay, rules) {
-        Ok(rules) => verdict_on(
-            alloc,
-            &bay,
-            device.verified(),
-            form,
-            both.program.as_slice(),
-            rules.as_slice(),
-        ),
+    match read_rules(alloc, loaded.bay(), rules) {
+        Ok(rules) => verdict_on(alloc, loaded, rules.as_slice()),
         Err(fault) => refused_verdict(fault),
     }
 }
 
-/// Returns the verdict on the rules of a text for a device that was loaded from these files. The
-/// rules are answered for the program that the device runs. They hold if a timer establishes them,
-/// too.
-pub fn judge_rules(
-    alloc: Global,
-    both: &BothFiles,
-    form: Form,
-    rules: &[u8],
-    device: &Device,
-) -> RulesVerdict
-    requires { is_ok (file_of both.now.bay.items) ≡ true }
-    ensures { IsVerdictOn (file_of both.now.bay.items) (declared_in form both.now.program.items)
-        rules.now device.now.machine.image result }
+/// Returns the verdict on the rules of a text for the bay and the program that were loaded. They
+/// hold if a timer establishes them, too.
+pub fn judge_rules(alloc: Global, loaded: &Loaded, rules: &[u8]) -> RulesVerdict
+    ensures { IsVerdictOn loaded.now rules.now result }
 {
-    match verdict_on_text(alloc, both, form, rules, device) {
+    match verdict_on_text(alloc, loaded, rules) {
         Ok(verdict) => verdict,
         Err(AllocError) => RulesVerdict::OutOfMemory,
     }

@@ -1,9 +1,7 @@
 // The text after the line of a load: the answers to rules and the releases, or why the rules are
 // refused.
-ghost use Rattle.std.specs.Prelude.{◌≡◌, Ok, true, is_ok, IfOk, MatchResult};
-ghost use Rattle.bay_report.specs.Load.{file_of};
+ghost use Rattle.std.specs.Prelude.{◌≡◌, IfOk, MatchResult};
 ghost use Rattle.bay_report.specs.Report.{code_of};
-ghost use Rattle.cmd_audit.specs.Names.{declared_in};
 ghost use Rattle.cmd_audit.specs.Auditing.{log_in};
 ghost use Rattle.cmd_audit.specs.Text.{refusal_text};
 ghost use Rattle.cmd_audit.specs.Written.{PutsRest, PutsSaid, PutsStopped};
@@ -13,14 +11,10 @@ use crate::text::put_refused;
 use crate::written::write_audit;
 use bay_audit_rules::fault::RuleFault;
 use bay_audit_rules::read::read_rules;
-use bay_config::bay::Bay;
-use bay_config::fault::BayFault;
-use bay_config::read::read_bay;
 use bay_io::calls::Sink;
 use bay_io::writer::WatchedWriter;
-use bay_report::load::Form;
+use bay_load::loaded::Loaded;
 use bay_report::output::{NO_MEMORY, Status};
-use il_verify::verify::Verified;
 use std::alloc::{AllocError, Global};
 
 /// How an audit ends: the exit status, and why rules are refused, if they are.
@@ -41,57 +35,25 @@ fn refusal_line(alloc: Global, fault: RuleFault) -> Result<Vec<u8>, AllocError>
     Ok(text)
 }
 
-/// Reads once more the bay of a file that was loaded. Fails only if an allocation fails.
-pub(crate) fn reread_bay(alloc: Global, octets: &[u8]) -> Result<Bay, AllocError>
-    requires { is_ok (file_of octets.now) ≡ true }
-    ensures { IfOk result (λ bay. file_of octets.now ≡ Ok bay) }
-{
-    let Ok(text) = std::str::from_utf8(octets) else {
-        unreachable!()
-    };
-    match read_bay(alloc, text) {
-        Ok(bay) => Ok(bay),
-        Err(BayFault::OutOfMemory) => Err(AllocError),
-        Err(_) => unreachable!(),
-    }
-}
-
 // Writes the text after the line of a load. Stops if an allocation or a write fails.
 fn write_loaded<W: Sink>(
     alloc: Global,
     writer: &mut WatchedWriter<W>,
-    bay: &[u8],
-    form: Form,
-    program: &[u8],
+    loaded: &Loaded,
     rules: &[u8],
     effort: u32,
-    verified: &Verified,
 ) -> Result<AuditEnd, Stopped>
-    requires { is_ok (file_of bay.now) ≡ true }
     ensures { MatchResult result
-        (λ end. PutsSaid W.contents W.does (file_of bay.now)
-        (declared_in form program.now) rules.now verified.now
-        (log_in end.refused) (code_of end.status) writer.old writer.new)
-        (λ _. PutsStopped W.contents W.does (file_of bay.now)
-        (declared_in form program.now) rules.now verified.now writer.old
-        writer.new) }
+        (λ end. PutsSaid W.contents W.does loaded.now rules.now (log_in end.refused)
+        (code_of end.status) writer.old writer.new)
+        (λ _. PutsStopped W.contents W.does loaded.now rules.now writer.old writer.new) }
 {
     if writer.has_failed() {
         return Err(Stopped);
     }
-    let bay = reread_bay(alloc, bay)?;
-    match read_rules(alloc, &bay, rules) {
+    match read_rules(alloc, loaded.bay(), rules) {
         Ok(rules) => {
-            let status = write_audit(
-                alloc,
-                writer,
-                &bay,
-                verified,
-                form,
-                program,
-                rules.as_slice(),
-                effort,
-            )?;
+            let status = write_audit(alloc, writer, loaded, rules.as_slice(), effort)?;
             Ok(AuditEnd {
                 status,
                 refused: None,
@@ -114,19 +76,14 @@ fn write_loaded<W: Sink>(
 pub(crate) fn write_rest<W: Sink>(
     alloc: Global,
     writer: &mut WatchedWriter<W>,
-    bay: &[u8],
-    form: Form,
-    program: &[u8],
+    loaded: &Loaded,
     rules: &[u8],
     effort: u32,
-    verified: &Verified,
 ) -> AuditEnd
-    requires { is_ok (file_of bay.now) ≡ true }
-    ensures { PutsRest W.contents W.does (file_of bay.now)
-        (declared_in form program.now) rules.now verified.now
-        (log_in result.refused) (code_of result.status) writer.old writer.new }
+    ensures { PutsRest W.contents W.does loaded.now rules.now (log_in result.refused)
+        (code_of result.status) writer.old writer.new }
 {
-    match write_loaded(alloc, writer, bay, form, program, rules, effort, verified) {
+    match write_loaded(alloc, writer, loaded, rules, effort) {
         Ok(end) => end,
         Err(Stopped) => {
             writer.put(NO_MEMORY);

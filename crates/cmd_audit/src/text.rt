@@ -11,6 +11,7 @@ use bay_audit_rules::fault::RuleFault;
 use bay_audit_rules::rule::Rule;
 use bay_base::position::Dbpos;
 use bay_base::switch::Operation;
+use bay_base::text::Text;
 use bay_config::bay::{Bay, MeterField, Point, Source, SwitchPoint};
 use itoa::Buffer;
 use std::alloc::AllocError;
@@ -185,16 +186,16 @@ pub fn put_case(text: &mut Vec<u8>, bay: &Bay, case: &Case) -> Result<(), AllocE
 // Adds the name at an index, or, if there is none, a word and the index.
 fn put_named(
     text: &mut Vec<u8>,
-    names: &[&str],
+    names: &[Text],
     index: usize,
     word: &[u8],
 ) -> Result<(), AllocError>
     ensures { OnOk result (text.new.items ≡ text.old.items
-        ++ spec.named_text word.now index (slice_get (map (λ n. n.now) names.now) index)) }
+        ++ spec.named_text word.now index (slice_get names.now index)) }
 {
     text.extend_from_slice(b" ")?;
     match names.get(index) {
-        Some(name) => text.extend_from_slice(name.as_bytes()),
+        Some(name) => text.extend_from_slice(name.as_str().as_bytes()),
         None => {
             text.extend_from_slice(word)?;
             put_number(text, index as u64)
@@ -213,7 +214,7 @@ fn put_slot(text: &mut Vec<u8>, names: &StateNames<'_>, slot: usize) -> Result<(
     }
     put_named(
         text,
-        names.variables.as_slice(),
+        names.declared.variables(),
         slot - names.points.len(),
         b"variable",
     )
@@ -224,7 +225,7 @@ fn put_timer(text: &mut Vec<u8>, names: &StateNames<'_>, timer: usize) -> Result
     ensures { OnOk result
         (text.new.items ≡ text.old.items ++ spec.timer_text names.now timer) }
 {
-    put_named(text, names.timers.as_slice(), timer, b"timer")
+    put_named(text, names.declared.timers(), timer, b"timer")
 }
 
 // Adds what an answer depends on, if anything is known: a word, and the names of points, variables

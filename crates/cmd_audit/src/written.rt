@@ -3,10 +3,9 @@ ghost use Rattle.std.specs.Prelude.{◌≡◌, ◌&&◌, [], codes, length, if�
 ghost use Rattle.bay_audit.specs.Rules.{ways};
 ghost use Rattle.bay_io.specs.Sent.{Puts};
 ghost use Rattle.bay_report.specs.Report.{code_of};
-ghost use Rattle.cmd_audit.specs.Names.{declared_in, known_of};
 ghost use Rattle.cmd_audit.specs.Written.{PutsAnswers, PutsFirst, PutsMaybe, PutsRelease, PutsReleases, PutsSome, PutsText};
 
-use crate::state_names::{StateNames, names_of};
+use crate::state_names::StateNames;
 use crate::stopped::Stopped;
 use crate::text::{is_passed, put_answer, put_release_of, put_states};
 use bay_audit::answer::Release;
@@ -19,9 +18,8 @@ use bay_base::switch::Operation;
 use bay_config::bay::Bay;
 use bay_io::calls::Sink;
 use bay_io::writer::WatchedWriter;
-use bay_report::load::Form;
+use bay_load::loaded::Loaded;
 use bay_report::output::Status;
-use il_verify::verify::Verified;
 use std::alloc::Global;
 
 // Writes a text and flushes it.
@@ -136,25 +134,21 @@ fn status_of(passed: bool) -> Status
 pub(crate) fn write_audit<W: Sink>(
     alloc: Global,
     writer: &mut WatchedWriter<W>,
-    bay: &Bay,
-    verified: &Verified,
-    form: Form,
-    octets: &[u8],
+    loaded: &Loaded,
     rules: &[Rule],
     effort: u32,
 ) -> Result<Status, Stopped>
     ensures { MatchResult result
-        (λ status. PutsText W.contents W.does bay.now
-        (known_of verified.now.points (declared_in form octets.now)) verified.now rules.now []
-        (code_of status) writer.old writer.new)
-        (λ _. PutsText W.contents W.does bay.now
-        (known_of verified.now.points (declared_in form octets.now)) verified.now rules.now
-        (codes "fault memory\n") 3 writer.old writer.new) }
+        (λ status. PutsText W.contents W.does loaded.now rules.now [] (code_of status) writer.old
+        writer.new)
+        (λ _. PutsText W.contents W.does loaded.now rules.now (codes "fault memory\n") 3 writer.old
+        writer.new) }
 {
-    let names = names_of(alloc, verified.image().points(), form, octets)?;
-    let program = AuditedProgram::new(alloc, bay, verified)?;
+    let bay = loaded.bay();
+    let names = StateNames::of(loaded);
+    let program = AuditedProgram::new(alloc, bay, loaded.verified())?;
     let count = answer_count(bay, rules);
-    let mut budget = PassBudget::new(verified.image(), effort, count);
+    let mut budget = PassBudget::new(loaded.verified().image(), effort, count);
     let passed = write_answers(alloc, writer, bay, &names, &program, rules, &mut budget)?;
     let releases = write_releases(alloc, writer, bay, &names, &program, &mut budget)?;
     let mut text = Vec::new(alloc);

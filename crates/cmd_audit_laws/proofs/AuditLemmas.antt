@@ -5,17 +5,17 @@ use Rattle.bay_audit.specs.Rules.{AreRight, BoundProgram, IsAnswer, IsByTimer, I
 use Rattle.bay_audit.specs.declared.answer.RuleAnswer.{RuleAnswer}
 use Rattle.bay_audit.specs.declared.answer.RuleAnswer.TheVariants.{Broken, Holds, Open, Since, TooMany}
 use Rattle.cmd_audit.specs.Auditing.{AuditReport, SaysFor, SaysOf}
-use Rattle.cmd_audit.specs.Names.{Known, declared_in, known_of}
 use Rattle.bay_config.specs.Laws.{IsBay}
 use Rattle.bay_config.specs.declared.bay.Bay.{Bay}
 use Rattle.bay_config.specs.declared.fault.BayFault.{BayFault}
 use Rattle.bay_device.specs.Device.{State}
-use Rattle.bay_device.specs.Load.{IsCompiled, IsLoaded, Loads, LoadsImage, LoadsRead, initial_device}
+use Rattle.bay_device.specs.Load.{IsLoaded, LoadsDevice, initial_device}
 use Rattle.bay_device.specs.Meaning.{Runs}
-use Rattle.cmd_replay.proofs.LoadedLemmas.{file-sound, loaded-from, loaded-runs}
-use Rattle.bay_report.specs.Load.{IsImageOf, LoadsTo, file_of, text_of}
-use Rattle.bay_report.specs.declared.load.Form.{Form}
-use Rattle.bay_report.specs.declared.load.Form.TheVariants as form
+use Rattle.bay_device.proofs.LoadedLemmas.{device-loaded, file-sound, loaded-runs}
+use Rattle.bay_load.specs.Loads.{IsCompiled, IsImageOf, LoadData, LoadsTo, file_of, text_of}
+use Rattle.bay_load.specs.declared.load.Form.{Form}
+use Rattle.bay_load.specs.declared.load.Form.TheVariants as form
+use Rattle.bay_load.proofs.LoadLemmas.{load-made}
 use Rattle.bay_audit_rules.specs.Meaning.{TextRead}
 use Rattle.bay_audit_rules.specs.declared.fault.RuleFault.{RuleFault}
 use Rattle.bay_audit_rules.specs.declared.rule.Rule.{Rule}
@@ -27,8 +27,8 @@ use Rattle.il_compile.specs.Compiled.{compiled_of}
 use Rattle.il_image.specs.Decoding.{image_spelled}
 use Rattle.il_image.specs.Images.{Image}
 use Rattle.il_image.specs.Octets.{AreOctets}
-use Rattle.il_image.specs.declared.fault.ImageFault.{ImageFault}
-use Rattle.il_text.specs.Listing.{Declared, PlainProgram}
+use Rattle.il_verify.specs.Verdicts.{IsVerified}
+use Rattle.il_text.specs.Listing.{PlainProgram}
 use Rattle.il_text.specs.declared.fault.TextFault.{TextFault}
 use Rattle.cmd_audit_laws.specs.Audited.{AuditSays, ByTimer, IsAudited, Plainly, SaysBehind, SaysOfRule}
 use Rattle.cmd_audit_laws.specs.Served.{IsFile}
@@ -115,52 +115,42 @@ pub same-bay : (file : Result Bay BayFault) (a b : Bay) → file ≡ Ok a → fi
 same-bay file a b e f = let both : Ok a ≡ Ok b = sym e ∙ f in cc
 
 module _ (So : RuleAnswer → Type 0) (bay : List ℕ) (f : Form) (program : List ℕ) (rule : Rule) where
-  of-rules : (own : Bay) (names : Known) (image : Image) → file_of bay ≡ Ok own
-      → IsImageOf f program own image
-      → (rules : List ℕ) (meant : Result (List Rule) RuleFault) → TextRead own rules meant
+  of-rules : (l : LoadData) → LoadsTo bay f program (Ok l)
+      → (rules : List ℕ) (meant : Result (List Rule) RuleFault) → TextRead l.bay rules meant
       → (log : Option (List ℕ)) (text : List ℕ) (status : ℕ)
-      (says : SaysOf own names image meant log text status)
-      → SaysOfRule So own names image meant log text status says rule
+      (says : SaysOf l meant log text status)
+      → SaysOfRule So l meant log text status says rule
       → OfOctets So bay f program rule
-  of-rules own names image read made rules (Ok rs) means log text status says h = record {
-    own = own;
-    read = read;
-    image = image;
-    made = made;
-    there = rule-there own rules rs means h.place rule h.here;
-    answer = h.answer;
-    so = h.so;
-    right = right-at (program_of own image) rs says.1.answers h.place rule h.answer says.1.right
-        h.here h.told;
-  }
-  of-rules own names image read made rules (Err fault) means log text status says h = absurd h
+  of-rules l loads rules (Ok rs) means log text status says h =
+      let made = load-made bay f program l loads in
+      record {
+        own = l.bay;
+        read = made.read;
+        image = l.image;
+        made = made.made;
+        there = rule-there l.bay rules rs means h.place rule h.here;
+        answer = h.answer;
+        so = h.so;
+        right = right-at (program_of l.bay l.image) rs says.1.answers h.place rule h.answer
+            says.1.right h.here h.told;
+      }
+  of-rules l loads rules (Err fault) means log text status says h = absurd h
 
-  of-device : (device : State) (loaded : IsLoaded (file_of bay) (IsImageOf f program) device)
-      (Memory : Type 0) (declared : List Declared) (rules : List ℕ) (log : Option (List ℕ))
-      (text : List ℕ) (status : ℕ)
-      (says : SaysFor (file_of bay) declared rules device.machine.image log text status ⊎ Memory)
-      → SaysBehind So Memory (file_of bay) declared rules device.machine.image log text status says
-      rule → OfOctets So bay f program rule
-  of-device device loaded Memory declared rules log text status (inr memory) h = absurd h
-  of-device device loaded Memory declared rules log text status (inl says) h =
-      let own : loaded.bay ≡ says.bay =
-      same-bay (file_of bay) loaded.bay says.bay loaded.read says.read in
-      let run : loaded.image ≡ device.machine.image =
-      sym (ap (λ (s : State). s.machine.image) loaded.is) in
-      of-rules says.bay (known_of device.machine.image.points declared) device.machine.image
-      says.read
-      (subst (IsImageOf f program says.bay) run
-      (subst (λ (b : Bay). IsImageOf f program b loaded.image) own loaded.made)) rules says.meant
-      says.means log text status says.says h
+  of-load : (l : LoadData) → LoadsTo bay f program (Ok l)
+      → (Memory : Type 0) (rules : List ℕ) (log : Option (List ℕ)) (text : List ℕ) (status : ℕ)
+      (says : SaysFor l rules log text status ⊎ Memory)
+      → SaysBehind So Memory l rules log text status says rule → OfOctets So bay f program rule
+  of-load l loads Memory rules log text status (inr memory) h = absurd h
+  of-load l loads Memory rules log text status (inl says) h =
+      of-rules l loads rules says.meant says.means log text status says.says h
 
   of-audit : (rules : List ℕ) (log : Option (List ℕ)) (text : List ℕ) (status : ℕ)
       (audit : AuditReport bay f program rules log text status)
       → AuditSays So bay f program rules log text status audit rule
       → OfOctets So bay f program rule
   of-audit rules log text status (inr refused) h = absurd h
-  of-audit rules log text status (inl loaded) h =
-      of-device loaded.device loaded.loaded _ (declared_in f program) rules log loaded.tells.rest
-      status loaded.tells.says h
+  of-audit rules log text status (inl load) h =
+      of-load load.loaded load.loads _ rules log load.tells.rest status load.tells.says h
 
   -- What is answered of a rule is right.
   pub audited : (rules : List ℕ) → IsAudited So bay f program rules rule
@@ -206,29 +196,30 @@ text-begins bay program device loaded runs own image read made =
     }
 
 image-begins : (bay program : List ℕ) (device : State)
-    → LoadsTo bay form.Image program (Ok device) → (own : Bay) (image : Image)
+    → LoadsDevice bay form.Image program device → (own : Bay) (image : Image)
     → file_of bay ≡ Ok own → image_spelled program ≡ Ok image → AreOctets program
     → Begins own image device
-image-begins bay program device loads own image read made octets =
-    let on-bay : Loads (Ok own) (image_spelled program) (Ok device) =
-    subst (λ (file : Result Bay BayFault). Loads file (image_spelled program) (Ok device)) read
-    loads in
-    let verified : LoadsImage own image (Ok device) =
-    subst (λ (i : Result Image ImageFault). LoadsRead own i (Ok device)) made on-bay in
+image-begins bay program device is own image read made octets =
+    let l = is.0 in
+    let load = load-made bay form.Image program l is.1 in
+    let same : l.bay ≡ own = same-bay (file_of bay) l.bay own load.read read in
+    let images : Ok l.image ≡ Ok image = sym load.made ∙ made in
+    let run : l.image ≡ image = cc in
+    let verified : IsVerified own.points image =
+    subst (IsVerified own.points) run
+    (subst (λ (b : Bay). IsVerified b.points l.image) same load.verified) in
     record {
       sound = file-sound bay own read;
-      is = verified.1;
-      steady =
-          inr (image-sound program own image (file-sound bay own read) octets made verified.0);
+      is = is.2 ∙ ap (λ (b : Bay). initial_device b l.image) same ∙ ap (initial_device own) run;
+      steady = inr (image-sound program own image (file-sound bay own read) octets made verified);
     }
 
 -- so it is of octets of either form
 pub begins : (bay : List ℕ) (f : Form) (program : List ℕ) (device : State)
-    → LoadsTo bay f program (Ok device) → IsFile f program → (own : Bay) (image : Image)
+    → LoadsDevice bay f program device → IsFile f program → (own : Bay) (image : Image)
     → file_of bay ≡ Ok own → IsImageOf f program own image → Begins own image device
 begins bay form.Logic program device loads file own image read made =
-    let loaded : IsLoaded (file_of bay) (IsCompiled (text_of program)) device =
-    loaded-from bay program device loads in
+    let loaded = device-loaded bay form.Logic program device loads in
     text-begins bay program device loaded (loaded-runs bay program device loaded) own image read
     made
 begins bay form.Image program device loads file own image read made =

@@ -15,14 +15,15 @@ use Rattle.bay_audit_rules.specs.declared.rule.Timing.{Timing}
 use Rattle.bay_config.specs.declared.bay.Bay.{Bay}
 use Rattle.bay_device.specs.Device.{State}
 use Rattle.bay_device.specs.Fresh.{Past}
-use Rattle.bay_device.specs.Load.{IsLoaded}
+use Rattle.bay_device.specs.Load.{LoadsDevice, device_of}
 use Rattle.bay_files.specs.Files.{FileGuards, FileReads, FilesData}
 use Rattle.bay_io.specs.Calls.{WriteCall}
 use Rattle.bay_io.specs.Watched.{Writing}
 use Rattle.bay_io.specs.declared.outbox.WriteFault.{WriteFault}
 use Rattle.bay_mms_services.specs.declared.answer.Command.{Command}
-use Rattle.bay_report.specs.Load.{IsImageOf, LoadsTo, file_of}
-use Rattle.bay_report.specs.declared.load.Form.{Form}
+use Rattle.bay_load.specs.Loads.{IsImageOf, LoadData, LoadsTo, file_of}
+use Rattle.bay_load.proofs.LoadLemmas.{load-made}
+use Rattle.bay_load.specs.declared.load.Form.{Form}
 use Rattle.bay_server_turn.specs.Calls.{Call}
 use Rattle.bay_server_turn.specs.Turns.{ServerData}
 use Rattle.bay_server_turn_laws.specs.Events.{turn_events}
@@ -35,7 +36,7 @@ use Rattle.cmd_audit.specs.declared.judging.RulesVerdict.TheVariants as judged
 use Rattle.cmd_serve.specs.Orders.{IsOrdered}
 use Rattle.cmd_serve.specs.Serve.{EndsUnserved, FileNames, LoadsFiles, ReadsRules, ServesLoaded, ServesRules, ServesVerdict, data_of, made_of, rules_of}
 use Rattle.cmd_serve.specs.Service.{AreTurns, DoneTurn, held_behind, past_behind}
-use Rattle.cmd_serve.specs.declared.serve.Loaded.{Loaded}
+use Rattle.cmd_serve.specs.declared.serve.LoadedFiles.{LoadedFiles}
 use Rattle.cmd_serve.specs.declared.serve.Numbers.{Numbers}
 use Rattle.cmd_serve.specs.declared.serve.ServeStartFault.{ServeStartFault}
 use Rattle.il_text.specs.Listing.{Declared}
@@ -97,7 +98,7 @@ waits-so rule timing never first h scans past (t ∷ ts) obeys = (
 -- ---- a device that these octets load to
 
 module _ (f : Form) (both : FilesData) (device : State)
-    (loads : LoadsTo both.bay f both.program (Ok device)) (ts : List DoneTurn)
+    (loads : LoadsDevice both.bay f both.program device) (ts : List DoneTurn)
     (are : AreTurns (made_of device) ts) (given : AreGiven ts) (file : IsFile f both.program)
     (rule : Rule) where
   plainly-obeys : OfOctets Plainly both.bay f both.program rule
@@ -149,45 +150,36 @@ module _ (f : Form) (both : FilesData) (device : State)
   passed-obeys own image read made there TooMany passed right = absurd cc
 
 -- rules whose verdict is that each holds
-module _ (f : Form) (both : FilesData) (device : State)
-    (loaded : IsLoaded (file_of both.bay) (IsImageOf f both.program) device)
-    (loads : LoadsTo both.bay f both.program (Ok device)) (declared : List Declared)
-    (text : List ℕ) (count : ℕ) where
+module _ (f : Form) (both : FilesData) (l : LoadData)
+    (loads : LoadsTo both.bay f both.program (Ok l)) (text : List ℕ) (count : ℕ) where
   read-obeys : (file : IsFile f both.program) (ts : List DoneTurn)
-      → AreTurns (made_of device) ts → AreGiven ts
-      → (own : Bay) → file_of both.bay ≡ Ok own → (meant : Result (List Rule) RuleFault)
-      → TextRead own text meant
-      → JudgesRead own (known_of device.machine.image.points declared) device.machine.image meant
-      (judged.Hold count)
-      → ObeyRules both.bay text (made_of device) ts
-  read-obeys file ts are given own read (Ok rules) means judges =
-      let same : loaded.bay ≡ own =
-      same-bay (file_of both.bay) loaded.bay own loaded.read read in
-      let run : loaded.image ≡ device.machine.image =
-      sym (ap (λ (s : State). s.machine.image) loaded.is) in
-      let made : IsImageOf f both.program own device.machine.image =
-      subst (IsImageOf f both.program own) run
-      (subst (λ (b : Bay). IsImageOf f both.program b loaded.image) same loaded.made) in
+      → AreTurns (made_of (device_of l)) ts → AreGiven ts
+      → (meant : Result (List Rule) RuleFault) → TextRead l.bay text meant
+      → JudgesRead l meant (judged.Hold count)
+      → ObeyRules both.bay text (made_of (device_of l)) ts
+  read-obeys file ts are given (Ok rules) means judges =
+      let made = load-made both.bay f both.program l loads in
       record {
-        own = own;
-        read = read;
+        own = l.bay;
+        read = made.read;
         rules = rules;
         means = means;
         obeyed = λ place rule here.
-            let p = passed-at (program_of own device.machine.image) rules judges.answers
-            judges.right judges.judged.0 place rule here in
-            passed-obeys f both device loads ts are given file rule own device.machine.image read
-            made (rule-there own text rules means place rule here) p.answer p.passed p.right;
+            let p = passed-at (program_of l.bay l.image) rules judges.answers judges.right
+            judges.judged.0 place rule here in
+            passed-obeys f both (device_of l) (l, loads, refl) ts are given file rule l.bay l.image
+            made.read made.made (rule-there l.bay text rules means place rule here) p.answer
+            p.passed p.right;
       }
-  read-obeys file ts are given own read (Err fault) means judges = absurd cc
+  read-obeys file ts are given (Err fault) means judges = absurd cc
 
   holds-obeys : (file : IsFile f both.program) (ts : List DoneTurn)
-      → AreTurns (made_of device) ts → AreGiven ts
-      → IsVerdictOn (file_of both.bay) declared text device.machine.image (judged.Hold count)
-      → ObeyRules both.bay text (made_of device) ts
+      → AreTurns (made_of (device_of l)) ts → AreGiven ts
+      → IsVerdictOn l text (judged.Hold count)
+      → ObeyRules both.bay text (made_of (device_of l)) ts
   holds-obeys file ts are given (inl memory) = absurd cc
   holds-obeys file ts are given (inr judges) =
-      read-obeys file ts are given judges.bay judges.read judges.meant judges.means judges.judges
+      read-obeys file ts are given judges.meant judges.means judges.judges
 
 -- ---- the turns of a service
 
@@ -195,34 +187,29 @@ module _ {F L H W : Type 0} (step : L → Call → L → Type 0) (acts : H → H
     (contents : W → Option (List ℕ)) (asks : W → WriteCall → W → Type 0) (reads : FileReads F)
     (guards : FileGuards F) where
   -- files that were loaded, with the octets of their rules
-  module _ (files : F) (name : List ℕ) (form : Form) (loaded : Loaded)
-      (is_loaded : IsLoaded (file_of loaded.both.bay.items)
-      (IsImageOf form loaded.both.program.items) loaded.device)
-      (loads : LoadsTo loaded.both.bay.items form loaded.both.program.items (Ok loaded.device))
+  module _ (files : F) (name : List ℕ) (form : Form) (loaded : LoadedFiles)
+      (loads : LoadsTo loaded.both.bay.items form loaded.both.program.items (Ok loaded.load))
       (numbers : Numbers) where
     verdict-obeys : (text : List ℕ) → ReadsRules reads files (Some name) (Ok (Some text))
-        → (declared : List Declared) (verdict : RulesVerdict)
-        → IsVerdictOn (file_of loaded.both.bay.items) declared text loaded.device.machine.image
-        verdict
+        → (verdict : RulesVerdict) → IsVerdictOn loaded.load text verdict
         → (before after : H) (old new : Writing W) (answer : Result ℕ WriteFault)
         (serves : ServesVerdict step acts contents asks numbers loaded verdict before after old new
         answer)
         → OfVerdict step acts contents asks (ObeyFile reads files name form (data_of loaded))
         numbers loaded verdict before after old new answer serves
-    verdict-obeys text read declared (judged.Hold count) is before after old new answer serves =
+    verdict-obeys text read (judged.Hold count) is before after old new answer serves =
         later-is step acts contents asks _ _ serves.told serves.goes_on _
         (ports-is step acts contents asks (ObeyFile reads files name form (data_of loaded)) loaded
         (λ ts are given file. (
           text,
           read,
-          holds-obeys form (data_of loaded) loaded.device is_loaded loads declared text count file
-              ts are given is,
+          holds-obeys form (data_of loaded) loaded.load loads text count file ts are given is,
         )) numbers count before after serves.middle new answer)
-    verdict-obeys text read declared (judged.Unproved lines) is before after old new answer serves =
+    verdict-obeys text read (judged.Unproved lines) is before after old new answer serves =
         tt
-    verdict-obeys text read declared (judged.Refused fault) is before after old new answer serves =
+    verdict-obeys text read (judged.Refused fault) is before after old new answer serves =
         tt
-    verdict-obeys text read declared judged.OutOfMemory is before after old new answer serves = tt
+    verdict-obeys text read judged.OutOfMemory is before after old new answer serves = tt
 
     rules-obey : (rules : Option (List ℕ)) → ReadsRules reads files (Some name) (Ok rules)
         → (before after : H) (old new : Writing W) (answer : Result ℕ WriteFault)
@@ -232,12 +219,12 @@ module _ {F L H W : Type 0} (step : L → Call → L → Type 0) (acts : H → H
         numbers loaded before after old new answer serves
     rules-obey None read before after old new answer serves = absurd read
     rules-obey (Some text) read before after old new answer serves =
-        verdict-obeys text read _ serves.verdict serves.is before after old new answer serves.serves
+        verdict-obeys text read serves.verdict serves.is before after old new answer serves.serves
 
   files-guarded : (files : F) (named : FileNames) (name : List ℕ) → named.rules ≡ Some name
       → (numbers : Numbers) (before after : H)
       (old new : Writing W) (answer : Result ℕ WriteFault)
-      (loaded : Result Loaded ServeStartFault)
+      (loaded : Result LoadedFiles ServeStartFault)
       → LoadsFiles reads guards files named loaded
       → (goes : MatchResult loaded
       (λ all. ServesLoaded step acts contents asks numbers all before after old new answer)
@@ -246,7 +233,7 @@ module _ {F L H W : Type 0} (step : L → Call → L → Type 0) (acts : H → H
       old new answer loaded goes
   files-guarded files named name is numbers before after old new answer (Ok loaded) loads goes =
       later-is step acts contents asks _ _ goes.told goes.goes_on _
-      (rules-obey files name named.form loaded loads.5 loads.6 numbers (rules_of loaded)
+      (rules-obey files name named.form loaded loads.5 numbers (rules_of loaded)
       (subst (λ (n : Option (List ℕ)). ReadsRules reads files n (Ok (rules_of loaded))) is loads.3)
       before after goes.middle new answer)
   files-guarded files named name is numbers before after old new answer (Err why) loads goes = tt

@@ -8,23 +8,23 @@ use Rattle.std.specs.Str.{bytes_eq}
 use Rattle.bay_audit.specs.declared.answer.RuleAnswer.{RuleAnswer}
 use Rattle.bay_audit.specs.declared.answer.RuleAnswer.TheVariants.{Broken, Holds, Open, Since, TooMany}
 use Rattle.cmd_audit.specs.Auditing.{AuditReport, SaysFor, SaysOf}
-use Rattle.cmd_audit.specs.Names.{AreWords, declared_in, known_of}
+use Rattle.cmd_audit.specs.Names.{AreWords, known_of}
 use Rattle.cmd_audit.specs.Text.{is_passed, numbered_text}
 use Rattle.cmd_audit.specs.Verdicts.{PrintedHold, hold_in, printed_hold}
 use Rattle.cmd_audit.proofs.BayNameLemmas.{bays-have-words}
 use Rattle.cmd_audit.proofs.NameLemmas.{names-are-words}
 use Rattle.cmd_audit.proofs.HoldLemmas.{holds-are-read}
 use Rattle.bay_config.specs.declared.bay.Bay.{Bay}
-use Rattle.bay_device.specs.Device.{State}
 use Rattle.bay_device.proofs.LoadLemmas.{image-is}
-use Rattle.bay_device.specs.declared.fault.LoadFault.{LoadFault}
-use Rattle.bay_device.specs.declared.fault.LoadFault.TheVariants.{OutOfMemory, Refused}
-use Rattle.bay_device.specs.declared.report.Report.{Report}
-use Rattle.bay_report.specs.Load.{IsImageOf, file_of}
+use Rattle.bay_load.specs.declared.report.Report.{Report}
+use Rattle.bay_load.specs.Errors as error_code
+use Rattle.bay_load.specs.Loads.{IsImageOf, LoadData, LoadsTo}
+use Rattle.bay_load.specs.declared.error.LoadError.{LoadError}
+use Rattle.bay_load.proofs.LoadLemmas.{load-made}
 use Rattle.bay_report.specs.LogLines.{IsReported}
-use Rattle.bay_report.specs.Report.{refusal_of, report_text}
-use Rattle.bay_report.specs.declared.load.Form.{Form}
-use Rattle.bay_report.specs.declared.load.Form.TheVariants as form
+use Rattle.bay_report.specs.Report.{refusal_by, refusal_of, report_text}
+use Rattle.bay_load.specs.declared.load.Form.{Form}
+use Rattle.bay_load.specs.declared.load.Form.TheVariants as form
 use Rattle.bay_replay_laws.specs.Printed.{lines_in, words_in}
 use Rattle.bay_replay_laws.proofs.LineLemmas.{AreLines, decimal-free, each-line, free, free-append, no-lines, one-line, split-at}
 use Rattle.bay_replay_laws.proofs.PrintLemmas.{load-is}
@@ -106,9 +106,12 @@ load-lines false code line =
     (decimal-free 10 code no-end) (decimal-free 10 line no-end))
     (other-line (codes "load") (codes "refused " ++ rest) refl refl))
 
-refused-lines : (fault : LoadFault) → AreLines SaysNone (refusal_of fault)
-refused-lines OutOfMemory = one-line (codes "load refused memory") refl refl
-refused-lines (Refused code line) = load-lines (line == 0) code line
+refused-by : (code : Option ℕ) (line : ℕ) → AreLines SaysNone (refusal_by code line)
+refused-by None line = one-line (codes "load refused memory") refl refl
+refused-by (Some code) line = load-lines (line == 0) code line
+
+refused-lines : (error : LoadError) → AreLines SaysNone (refusal_of error)
+refused-lines error = refused-by (error_code.code_of error) (error_code.line_of error)
 
 rules-lines : (code : Option ℕ) (line : ℕ) → AreLines SaysNone (numbered_text code line)
 rules-lines None line = no-lines
@@ -153,29 +156,27 @@ no-line text line hold are at e =
 module _ (bay : List ℕ) (f : Form) (program rules : List ℕ) (log : Option (List ℕ))
     (whole : List ℕ) (status : ℕ) (file : IsFile f program) (line : List ℕ) (hold : PrintedHold)
     (e : printed_hold line ≡ Some hold) where
-  of-rules : (own : Bay) (image : Image) → file_of bay ≡ Ok own → IsImage image
+  of-rules : (l : LoadData) → LoadsTo bay f program (Ok l)
       → (meant : Result (List Rule) RuleFault) (text : List ℕ)
-      (says : SaysOf own (known_of image.points (declared_in f program)) image meant log text
-      status)
+      (says : SaysOf l meant log text status)
       → Contains (lines_in text) line
       → ((So : RuleAnswer → Type 0) (rule : Rule)
-      → SaysOfRule So own (known_of image.points (declared_in f program)) image meant log text
-      status
-      says rule → IsAudited So bay f program rules rule)
+      → SaysOfRule So l meant log text status says rule → IsAudited So bay f program rules rule)
       → IsOfRule bay f program rules hold
-  of-rules own image read kept (Err fault) text says at more =
+  of-rules l loads (Err fault) text says at more =
       absurd (no-line text line hold
       (subst (AreLines SaysNone) (sym says.1.0) (rules-lines (code_of fault) (line_of fault))) at e)
-  of-rules own image read kept (Ok rs) text says at more =
-      let names = known_of image.points (declared_in f program) in
-      let known : AreWords names = names-are-words image f program kept in
+  of-rules l loads (Ok rs) text says at more =
+      let made = load-made bay f program l loads in
+      let kept : IsImage l.image = image-kept f program l.bay l.image file made.made in
+      let known : AreWords (known_of l) = names-are-words bay f program l loads kept in
       let h =
-      holds-are-read own names image rs text status (bays-have-words bay own read) known says.1 line
-      hold at e in
+      holds-are-read l rs text status (bays-have-words bay l.bay made.read) known says.1 line hold at
+      e in
       let place = zip-at rs says.1.answers h.pair h.among in
       record {
-        own = own;
-        read = read;
+        own = l.bay;
+        read = made.read;
         rule = h.pair.0;
         line = h.line;
         switch = h.switch;
@@ -227,40 +228,30 @@ module _ (bay : List ℕ) (f : Form) (program rules : List ℕ) (log : Option (L
       → Contains (lines_in whole) line → IsOfRule bay f program rules hold
   of-audit (inr refused) at =
       absurd (no-line whole line hold
-      (subst (AreLines SaysNone) (sym refused.tells.1.0) (refused-lines refused.fault)) at e)
-  of-audit (inl loaded) at =
-      of-says loaded.tells.says
-      (of-load loaded.tells.report loaded.tells.rest loaded.tells.whole at)
+      (subst (AreLines SaysNone) (sym refused.tells.1.0) (refused-lines refused.error)) at e)
+  of-audit (inl load) at =
+      of-says load.tells.says (of-load load.tells.report load.tells.rest load.tells.whole at)
       (λ So rule says. record {
         log = log;
         text = whole;
         status = status;
-        audit = inl loaded;
+        audit = inl load;
         says = says;
       })
     where
-      image : Image
-      image = loaded.device.machine.image
-
-      kept : IsImage image
-      kept = subst IsImage (sym (ap (λ (s : State). s.machine.image) loaded.loaded.is))
-          (image-kept f program loaded.loaded.bay loaded.loaded.image file loaded.loaded.made)
-
-      of-says : (says : SaysFor (file_of bay) (declared_in f program) rules image log
-          loaded.tells.rest status
-          ⊎ IsReported None (codes "fault memory\n") 3 log loaded.tells.rest
-          status)
-          → Contains (lines_in loaded.tells.rest) line
+      of-says : (says : SaysFor load.loaded rules log load.tells.rest status
+          ⊎ IsReported None (codes "fault memory\n") 3 log load.tells.rest status)
+          → Contains (lines_in load.tells.rest) line
           → ((So : RuleAnswer → Type 0) (rule : Rule)
-          → SaysBehind So _ (file_of bay) (declared_in f program) rules image log loaded.tells.rest
-          status says rule → IsAudited So bay f program rules rule)
+          → SaysBehind So _ load.loaded rules log load.tells.rest status says rule
+          → IsAudited So bay f program rules rule)
           → IsOfRule bay f program rules hold
       of-says (inr memory) there more =
-          absurd (no-line loaded.tells.rest line hold
+          absurd (no-line load.tells.rest line hold
           (subst (AreLines SaysNone) (sym memory.1.0) (one-line (codes "fault memory") refl refl))
           there e)
       of-says (inl says) there more =
-          of-rules says.bay image says.read kept says.meant loaded.tells.rest says.says there more
+          of-rules load.loaded load.loads says.meant load.tells.rest says.says there more
 
 pub holds-audited : HoldsAreAudited
 holds-audited bay f program rules log text status file audit line hold at e =

@@ -15,9 +15,9 @@ use Rattle.bay_device.specs.declared.fault.StepFault.{StepFault}
 use Rattle.cmd_replay.specs.History.{EachPast, device_after}
 use Rattle.cmd_replay.specs.Runs.{AreOfLines, IsRun}
 use Rattle.cmd_replay.specs.Scenario.{ScenarioParts}
-use Rattle.cmd_replay.proofs.LoadedLemmas.{file-sound}
+use Rattle.bay_device.proofs.LoadedLemmas.{file-sound}
 use Rattle.bay_report.specs.Report.{report_text}
-use Rattle.bay_report.specs.declared.load.Form.TheVariants.{Logic}
+use Rattle.bay_load.specs.declared.load.Form.TheVariants.{Logic}
 use Rattle.bay_replay_laws.specs.Printed.{PrintedCommand, lines_in, printed_command}
 use Rattle.bay_replay_laws.specs.Released.{IsCommandLineFor}
 use Rattle.bay_replay_laws.proofs.OrderLemmas.{load, load-no-command, of-command, order-read, order-switches, other-no-command, printed-for, stands}

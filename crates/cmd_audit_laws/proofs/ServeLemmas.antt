@@ -1,5 +1,5 @@
 -- The turns that files are served by, and what they are given.
-use Rattle.std.proofs.Common.{◌≡◌, ℕ, zero, suc, Bool, List, [], Option, Some, None, Result, Ok, Err, inl, inr, ap, sym, subst}
+use Rattle.std.proofs.Common.{◌≡◌, ℕ, zero, suc, Bool, List, [], Option, Some, None, Result, Ok, Err, inl, inr, ap, sym, subst, refl}
 use Rattle.std.specs.Prelude.{MatchResult, is_some, slice_get}
 use Rattle.bay_audit.specs.Rules.{program_of}
 use Rattle.bay_device.specs.Device.{State}
@@ -9,8 +9,8 @@ use Rattle.bay_io.specs.Watched.{Writing}
 use Rattle.bay_io.specs.declared.outbox.WriteFault.{WriteFault}
 use Rattle.bay_process_port.specs.Ports.{initial_port}
 use Rattle.bay_process_port.specs.Supervised.{SupervisionSettings}
-use Rattle.bay_report.specs.Load.{LoadsTo}
-use Rattle.bay_report.specs.declared.load.Form.{Form}
+use Rattle.bay_device.specs.Load.{LoadsDevice}
+use Rattle.bay_load.specs.declared.load.Form.{Form}
 use Rattle.bay_server_turn.specs.Calls.{Call}
 use Rattle.bay_server_turn.specs.Turns.{ServerData}
 use Rattle.bay_server.specs.Host.{HostCall}
@@ -20,12 +20,12 @@ use Rattle.bay_server.specs.declared.host.BindFault.{BindFault}
 use Rattle.cmd_serve.specs.Live.{InLater}
 use Rattle.cmd_audit.specs.declared.judging.RulesVerdict.{RulesVerdict}
 use Rattle.cmd_audit.specs.declared.judging.RulesVerdict.TheVariants.{Hold, Unproved, Refused, OutOfMemory}
-use Rattle.cmd_serve.specs.Serve.{AfterVerdict, BindsPorts, BindsProcess, EndsUnserved, FileNames, IsBound, IsRecordFault, LoadsFiles, ServesBound, ServesLoaded, ServesPorts, ServesRules, ServesVerdict, data_of, made_of, rules_of, served_of}
+use Rattle.cmd_serve.specs.Serve.{AfterVerdict, BindsPorts, BindsProcess, EndsUnserved, FileNames, IsBound, IsRecordFault, LoadsFiles, ServesBound, ServesLoaded, ServesPorts, ServesRules, ServesVerdict, data_of, made_of, rules_of, served_of, state_of}
 use Rattle.cmd_serve.specs.Service.{AreTurns, DoneTurn, later_turns, past_of, turns_in}
 use Rattle.cmd_serve.proofs.HistoryLemmas.{stands-first}
 use Rattle.cmd_serve.proofs.TurnLemmas.{stands-turns}
 use Rattle.cmd_serve.specs.declared.serve.Bound.{Bound}
-use Rattle.cmd_serve.specs.declared.serve.Loaded.{Loaded}
+use Rattle.cmd_serve.specs.declared.serve.LoadedFiles.{LoadedFiles}
 use Rattle.cmd_serve.specs.declared.serve.Numbers.{Numbers}
 use Rattle.cmd_serve.specs.declared.serve.ServeStartFault.{ServeStartFault}
 use Rattle.cmd_serve.specs.declared.serve.ServeStartFault.TheVariants as unserved
@@ -103,7 +103,8 @@ module _ {L H : Type 0} (acts : H → HostCall L → H → Type 0) where
       (before after : H)
       (ports : Bound L) → BindsPorts acts numbers duties s before after (Ok ports)
       → ports.server ≡ made_of s
-  ports-made numbers duties s before after ports binds = by-had binds.0 binds.3
+  ports-made numbers duties s before after ports (inr memory) = absurd (let e = memory.1 in cc)
+  ports-made numbers duties s before after ports (inl binds) = by-had binds.0 binds.3
     where
       by-had : (had : Result L BindFault)
           → MatchResult had
@@ -123,7 +124,7 @@ module _ {L H : Type 0} (acts : H → HostCall L → H → Type 0) where
 
 -- a server of a device that these octets load to obeys such rules in its turns
 module _ (f : Form) (both : FilesData) (device : State)
-    (loads : LoadsTo both.bay f both.program (Ok device)) (ts : List DoneTurn)
+    (loads : LoadsDevice both.bay f both.program device) (ts : List DoneTurn)
     (are : AreTurns (made_of device) ts) (given : AreGiven ts) (file : IsFile f both.program)
     (rule : Rule) where
   pub orders-obey : rule.kind ≡ Never → OfOctets Plainly both.bay f both.program rule
@@ -170,7 +171,7 @@ module _ (f : Form) (both : FilesData) (device : State)
       (good-first own.own own.image rule b.sound own.there rule_so b.steady))).1
 
 loaded-obeys : (f : Form) (both : FilesData) (device : State)
-    → LoadsTo both.bay f both.program (Ok device) → (ts : List DoneTurn)
+    → LoadsDevice both.bay f both.program device → (ts : List DoneTurn)
     → AreTurns (made_of device) ts → AreGiven ts → ObeyAuditsOf f both (made_of device) ts
 loaded-obeys f both device loads ts are given file = record {
   obey = λ rules rule never is. orders-obey f both device loads ts are given file rule never
@@ -191,13 +192,13 @@ module _ {L H W : Type 0} (step : L → Call → L → Type 0) (acts : H → Hos
   later-is Ends Goes (Ok status) goes Is each = each goes
 
   -- what is so of all turns of a server of this device
-  module _ (Is : ServerData → List DoneTurn → Type 0) (loaded : Loaded)
-      (each : (ts : List DoneTurn) → AreTurns (made_of loaded.device) ts → AreGiven ts
-      → Is (made_of loaded.device) ts) (numbers : Numbers) where
+  module _ (Is : ServerData → List DoneTurn → Type 0) (loaded : LoadedFiles)
+      (each : (ts : List DoneTurn) → AreTurns (made_of (state_of loaded)) ts → AreGiven ts
+      → Is (made_of (state_of loaded)) ts) (numbers : Numbers) where
     bound-is : (served : ServedFiles) (duties : Option SupervisionSettings)
         (before host after : H) (old new : Writing W) (answer : Result ℕ WriteFault)
         (bound : Result (Bound L) ServeStartFault)
-        → BindsPorts acts numbers duties loaded.device before host bound
+        → BindsPorts acts numbers duties (state_of loaded) before host bound
         → (goes : MatchResult bound
         (λ ports. ServesBound step acts contents asks numbers served ports loaded.trace.items host
         after old new answer)
@@ -206,8 +207,8 @@ module _ {L H W : Type 0} (step : L → Call → L → Type 0) (acts : H → Hos
         answer bound goes
     bound-is served duties before host after old new answer (Ok ports) binds goes =
         let run = goes.5 in
-        let made : ports.server ≡ made_of loaded.device =
-        ports-made acts numbers duties loaded.device before host ports binds in
+        let made : ports.server ≡ made_of (state_of loaded) =
+        ports-made acts numbers duties (state_of loaded) before host ports binds in
         let given : AreGiven run.done =
         subst AreGiven (sym run.are)
         (turns-given step acts contents asks numbers.turns _ _ after new answer run.serves) in
@@ -258,7 +259,7 @@ module _ {L H W : Type 0} (step : L → Call → L → Type 0) (acts : H → Hos
   module _ {F : Type 0} (reads : FileReads F) (guards : FileGuards F) where
     files-obey : (files : F) (named : FileNames) (numbers : Numbers) (before after : H)
         (old new : Writing W) (answer : Result ℕ WriteFault)
-        (loaded : Result Loaded ServeStartFault)
+        (loaded : Result LoadedFiles ServeStartFault)
         → LoadsFiles reads guards files named loaded
         → (goes : MatchResult loaded
         (λ all. ServesLoaded step acts contents asks numbers all before after old new answer)
@@ -268,7 +269,8 @@ module _ {L H W : Type 0} (step : L → Call → L → Type 0) (acts : H → Hos
     files-obey files named numbers before after old new answer (Ok loaded) loads goes =
         later-is _ _ goes.told goes.goes_on _
         (rules-is (ObeyAuditsOf named.form (data_of loaded)) loaded
-        (loaded-obeys named.form (data_of loaded) loaded.device loads.6) numbers (rules_of loaded)
+        (loaded-obeys named.form (data_of loaded) (state_of loaded) (loaded.load, loads.5, refl))
+        numbers (rules_of loaded)
         before after goes.middle new answer)
     files-obey files named numbers before after old new answer (Err why) loads goes = tt
 

@@ -4,14 +4,10 @@ use mathlib.Core.Logic.{inl, inr}
 use Rattle.bay_audit.specs.declared.answer.RuleAnswer.{RuleAnswer}
 use Rattle.bay_audit.specs.declared.answer.RuleAnswer.TheVariants.{Holds, Since}
 use Rattle.cmd_audit.specs.Auditing.{AuditReport, SaysFor, SaysOf}
-use Rattle.cmd_audit.specs.Names.{Known, declared_in, known_of}
-use Rattle.bay_config.specs.declared.bay.Bay.{Bay}
-use Rattle.bay_config.specs.declared.fault.BayFault.{BayFault}
-use Rattle.bay_report.specs.declared.load.Form.{Form}
+use Rattle.bay_load.specs.Loads.{LoadData}
+use Rattle.bay_load.specs.declared.load.Form.{Form}
 use Rattle.bay_audit_rules.specs.declared.fault.RuleFault.{RuleFault}
 use Rattle.bay_audit_rules.specs.declared.rule.Rule.{Rule}
-use Rattle.il_image.specs.Images.{Image}
-use Rattle.il_text.specs.Listing.{Declared}
 
 -- the answer that a rule holds, and the answer that a timer establishes it
 abbrev pub Plainly : RuleAnswer → Type 0
@@ -32,31 +28,27 @@ pub record IsAnswered (So : RuleAnswer → Type 0) (rules : List Rule) (answers 
   pub so : So answer
 
 -- The rule has such an answer in the text for the rules that were read, if they were.
-abbrev pub SaysOfRule : (So : RuleAnswer → Type 0) (bay : Bay) (names : Known) (image : Image)
+abbrev pub SaysOfRule : (So : RuleAnswer → Type 0) (loaded : LoadData)
     (meant : Result (List Rule) RuleFault) (log : Option (List ℕ)) (text : List ℕ) (status : ℕ)
-    → SaysOf bay names image meant log text status → Rule → Type 0
-SaysOfRule So bay names image (Ok rules) log text status says rule =
+    → SaysOf loaded meant log text status → Rule → Type 0
+SaysOfRule So loaded (Ok rules) log text status says rule =
     IsAnswered So rules says.1.answers rule
-SaysOfRule So bay names image (Err fault) log text status says rule = ⊥
+SaysOfRule So loaded (Err fault) log text status says rule = ⊥
 
 -- the same in the text after the line of a load, unless memory ran out for it
-abbrev pub SaysBehind : (So : RuleAnswer → Type 0) (Memory : Type 0) (file : Result Bay BayFault)
-    (declared : List Declared) (rules : List ℕ) (image : Image) (log : Option (List ℕ))
-    (text : List ℕ) (status : ℕ) → SaysFor file declared rules image log text status ⊎ Memory
-    → Rule → Type 0
-SaysBehind So Memory file declared rules image log text status (inl says) rule =
-    SaysOfRule So says.bay (known_of image.points declared) image says.meant log text status
-    says.says rule
-SaysBehind So Memory file declared rules image log text status (inr memory) rule = ⊥
+abbrev pub SaysBehind : (So : RuleAnswer → Type 0) (Memory : Type 0) (loaded : LoadData)
+    (rules : List ℕ) (log : Option (List ℕ)) (text : List ℕ) (status : ℕ)
+    → SaysFor loaded rules log text status ⊎ Memory → Rule → Type 0
+SaysBehind So Memory loaded rules log text status (inl says) rule =
+    SaysOfRule So loaded says.meant log text status says.says rule
+SaysBehind So Memory loaded rules log text status (inr memory) rule = ⊥
 
 -- An audit of files gives the rule such an answer.
 abbrev pub AuditSays : (So : RuleAnswer → Type 0) (bay : List ℕ) (form : Form)
     (program rules : List ℕ) (log : Option (List ℕ)) (text : List ℕ) (status : ℕ)
     → AuditReport bay form program rules log text status → Rule → Type 0
-AuditSays So bay form program rules log text status (inl loaded) rule =
-    SaysBehind So _ _ (declared_in form program) rules loaded.device.machine.image log
-    loaded.tells.rest status
-    loaded.tells.says rule
+AuditSays So bay form program rules log text status (inl load) rule =
+    SaysBehind So _ load.loaded rules log load.tells.rest status load.tells.says rule
 AuditSays So bay form program rules log text status (inr refused) rule = ⊥
 
 -- An audit of these octets gives the rule such an answer.

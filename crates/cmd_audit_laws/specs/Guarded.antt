@@ -7,8 +7,8 @@ use Rattle.bay_files.specs.Files.{FileGuards, FileReads, FilesData, ReadsFile}
 use Rattle.bay_io.specs.Calls.{WriteCall}
 use Rattle.bay_io.specs.Watched.{Writing}
 use Rattle.bay_io.specs.declared.outbox.WriteFault.{WriteFault}
-use Rattle.bay_report.specs.Load.{file_of}
-use Rattle.bay_report.specs.declared.load.Form.{Form}
+use Rattle.bay_load.specs.Loads.{file_of}
+use Rattle.bay_load.specs.declared.load.Form.{Form}
 use Rattle.cmd_replay.specs.History.{EachPast}
 use Rattle.bay_audit_rules.specs.Meaning.{TextRead}
 use Rattle.bay_audit_rules.specs.declared.rule.Rule.{Rule}

@@ -10,7 +10,7 @@ use Rattle.cmd_replay.specs.History.{EachPast, device_after}
 use Rattle.cmd_replay.specs.Runs.{IsRun}
 use Rattle.cmd_replay.specs.Scenario.{ScenarioParts}
 use Rattle.bay_report.specs.Report.{report_text}
-use Rattle.bay_report.specs.declared.load.Form.TheVariants.{Logic}
+use Rattle.bay_load.specs.declared.load.Form.TheVariants.{Logic}
 use Rattle.bay_replay_laws.specs.Printed.{PrintedCommand, lines_in, printed_command}
 use Rattle.bay_replay_laws.specs.Released.{IsCommandLineFor}
 use Rattle.bay_audit_rules.specs.Process.{holds}

@@ -9,8 +9,8 @@ use Rattle.bay_io.specs.Watched.{Writing}
 use Rattle.bay_io.specs.declared.outbox.WriteFault.{WriteFault}
 use Rattle.bay_nodes.specs.declared.switch.Switch.{Switch}
 use Rattle.cmd_replay.specs.History.{EachPast}
-use Rattle.bay_report.specs.declared.load.Form.{Form}
-use Rattle.bay_report.specs.declared.load.Form.TheVariants.{Logic, Image}
+use Rattle.bay_load.specs.declared.load.Form.{Form}
+use Rattle.bay_load.specs.declared.load.Form.TheVariants.{Logic, Image}
 use Rattle.bay_replay_laws.specs.Printed.{PrintedCommand}
 use Rattle.bay_audit_rules.specs.Process.{holds}
 use Rattle.bay_audit_rules.specs.declared.rule.Rule.{Rule}
@@ -29,7 +29,7 @@ use Rattle.cmd_serve.specs.Serve.{AfterVerdict, EndsUnserved, FileNames, ServesB
 use Rattle.cmd_serve.specs.Service.{DoneTurn, held_behind, past_behind, past_of}
 use Rattle.cmd_serve.specs.Texts.{IsPrintedFor}
 use Rattle.cmd_serve.specs.declared.serve.Bound.{Bound}
-use Rattle.cmd_serve.specs.declared.serve.Loaded.{Loaded}
+use Rattle.cmd_serve.specs.declared.serve.LoadedFiles.{LoadedFiles}
 use Rattle.cmd_serve.specs.declared.serve.Numbers.{Numbers}
 use Rattle.cmd_serve.specs.declared.serve.ServeStartFault.{ServeStartFault}
 use Rattle.cmd_serve.specs.declared.sums.ServedFiles.{ServedFiles}
@@ -106,7 +106,7 @@ module _ {L H W : Type 0} (step : L → Call → L → Type 0) (acts : H → Hos
   OfBound Is numbers served trace host after old new answer (Err why) goes = Unit {0}
 
   abbrev pub OfPorts : (Is : ServerData → List DoneTurn → Type 0) (numbers : Numbers)
-      (loaded : Loaded) (count : ℕ)
+      (loaded : LoadedFiles) (count : ℕ)
       (before after : H) (old new : Writing W) (answer : Result ℕ WriteFault)
       → ServesPorts step acts contents asks numbers loaded count before after old new answer
       → Type 0
@@ -116,7 +116,7 @@ module _ {L H W : Type 0} (step : L → Call → L → Type 0) (acts : H → Hos
 
   -- the same, if the verdict on the rules is that each holds, and could be written
   abbrev pub OfVerdict : (Is : ServerData → List DoneTurn → Type 0) (numbers : Numbers)
-      (loaded : Loaded) (verdict : RulesVerdict)
+      (loaded : LoadedFiles) (verdict : RulesVerdict)
       (before after : H) (old new : Writing W) (answer : Result ℕ WriteFault)
       → ServesVerdict step acts contents asks numbers loaded verdict before after old new answer
       → Type 0
@@ -126,7 +126,7 @@ module _ {L H W : Type 0} (step : L → Call → L → Type 0) (acts : H → Hos
 
   -- the same, with rules or without
   abbrev pub OfRules : (Is : ServerData → List DoneTurn → Type 0) (rules : Option (List ℕ))
-      (numbers : Numbers) (loaded : Loaded)
+      (numbers : Numbers) (loaded : LoadedFiles)
       (before after : H) (old new : Writing W) (answer : Result ℕ WriteFault)
       → ServesRules step acts contents asks rules numbers loaded before after old new answer
       → Type 0
@@ -137,7 +137,7 @@ module _ {L H W : Type 0} (step : L → Call → L → Type 0) (acts : H → Hos
 
   -- the same, if the line of the load could be written
   abbrev pub OfLoaded : (Is : ServerData → List DoneTurn → Type 0) (numbers : Numbers)
-      (loaded : Loaded)
+      (loaded : LoadedFiles)
       (before after : H) (old new : Writing W) (answer : Result ℕ WriteFault)
       → ServesLoaded step acts contents asks numbers loaded before after old new answer → Type 0
   OfLoaded Is numbers loaded before after old new answer serves =
@@ -148,7 +148,7 @@ module _ {L H W : Type 0} (step : L → Call → L → Type 0) (acts : H → Hos
   -- program
   abbrev pub OfFiles : (Is : FilesData → ServerData → List DoneTurn → Type 0)
       (numbers : Numbers) (before after : H) (old new : Writing W)
-      (answer : Result ℕ WriteFault) (loaded : Result Loaded ServeStartFault)
+      (answer : Result ℕ WriteFault) (loaded : Result LoadedFiles ServeStartFault)
       → MatchResult loaded
       (λ all. ServesLoaded step acts contents asks numbers all before after old new answer)
       (λ why. EndsUnserved contents asks why old new answer × (after ≡ before))

@@ -6,8 +6,8 @@ use Rattle.cmd_audit.specs.Auditing.{AuditReport}
 use Rattle.cmd_audit.specs.Text.{id_of}
 use Rattle.cmd_audit.specs.Verdicts.{PrintedHold, printed_hold}
 use Rattle.bay_config.specs.declared.bay.Bay.{Bay}
-use Rattle.bay_report.specs.Load.{file_of}
-use Rattle.bay_report.specs.declared.load.Form.{Form}
+use Rattle.bay_load.specs.Loads.{file_of}
+use Rattle.bay_load.specs.declared.load.Form.{Form}
 use Rattle.bay_replay_laws.specs.Printed.{lines_in}
 use Rattle.bay_audit_rules.specs.declared.rule.Rule.{Rule}
 use Rattle.cmd_audit_laws.specs.Audited.{ByTimer, IsAudited, Plainly}

@@ -11,8 +11,9 @@ use Rattle.bay_device.specs.declared.event.Event.{Event}
 use Rattle.bay_device.specs.declared.event.Step.{Step}
 use Rattle.bay_device.specs.declared.fault.StepFault.{StepFault}
 use Rattle.bay_device.proofs.FreshLemmas.{step-fresh}
+use Rattle.bay_device.proofs.RemoteLemmas.{fixed-step, same-keys, settings_of, step-remote}
 use Rattle.bay_device.proofs.RunLemmas.{Tells, tells}
-use Rattle.cmd_replay.specs.History.{AllFresh, EachPast, answers_of, device_after, events_of}
+use Rattle.cmd_replay.specs.History.{AllFresh, AllRemote, EachPast, answers_of, device_after, events_of}
 use Rattle.cmd_replay.proofs.KeptLemmas.{Fixed, step-fixed}
 
 -- ---- laws of a step
@@ -74,6 +75,23 @@ past-fresh bay image first (p ∷ past) is steps = (
       (step-fresh p.now p.event (device_after first past) p.answer p.after steps.0 past
       (past-came bay image first past is steps.1)),
   past-fresh bay image first past is steps.1,
+)
+
+pub past-settings : (first : State) (past : List Past) → EachPast Steps first past
+    → settings_of (device_after first past) ≡ settings_of first
+past-settings first [] steps = refl
+past-settings first (p ∷ past) steps =
+    fixed-step p.now p.event (device_after first past) p.answer p.after steps.0
+    ∙ past-settings first past steps.1
+
+pub past-remote : (bay : Bay) (image : Image) (first : State) (past : List Past)
+    → first ≡ initial_device bay image → EachPast Steps first past → AllRemote first past
+past-remote bay image first [] is steps = tt
+past-remote bay image first (p ∷ past) is steps = (
+  same-keys (device_after first past) first (past-settings first past steps.1) past p.answer
+      (step-remote p.now p.event (device_after first past) p.answer p.after steps.0 past
+      (past-came bay image first past is steps.1)),
+  past-remote bay image first past is steps.1,
 )
 
 -- ---- in the order of the events

@@ -3,7 +3,6 @@ pub mod BudgetLemmas
 pub mod HistoryLemmas
 pub mod KeptLemmas
 pub mod LoadLemmas
-pub mod LoadedLemmas
 pub mod PartLemmas
 pub mod PathLemmas
 pub mod ProgressLemmas

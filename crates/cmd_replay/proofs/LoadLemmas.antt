@@ -1,27 +1,31 @@
 -- Lemmas on what is printed for a load and a trace.
-use Rattle.std.proofs.Common.{◌≡◌, ◌⊎◌, ℕ, List, Option, Ok, Err, inl, inr, subst, sym}
+use Rattle.std.proofs.Common.{◌≡◌, ℕ, List, Option, Ok, Err, inl, inr, subst, sym}
+use Rattle.bay_load.specs.Loads.{MayLoadTo}
+use Rattle.bay_load.specs.declared.error.LoadError.{LoadError}
+use Rattle.bay_load.specs.declared.error.LoadError.TheVariants.{OutOfMemory}
+use Rattle.bay_load.specs.declared.load.Form.TheVariants.{Logic}
 use Rattle.bay_device.specs.Device.{State}
-use Rattle.bay_device.specs.declared.fault.LoadFault.{LoadFault}
-use Rattle.bay_device.specs.declared.fault.LoadFault.TheVariants.{OutOfMemory}
-use Rattle.bay_report.specs.Load.{load_of}
+use Rattle.bay_device.specs.Load.{LoadsDevice}
 use Rattle.bay_report.specs.LogLines.{Refuses}
 use Rattle.cmd_replay.specs.Replay.{DeviceReport, LoadReport, LoadsReport}
 use Rattle.cmd_replay.specs.Scenario.{ScenarioParts}
 use Rattle.bay_report.specs.TextLines.{lines_of}
 
 -- a device's report is that of its scenario
-pub LoadsReport-device : (parts : ScenarioParts) (s : State) → load_of parts.bay parts.logic ≡ Ok s
+pub LoadsReport-device : (parts : ScenarioParts) (s : State)
+    → LoadsDevice parts.bay Logic parts.logic s
     → (log : Option (List ℕ)) (text : List ℕ) (status : ℕ)
     → DeviceReport s (lines_of parts.trace) log text status → LoadsReport parts log text status
 LoadsReport-device parts s loads log text status told =
-    inl (subst (λ loaded. LoadReport loaded parts.trace log text status) (sym loads) told)
+    inl (subst (λ loaded. LoadReport loaded parts.trace log text status) (sym loads.1)
+    (subst (λ (d : State). DeviceReport d (lines_of parts.trace) log text status) loads.2 told))
 
 -- a refused load is that of its scenario
-pub LoadsReport-refused : (parts : ScenarioParts) (fault : LoadFault)
-    → (fault ≡ OutOfMemory) ⊎ (load_of parts.bay parts.logic ≡ Err fault)
-    → (log : Option (List ℕ)) (text : List ℕ) (status : ℕ) → Refuses fault log text status
+pub LoadsReport-refused : (parts : ScenarioParts) (error : LoadError)
+    → MayLoadTo parts.bay Logic parts.logic (Err error)
+    → (log : Option (List ℕ)) (text : List ℕ) (status : ℕ) → Refuses error log text status
     → LoadsReport parts log text status
-LoadsReport-refused parts fault (inl memory) log text status told =
-    inr (subst (λ f. Refuses f log text status) memory told)
-LoadsReport-refused parts fault (inr refused) log text status told =
+LoadsReport-refused parts error (inl refused) log text status told =
     inl (subst (λ loaded. LoadReport loaded parts.trace log text status) (sym refused) told)
+LoadsReport-refused parts error (inr memory) log text status told =
+    let is : error ≡ OutOfMemory = cc in inr (subst (λ e. Refuses e log text status) is told)

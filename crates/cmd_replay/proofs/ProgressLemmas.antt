@@ -2,8 +2,8 @@
 use Rattle.bay_io.specs.Calls.{WriteCall}
 use Rattle.std.proofs.Common.{◌≡◌, ℕ, ◌+◌, Bool, true, false, List, [], ◌∷◌, ◌++◌, Option, None, Result, Err, IfOk, subst, refl, sym, append_assoc, MatchBool}
 use Rattle.bay_device.specs.Device.{State}
-use Rattle.bay_device.specs.Report.{IsReport}
-use Rattle.bay_device.specs.declared.report.Report.{Report}
+use Rattle.bay_load.specs.Report.{IsReport}
+use Rattle.bay_load.specs.declared.report.Report.{Report}
 use Rattle.bay_io.proofs.SentLemmas.{Puts-then}
 use Rattle.bay_io.specs.Sent.{Finishes, Puts}
 use Rattle.bay_io.specs.Watched.{Writing}

@@ -1,20 +1,20 @@
 -- A report is a run.
-use Rattle.std.proofs.Common.{ℕ, List, [], ◌++◌, length, Option, Result, Ok, inl, inr, ap, subst, ◌∙◌}
+use Rattle.std.proofs.Common.{◌≡◌, ℕ, List, [], ◌++◌, length, Option, Ok, inl, inr, refl, ap, subst, ◌∙◌}
 use Rattle.std.proofs.lemmas.List.Elements.{All-nil}
 use Rattle.bay_device.specs.Commands.{CommandsReleased}
 use Rattle.bay_device.specs.Device.{State, bay_of}
 use Rattle.bay_device.specs.Entries.{IsIdle}
 use Rattle.bay_device.specs.Fresh.{Came, Past}
-use Rattle.bay_device.specs.Load.{IsCompiled, IsLoaded}
+use Rattle.bay_device.specs.Load.{IsLoaded, device_of}
 use Rattle.bay_device.specs.Meaning.{HaltsAt, MeansAt, Runs}
 use Rattle.bay_device.specs.Steps.{Steps}
-use Rattle.bay_device.specs.declared.fault.LoadFault.{LoadFault}
 use Rattle.bay_device.proofs.CommandLemmas.{step-commanded}
-use Rattle.bay_device.proofs.IdleLemmas.{loaded-idle}
+use Rattle.bay_device.proofs.LoadedLemmas.{device-loaded, loaded-idle, loaded-runs}
 use Rattle.bay_device.proofs.MeaningLemmas.{means-step}
 use Rattle.bay_device.proofs.RunLemmas.{tells-backed}
 use Rattle.bay_device.proofs.ToldLemmas.{idle-talks}
-use Rattle.bay_report.specs.Load.{file_of, text_of}
+use Rattle.bay_load.specs.Loads.{IsCompiled, LoadData, file_of, load_of, text_of}
+use Rattle.bay_load.specs.declared.load.Form.TheVariants.{Logic}
 use Rattle.bay_report.specs.Report.{report_text}
 use Rattle.bay_report.specs.TextLines.{lines_of}
 use Rattle.cmd_replay.specs.Replay.{DeviceReport, LoadReport, LoadsReport}
@@ -22,8 +22,7 @@ use Rattle.cmd_replay.specs.Scenario.{ScenarioParts}
 use Rattle.cmd_replay.specs.History.{EachPast, answers_of, device_after, events_of}
 use Rattle.cmd_replay.specs.Runs.{IsBlank, IsOfRun, IsOneRun, IsRun}
 use Rattle.cmd_replay.proofs.BudgetLemmas.{step-halts}
-use Rattle.cmd_replay.proofs.HistoryLemmas.{past-came, past-does, past-fresh, past-so, past-tells}
-use Rattle.cmd_replay.proofs.LoadedLemmas.{loaded-from, loaded-runs}
+use Rattle.cmd_replay.proofs.HistoryLemmas.{past-came, past-does, past-fresh, past-remote, past-so, past-tells}
 use Rattle.cmd_replay.proofs.TraceLemmas.{goes}
 
 -- what has happened to a device since load is one run of it
@@ -37,6 +36,7 @@ one-run first past begin idle steps =
       came = past-came begin.0 begin.1 first past begin.2 steps;
       commanded = past-so CommandsReleased step-commanded first past steps;
       fresh = past-fresh begin.0 begin.1 first past begin.2 steps;
+      remote = past-remote begin.0 begin.1 first past begin.2 steps;
       operated = tells.operates;
       backed =
           tells-backed (bay_of first) (events_of past) first (answers_of past)
@@ -48,8 +48,7 @@ one-run first past begin idle steps =
 module _ (bay logic : List ℕ) (first : State)
     (loaded : IsLoaded (file_of bay) (IsCompiled (text_of logic)) first) where
   pub idle : IsIdle first
-  idle = loaded-idle (file_of bay) (IsCompiled (text_of logic))
-      (let r : Result State LoadFault = Ok first in r) loaded
+  idle = loaded-idle (file_of bay) (IsCompiled (text_of logic)) first loaded
 
   pub run-of : (trace : List ℕ) (log : Option (List ℕ)) (text : List ℕ) (status : ℕ)
       → DeviceReport first (lines_of trace) log text status
@@ -77,11 +76,16 @@ module _ (bay logic : List ℕ) (first : State)
         guarded = one-run first e.whole (loaded.bay, loaded.image, loaded.is) idle e.steps;
       }
 
+-- the device of a program's text
+pub run-loaded : (bay logic : List ℕ) (l : LoadData) → load_of bay logic ≡ Ok l
+    → IsLoaded (file_of bay) (IsCompiled (text_of logic)) (device_of l)
+run-loaded bay logic l loads = device-loaded bay Logic logic (device_of l) (l, loads, refl)
+
 -- What is printed for parts that load is of a run.
 pub of-run : (parts : ScenarioParts) (log : Option (List ℕ)) (text : List ℕ) (status : ℕ)
     → LoadsReport parts log text status → IsOfRun parts log text status
-of-run parts log text status (inl told) first loads =
-    inr (run-of parts.bay parts.logic first (loaded-from parts.bay parts.logic first loads)
+of-run parts log text status (inl told) l loads =
+    inr (run-of parts.bay parts.logic (device_of l) (run-loaded parts.bay parts.logic l loads)
     parts.trace log text status
     (subst (λ loaded. LoadReport loaded parts.trace log text status) loads told))
-of-run parts log text status (inr refused) first loads = inl refused
+of-run parts log text status (inr refused) l loads = inl refused

@@ -2,6 +2,7 @@
 use Rattle.std.specs.Prelude.{ℕ, List, [], ◌∷◌, ◌++◌, Result}
 use Rattle.bay_device.specs.Device.{State}
 use Rattle.bay_device.specs.Fresh.{IsFresh, Past}
+use Rattle.bay_device.specs.Remote.{AreAtRemote}
 use Rattle.bay_device.specs.declared.event.Event.{Event}
 use Rattle.bay_device.specs.declared.event.Step.{Step}
 use Rattle.bay_device.specs.declared.fault.StepFault.{StepFault}
@@ -23,6 +24,12 @@ EachPast Does first (p ∷ past) =
 abbrev pub AllFresh : ℕ → List Past → Type 0
 AllFresh age [] = Unit {0}
 AllFresh age (p ∷ past) = IsFresh p.now age past p.answer × AllFresh age past
+
+-- Each command is to a switch whose key, if it has one, was last reported to be at remote, among the
+-- events before the command.
+abbrev pub AllRemote : State → List Past → Type 0
+AllRemote first [] = Unit {0}
+AllRemote first (p ∷ past) = AreAtRemote first past p.answer × AllRemote first past
 
 -- the events in their order, and their answers
 abbrev pub events_of : List Past → List (ℕ × Event)

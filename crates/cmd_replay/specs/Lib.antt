@@ -18,7 +18,7 @@ pub use Rattle.bay_device.specs.Operates
 pub use Rattle.bay_device.specs.Steps
 pub use Rattle.bay_device.specs.EntriesTold
 pub use Rattle.bay_report.specs.Lines
-pub use Rattle.bay_report.specs.Load
+pub use Rattle.bay_load.specs.Loads
 pub use Rattle.bay_report.specs.Report
 pub use Rattle.bay_report.specs.TextLines
 pub use Rattle.bay_trace.specs.Resolving

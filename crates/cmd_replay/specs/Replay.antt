@@ -2,10 +2,13 @@
 use Rattle.bay_io.specs.Calls.{AskedFew, ReadCall, WriteCall, read_failed, some_call, write_failed}
 use Rattle.std.specs.Prelude.{◌≡◌, ℕ, ◌+◌, ◌≤◌, ◌<◌, Bool, false, List, ◌∷◌, ◌++◌, length, codes, Option, None, Some, is_none, IfSome, Result, Ok, Err, is_err, ◌⊎◌, MatchBool, if◌then◌else◌, []}
 use Rattle.bay_device.specs.Device.{State}
-use Rattle.bay_device.specs.Report.{IsReport as IsReportOf}
-use Rattle.bay_device.specs.declared.report.Report.{Report}
+use Rattle.bay_device.specs.Load.{device_of}
 use Rattle.cmd_replay.specs.LineAnswers.{Choice, Replaying, line_answer}
-use Rattle.bay_report.specs.Load.{load_of}
+use Rattle.bay_load.specs.Loads.{LoadData, load_of}
+use Rattle.bay_load.specs.Report.{IsReport as IsReportOf}
+use Rattle.bay_load.specs.declared.error.LoadError.{LoadError}
+use Rattle.bay_load.specs.declared.error.LoadError.TheVariants.{OutOfMemory}
+use Rattle.bay_load.specs.declared.report.Report.{Report}
 use Rattle.cmd_replay.specs.Runs.{IsOfRun}
 use Rattle.cmd_replay.specs.Scenario.{ScenarioParts, scenario_of, scenario_limit}
 use Rattle.bay_report.specs.TextLines.{lines_of}
@@ -16,8 +19,6 @@ use Rattle.bay_io.specs.declared.input.ReadFault.TheVariants as unread
 use Rattle.bay_io.specs.declared.outbox.WriteFault.{WriteFault}
 use Rattle.std.specs.declared.io.ErrorKind.{ErrorKind}
 use Rattle.bay_trace.specs.Trace.{trace_line_of}
-use Rattle.bay_device.specs.declared.fault.LoadFault.{LoadFault}
-use Rattle.bay_device.specs.declared.fault.LoadFault.TheVariants.{OutOfMemory}
 use Rattle.bay_report.specs.LogLines.{IsReported, PrintsLogs, Refuses, UnreadReport, unreadable_line}
 use Rattle.bay_report.specs.Report.{report_text}
 
@@ -45,9 +46,10 @@ DeviceReport s lines log text status =
     × TraceReport (record { device = s; room = 0 }) 1 lines log rest status)
 
 -- the same for the result of a load and a trace
-abbrev pub LoadReport : Result State LoadFault → List ℕ → Option (List ℕ) → List ℕ → ℕ → Type 0
-LoadReport (Err fault) trace log text status = Refuses fault log text status
-LoadReport (Ok device) trace log text status = DeviceReport device (lines_of trace) log text status
+abbrev pub LoadReport : Result LoadData LoadError → List ℕ → Option (List ℕ) → List ℕ → ℕ → Type 0
+LoadReport (Err error) trace log text status = Refuses error log text status
+LoadReport (Ok loaded) trace log text status =
+    DeviceReport (device_of loaded) (lines_of trace) log text status
 
 -- the same for a bay file, a program and a trace; memory may run out in their load
 abbrev pub LoadsReport : ScenarioParts → Option (List ℕ) → List ℕ → ℕ → Type 0

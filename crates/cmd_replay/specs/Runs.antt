@@ -5,22 +5,22 @@ use Rattle.il_check.specs.Program.{Checked}
 use Rattle.bay_device.specs.Commands.{CommandsReleased}
 use Rattle.bay_device.specs.Device.{State, bay_of}
 use Rattle.bay_device.specs.Fresh.{Came, Past}
-use Rattle.bay_device.specs.Load.{IsCompiled, IsLoaded}
+use Rattle.bay_device.specs.Load.{IsLoaded, device_of}
 use Rattle.bay_device.specs.Meaning.{HaltsAt, MeansAt, Runs}
 use Rattle.bay_device.specs.Operates.{AllOperate}
-use Rattle.bay_device.specs.Report.{IsReport as IsReportOf}
 use Rattle.bay_device.specs.Steps.{Steps}
 use Rattle.bay_device.specs.EntriesTold.{entries_of_run}
-use Rattle.bay_device.specs.declared.fault.LoadFault.TheVariants.{OutOfMemory}
-use Rattle.bay_device.specs.declared.report.Report.{Report}
+use Rattle.bay_load.specs.Loads.{IsCompiled, LoadData, file_of, load_of, text_of}
+use Rattle.bay_load.specs.Report.{IsReport as IsReportOf}
+use Rattle.bay_load.specs.declared.error.LoadError.TheVariants.{OutOfMemory}
+use Rattle.bay_load.specs.declared.report.Report.{Report}
 use Rattle.bay_trace.specs.Resolving.{placed_event}
 use Rattle.bay_trace.specs.Trace.{NamedData, at_moment, blank, trace_line_of}
 use Rattle.bay_report.specs.Lines.{step_text, unreadable_text}
-use Rattle.bay_report.specs.Load.{file_of, load_of, text_of}
 use Rattle.bay_report.specs.LogLines.{Refuses}
 use Rattle.bay_report.specs.Report.{report_text}
 use Rattle.bay_report.specs.TextLines.{lines_of}
-use Rattle.cmd_replay.specs.History.{AllFresh, EachPast, answers_of, device_after, events_of}
+use Rattle.cmd_replay.specs.History.{AllFresh, AllRemote, EachPast, answers_of, device_after, events_of}
 use Rattle.cmd_replay.specs.Scenario.{ScenarioParts}
 
 -- ---- the lines of a trace
@@ -87,6 +87,9 @@ pub record IsOneRun (first : State) (past : List Past) (last : State) : Type 0 w
   pub commanded : EachPast CommandsReleased first past
   -- it follows a scan of these events that is not too old, since which the process has not changed;
   pub fresh : AllFresh first.scan_max_age_ms past
+  -- the key of its switch, if there is one, was last reported to be at remote, since the last loss
+  -- of the process;
+  pub remote : AllRemote first past
   -- and the commands are the accepted operates in the entries of the run, by the octets of the
   -- events and of the answers, each backed by a select if its switch must be selected.
   pub operated : AllOperate (bay_of first) first.connections (events_of past) (answers_of past)
@@ -112,5 +115,5 @@ pub record IsRun (parts : ScenarioParts) (first : State) (text : List ℕ) (stat
 -- those of a load for which memory ran out.
 abbrev pub IsOfRun : ScenarioParts → Option (List ℕ) → List ℕ → ℕ → Type 0
 IsOfRun parts log text status =
-    (first : State) → load_of parts.bay parts.logic ≡ Ok first
-    → Refuses OutOfMemory log text status ⊎ IsRun parts first text status
+    (loaded : LoadData) → load_of parts.bay parts.logic ≡ Ok loaded
+    → Refuses OutOfMemory log text status ⊎ IsRun parts (device_of loaded) text status

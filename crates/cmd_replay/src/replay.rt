@@ -10,12 +10,13 @@ ghost use Rattle.cmd_replay.specs.ScenarioView.{scenario_view};
 use crate::answer::replay_line;
 use crate::scenario::{Scenario, split_scenario};
 use bay_device::device::Device;
+use bay_device::load::load_device;
 use bay_io::calls::{LinePart, OctetSource, Sink};
 use bay_io::input::read_all;
 pub use bay_io::outbox::WriteFault;
 use bay_io::reader::WatchedReader;
 use bay_io::writer::WatchedWriter;
-use bay_report::load::load_octets;
+use bay_load::load::Form;
 use bay_report::log::{log_unreadable, report_load_refusal, report_unread, write_and_log};
 use bay_report::output::{Status, finish};
 use bay_report::report::put_report;
@@ -85,9 +86,9 @@ fn replay_parts<W: Sink>(
         writer.new
         result }
 {
-    match load_octets(alloc, scenario.bay, scenario.logic) {
+    match load_device(alloc, scenario.bay, Form::Logic, scenario.logic) {
         Ok(mut device) => replay_device(alloc, &mut device, scenario.trace, writer),
-        Err(fault) => report_load_refusal(writer, fault),
+        Err(error) => report_load_refusal(writer, error),
     }
 }
 

@@ -8,17 +8,17 @@ use Rattle.std.proofs.lemmas.List.{length-take}
 use Rattle.bay_files.specs.Files.{FileGuards}
 use Rattle.bay_files.specs.Keys.{ReadsNamedKey, is_end, key_in}
 use Rattle.bay_device.specs.Device.{State}
-use Rattle.bay_device.specs.Report.{IsReport}
-use Rattle.bay_device.specs.declared.report.Report.{Report}
+use Rattle.bay_device.specs.Load.{LoadsDevice}
+use Rattle.bay_load.specs.Report.{IsReport}
+use Rattle.bay_load.specs.declared.report.Report.{Report}
 use Rattle.bay_files.specs.Files.{FilesData}
 use Rattle.bay_io.specs.Calls.{WriteCall}
 use Rattle.bay_io.specs.Watched.{Writing}
 use Rattle.bay_io.specs.declared.outbox.WriteFault.{WriteFault}
-use Rattle.cmd_replay.proofs.LoadedLemmas.{loaded-from, loaded-runs}
-use Rattle.bay_report.specs.Load.{LoadsTo}
+use Rattle.bay_device.proofs.LoadedLemmas.{device-loaded, loaded-runs}
 use Rattle.bay_report.specs.Report.{IsLast, Prints, report_text}
-use Rattle.bay_report.specs.declared.load.Form.{Form}
-use Rattle.bay_report.specs.declared.load.Form.TheVariants.{Logic, Image}
+use Rattle.bay_load.specs.declared.load.Form.{Form}
+use Rattle.bay_load.specs.declared.load.Form.TheVariants.{Logic, Image}
 use Rattle.bay_replay_laws.specs.ReadBack.{HaveIds}
 use Rattle.bay_server_turn.specs.Calls.{Call}
 use Rattle.bay_server.specs.Host.{HostCall}
@@ -28,7 +28,7 @@ use Rattle.cmd_audit.specs.Judging.{VerdictReport}
 use Rattle.cmd_audit.specs.declared.judging.RulesVerdict.{RulesVerdict}
 use Rattle.cmd_audit.specs.declared.judging.RulesVerdict.TheVariants as judged
 use Rattle.cmd_serve.specs.Serve.{AfterVerdict, RunsText, key_of, ServesLoaded, ServesPorts, ServesRules, ServesRun, ServesVerdict, rules_of}
-use Rattle.cmd_serve.specs.declared.serve.Loaded.{Loaded}
+use Rattle.cmd_serve.specs.declared.serve.LoadedFiles.{LoadedFiles}
 use Rattle.cmd_serve.specs.declared.serve.Numbers.{Numbers}
 use Rattle.cmd_serve.specs.Service.{DoneTurn, IsBegun, turns_in}
 use Rattle.cmd_serve.proofs.BeginLemmas.{ordered-from}
@@ -67,17 +67,17 @@ named-short guards files (Some name) (Some key) read = key-short read.0 key read
 
 -- a device that was loaded from a text runs it
 pub text-runs : (form : Form) (both : FilesData) (s : State)
-    → LoadsTo both.bay form both.program (Ok s) → RunsText form both s
+    → LoadsDevice both.bay form both.program s → RunsText form both s
 text-runs Logic both s loads =
-    let loaded = loaded-from both.bay both.program s loads in
+    let loaded = device-loaded both.bay Logic both.program s loads in
     (loaded, loaded-runs both.bay both.program s loaded)
 text-runs Image both s loads = tt
 
 -- the octets of rules, as the code has them
-pub none-rules : (loaded : Loaded) → loaded.rules ≡ None → rules_of loaded ≡ None
+pub none-rules : (loaded : LoadedFiles) → loaded.rules ≡ None → rules_of loaded ≡ None
 none-rules loaded is = rw is refl
 
-pub some-rules : (loaded : Loaded) (rules : Vec ℕ Global) → loaded.rules ≡ Some rules
+pub some-rules : (loaded : LoadedFiles) (rules : Vec ℕ Global) → loaded.rules ≡ Some rules
     → rules_of loaded ≡ Some rules.items
 some-rules loaded rules is = rw is refl
 
@@ -107,7 +107,7 @@ module _ {L H W : Type 0} (step : L → Call → L → Type 0) (acts : H → Hos
       }
 
   -- a service by the rules that were read
-  pub by-rules : (rules : Option (List ℕ)) (numbers : Numbers) (loaded : Loaded)
+  pub by-rules : (rules : Option (List ℕ)) (numbers : Numbers) (loaded : LoadedFiles)
       (before after : H) (old new : Writing W) (answer : Result ℕ WriteFault)
       → rules_of loaded ≡ rules
       → ServesRules step acts contents asks rules numbers loaded before after old new answer
@@ -118,8 +118,8 @@ module _ {L H W : Type 0} (step : L → Call → L → Type 0) (acts : H → Hos
       after old new answer) (sym is) serves
 
   -- the line of a load could not be written
-  pub line-fails : (numbers : Numbers) (loaded : Loaded) (report : Report)
-      → IsReport loaded.device.machine.image report → (host : H) (old middle : Writing W)
+  pub line-fails : (numbers : Numbers) (loaded : LoadedFiles) (report : Report)
+      → IsReport loaded.load.image report → (host : H) (old middle : Writing W)
       (fault : WriteFault) → Prints contents asks (IsLast (report_text report) 0) old middle
       (Err fault)
       → (answer : Result ℕ WriteFault) → IsErr answer
@@ -135,7 +135,7 @@ module _ {L H W : Type 0} (step : L → Call → L → Type 0) (acts : H → Hos
   }
 
   -- a verdict could not be written
-  pub verdict-fails : (numbers : Numbers) (loaded : Loaded) (verdict : RulesVerdict) (host : H)
+  pub verdict-fails : (numbers : Numbers) (loaded : LoadedFiles) (verdict : RulesVerdict) (host : H)
       (old middle : Writing W) (fault : WriteFault)
       → PrintsLogs contents asks (VerdictReport verdict) old middle (Err fault)
       → (answer : Result ℕ WriteFault) → IsErr answer

@@ -10,6 +10,7 @@ use Rattle.bay_device.specs.Steps.{Steps}
 use Rattle.bay_device.specs.EntriesTold.{AreAgreed}
 use Rattle.bay_device.proofs.EntryLemmas.{eight-places, leading}
 use Rattle.bay_device.proofs.FreshLemmas.{Tracks, tracks-event, tracks-first}
+use Rattle.bay_device.proofs.RemoteLemmas.{Follows, follows-first, follows-step}
 use Rattle.bay_device.proofs.ToldLemmas.{idle-talks, telling}
 use Rattle.cmd_replay.specs.History.{EachPast, device_after}
 use Rattle.cmd_replay.proofs.HistoryLemmas.{past-fixed}
@@ -28,6 +29,7 @@ pub record Stands (first : State) (past : List Past) (s : State) : Type 0 where
   pub sized : AreAgreed s.connections
   pub eight : length s.connections ≡ 8
   pub tracks : Tracks past s
+  pub follows : Follows past s
 
 idle : (first : State) → Came [] first → IsIdle first
 idle first came = let is : IsIdle (initial_device came.0 came.1) =
@@ -42,6 +44,7 @@ stands-first first came = record {
   sized = idle-talks first (idle first came);
   eight = ap (λ talks. length talks) (idle first came).closed;
   tracks = tracks-first first came;
+  follows = follows-first first came;
 }
 
 -- the age that a scan may have is that of load
@@ -71,6 +74,9 @@ module _ (first : State) (now : ℕ) where
         sized = told.sized;
         eight = eight-places now e.1 s o.answer o.after at.eight steps;
         tracks = tracks-event past s at.tracks now e.0 e.1;
+        follows = follows-step
+            (record { now = now; event = e.1; answer = o.answer; after = o.after }) past s
+            at.follows steps;
       }
 
   -- those of a turn

@@ -37,7 +37,7 @@ use Rattle.cmd_serve.specs.Service.{AreTurns, DoneTurn, IsTurn, held_behind, pas
 use Rattle.cmd_serve.proofs.FrontLemmas.{OfAssociations, before-octets, same-events}
 use Rattle.cmd_serve.proofs.HistoryLemmas.{Stands, aged, stands-events}
 use Rattle.cmd_serve.proofs.OnceLemmas.{received-once}
-use Rattle.cmd_serve.proofs.ScanLemmas.{released-by}
+use Rattle.cmd_serve.proofs.ScanLemmas.{released-by, remote-behind}
 use Rattle.cmd_serve.proofs.SentLemmas.{Mapped, mapped, sent-to, stands-in}
 
 none-among : {A : Type 0} (xs : List A) (x : A) → xs ≡ [] → Contains xs x → ⊥
@@ -265,6 +265,8 @@ module _ (first : State) (h : ServerData) (t : DoneTurn) (past : List Past) (com
             released = released-by first past h.device mid t.now first.scan_max_age_ms command at
                 (same-events t.now front h.device before)
                 (aged first (past_behind t.now front h.device past) mid stands) allowed;
+            remote = remote-behind first past h.device mid t.now command at
+                (same-events t.now front h.device before) allowed;
           }
   asked (Close a) split answered replied allowed = absurd (none-among _ command replied has)
   asked (Contact k position) split answered replied allowed =

@@ -13,11 +13,14 @@ use Rattle.bay_tree.specs.declared.row.Row.{Row}
 use Rattle.bay_device.specs.Commands.{IsReleasedAt}
 use Rattle.bay_device.specs.Device.{State}
 use Rattle.bay_device.specs.Fresh.{HasScan, IsSameProcess, Past}
+use Rattle.bay_device.specs.Remote.{IsAtRemote}
 use Rattle.bay_device.specs.declared.event.Step.{Step}
 use Rattle.bay_device.specs.declared.fault.StepFault.{StepFault}
 use Rattle.bay_device.proofs.FreshLemmas.{ScannedAt, Since, fresh-at, has-since, process-same}
+use Rattle.bay_device.proofs.RemoteLemmas.{remote-since, same-key, settings_of}
 use Rattle.bay_device.proofs.SameLemmas.{Parts, Same}
 use Rattle.cmd_replay.specs.History.{device_after}
+use Rattle.cmd_replay.proofs.HistoryLemmas.{past-settings}
 use Rattle.cmd_replay.proofs.KeptLemmas.{scan_told}
 use Rattle.bay_replay_laws.proofs.ScanLemmas.{LastScan, last-scan, same-since}
 use Rattle.cmd_serve.specs.Orders.{IsReleasedBy}
@@ -70,6 +73,15 @@ same-behind first (p ∷ since) scan earlier all =
     All-head (λ (p : Past). IsSameProcess scan.after p.after) p since all
 
 -- ---- commands
+
+-- Its key, if it has one, is at remote by the events behind.
+pub remote-behind : (first : State) (past : List Past) (old s : State) (now : ℕ)
+    (command : Command) → Stands first past old → Same old s → IsReleasedAt now s command
+    → IsAtRemote first past command
+remote-behind first past old s now command stands same released =
+    same-key old first
+    (ap settings_of (sym stands.last) ∙ past-settings first past stands.steps) past command
+    (remote-since old s past now command same stands.follows released)
 
 -- A switch that may be operated, on a device that has changed only for its clients since, is
 -- released by the last scan behind.

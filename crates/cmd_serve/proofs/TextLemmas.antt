@@ -2,28 +2,21 @@
 use Rattle.std.proofs.Common.{◌≡◌, ◌⊎◌, ◌<◌, ◌≤◌, ◌^◌, ℕ, suc, List, [], ◌∷◌, ◌++◌, codes, slice_get, Option, Some, None, Result, Ok, Err, inl, inr, refl, ap, sym, subst, ◌∙◌, arith}
 use Rattle.std.specs.Fmt.{decimal}
 use Rattle.std.specs.List.{Contains}
-use Rattle.bay_config.specs.declared.bay.Bay.{Bay}
-use Rattle.bay_config.specs.declared.fault.BayFault.{BayFault}
 use Rattle.bay_nodes.specs.declared.switch.Switch.{Switch}
-use Rattle.il_image.specs.Decoding.{image_spelled}
-use Rattle.il_image.specs.Images.{Image as Code}
-use Rattle.il_image.specs.declared.fault.ImageFault.{ImageFault}
 use Rattle.bay_mms_services.specs.declared.answer.Command.{Command}
 use Rattle.bay_device.specs.Device.{State}
 use Rattle.bay_device.specs.Fresh.{Past}
-use Rattle.bay_device.specs.Load.{IsCompiled, IsLoaded, Loads, LoadsRead}
+use Rattle.bay_device.specs.Load.{LoadsDevice}
 use Rattle.bay_device.specs.Outcomes.{last_moment}
 use Rattle.bay_device.specs.declared.event.Step.{Step}
 use Rattle.bay_device.specs.declared.event.Why.TheVariants.{Fault, Memory}
-use Rattle.bay_device.specs.declared.fault.LoadFault.{LoadFault}
 use Rattle.bay_device.specs.declared.fault.StepFault.{StepFault}
 use Rattle.bay_device.specs.declared.fault.StepFault.TheVariants.{NoSuchPoint}
-use Rattle.bay_device.proofs.IdleLemmas.{text-loaded}
 use Rattle.bay_process_port.specs.ProcessOutput.{refusal_text, process_turn_text}
 use Rattle.bay_report.specs.Lines.{command_part, commands_text}
-use Rattle.bay_report.specs.Load.{LoadsTo, file_of, text_of}
-use Rattle.bay_report.specs.declared.load.Form.{Form}
-use Rattle.bay_report.specs.declared.load.Form.TheVariants.{Logic, Image}
+use Rattle.bay_load.specs.Loads.{LoadData, LoadsTo}
+use Rattle.bay_load.proofs.LoadLemmas.{load-made}
+use Rattle.bay_load.specs.declared.load.Form.{Form}
 use Rattle.cmd_replay.proofs.HistoryLemmas.{past-fixed}
 use Rattle.bay_replay_laws.specs.Printed.{PrintedCommand, printed_command}
 use Rattle.bay_replay_laws.specs.ReadBack.{HaveIds}
@@ -215,24 +208,13 @@ printed-from begun turns is ids are =
 
 -- ---- the ids of a device that was loaded
 
-image-named : (b : Bay) (image : Result Code ImageFault) (s : State) → HaveIds b.switches
-    → LoadsRead b image (let r : Result State LoadFault = Ok s in r) → HaveIds s.switches
-image-named b (Ok i) s ids loads =
-    subst (λ (d : State). HaveIds d.switches) (sym loads.1) ids
-image-named b (Err fault) s ids loads = absurd cc
+pub loaded-named : (bay : List ℕ) (form : Form) (program : List ℕ) (l : LoadData)
+    → LoadsTo bay form program (Ok l) → HaveIds l.bay.switches
+loaded-named bay form program l loads =
+    bay-named bay l.bay (load-made bay form program l loads).read
 
-read-named : (bay : List ℕ) (file : Result Bay BayFault) (image : Result Code ImageFault)
-    (s : State) → file_of bay ≡ file
-    → Loads file image (let r : Result State LoadFault = Ok s in r) → HaveIds s.switches
-read-named bay (Ok b) image s is loads = image-named b image s (bay-named bay b is) loads
-read-named bay (Err fault) image s is loads = absurd cc
-
-pub loaded-named : (bay : List ℕ) (form : Form) (program : List ℕ) (device : State)
-    → LoadsTo bay form program (Ok device) → HaveIds device.switches
-loaded-named bay Logic program s loads =
-    let loaded : IsLoaded (file_of bay) (IsCompiled (text_of program)) s =
-    text-loaded (file_of bay) (text_of program) (let r : Result State LoadFault = Ok s in r) loads
-    in
-    subst (λ (d : State). HaveIds d.switches) (sym loaded.is) (bay-named bay loaded.bay loaded.read)
-loaded-named bay Image program s loads =
-    read-named bay (file_of bay) (image_spelled program) s refl loads
+pub device-named : (bay : List ℕ) (form : Form) (program : List ℕ) (device : State)
+    → LoadsDevice bay form program device → HaveIds device.switches
+device-named bay form program device is =
+    subst (λ (d : State). HaveIds d.switches) (sym is.2)
+    (loaded-named bay form program is.0 is.1)

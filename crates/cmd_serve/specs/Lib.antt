@@ -25,7 +25,7 @@ pub use Rattle.bay_process_port.specs.Supervision
 pub use Rattle.bay_process_port.specs.Supervised
 pub use Rattle.cmd_audit.specs.Judging
 pub use Rattle.cmd_replay.specs.History
-pub use Rattle.bay_report.specs.Load
+pub use Rattle.bay_load.specs.Loads
 pub use Rattle.bay_report.specs.Report
 pub use Rattle.bay_report.specs.TextLines
 pub use Rattle.bay_replay_laws.specs.Printed

@@ -14,6 +14,7 @@ use Rattle.bay_device.specs.Commands.{IsReleasedAt}
 use Rattle.bay_device.specs.Device.{State, bay_of}
 use Rattle.bay_device.specs.Fresh.{HasScan, IsSameProcess, Past}
 use Rattle.bay_device.specs.Outcomes.{outcome, place_of}
+use Rattle.bay_device.specs.Remote.{IsAtRemote}
 use Rattle.bay_device.specs.Steps.{OfAssociation}
 use Rattle.bay_device.specs.EntriesTold.{pdu_in, connection_state_at}
 use Rattle.bay_device.specs.declared.event.Event.TheVariants.{Recv}
@@ -65,7 +66,8 @@ pub record IsHeard (h : ServerData) (t : DoneTurn) : Type 0 where
 -- its result. The octets that the link takes for the association in the turn, followed by those
 -- that its queue then holds, are those that the queue held, followed by all that is sent to it. The
 -- last scan of the earlier turns released the command, and the events of this turn before it are of
--- associations, so they are no scans.
+-- associations, so they are no scans. If the switch has a key, the events of the earlier turns say
+-- that it is at remote.
 pub record IsOrdered (first : State) (h : ServerData) (t : DoneTurn) (past : List Past)
     (command : Command) : Type 0 where
   pub heard : IsHeard h t
@@ -87,6 +89,7 @@ pub record IsOrdered (first : State) (h : ServerData) (t : DoneTurn) (past : Lis
   pub allowed : IsReleasedAt t.now (done_at t.now heard.front h.device).after command
   pub released : IsReleasedBy t.now first.scan_max_age_ms past
       (done_at t.now heard.front h.device).after command
+  pub remote : IsAtRemote first past command
 
 -- Each command that one of the turns reports is ordered so.
 abbrev pub AreOrdered : State → ServerData → List Past → List DoneTurn → Type 0

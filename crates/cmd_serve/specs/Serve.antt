@@ -4,11 +4,9 @@ use Rattle.bay_io.specs.Calls.{WriteCall}
 use Rattle.std.specs.declared.io.ErrorKind.{ErrorKind}
 use Rattle.std.specs.Prelude.{◌≡◌, ℕ, true, is_err, is_some, List, ◌∷◌, ◌++◌, replicate, option_map, codes, MatchResult, Bool, Option, None, Some, Result, Ok, Err, ◌⊎◌, [], unwrap_or}
 use Rattle.bay_device.specs.Device.{State}
-use Rattle.bay_device.specs.Load.{IsCompiled, IsLoaded}
+use Rattle.bay_device.specs.Load.{IsLoaded, device_of}
 use Rattle.bay_device.specs.Meaning.{Runs}
 use Rattle.bay_device.specs.Outcomes.{associations}
-use Rattle.bay_device.specs.Report.{IsReport as IsReportOf}
-use Rattle.bay_device.specs.declared.report.Report.{Report}
 use Rattle.bay_files.specs.Files.{FileGuards, FileReads, FilesData, ReadsBoth, ReadsFile, ReadsNamed, UnreadData, unread_view}
 use Rattle.bay_files.specs.Keys.{ReadsNamedKey, keyless_view}
 use Rattle.bay_files.specs.declared.key.KeyFault.{KeyFault}
@@ -18,12 +16,14 @@ use Rattle.bay_io.specs.Watched.{Writing}
 use Rattle.bay_io.specs.declared.outbox.WriteFault.{WriteFault}
 use Rattle.bay_process_port.specs.Ports.{initial_port}
 use Rattle.bay_process_port.specs.Supervised.{SupervisionSettings}
-use Rattle.bay_report.specs.Load.{IsImageOf, LoadsTo, MayLoadTo, file_of, text_of}
+use Rattle.bay_load.specs.Loads.{IsCompiled, LoadsTo, MayLoadTo, file_of, text_of}
+use Rattle.bay_load.specs.Report.{IsReport as IsReportOf}
+use Rattle.bay_load.specs.declared.load.Form.{Form}
+use Rattle.bay_load.specs.declared.load.Form.TheVariants.{Logic, Image}
+use Rattle.bay_load.specs.declared.report.Report.{Report}
 use Rattle.bay_report.specs.LogLines.{IsReported, PrintsLogs, Refuses, UnreadReport, unwritten_line}
 use Rattle.bay_report.specs.Report.{IsLast, Prints, report_text}
 use Rattle.bay_report.specs.TextLines.{lines_of}
-use Rattle.bay_report.specs.declared.load.Form.{Form}
-use Rattle.bay_report.specs.declared.load.Form.TheVariants.{Logic, Image}
 use Rattle.bay_server_turn.specs.Calls.{Call}
 use Rattle.bay_server_turn.specs.Served.{text_in}
 use Rattle.bay_server_turn.specs.Turns.{ServerData}
@@ -37,7 +37,6 @@ use Rattle.bay_server.specs.ServeReport.{AfterTurn, ProcessData, Serving, Serves
 use Rattle.bay_server.specs.declared.clock.Clocks.{Clocks}
 use Rattle.bay_server.specs.declared.host.BindFault.{BindFault}
 use Rattle.cmd_audit.specs.Judging.{IsVerdictOn, VerdictReport}
-use Rattle.cmd_audit.specs.Names.{declared_in}
 use Rattle.cmd_audit.specs.declared.judging.RulesVerdict.{RulesVerdict}
 use Rattle.cmd_audit.specs.declared.judging.RulesVerdict.TheVariants as judged
 use Rattle.cmd_serve.specs.Live.{CommandsLive, IsSupervised}
@@ -46,7 +45,7 @@ use Rattle.cmd_serve.specs.Service.{DoneTurn, IsService, turns_in}
 use Rattle.cmd_serve.specs.Sums.{sums_log}
 use Rattle.cmd_serve.specs.Texts.{ArePrinted}
 use Rattle.cmd_serve.specs.declared.serve.Bound.{Bound}
-use Rattle.cmd_serve.specs.declared.serve.Loaded.{Loaded}
+use Rattle.cmd_serve.specs.declared.serve.LoadedFiles.{LoadedFiles}
 use Rattle.cmd_serve.specs.declared.serve.NamedFiles.{NamedFiles}
 use Rattle.cmd_serve.specs.declared.serve.Numbers.{Numbers}
 use Rattle.cmd_serve.specs.declared.serve.ServeStartFault.{ServeStartFault}
@@ -89,7 +88,7 @@ KeylessReport name keyless.Malformed =
 abbrev pub UnservedReport : ServeStartFault → Option (List ℕ) → List ℕ → ℕ → Type 0
 UnservedReport (unserved.Unread unread) = UnreadReport unread.name.now unread.fault
 UnservedReport (unserved.KeyFileFault none) = KeylessReport none.name.now none.fault
-UnservedReport (unserved.Refused fault) = Refuses fault
+UnservedReport (unserved.Refused error) = Refuses error
 UnservedReport (unserved.Unbound port fault) =
     IsReported (Some (unbound_log port fault)) (codes "fault 121\n") 3
 UnservedReport unserved.OutOfMemory = IsReported None (codes "fault memory\n") 3
@@ -125,13 +124,17 @@ RunsText Logic both s =
     × Runs loaded.made.checked s
 RunsText Image both s = Unit {0}
 
+-- the device of what was loaded
+abbrev pub state_of : LoadedFiles → State
+state_of loaded = device_of loaded.load
+
 -- the octets of the bay file and of the program or the image
-abbrev pub data_of : Loaded → FilesData
+abbrev pub data_of : LoadedFiles → FilesData
 data_of loaded =
     record { bay = loaded.both.bay.items; program = loaded.both.program.items }
 
 -- the octets of the rules, if they were named
-abbrev pub rules_of : Loaded → Option (List ℕ)
+abbrev pub rules_of : LoadedFiles → Option (List ℕ)
 rules_of loaded = option_map (λ rules. rules.items) loaded.rules
 
 -- the file of the rules was read, if it was named
@@ -146,17 +149,15 @@ ReadsRules reads files (Some name) (Err unread) = ReadsFile reads files name (Er
 -- if they were named. Their contents were loaded; or one could not be read, or had no key, or the
 -- load was refused.
 abbrev pub LoadsFiles : {F : Type 0} → FileReads F → FileGuards F → F → FileNames
-    → Result Loaded ServeStartFault → Type 0
+    → Result LoadedFiles ServeStartFault → Type 0
 LoadsFiles reads guards files named (Ok loaded) =
     ReadsBoth reads files named.bay named.program (Ok (data_of loaded))
     × ReadsNamed reads files named.trace (Ok loaded.trace.items)
     × ReadsNamedKey guards files named.key (Ok (option_map (λ key. key.items) loaded.key))
     × ReadsRules reads files named.rules (Ok (rules_of loaded))
     × (loaded.form ≡ named.form)
-    × IsLoaded (file_of loaded.both.bay.items) (IsImageOf named.form loaded.both.program.items)
-    loaded.device
-    × LoadsTo loaded.both.bay.items named.form loaded.both.program.items (Ok loaded.device)
-    × RunsText named.form (data_of loaded) loaded.device
+    × LoadsTo loaded.both.bay.items named.form loaded.both.program.items (Ok loaded.load)
+    × RunsText named.form (data_of loaded) (state_of loaded)
 LoadsFiles reads guards files named (Err (unserved.Unread unread)) =
     ReadsBoth reads files named.bay named.program (Err (unread_view unread))
     ⊎ ((both : FilesData) × ReadsBoth reads files named.bay named.program (Ok both)
@@ -168,12 +169,12 @@ LoadsFiles reads guards files named (Err (unserved.KeyFileFault none)) =
     (both : FilesData) × ReadsBoth reads files named.bay named.program (Ok both)
     × ((trace : List ℕ) × ReadsNamed reads files named.trace (Ok trace)
     × ReadsNamedKey guards files named.key (Err (keyless_view none)))
-LoadsFiles reads guards files named (Err (unserved.Refused fault)) =
+LoadsFiles reads guards files named (Err (unserved.Refused error)) =
     (both : FilesData) × ReadsBoth reads files named.bay named.program (Ok both)
     × ((trace : List ℕ) × ReadsNamed reads files named.trace (Ok trace)
     × ((key : Option (List ℕ)) × ReadsNamedKey guards files named.key (Ok key)
     × ((rules : Option (List ℕ)) × ReadsRules reads files named.rules (Ok rules)
-    × MayLoadTo both.bay named.form both.program (Err fault))))
+    × MayLoadTo both.bay named.form both.program (Err error))))
 LoadsFiles reads guards files named (Err _) = ⊥
 
 -- ---- ports
@@ -221,17 +222,19 @@ module _ {L H : Type 0} (acts : H → HostCall L → H → Type 0) where
       (Some (record { link = other; port = initial_port tells duties })) bound)
       (λ fault. bound ≡ Err (unserved.Unbound port fault))
 
-  -- the port of the clients is opened, and then that of the process
+  -- the port of the clients is opened, and then that of the process; or memory runs out for the
+  -- device, before a port is opened
   abbrev pub BindsPorts : Numbers → Option SupervisionSettings → State → H → H
       → Result (Bound L) ServeStartFault
       → Type 0
   BindsPorts numbers duties s before after bound =
-      (had : Result L BindFault) × (mid : H)
+      ((had : Result L BindFault) × (mid : H)
       × acts before (Binds numbers.port numbers.idle_s had) mid
       × MatchResult had
       (λ link. BindsProcess (is_some numbers.record_most) numbers.tells_releases duties s link
       numbers.process mid after bound)
-      (λ fault. (after ≡ mid) × (bound ≡ Err (unserved.Unbound numbers.port fault)))
+      (λ fault. (after ≡ mid) × (bound ≡ Err (unserved.Unbound numbers.port fault))))
+      ⊎ ((after ≡ before) × (bound ≡ Err unserved.OutOfMemory))
 
 -- what is logged before the first turn: the ports, the room of the record, if there is one, and the
 -- sums of the files that are served
@@ -241,7 +244,7 @@ start_log now numbers served =
     ++ sums_log now served
 
 -- the files that are served, with the number of their rules
-abbrev pub served_of : Loaded → ℕ → ServedFiles
+abbrev pub served_of : LoadedFiles → ℕ → ServedFiles
 served_of loaded count =
     record { form = loaded.form; both = loaded.both; rules = loaded.rules; count = count }
 
@@ -292,13 +295,13 @@ module _ {L H W : Type 0} (step : L → Call → L → Type 0) (acts : H → Hos
 
   -- the ports are opened, and the device is served, with this number of rules; or it is reported
   -- why no turn is served
-  pub record ServesPorts (numbers : Numbers) (loaded : Loaded) (count : ℕ) (before after : H)
+  pub record ServesPorts (numbers : Numbers) (loaded : LoadedFiles) (count : ℕ) (before after : H)
       (old new : Writing W) (answer : Result ℕ WriteFault) : Type 0 where
     pub bound : Result (Bound L) ServeStartFault
     pub host : H
     pub binds : BindsPorts acts numbers
         (duties_of numbers.limit_ms (key_of (option_map (λ digits. digits.items) loaded.key)))
-        loaded.device before host bound
+        (state_of loaded) before host bound
     pub goes_on : MatchResult bound
         (λ ports. ServesBound numbers (served_of loaded count) ports loaded.trace.items host after
         old new answer)
@@ -306,7 +309,7 @@ module _ {L H W : Type 0} (step : L → Call → L → Type 0) (acts : H → Hos
 
   -- A verdict on the rules is printed. The ports are opened and served only if each rule holds;
   -- otherwise nothing more is done.
-  pub record ServesVerdict (numbers : Numbers) (loaded : Loaded) (verdict : RulesVerdict)
+  pub record ServesVerdict (numbers : Numbers) (loaded : LoadedFiles) (verdict : RulesVerdict)
       (before after : H) (old new : Writing W) (answer : Result ℕ WriteFault) : Type 0 where
     pub middle : Writing W
     pub told : Result ℕ WriteFault
@@ -314,17 +317,15 @@ module _ {L H W : Type 0} (step : L → Call → L → Type 0) (acts : H → Hos
     pub goes_on : AfterVerdict verdict told ((new ≡ middle) × (after ≡ before) × (answer ≡ told))
         (λ count. ServesPorts numbers loaded count before after middle new answer)
 
-  -- the rules are judged for the program of the device, and served by the verdict
-  pub record ServesJudged (numbers : Numbers) (loaded : Loaded) (rules : List ℕ) (before after : H)
-      (old new : Writing W) (answer : Result ℕ WriteFault) : Type 0 where
+  -- the rules are judged for the program that was loaded, and served by the verdict
+  pub record ServesJudged (numbers : Numbers) (loaded : LoadedFiles) (rules : List ℕ)
+      (before after : H) (old new : Writing W) (answer : Result ℕ WriteFault) : Type 0 where
     pub verdict : RulesVerdict
-    pub is : IsVerdictOn (file_of loaded.both.bay.items)
-        (declared_in loaded.form loaded.both.program.items) rules loaded.device.machine.image
-        verdict
+    pub is : IsVerdictOn loaded.load rules verdict
     pub serves : ServesVerdict numbers loaded verdict before after old new answer
 
   -- the ports are served, after the rules are judged, if they were named
-  abbrev pub ServesRules : Option (List ℕ) → Numbers → Loaded → H → H → Writing W → Writing W
+  abbrev pub ServesRules : Option (List ℕ) → Numbers → LoadedFiles → H → H → Writing W → Writing W
       → Result ℕ WriteFault → Type 0
   ServesRules None numbers loaded before after old new answer =
       ServesPorts numbers loaded 0 before after old new answer
@@ -332,10 +333,10 @@ module _ {L H W : Type 0} (step : L → Call → L → Type 0) (acts : H → Hos
       ServesJudged numbers loaded rules before after old new answer
 
   -- the line of a load is printed, and then the rules are judged and the ports are served
-  pub record ServesLoaded (numbers : Numbers) (loaded : Loaded) (before after : H)
+  pub record ServesLoaded (numbers : Numbers) (loaded : LoadedFiles) (before after : H)
       (old new : Writing W) (answer : Result ℕ WriteFault) : Type 0 where
     pub report : Report
-    pub is : IsReportOf loaded.device.machine.image report
+    pub is : IsReportOf loaded.load.image report
     pub middle : Writing W
     pub told : Result ℕ WriteFault
     pub printed : Prints contents asks (IsLast (report_text report) 0) old middle told
@@ -347,7 +348,7 @@ module _ {L H W : Type 0} (step : L → Call → L → Type 0) (acts : H → Hos
   pub record ServesFiles {F : Type 0} (reads : FileReads F) (guards : FileGuards F) (files : F)
       (named : FileNames) (numbers : Numbers) (before after : H) (old new : Writing W)
       (answer : Result ℕ WriteFault) : Type 0 where
-    pub loaded : Result Loaded ServeStartFault
+    pub loaded : Result LoadedFiles ServeStartFault
     pub loads : LoadsFiles reads guards files named loaded
     pub goes_on : MatchResult loaded
         (λ all. ServesLoaded numbers all before after old new answer)

@@ -1,15 +1,15 @@
 // Laws of a service. Each function does nothing, and its contract is the law.
-ghost use Rattle.std.specs.Prelude.{ℕ, List, [], Ok, Result, replicate};
+ghost use Rattle.std.specs.Prelude.{ℕ, List, [], Result, replicate};
 ghost use Rattle.bay_device.specs.Device.{State};
 ghost use Rattle.bay_device.specs.Fresh.{Came};
 ghost use Rattle.bay_io.specs.Watched.{Writing};
 ghost use Rattle.bay_io.specs.declared.outbox.WriteFault.{WriteFault};
-ghost use Rattle.bay_device.specs.Load.{IsCompiled, IsLoaded};
+ghost use Rattle.bay_device.specs.Load.{IsLoaded, LoadsDevice};
 ghost use Rattle.bay_device.specs.Meaning.{Runs};
 ghost use Rattle.bay_device.specs.Outcomes.{associations};
-ghost use Rattle.bay_report.specs.Load.{LoadsTo, file_of, text_of};
-ghost use Rattle.bay_report.specs.declared.load.Form.{Form};
-ghost use Rattle.bay_report.specs.declared.load.Form.TheVariants.{Logic};
+ghost use Rattle.bay_load.specs.Loads.{IsCompiled, file_of, text_of};
+ghost use Rattle.bay_load.specs.declared.load.Form.{Form};
+ghost use Rattle.bay_load.specs.declared.load.Form.TheVariants.{Logic};
 ghost use Rattle.bay_replay_laws.specs.ReadBack.{HaveIds};
 ghost use Rattle.bay_server_turn.specs.Calls.{Called};
 ghost use Rattle.bay_server_turn.specs.Turns.{ServerData};
@@ -39,10 +39,10 @@ pub fn all_turns_are_one_run<L: Link, H: Host<L>, W: Sink>(_link: &L, _host: &H,
         before old host new answer serves) }
     // A new server of a device that was just loaded meets `IsBegun`.
     ensures begins { (bay : List ℕ) (form : Form) (program : List ℕ) (device : State)
-        → LoadsTo bay form program (Ok device)
+        → LoadsDevice bay form program device
         → IsBegun (record { device = device; queues = replicate associations [] }) }
     // A device that was loaded from a program's text runs it.
-    ensures runs { (bay program : List ℕ) (device : State) → LoadsTo bay Logic program (Ok device)
+    ensures runs { (bay program : List ℕ) (device : State) → LoadsDevice bay Logic program device
         → (loaded : IsLoaded (file_of bay) (IsCompiled (text_of program)) device)
         × Runs loaded.made.checked device }
 {}
@@ -58,7 +58,8 @@ pub fn all_turns_are_one_run<L: Link, H: Host<L>, W: Sink>(_link: &L, _host: &H,
 ///
 /// The last scan before the command is of an earlier turn and not too old. It left the switch's
 /// interlocking value TRUE, and since then the process has not changed: in the turn itself only
-/// events of associations come before the octets.
+/// events of associations come before the octets. If the switch has a key, the process last reported
+/// before this turn that the key is at remote, and it was not lost since.
 pub fn each_command_is_asked_for<L: Link, H: Host<L>, W: Sink>(_link: &L, _host: &H, _sink: &W)
     ensures { (turns : ℕ) (before : Serving L H) (old new : Writing W) (host : H)
         (answer : Result ℕ WriteFault)
@@ -81,7 +82,7 @@ pub fn printed_commands_are_asked_for<L: Link, H: Host<L>, W: Sink>(_link: &L, _
         W.contents W.does turns before old host new answer serves) }
     // The switches of a device that was loaded have ids.
     ensures names { (bay : List ℕ) (form : Form) (program : List ℕ) (device : State)
-        → LoadsTo bay form program (Ok device) → HaveIds device.switches }
+        → LoadsDevice bay form program device → HaveIds device.switches }
 {}
 
 /// No octets that any client sends, in whatever turns, cause a command without the interlocking:

@@ -1,11 +1,10 @@
 // Reads, loads and serves files.
-ghost use Rattle.std.specs.Prelude.{◌≡◌, None, Some, Ok, Err, true, false, is_ok, is_some, replicate, IfErr, IfOk, ◌≤◌, length, option_map};
-ghost use Rattle.bay_device.specs.Entries.{IsIdle};
+ghost use Rattle.std.specs.Prelude.{◌≡◌, None, Some, Ok, Err, false, is_some, replicate, IfErr, IfOk, ◌≤◌, length, option_map};
+ghost use Rattle.bay_device.specs.Load.{device_of};
 ghost use Rattle.bay_files.specs.Files.{unread_view};
 ghost use Rattle.bay_device.specs.Outcomes.{associations};
-ghost use Rattle.bay_report.specs.Load.{file_of};
 ghost use Rattle.bay_report.specs.LogLines.{PrintsLogs};
-ghost use Rattle.cmd_serve.specs.Serve.{BindsPorts, BindsProcess, EndsUnserved, IsBound, IsRecordFault, KeylessReport, LoadsFiles, ReadsRules, ServesBound, ServesFiles, ServesLoaded, ServesPorts, ServesVerdict, Unrecorded, UnservedReport, duties_of, key_of, made_of, names_of};
+ghost use Rattle.cmd_serve.specs.Serve.{BindsPorts, BindsProcess, EndsUnserved, IsBound, IsRecordFault, KeylessReport, LoadsFiles, ReadsRules, ServesBound, ServesFiles, ServesLoaded, ServesPorts, ServesVerdict, Unrecorded, UnservedReport, duties_of, key_of, made_of, names_of, state_of};
 ghost use Rattle.cmd_serve.specs.declared.serve.ServeStartFault.TheVariants as unserved;
 ghost use Rattle.bay_replay_laws.specs.ReadBack.{HaveIds};
 ghost use Rattle.bay_server_turn.specs.Calls.{Called};
@@ -13,7 +12,6 @@ ghost use Rattle.cmd_serve.specs.Service.{IsBegun};
 
 use crate::sums::{ServedFiles, log_sums};
 use bay_device::device::Device;
-use bay_device::fault::LoadFault;
 use bay_files::files::{
     BothFiles, FileFault, FileSystem, UnreadFile, read_file, read_files, read_optional,
 };
@@ -21,9 +19,11 @@ use bay_files::key::{KeyFault, KeyFileFault, read_key};
 use bay_io::calls::{LinePart, Sink};
 use bay_io::outbox::WriteFault;
 use bay_io::writer::WatchedWriter;
+use bay_load::error::LoadError;
+use bay_load::load::{Form, load_files};
+use bay_load::loaded::Loaded;
 use bay_process_port::port::Port;
 use bay_process_port::supervision::SupervisionSettings;
-use bay_report::load::{Form, load_program};
 use bay_report::log::{
     log_unwritten, report_load_refusal, report_unread, write_and_log, write_out_of_memory,
 };
@@ -68,14 +68,14 @@ pub struct NamedFiles<'a> {
     pub rules: Option<&'a str>,
 }
 
-/// The contents of the files: a bay file and a program or an image, the device that they were
-/// loaded to, a trace, and a key and rules, if there are some.
+/// The contents of the files: a bay file and a program or an image, what was loaded of them, a
+/// trace, and a key and rules, if there are some.
 #[derive(Drop)]
-pub struct Loaded {
+pub struct LoadedFiles {
     form: Form,
     both: BothFiles,
     rules: Option<Vec<u8>>,
-    device: Device,
+    load: Loaded,
     trace: Vec<u8>,
     key: Option<Vec<u8>>,
 }
@@ -96,7 +96,7 @@ pub enum ServeStartFault<'a> {
     /// The file of the key can't be read, users other than its owner may read it, or it has no key.
     KeyFileFault(KeyFileFault<'a>),
     /// The load is refused.
-    Refused(LoadFault),
+    Refused(LoadError),
     /// This port can't be opened.
     Unbound(u16, BindFault),
     /// The file with this name can't be created for the record.
@@ -120,11 +120,11 @@ impl<'a> From<KeyFileFault<'a>> for ServeStartFault<'a> {
     }
 }
 
-impl From<LoadFault> for ServeStartFault<'_> {
-    ghost from_gives = { λ fault why. why ≡ unserved.Refused fault };
+impl From<LoadError> for ServeStartFault<'_> {
+    ghost from_gives = { λ error why. why ≡ unserved.Refused error };
 
-    fn from(fault: LoadFault) -> Self {
-        ServeStartFault::Refused(fault)
+    fn from(error: LoadError) -> Self {
+        ServeStartFault::Refused(error)
     }
 }
 
@@ -226,37 +226,35 @@ fn read_rules<'a, F: FileSystem>(
 
 // Reads the bay, then the program or the image, then the trace, the key and the rules, if they are
 // named, and loads them.
-fn load_files<'a, F: FileSystem>(
+fn read_and_load<'a, F: FileSystem>(
     alloc: Global,
     named: NamedFiles<'a>,
     files: &F,
-) -> Result<Loaded, ServeStartFault<'a>>
+) -> Result<LoadedFiles, ServeStartFault<'a>>
     ensures ok { IfOk result
         (λ loaded. LoadsFiles F.reads F.guards files.now (names_of named.entry) (Ok loaded)) }
     ensures err { IfErr result
         (λ why. LoadsFiles F.reads F.guards files.now (names_of named.entry) (Err why)) }
-    ensures idle { IfOk result (λ loaded. IsIdle loaded.device) }
-    ensures begun { IfOk result (λ loaded. IsBegun (made_of loaded.device)) }
-    ensures named { IfOk result (λ loaded. HaveIds loaded.device.switches) }
+    ensures begun { IfOk result (λ loaded. IsBegun (made_of (state_of loaded))) }
+    ensures named { IfOk result (λ loaded. HaveIds loaded.load.bay.switches) }
     ensures short { IfOk result
         (λ loaded. length (key_of (option_map (λ digits. digits.items) loaded.key)) ≤ 64) }
-    ensures read { IfOk result (λ loaded. is_ok (file_of loaded.both.bay.items) ≡ true) }
 {
     let both = read_files(alloc, files, named.bay, named.program)?;
     let trace = read_optional(alloc, files, named.trace)?;
     let key = read_key(alloc, files, named.key)?;
     let rules = read_rules(alloc, files, named.rules)?;
-    let device = load_program(
+    let load = load_files(
         alloc,
         both.bay.as_slice(),
         named.form,
         both.program.as_slice(),
     )?;
-    Ok(Loaded {
+    Ok(LoadedFiles {
         form: named.form,
         both,
         rules,
-        device,
+        load,
         trace,
         key,
     })
@@ -379,23 +377,23 @@ fn bind_process<'a, F: FileSystem, L: Link + Drop, H: Host<L>>(
     }
 }
 
-// Opens the port of the clients, and then that of the process, if there is one, and starts the
-// record.
+// Makes the device, opens the port of the clients, and then that of the process, if there is one,
+// and starts the record.
 fn bind_ports<'a, F: FileSystem, L: Link + Drop, H: Host<L>>(
     alloc: Global,
-    device: Device,
+    load: Loaded,
     host: &mut H,
     numbers: Numbers,
     duties: Option<SupervisionSettings>,
     record_file: Option<&'a str>,
     files: &mut F,
 ) -> Result<Bound<L>, ServeStartFault<'a>>
-    requires closed { device.connections ≡ replicate associations None }
     requires records { is_some numbers.record_most ≡ is_some record_file }
-    ensures binds { BindsPorts H.does numbers duties device host.old host.new result }
-    ensures server { IfOk result (λ bound. bound.server ≡ made_of device) }
+    ensures binds { BindsPorts H.does numbers duties (device_of load) host.old host.new result }
+    ensures server { IfOk result (λ bound. bound.server ≡ made_of (device_of load)) }
     ensures files { is_some numbers.record_most ≡ false → files.new ≡ files.old }
 {
+    let device = Device::new(alloc, load)?;
     match host.bind(numbers.port, numbers.idle_s) {
         Ok(link) => bind_process(
             alloc,
@@ -452,7 +450,7 @@ fn serve_bound<L: Link + Drop, H: Host<L>, W: Sink>(
 // Opens the ports, starts the record, and serves, with this number of rules.
 fn serve_ports<F: FileSystem, L: Link + Drop, H: Host<L>, W: Sink>(
     alloc: Global,
-    loaded: Loaded,
+    loaded: LoadedFiles,
     count: usize,
     record_file: Option<&str>,
     files: &mut F,
@@ -460,20 +458,19 @@ fn serve_ports<F: FileSystem, L: Link + Drop, H: Host<L>, W: Sink>(
     numbers: Numbers,
     writer: &mut WatchedWriter<W>,
 ) -> Result<u8, WriteFault>
-    requires closed { loaded.device.connections ≡ replicate associations None }
     requires records { is_some numbers.record_most ≡ is_some record_file }
-    requires begun { IsBegun (made_of loaded.device) }
-    requires named { HaveIds loaded.device.switches }
+    requires begun { IsBegun (made_of (state_of loaded)) }
+    requires named { HaveIds loaded.load.bay.switches }
     requires short { length (key_of (option_map (λ digits. digits.items) loaded.key)) ≤ 64 }
     ensures serves { ServesPorts (Called L.does L.failures) H.does W.contents W.does numbers loaded
         count host.old host.new writer.old writer.new result }
     ensures files { is_some numbers.record_most ≡ false → files.new ≡ files.old }
 {
-    let Loaded {
+    let LoadedFiles {
         form,
         both,
         rules,
-        device,
+        load,
         trace,
         key,
     } = loaded;
@@ -484,7 +481,7 @@ fn serve_ports<F: FileSystem, L: Link + Drop, H: Host<L>, W: Sink>(
         count,
     };
     let duties = duties_by(numbers.limit_ms, key_octets(&key));
-    match bind_ports(alloc, device, host, numbers, duties, record_file, files) {
+    match bind_ports(alloc, load, host, numbers, duties, record_file, files) {
         Ok(bound) => serve_bound(bound, served, trace.as_slice(), host, numbers, writer),
         Err(why) => tell_unserved(writer, why),
     }
@@ -493,7 +490,7 @@ fn serve_ports<F: FileSystem, L: Link + Drop, H: Host<L>, W: Sink>(
 // Judges rules for the device and writes the verdict; serves only if each rule holds.
 fn serve_judged<F: FileSystem, L: Link + Drop, H: Host<L>, W: Sink>(
     alloc: Global,
-    loaded: Loaded,
+    loaded: LoadedFiles,
     verdict: RulesVerdict,
     record_file: Option<&str>,
     files: &mut F,
@@ -501,10 +498,9 @@ fn serve_judged<F: FileSystem, L: Link + Drop, H: Host<L>, W: Sink>(
     numbers: Numbers,
     writer: &mut WatchedWriter<W>,
 ) -> Result<u8, WriteFault>
-    requires closed { loaded.device.connections ≡ replicate associations None }
     requires records { is_some numbers.record_most ≡ is_some record_file }
-    requires begun { IsBegun (made_of loaded.device) }
-    requires named { HaveIds loaded.device.switches }
+    requires begun { IsBegun (made_of (state_of loaded)) }
+    requires named { HaveIds loaded.load.bay.switches }
     requires short { length (key_of (option_map (λ digits. digits.items) loaded.key)) ≤ 64 }
     ensures serves { ServesVerdict (Called L.does L.failures) H.does W.contents W.does numbers
         loaded
@@ -533,32 +529,24 @@ fn serve_judged<F: FileSystem, L: Link + Drop, H: Host<L>, W: Sink>(
 // record, and serves.
 fn serve_loaded<F: FileSystem, L: Link + Drop, H: Host<L>, W: Sink>(
     alloc: Global,
-    loaded: Loaded,
+    loaded: LoadedFiles,
     record_file: Option<&str>,
     files: &mut F,
     host: &mut H,
     numbers: Numbers,
     writer: &mut WatchedWriter<W>,
 ) -> Result<u8, WriteFault>
-    requires closed { loaded.device.connections ≡ replicate associations None }
     requires records { is_some numbers.record_most ≡ is_some record_file }
-    requires begun { IsBegun (made_of loaded.device) }
-    requires named { HaveIds loaded.device.switches }
+    requires begun { IsBegun (made_of (state_of loaded)) }
+    requires named { HaveIds loaded.load.bay.switches }
     requires short { length (key_of (option_map (λ digits. digits.items) loaded.key)) ≤ 64 }
-    requires read { is_ok (file_of loaded.both.bay.items) ≡ true }
     ensures serves { ServesLoaded (Called L.does L.failures) H.does W.contents W.does numbers loaded
         host.old host.new writer.old writer.new result }
     ensures files { is_some numbers.record_most ≡ false → files.new ≡ files.old }
 {
-    write_report(writer, loaded.device.report())?;
+    write_report(writer, loaded.load.report())?;
     let verdict = match &loaded.rules {
-        Some(rules) => judge_rules(
-            alloc,
-            &loaded.both,
-            loaded.form,
-            rules.as_slice(),
-            &loaded.device,
-        ),
+        Some(rules) => judge_rules(alloc, &loaded.load, rules.as_slice()),
         None => return serve_ports(alloc, loaded, 0, record_file, files, host, numbers, writer),
     };
     serve_judged(
@@ -605,7 +593,7 @@ pub fn serve<F: FileSystem, L: Link + Drop, H: Host<L>, W: Sink>(
         result }
     ensures files { is_some numbers.record_most ≡ false → files.new ≡ files.old }
 {
-    match load_files(alloc, named, files) {
+    match read_and_load(alloc, named, files) {
         Ok(loaded) => serve_loaded(alloc, loaded, record_file, files, host, numbers, writer),
         Err(why) => tell_unserved(writer, why),
     }

@@ -9,7 +9,7 @@ ghost use Rattle.cmd_serve.specs.Sums.{program_words, rules_log, sum_line, sums_
 use bay_files::files::BothFiles;
 use bay_io::calls::{LinePart, Sink};
 use bay_io::writer::WatchedWriter;
-use bay_report::load::Form;
+use bay_load::load::Form;
 use sha2::{Digest, Sha256};
 
 /// The octets of the files that are served: a bay file, a program or an image, and rules, if there

@@ -6,8 +6,10 @@
 // `ok`; `selected` the index of the selected switch.
 //
 // An `ASK` is `POSITION CATEGORY IDENTITY` with `on` or `off` and the octets of the identity,
-// followed by `test` for a test. A `VIEW` is the position, `fresh` or `stale` (`lost-fresh` or
-// `lost-stale` if the process is lost), and EnaOpn and EnaCls, as `01`.
+// followed by `test` for a test and by `synchrocheck` if Check requests one. A `VIEW` is the position,
+// `fresh` or `stale` (`lost-fresh` or `lost-stale` if the process is lost, `local-fresh` or
+// `local-stale` if the key is at local, `lost-local-stale` if both are so), and EnaOpn and EnaCls,
+// as `01`.
 use crate::tree::position_of;
 use anyhow::{Result, bail};
 use bay_base::switch::Operation;
@@ -22,7 +24,7 @@ use std::alloc::Global;
 
 // Reads the parameters of a request. Only the first 64 octets of an identity are used.
 fn ask_of(alloc: Global, words: &[&str]) -> Result<Ask> {
-    let [position, category, identity, test @ ..] = words else {
+    let [position, category, identity, others @ ..] = words else {
         bail!("nothing is asked for");
     };
     let octets = octets_of(alloc, identity)?;
@@ -32,7 +34,8 @@ fn ask_of(alloc: Global, words: &[&str]) -> Result<Ask> {
     };
     Ok(Ask {
         operation,
-        test: !test.is_empty(),
+        test: others.iter().any(|word| *word == "test"),
+        synchrocheck: others.iter().any(|word| *word == "synchrocheck"),
         origin: Originator {
             cat: category.parse::<i8>()?,
             ident: Identity::new(&octets.as_slice()[..octets.len().min(64)]),
@@ -45,6 +48,7 @@ fn view_of(position: &str, age: &str, released: &str) -> View {
     View {
         pos: position_of(position),
         lost: age.starts_with("lost"),
+        local: age.contains("local"),
         fresh: age.ends_with("fresh"),
         ena_opn: released.starts_with("1"),
         ena_cls: released.ends_with("1"),

@@ -6,7 +6,7 @@ from devtools.served import Server
 
 EXAMPLE = TOP / 'examples' / '05_double_busbar'
 STEPS, BAY, LOGIC = (EXAMPLE / name for name in ('acceptance', 'bay.toml', 'logic.il'))
-PASSED = 'PASSED: 30 steps, 13 expectations, all passed'
+PASSED = 'PASSED: 51 steps, 21 expectations, all passed'
 
 
 def acceptance(checks) -> None:
@@ -16,13 +16,27 @@ def acceptance(checks) -> None:
     found, status = checks.run('acceptance', *words, LOGIC, '--scenario', scenario, '--html',
                                page)
     checks.wants('an acceptance test', found + page.read_text(), status,
-                 [PASSED, 'Signatures', 'refused: blocked by process (9)'], 0)
+                 [PASSED, 'Signatures', 'refused: blocked by process (9)',
+                  'refused: blocked by switching hierarchy (2)'], 0)
     checks.wants('its scenario', *checks.run('explain', scenario, '--bayctl', checks.bayctl),
                  ['command: close QB1', 'operate QA1 close has ended: done'], 0)
     changed = checks.file('changed.il', LOGIC.read_text().replace('AND QC1_OPEN', 'ANDN BYPASS'))
     checks.wants('an acceptance test of another program',
                  *checks.run('acceptance', *words, changed),
-                 ['expect blocked QB1 close: FAILED: released', 'FAILED: 30 steps'], 1)
+                 ['expect blocked QB1 close: FAILED: released', 'FAILED: 51 steps'], 1)
+    without_keys(checks)
+
+
+def without_keys(checks) -> None:
+    """At a replay of the same bay with an input in the place of its key."""
+    bay = checks.file('keyless.toml', BAY.read_text().replace('remote = "REMOTE"', ''))
+    steps = STEPS.read_text()
+    for where, value in (('local', 0), ('remote', 1)):
+        steps = steps.replace(f'do key QA1 {where}', f'do input REMOTE {value}')
+    checks.wants('an acceptance test of a bay without its keys', *checks.run(
+        'acceptance', checks.file('keyless', steps), '--bay', bay, '--bayctl', checks.bayctl,
+        '--logic', LOGIC),
+        ['expect refused: FAILED: accepted', 'expect refused 2: FAILED: refused'], 1)
 
 
 def served_acceptance(checks) -> None:

@@ -6,10 +6,14 @@ NO_LAW = {
     '': 'no clause says it: it is what a proof of a function is',
     'bay_audit audit': OWN_WORDS + 'each scan from each process, in each state; the laws of '
                        'bay_audit_laws say what that is of a device',
+    'bay_audit_hazards judge': OWN_WORDS + 'each scan from each process in which the operation is '
+                               'a hazard, in each state',
     'bay_base same_name': OWN_WORDS + 'a table of words, and letters that differ in case',
     'bay_ber BerFault::code': OWN_WORDS + 'a number for each fault',
     'bay_config read_bay': '`sound` is the law of what `read` gives: a bay whose names differ and '
                            'whose rows make a tree',
+    'bay_diagram_file read_diagram': OWN_WORDS + 'the tables of a file, and what each of them and '
+                                     'all together must be',
     'bay_device load': '`accepted` and `refused` say of the texts themselves what `device` comes '
                        'to: a bay file that is read, and a program right by its grammar and types',
     'bay_device Device::run': '`operates`, `fresh`, `backed`, `means` and `halts` say what the '
@@ -26,6 +30,7 @@ NO_LAW = {
     'bay_main CommandResult::of': OWN_WORDS + 'a status for each answer',
     'bay_stdio Output::new': OWN_WORDS + 'what each call leaves written, and what waits',
     'cmd_replay run_replay': OWN_WORDS + 'what the reads gave, and what the writes took',
+    'bay_report write_report': OWN_WORDS + 'the texts of a load and of an answer, part by part',
     'bay_report report_unread': OWN_WORDS + 'the words of the line, and what is printed',
     'bay_server_turn serve_turn': 'it speaks of refusals alone; what a turn does has its laws '
                                   'in bay_server_turn_laws',

@@ -5,25 +5,36 @@ from baytools.common.html_page import A4, code, escaped, page, signatures, table
 from baytools.common.texts import counted
 
 from .bench import Finding
-from .steps import Section
+from .steps import Section, keyed
 
 WIDTHS = (7, 28, 26, 29, 10)  # of the columns of steps, in percent
 STYLE = 'table.steps { table-layout: fixed }\n' + '\n'.join(
     f'.steps th:nth-child({at}) {{ width: {width}% }}' for at, width in enumerate(WIDTHS, 1))
 
 
-def verdict(findings: list[Finding]) -> str:
+def untried(file: dict, findings: list[Finding]) -> list[str]:
+    """The switches with a key of which no step showed that at local an operate is refused."""
+    tried = {it.step.tried for it in findings if it.is_good}
+    return [name for name in keyed(file) if name not in tried]
+
+
+def verdict(file: dict, findings: list[Finding]) -> str:
     """What came of the test, in words."""
     expected = [it for it in findings if it.step.is_expected]
     failed = sum(not it.is_good for it in expected)
     of = f'{counted(len(findings), "step")}, {counted(len(expected), "expectation")}'
     if not expected:
         return f'FAILED: {of}: nothing is expected'
-    return f'FAILED: {of}, of which {failed} failed' if failed else f'PASSED: {of}, all passed'
+    if failed:
+        return f'FAILED: {of}, of which {failed} failed'
+    if names := untried(file, findings):
+        return f'FAILED: {of}: no step tries the key of {", ".join(names)} at local'
+    return f'PASSED: {of}, all passed'
 
 
-def is_passed(findings: list[Finding]) -> bool:
-    return any(it.step.is_expected for it in findings) and all(it.is_good for it in findings)
+def is_passed(file: dict, findings: list[Finding]) -> bool:
+    return (any(it.step.is_expected for it in findings) and all(it.is_good for it in findings)
+            and not untried(file, findings))
 
 
 def rows_of(section: Section, findings: dict[int, Finding]) -> list[tuple[str, ...]]:
@@ -52,9 +63,9 @@ def page_of(file: dict, files: dict, how: str, sections: list[Section],
     by_line = {it.step.line: it for it in findings}
     heads = ['#Line', 'Step', 'Expected', 'Found', 'Result']
     title = f'Acceptance test of bay {bay["domain"]}'
-    kind = 'good' if is_passed(findings) else 'bad'
+    kind = 'good' if is_passed(file, findings) else 'bad'
     parts = [f'<h1>{escaped(title)}</h1>',
-             f'<div class="verdict {kind}"><p>{escaped(verdict(findings))}</p></div>',
+             f'<div class="verdict {kind}"><p>{escaped(verdict(file, findings))}</p></div>',
              *page_head.head('tools/acceptance', page_head.span_told(begun, page_head.now()), about,
                              read),
              signatures(), '<h2>Steps</h2>']

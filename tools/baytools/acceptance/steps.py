@@ -12,9 +12,12 @@ from baytools.wire.words import ADD_CAUSES
 WAYS = {'open': False, 'close': True}
 ASKS = ('select', 'operate', 'cancel')
 UNKNOWN = 'unknown'  # the position of a switch that has not reported yet
+KEYS = {'local': 0, 'remote': 1}  # a key, and what its input is then
+AT_LOCAL = 2  # the cause of what is refused while a key is at local: blocked by switching hierarchy
 FORMS = {
     'do contact': 'do contact SWITCH open|closed|intermediate|bad',
-    'do input': 'do input NAME 0|1', 'do measure': 'do measure METER FIELD VALUE|bad',
+    'do input': 'do input NAME 0|1', 'do key': 'do key SWITCH local|remote',
+    'do measure': 'do measure METER FIELD VALUE|bad',
     'do lost': 'do lost', 'do wait': 'do wait TIME, such as 5s',
     'do select': 'do select SWITCH open|close', 'do operate': 'do operate SWITCH open|close',
     'do cancel': 'do cancel SWITCH open|close',
@@ -34,7 +37,8 @@ class BadSteps(Failed):
 class Step:
     """A line of the test: its number, its words as they stand, whether something is expected, its
     kind (the word behind do or expect), and what it names. `told` is the line of a process, of a
-    contact, an input or a measure; `time` a wait in milliseconds; `cause` an AddCause."""
+    contact, an input or a measure; `time` a wait in milliseconds; `cause` an AddCause; `tried` the
+    switch that is to be refused since its key is at local."""
     line: int
     text: str
     is_expected: bool
@@ -45,6 +49,7 @@ class Step:
     told: str = ''
     time: int = 0
     cause: int | None = None
+    tried: str = ''
 
 
 @dataclass
@@ -55,12 +60,14 @@ class Section:
 
 
 class Reader:
-    """Reads the steps of a bay. `asked` is the switch that was asked last."""
+    """Reads the steps of a bay. `asked` is the switch that was asked last, `is_local` whether that
+    was to operate it while its key was at local; `true` are the inputs that are TRUE."""
 
     def __init__(self, path: str, file: dict) -> None:
         self.path, self.known = path, Known(file, is_process=True)
         self.switches = {raised(one['id']): one for one in file['switch']}
         self.asked: dict | None = None
+        self.is_local, self.true = False, set()
         self.line = 0
 
     def wrong(self, told: str) -> BadSteps:
@@ -96,9 +103,16 @@ class Reader:
         match lead, kind, rest:
             case 'do', 'contact', [name, position] if position in POSITIONS:
                 return {'told': self.told('contact', name, POSITIONS.index(position))}
-            case 'do', 'input' | 'measure', [*words] if len(words) == (2 if kind == 'input' else 3):
-                return {'told': self.told(kind, *words[:-1], words[-1])}
-            case ('do', 'lost', []) | ('expect', 'no', ['command']):
+            case 'do', 'input', [name, value]:
+                return {'told': self.input(name, value)}
+            case 'do', 'key', [name, where] if where in KEYS:
+                return {'told': self.input(self.key(name), KEYS[where])}
+            case 'do', 'measure', [name, of, value]:
+                return {'told': self.told(kind, name, of, value)}
+            case 'do', 'lost', []:
+                self.true.clear()
+                return {}
+            case 'expect', 'no', ['command']:
                 return {}
             case 'expect', 'accepted', []:
                 self.control()
@@ -106,15 +120,40 @@ class Reader:
             case 'do', 'wait', [time]:
                 return {'time': self.time(time)}
             case 'do', _, [name, way] if kind in ASKS and way in WAYS:
-                self.asked = self.switches[self.switch(name)]
-                return {'switch': self.asked['id'], 'way': way}
+                return self.asks(kind, name, way)
             case 'expect', 'released' | 'blocked' | 'command', [name, way] if way in WAYS:
                 return {'switch': self.switches[self.switch(name)]['id'], 'way': way}
             case 'expect', 'position', [name, position] if position in (*POSITIONS, UNKNOWN):
                 return {'switch': self.switches[self.switch(name)]['id'], 'position': position}
-            case 'expect', 'refused' | 'ended', [*cause] if len(cause) < 2:
-                return {'cause': self.cause(kind, cause)}
+            case 'expect', 'refused' | 'ended', [*words] if len(words) < 2:
+                cause = self.cause(kind, words)
+                return {'cause': cause, 'tried': self.tried(kind, cause)}
         return None
+
+    def asks(self, kind: str, name: str, way: str) -> dict:
+        """A client asks something of a switch."""
+        self.asked = self.switches[self.switch(name)]
+        self.is_local = kind == 'operate' and 'remote' in self.asked and (
+            raised(self.asked['remote']) not in self.true)
+        return {'switch': self.asked['id'], 'way': way}
+
+    def tried(self, kind: str, cause: int | None) -> str:
+        """The switch of which an expectation shows that its key at local refuses an operate."""
+        wanted = AT_LOCAL if self.control() == 'sbo-enhanced' else None
+        return self.asked['id'] if self.is_local and kind == 'refused' and cause == wanted else ''
+
+    def key(self, name: str) -> str:
+        """The input of the key of a switch."""
+        switch = self.switches[self.switch(name)]
+        if 'remote' not in switch:
+            raise self.wrong(f'{switch["id"]} has no key: the bay file has no remote there')
+        return switch['remote']
+
+    def input(self, name: str, value: str | int) -> str:
+        """The line of a process that tells an input."""
+        line = self.told('input', name, value)
+        (self.true.add if str(value) == '1' else self.true.discard)(raised(name))
+        return line
 
     def switch(self, name: str) -> str:
         if raised(name) not in self.switches:
@@ -156,6 +195,11 @@ class Reader:
 def read_steps(path: str, text: str, file: dict) -> list[Section]:
     """The sections of a test."""
     return Reader(path, file).sections(text)
+
+
+def keyed(file: dict) -> list[str]:
+    """The switches that have a key."""
+    return [one['id'] for one in file['switch'] if 'remote' in one]
 
 
 def steps_of(sections: list[Section]) -> Iterator[Step]:

@@ -55,6 +55,7 @@ def tables_of(text: str) -> dict[str, Any]:
         found = tomllib.loads(text)
         named = [found['bay']['domain'], *(one['id'] for one in found['switch']),
                  *(one['kind'] for one in found['switch']),
+                 *(one['remote'] for one in found['switch'] if 'remote' in one),
                  *(one['name'] for one in found.get('input', [])),
                  *(one['id'] for one in found.get('meter', []))]
     except tomllib.TOMLDecodeError as error:

@@ -18,6 +18,8 @@ class Names:
         bay = tomllib.loads(text) if text is not None else {}
         self.domain = bay.get('bay', {}).get('domain', '')
         self.travels = {switch['id']: switch.get('travel_ms') for switch in bay.get('switch', [])}
+        self.keys = {switch['id']: switch['remote'] for switch in bay.get('switch', [])
+                     if 'remote' in switch}
         self.ids, counts = {}, {'XCBR': 0, 'XSWI': 0}
         for place, switch in enumerate(bay.get('switch', []), 1):
             kind = 'XCBR' if switch['kind'] == 'breaker' else 'XSWI'
@@ -31,6 +33,10 @@ class Names:
         """How many milliseconds a switch may take, where that is known."""
         travel = self.travels.get(switch)
         return travel if isinstance(travel, int) else None
+
+    def key(self, switch: str) -> str:
+        """The input that is TRUE while the key of a switch is at remote, or nothing."""
+        return self.keys.get(switch, '')
 
     def item(self, name) -> str:
         """A name without this bay's domain."""

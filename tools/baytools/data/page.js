@@ -210,7 +210,8 @@ function dialogState(it) {
   }
   const since = it.time ? ` since ${it.time}` : '';
   const barred = operates && state.barred ? ` But ${state.barred}.` : '';
-  return `It is ${placeOf(it)}${since}.${barred}${wrong ? ` ${wrong[1]}` : ''}`;
+  const key = operates && it.key ? ` Its key ${it.key} must be at remote (not seen here).` : '';
+  return `It is ${placeOf(it)}${since}.${key}${barred}${wrong ? ` ${wrong[1]}` : ''}`;
 }
 
 // What is offered: to confirm only what this page has selected and the interlocking releases, to

@@ -11,11 +11,15 @@ from .dialects import quote_told
 from .language import FIELDS, RESERVED
 from .place import Place, near
 
-IDENTIFIER, LENGTHS = r'[A-Za-z][A-Za-z0-9_]*', {'domain': 32, 'id': 16, 'name': 16}
+IDENTIFIER = r'[A-Za-z][A-Za-z0-9_]*'
+LENGTHS = {'domain': 32, 'id': 16, 'name': 16, 'remote': 16}
 KINDS = ['breaker', 'disconnector', 'earthing']
 CONTROLS = {'status': [], 'direct': ['travel_ms'], 'sbo': ['sbo_timeout_ms', 'travel_ms'],
             'sbo-enhanced': ['sbo_timeout_ms', 'travel_ms']}
 TIMES = ['sbo_timeout_ms', 'travel_ms']
+CHECKED = ['remote', 'synchrocheck']  # what an operate is checked for besides: may be left out
+SYNCHROCHECKS = ['refuse']
+WORDS = {'kind': KINDS, 'control': list(CONTROLS), 'synchrocheck': SYNCHROCHECKS}
 SECTIONS = {'bay': (1, 1), 'switch': (1, 32), 'input': (0, 64), 'meter': (0, 8)}
 ENTRIES = {'switch': ('switch', 'switches'), 'input': ('input', 'inputs'),
            'meter': ('meter', 'meters')}
@@ -228,19 +232,21 @@ class Judge:
                     place = self.lines.place(told, where, section, index, count, key)
                     place.mend = case_mend(key, entry[key])
                     yield Refused(53, place)
-            elif key not in TIMES or entry.get('control') in list(CONTROLS):
+            elif key not in CHECKED and (key not in TIMES
+                                         or entry.get('control') in list(CONTROLS)):
                 told = f'the key {key} is missing'
                 if key in TIMES:
                     told += f', which control = "{entry["control"]}" needs'
                 yield Refused(51, self.lines.place(told, where, section, index, count))
 
     def unknown(self, section, entry, key, wanted) -> str:
-        if section == 'switch' and key in TIMES:
-            return f'control = "{entry["control"]}" has no {key}'
+        if section == 'switch' and key in (*TIMES, *CHECKED):
+            by = 'kind' if key == 'synchrocheck' and entry.get('control') != 'status' else 'control'
+            return f'{by} = "{entry[by]}" has no {key}'
         return f'there is no key {key} here{near(key, wanted)}'
 
     def names(self) -> None:
-        """Points of one name, and such as are reserved words."""
+        """Points of one name, such as are reserved words, and keys that are no input."""
         points, first = list(self.points()), {}
         for name, _, section, index, count, entry in points:
             if name in first:
@@ -259,6 +265,19 @@ class Judge:
                 where = self.where(section, index, entry)
                 raise Refused(53, self.lines.place(told, where, section, index, count,
                                                    key_of(section)))
+        self.remotes()
+
+    def remotes(self) -> None:
+        """The first switch whose key is no input."""
+        inputs = {raised(it['name']) for it in self.file.get('input', [])}
+        switches = self.file.get('switch', [])
+        for index, entry in enumerate(switches):
+            if 'remote' in entry and raised(entry['remote']) not in inputs:
+                place = self.lines.place(f'there is no input {entry["remote"]}',
+                                         self.where('switch', index, entry, 'remote'), 'switch',
+                                         index, len(switches), 'remote')
+                place.mend = 'write the name of an [[input]], or add that input'
+                raise Refused(53, place)
 
     def points(self) -> Iterator:
         """Each point with its type and the entry that it is of."""
@@ -287,9 +306,10 @@ def keys_of(section, entry) -> list:
         return ['domain', 'vendor', 'model', 'revision', 'scan_max_age_ms']
     if section != 'switch':
         return [key_of(section)]
-    control = entry.get('control')
+    control, kind = entry.get('control'), entry.get('kind')
     times = CONTROLS.get(control, TIMES) if isinstance(control, str) else TIMES
-    return ['id', 'kind', 'control', *times]
+    checked = [] if control == 'status' else CHECKED if kind not in KINDS[1:] else CHECKED[:1]
+    return ['id', 'kind', 'control', *times, *checked]
 
 
 def value_fault(key, value) -> str | None:
@@ -301,8 +321,8 @@ def value_fault(key, value) -> str | None:
         return None if least <= value <= most else f'{value} is not from {least} to {most}'
     if not isinstance(value, str):
         return f'the value must be a text in quotes{told_as(value)}'
-    if key in ('kind', 'control'):
-        return word_fault(value, KINDS if key == 'kind' else list(CONTROLS))
+    if key in WORDS:
+        return word_fault(value, WORDS[key])
     if key in LENGTHS:
         return identifier_fault(value, LENGTHS[key])
     if not 1 <= len(value) <= 64:
@@ -321,7 +341,7 @@ def identifier_fault(value, most) -> str | None:
 
 def case_mend(key: str, value) -> str:
     """The remedy for a word in upper case, or nothing."""
-    words = {'kind': KINDS, 'control': list(CONTROLS)}.get(key, ())
+    words = WORDS.get(key, ())
     is_case = isinstance(value, str) and value not in words and value.lower() in words
     return f'write {key} = "{value.lower()}"' if is_case else ''
 
@@ -332,7 +352,8 @@ def word_fault(value: str, words: list[str]) -> str | None:
         return None
     if value.lower() in words:
         return f'"{value}" must be in lower case: "{value.lower()}"'
-    return f'"{value}" is none of {", ".join(words)}{near(value, words)}'
+    told = f'none of {", ".join(words)}' if len(words) > 1 else f'not {words[0]}'
+    return f'"{value}" is {told}{near(value, words)}'
 
 
 def bay_points(octets) -> dict | None:

@@ -83,14 +83,16 @@ def declared_told(it, uses: Uses, points: dict) -> str:
 
 
 def never_asked(program, uses: Uses, file: dict) -> Iterator[Place]:
-    """Switches and inputs on which nothing depends, since no line reads them."""
+    """Switches and inputs on which nothing depends, since no line reads them. The key of a switch
+    needs no line: the server itself asks for it."""
+    keys = {raised(switch.get('remote', '')) for switch in file['switch']}
     external = {it.name.upper for it in program.declarations if it.scope == 'VAR_EXTERNAL'}
     for switch in file['switch']:
         names = {raised(switch['id'] + ending) for ending in POSITIONS}
         if not names & external & uses.read:
             yield Place(f'no line reads the position of {switch["id"]}')
     for one in file.get('input', []):
-        if raised(one['name']) not in external & uses.read:
+        if raised(one['name']) not in keys | external & uses.read:
             yield Place(f'no line reads the input {one["name"]}')
 
 

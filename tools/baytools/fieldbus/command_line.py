@@ -74,17 +74,29 @@ async def all_off(modules: list[Module]) -> bool:
     return all(await asyncio.gather(*(ended(Unit(one, say)) for one in modules)))
 
 
+def key_warnings(modules: Modules, bay: dict[str, Any]) -> list[str]:
+    """Switches whose key only the server asks for, and such whose key nobody reports."""
+    keys = {raised(one['id']): raised(one['remote']) for one in bay['switch'] if 'remote' in one}
+    found = [f'{one.id} has a key in the bay file, and no remote here: a pulse begins, and goes '
+             'on, even if the key has just been turned to local.'
+             for module in modules for one in module.switches
+             if one.id in keys and one.remote is None]
+    return found + [f'{key}, the key of {name}, is wired to nothing: every operate of {name} is '
+                    'refused.' for name, key in keys.items() if key in modules.not_wired]
+
+
 def warnings(modules: Modules, chosen: argparse.Namespace, bay: dict[str, Any]) -> list[str]:
-    """What is to be warned of: inputs that block while they are TRUE, and what is told of those of
-    a lost module."""
+    """What is to be warned of: keys at which the driver does not look, or which it does not report,
+    inputs that block while they are TRUE, and what is told of those of a lost module."""
+    unseen = key_warnings(modules, bay)
     if not chosen.logic:
-        return []
+        return unseen
     found = needed_of(chosen.bayctl, chosen.bay, chosen.logic, bay)
     if found is None:
         raise Failed(f'{chosen.bayctl}: it has no command `audit`, so it can\'t say which inputs '
                      'block while they are TRUE')
     faults = {one.name: one.fault for module in modules for one in module.inputs}
-    told = [one.warning() for one in found if one.false]
+    told = unseen + [one.warning() for one in found if one.false]
     for one in found:
         fault = faults.get(raised(one.name))
         released = () if fault is None else one.true if fault else one.false
@@ -122,8 +134,10 @@ def run(parser: Parser, chosen: argparse.Namespace, bus: Bus) -> int:
         parser.error('--logic is of --check')
     if chosen.html:
         may_be_written(chosen.html)
-    # Coils are switched off whatever else is wrong with the bay file.
+    # Coils are switched off whatever else is wrong with the bay file, and with the inputs of keys.
     bay = (bay_at if chosen.off else accepted_bay_at)(chosen.bay)[1]
+    for one in bay['switch'] if chosen.off else ():
+        one.pop('remote', None)
     modules = wiring_at(chosen.wiring, bay, bus)
     if chosen.check:
         check(modules, bus, chosen, bay)

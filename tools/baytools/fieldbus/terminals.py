@@ -142,7 +142,7 @@ def summary(modules: Modules) -> str:
               counted(sum(len(one.switches) for one in modules), 'switch', 'switches'),
               counted(sum(len(one.inputs) for one in modules), 'input'),
               counted(sum(len(one.measures) for one in modules), 'measure')]
-    terminals = sum(len(rows_of(one)) for one in modules)
+    terminals = sum(len({(row.kind, row.number) for row in rows_of(one)}) for one in modules)
     rest = f'; on none: {", ".join(modules.not_wired)}' if modules.not_wired else ''
     return f'{", ".join(counts)}: {counted(terminals, "terminal")}{rest}'
 

@@ -130,6 +130,8 @@ class Reading:
         self.switches = {raised(one['id']): one for one in bay['switch']}
         self.inputs = {raised(one['name']) for one in bay.get('input', [])}
         self.meters = {raised(one['id']) for one in bay.get('meter', [])}
+        self.keys = {raised(one['remote']): raised(one['id']) for one in bay['switch']
+                     if 'remote' in one}  # the inputs that are keys, and a switch of each
         self.wired: set[tuple[str, ...]] = set()
         self.left_out: list[str] = []
         for name, one in self.switches.items():
@@ -214,9 +216,23 @@ class Reading:
         module = self.module_of(table)
         self.once(table, 'input', name)
         contact = Contact(table.whole('contact', 0, self.bus.highest), table.truth('invert'))
-        module.inputs.append(Input(name, module.name, contact, self.hold(table),
-                                   table.truth('fault', None, FAULT)))
+        found = Input(name, module.name, contact, self.hold(table),
+                      table.truth('fault', None, FAULT))
+        if name in self.keys:
+            self.check_key(table, found, module)
+        module.inputs.append(found)
         table.ends()
+
+    def check_key(self, table: Table, found: Input, module: Module) -> None:
+        """An input that is the key of a switch is FALSE, local, while it is not known, and reads as
+        the driver's own look at the same contact."""
+        told = f'it is TRUE while the key of {self.keys[found.name]} is at remote'
+        if found.fault:
+            raise table.wrong(f'{told}: write fault = false', 'fault')
+        for one in module.switches:
+            if one.remote and one.remote.at == found.contact.at and one.remote != found.contact:
+                raise table.wrong(f'{told}, and for {one.id} the same contact is inverted the '
+                                  'other way: invert both or none', 'contact')
 
     def take_measure(self, table: Table) -> None:
         if not self.bus.has_registers:
@@ -257,6 +273,9 @@ class Reading:
             raise table.wrong(f'the bay has no input {module.alive}: write one of '
                               f'{", ".join(sorted(self.inputs)) or "none: it has no input"}',
                               'alive')
+        if module.alive in self.keys:
+            raise table.wrong(f'{module.alive} is the key of {self.keys[module.alive]}: name '
+                              'another input', 'alive')
         self.once(table, 'input', module.alive)
 
     def leave_out(self, table: Table) -> None:

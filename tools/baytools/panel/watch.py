@@ -239,6 +239,7 @@ def switch_of(switch, position, opened, closed) -> dict:
     value, quality, moment, *selected = (part.value for part in position.value)
     validity = words.VALIDITIES[quality[:2]]
     return {'id': switch['id'], 'kind': switch['kind'], 'control': switch['control'],
+            'key': switch.get('remote', ''),
             'position': words.POSITIONS[value], 'quality': validity,
             'known': (value, validity) != UNREPORTED,
             'moment': moment if isinstance(moment, int) else 0,

@@ -11,6 +11,7 @@ STATUS_ONLY, SELECTED, ENHANCED = 0, 2, 4  # control models: never operated, and
 WAYS = {'close': True, 'open': False}
 ENDS = {True: '10', False: '01'}  # the positions to which an operate leads
 INTERMEDIATE, BAD, GOOD = '00', '11', '00'  # positions, and a quality
+NO_CHECK, SYNCHROCHECK = '00', '10'  # of Check
 EVERY = 0.1  # seconds between two looks at a position
 
 
@@ -26,9 +27,10 @@ class Control:
     knows the bay file. A select and the operate or the cancel behind it have one ctlNum, and each
     control of an association the next."""
 
-    def __init__(self, client: Client, switch: str, originator: str = '',
-                 test: bool = False) -> None:
-        self.client, self.originator, self.test = client, originator.encode(), test
+    def __init__(self, client: Client, switch: str, originator: str = '', test: bool = False,
+                 check: str = NO_CHECK) -> None:
+        self.client, self.originator = client, originator.encode()
+        self.test, self.check = test, check
         self.number: int | None = None
         self.node = client.bay.node(switch)
         if self.node is None:
@@ -44,7 +46,7 @@ class Control:
     def item(self, word: str) -> str:
         return f'{self.node}$CO$Pos${word}'
 
-    def control_value(self, on: bool, check: str | None = '00') -> mms.Data:
+    def control_value(self, on: bool, check: str | None) -> mms.Data:
         moment = int(time.time() * 1000)
         if self.number is None:
             self.number = self.client.next_control()
@@ -67,7 +69,7 @@ class Control:
 
     def select(self, on: bool = True) -> Outcome:
         if self.model == ENHANCED:
-            answer = self.client.write(self.item('SBOw'), self.control_value(on))
+            answer = self.client.write(self.item('SBOw'), self.control_value(on, self.check))
             return self.outcome('select', not isinstance(answer, Failure), answer)
         if self.model != SELECTED:
             model = words.CONTROL_MODELS.get(self.model, self.model)
@@ -79,7 +81,7 @@ class Control:
 
     def operate(self, on: bool) -> Outcome:
         """The answer to an operate: accepted is no end of it."""
-        answer = self.write_last('Oper', self.control_value(on))
+        answer = self.write_last('Oper', self.control_value(on, self.check))
         return self.outcome('operate', answer is None, answer, 'accepted')
 
     def cancel(self, on: bool = True) -> Outcome:
@@ -113,8 +115,8 @@ class Control:
 
     def state(self, on: bool) -> str:
         """What can be known of a refused open or close: that the process is lost, or where the
-        switch is, what its interlocking allows, and which other switch moves. Nothing where the
-        server doesn't tell."""
+        switch is, what its interlocking allows, its key where no cause tells of it, and which other
+        switch moves. Nothing where the server doesn't tell."""
         cilo = 'CILO' + self.node.removeprefix('CSWI')
         wanted = {f'{self.node}$ST$Pos$stVal': mms.BITS, f'{cilo}$ST$EnaOpn$stVal': mms.BOOLEAN,
                   f'{cilo}$ST$EnaCls$stVal': mms.BOOLEAN}
@@ -130,6 +132,8 @@ class Control:
                 for way, free in (('opened', opened), ('closed', closed))]
         there = ' already' if position == ENDS[on] else ''
         told = f'{self.name} is {words.POSITIONS[position]}{there}, {" and ".join(ways)}'
+        if (key := self.client.bay.key(self.name)) and not self.is_told_its_end():
+            told += f'; its key {key} must be at remote, which is not seen here'
         moving = [name for name, found in others.items() if found == (INTERMEDIATE, GOOD)]
         return told + (f'; still moving: {", ".join(moving)}' if moving else '')
 

@@ -17,7 +17,9 @@ ADD_CAUSES = {
     21: 'ended with overshoot', 22: 'abortion due to deviation',
     23: 'abortion by communication loss', 24: 'blocked by command',
     25: 'none', 26: 'inconsistent parameters', 27: 'locked by other client'}
-HERE = {9: 'the process is lost'}  # the one thing that a cause comes of in bayctl
+# The one thing that a cause comes of in bayctl.
+HERE = {2: 'its key is not at remote', 9: 'the process is lost',
+        11: 'the switch has no synchrocheck'}
 PROCESS_LOST = 'every position is bad: the process is lost'
 ACCESS_ERRORS = {0: 'object invalidated', 1: 'hardware fault', 2: 'temporarily unavailable',
                  3: 'object access denied', 4: 'object undefined',

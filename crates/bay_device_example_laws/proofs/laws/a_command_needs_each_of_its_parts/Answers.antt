@@ -1,4 +1,4 @@
-use Rattle.bay_device_example_laws.proofs.CommandLemmas.{is-commanded, not-unscanned, not-old, not-stale, not-lost, not-blocked, not-busy, not-silent}
+use Rattle.bay_device_example_laws.proofs.CommandLemmas.{is-at-remote, is-commanded, not-local, not-unscanned, not-old, not-stale, not-lost, not-blocked, not-busy, not-silent}
 use Rattle.bay_device_example_laws.proofs.laws.a_command_needs_each_of_its_parts.Goals as goal
 
 pub returns-clause-commanded : goal.returns-clause-commanded
@@ -24,3 +24,9 @@ returns-clause-busy l = not-busy
 
 pub returns-clause-silent : goal.returns-clause-silent
 returns-clause-silent l = not-silent
+
+pub returns-clause-remote : goal.returns-clause-remote
+returns-clause-remote l = is-at-remote
+
+pub returns-clause-local : goal.returns-clause-local
+returns-clause-local l = not-local

@@ -3,14 +3,14 @@ use Rattle.bay_main.proofs.check.check_run.Goals as goal
 
 pub returns-in-Ok : goal.returns-in-Ok
 returns-in-Ok g c = record {
-  loaded = Ok c.in-Ok.device;
+  loaded = Ok c.in-Ok.loaded;
   loads = inl c.in-Ok.ensures.ok;
   tells = (c.report.result, c.report.ensures, c.write_report.ensures);
 }
 
 pub returns-in-Err : goal.returns-in-Err
 returns-in-Err g c = record {
-  loaded = Err c.in-Err.fault;
+  loaded = Err c.in-Err.error;
   loads = c.in-Err.ensures.refused;
   tells = c.report_load_refusal.ensures;
 }

@@ -4,10 +4,10 @@ use Rattle.bay_report.proofs.log.report_load_refusal.Goals as goal
 
 pub returns-in_err-status : goal.returns-in_err-status
 returns-in_err-status g c =
-    PrintsLogs-cut (refused_line c.args.fault) c.in_err-status.field-0.0
+    PrintsLogs-cut (refused_line c.args.error) c.in_err-status.field-0.0
     c.from_residual.result c.from_residual.ensures.0 c.in_err-status.ensures
 
 pub returns : goal.returns
 returns g c =
-    PrintsLogs-told (refused_line c.args.fault) c.in_ok-status.status
+    PrintsLogs-told (refused_line c.args.error) c.in_ok-status.status
     c.in_ok-status.ensures c.log_refusal.ensures

@@ -22,14 +22,14 @@ returns-in-Err-read_file g c = record {
   );
 }
 
-pub returns-in-Err-load_program : goal.returns-in-Err-load_program
-returns-in-Err-load_program g c =
+pub returns-in-Err-load_files : goal.returns-in-Err-load_files
+returns-in-Err-load_files g c =
     let bay = c.in-Ok.both.bay.items in
     let program = c.in-Ok.both.program.items in
     let rules = c.in-Ok-read_file.rules.items in
     let refused =
     rw (c.as_slice.ensures.value, c.as_slice-2.ensures.value) at
-    c.in-Err-load_program.ensures.refused
+    c.in-Err-load_files.ensures.refused
     in
     record {
       read = Ok (record { bay = bay; program = program });
@@ -39,7 +39,7 @@ returns-in-Err-load_program g c =
         c.in-Ok-read_file.ensures.ok,
         PrintsLogs-weaker (AuditReport bay c.args.form program rules) c.report_load_refusal.result
             (λ log text status told. inr (record {
-              fault = c.in-Err-load_program.fault;
+              error = c.in-Err-load_files.error;
               refused = refused;
               tells = told;
             })) c.report_load_refusal.ensures,
@@ -51,20 +51,19 @@ returns g c =
     let bay = c.in-Ok.both.bay.items in
     let program = c.in-Ok.both.program.items in
     let rules = c.in-Ok-read_file.rules.items in
-    let loaded =
-    rw (c.as_slice.ensures.value, c.as_slice-2.ensures.value) at c.in-Ok-load_program.ensures.loaded
-    in
-    let printed = rw c.as_slice-3.ensures.value at c.write_device.ensures in
+    let loads =
+    rw (c.as_slice.ensures.value, c.as_slice-2.ensures.value) at c.in-Ok-load_files.ensures.ok in
+    let printed = rw c.as_slice-3.ensures.value at c.write_loaded.ensures in
     record {
       read = Ok (record { bay = bay; program = program });
       is_read = c.in-Ok.ensures.ok;
       does = (
         Ok rules,
         c.in-Ok-read_file.ensures.ok,
-        PrintsLogs-weaker (AuditReport bay c.args.form program rules) c.write_device.result
+        PrintsLogs-weaker (AuditReport bay c.args.form program rules) c.write_loaded.result
             (λ log text status told. inl (record {
-              device = c.in-Ok-load_program.device;
-              loaded = loaded;
+              loaded = c.in-Ok-load_files.loaded;
+              loads = loads;
               tells = told;
             })) printed,
       );

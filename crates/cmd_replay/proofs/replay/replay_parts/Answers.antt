@@ -8,10 +8,11 @@ pub returns-in-Ok : goal.returns-in-Ok
 returns-in-Ok g c =
     let parts = scenario_view c.args.scenario in
     PrintsLogs-weaker (LoadsReport parts) c.replay_device.result
-    (LoadsReport-device parts c.in-Ok.device c.in-Ok.ensures.device) c.replay_device.ensures
+    (LoadsReport-device parts c.in-Ok.device c.in-Ok.ensures.ok) c.replay_device.ensures
 
 pub returns-in-Err : goal.returns-in-Err
 returns-in-Err g c =
     let parts = scenario_view c.args.scenario in
     PrintsLogs-weaker (LoadsReport parts) c.report_load_refusal.result
-    (LoadsReport-refused parts c.in-Err.fault c.in-Err.ensures.device) c.report_load_refusal.ensures
+    (LoadsReport-refused parts c.in-Err.error c.in-Err.ensures.refused)
+    c.report_load_refusal.ensures

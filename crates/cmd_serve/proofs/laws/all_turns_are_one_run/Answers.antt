@@ -1,6 +1,7 @@
 use Rattle.bay_server_turn.specs.Calls.{Called}
 use Rattle.cmd_serve.proofs.BeginLemmas.{begun-of}
-use Rattle.cmd_replay.proofs.LoadedLemmas.{loaded-from, loaded-runs}
+use Rattle.bay_device.proofs.LoadedLemmas.{device-loaded, loaded-runs}
+use Rattle.bay_load.specs.declared.load.Form.TheVariants.{Logic}
 use Rattle.cmd_serve.proofs.TurnLemmas.{service-of}
 use Rattle.cmd_serve.proofs.laws.all_turns_are_one_run.Goals as goal
 
@@ -14,5 +15,5 @@ returns-clause-begins g c = begun-of
 
 pub returns-clause-runs : goal.returns-clause-runs
 returns-clause-runs g c = λ bay program device loads.
-    let loaded = loaded-from bay program device loads in
+    let loaded = device-loaded bay Logic program device loads in
     (loaded, loaded-runs bay program device loaded)

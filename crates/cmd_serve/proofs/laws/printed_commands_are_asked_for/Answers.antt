@@ -1,6 +1,6 @@
 use Rattle.bay_server_turn.specs.Calls.{Called}
 use Rattle.cmd_serve.specs.Service.{turns_in}
-use Rattle.cmd_serve.proofs.TextLemmas.{loaded-named, printed-from}
+use Rattle.cmd_serve.proofs.TextLemmas.{device-named, printed-from}
 use Rattle.cmd_serve.proofs.TurnLemmas.{turned}
 use Rattle.cmd_serve.proofs.laws.printed_commands_are_asked_for.Goals as goal
 
@@ -13,4 +13,4 @@ returns-clause-lines g c = λ turns before old new host answer serves begun ids.
     g.W.Sink.does turns before old host new answer serves)
 
 pub returns-clause-names : goal.returns-clause-names
-returns-clause-names g c = loaded-named
+returns-clause-names g c = device-named

@@ -1,10 +1,21 @@
-use Rattle.std.proofs.Common.{Ok, Err, refl}
+use Rattle.std.proofs.Common.{Ok, Err, inl, inr, refl, subst}
+use Rattle.std.proofs.lemmas.Result.{err_from_is_err_and}
 use Rattle.cmd_serve.proofs.serve.bind_ports.Goals as goal
+
+pub returns-in_err-device-clause-binds : goal.returns-in_err-device-clause-binds
+returns-in_err-device-clause-binds g c =
+    let p = err_from_is_err_and c.from_residual.result c.from_residual.ensures.1 in
+    rw (p.1, p.2) (inr (refl, refl))
 
 pub returns-in-Ok-clause-binds : goal.returns-in-Ok-clause-binds
 returns-in-Ok-clause-binds g c =
-    (Ok c.in-Ok.link, c.bind.new.self, c.in-Ok.ensures, c.bind_process.ensures.binds)
+    inl (
+      Ok c.in-Ok.link,
+      c.bind.new.self,
+      c.in-Ok.ensures,
+      rw c.in_ok-device.ensures.device at c.bind_process.ensures.binds,
+    )
 
 pub returns-in-Err-clause-binds : goal.returns-in-Err-clause-binds
 returns-in-Err-clause-binds g c =
-    (Err c.in-Err.fault, c.bind.new.self, c.in-Err.ensures, (refl, refl))
+    inl (Err c.in-Err.fault, c.bind.new.self, c.in-Err.ensures, (refl, refl))

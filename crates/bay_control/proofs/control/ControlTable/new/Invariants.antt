@@ -6,4 +6,4 @@ use Rattle.bay_control.proofs.control.ControlTable.new.Given as goal
 abbrev pub invariant-loop-switch : goal.invariant-loop-switch
 invariant-loop-switch l =
     (length l.controls.items ≡ l.switch-index)
-    × (l.controls.items ≡ controls_of (take l.switch-index l.bay.switches))
+    × (l.controls.items ≡ controls_of l.bay.inputs (take l.switch-index l.bay.switches))

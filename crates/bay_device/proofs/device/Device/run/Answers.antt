@@ -10,6 +10,7 @@ use Rattle.bay_device.specs.declared.event.Event.TheVariants.{Open}
 use Rattle.bay_device.proofs.CommandLemmas.{step-commanded}
 use Rattle.bay_device.proofs.FreshLemmas.{step-fresh}
 use Rattle.bay_device.proofs.MeaningLemmas.{means-step}
+use Rattle.bay_device.proofs.RemoteLemmas.{step-remote}
 use Rattle.bay_device.proofs.RunLemmas.{each-does, each-so, goes-all, goes-none, goes-step, tells, tells-backed}
 use Rattle.bay_device.proofs.device.Device.run.Goals as goal
 
@@ -70,6 +71,11 @@ pub returns-clause-fresh : goal.returns-clause-fresh
 returns-clause-fresh c =
     each-so _ step-fresh c.args.events.now c.args.self.now c.loop-now.answers.items c.loop-now.self
     (returns-clause-ok c)
+
+pub returns-clause-remote : goal.returns-clause-remote
+returns-clause-remote c =
+    each-so _ step-remote c.args.events.now c.args.self.now c.loop-now.answers.items
+    c.loop-now.self (returns-clause-ok c)
 
 pub returns-clause-operates : goal.returns-clause-operates
 returns-clause-operates c sized =

@@ -4,6 +4,7 @@ use Rattle.bay_device.proofs.FreshLemmas.{step-fresh}
 use Rattle.bay_device.proofs.MeaningLemmas.{means-step}
 use Rattle.bay_device.proofs.OperateLemmas.{step-operates}
 use Rattle.bay_device.proofs.RecvLemmas.{one-outcome}
+use Rattle.bay_device.proofs.RemoteLemmas.{step-remote}
 use Rattle.bay_device.proofs.ToldLemmas.{telling}
 use Rattle.bay_device.proofs.device.Device.step.Goals as goal
 
@@ -50,4 +51,9 @@ returns-clause-operates c names alike sized =
 pub returns-clause-fresh : goal.returns-clause-fresh
 returns-clause-fresh c =
     step-fresh c.args.now c.args.event c.args.self.now c.do_event.result c.do_event.new.self
+    c.do_event.ensures.steps
+
+pub returns-clause-remote : goal.returns-clause-remote
+returns-clause-remote c =
+    step-remote c.args.now c.args.event c.args.self.now c.do_event.result c.do_event.new.self
     c.do_event.ensures.steps

@@ -68,8 +68,9 @@ returns c connections =
       answered =
           ap (λ (o : Option Sent). quiet_answer (Ok o)) (c.advance-over.ensures.sent connections)
           ∙ sym (ap (λ (o : Outcome). o.answer) whole);
-      left = ap (λ (b : Bay). with_bay b
-          (record t { is_stale = t.is_stale || c.measure-changed.result; is_lost = false })) did
+      left = ap (λ (b : Bay). record (with_bay b
+          (record t { is_stale = t.is_stale || c.measure-changed.result; is_lost = false }))
+          { input_values = t.input_values }) did
           ∙ ap (λ (b : Bool). record
           (device_after_measure c.args.now c.args.meter c.args.field c.args.value t)
           { is_stale = t.is_stale || b }) changed

@@ -54,8 +54,9 @@ returns-clause-after c connections =
     let steps = c.run_program-steps.result in
     let did = rw (c.as_slice.ensures, c.as_slice-2.ensures) at c.run_program-steps.ensures.scans in
     let read = inputs-named connections d d.bay.switches d.meters d.reads refl refl refl in
-    ap (λ (b : Bay). with_bay b
-    (record s { machine = m; last_scan = Some c.args.now; is_stale = false }))
+    ap (λ (b : Bay). record
+    (with_bay b (record s { machine = m; last_scan = Some c.args.now; is_stale = false }))
+    { input_values = s.input_values })
     (rw c.outputs.ensures at c.write_scan.ensures.after)
     ∙ scan-done connections d c.args.now _ read m steps (outputs_of m.image.points m.slots) did _
     refl

@@ -34,9 +34,9 @@ invariant_of-self c =
 pub returns-clause-after : goal.returns-clause-after
 returns-clause-after c connections =
     let t : State = state_view connections c.args.self.now in
-    ap (λ (b : Bay). with_bay b
-    (record t { is_stale = t.is_stale || c.doubt-changed.result; is_lost = false }))
-    c.doubt-changed.ensures.after
+    ap (λ (b : Bay). record
+    (with_bay b (record t { is_stale = t.is_stale || c.doubt-changed.result; is_lost = false }))
+    { input_values = t.input_values }) c.doubt-changed.ensures.after
     ∙ ap (λ (b : Bool). record (device_after_bad_measure c.args.now c.args.meter c.args.field t)
     { is_stale = t.is_stale || b }) c.doubt-changed.ensures.changed
 

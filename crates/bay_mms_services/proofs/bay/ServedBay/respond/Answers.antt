@@ -5,14 +5,14 @@ use Rattle.bay_mms.specs.declared.request.Request.{Request}
 use Rattle.bay_mms.specs.declared.response.RejectReason.TheVariants.{InvalidPdu}
 use Rattle.bay_mms_services.specs.Answers.{answer_of, refusal_answer, reject_answer, plain_answer}
 use Rattle.bay_mms_services.specs.Bay.{Bay}
-use Rattle.bay_mms_services.specs.Views.{bay_view, request_result_view}
+use Rattle.bay_mms_services.specs.Views.{bay_with, request_result_view}
 use Rattle.bay_mms_services.proofs.AnswerLemmas.{not-memory}
 use Rattle.bay_mms_services.proofs.ReplyLemmas.{answered_from}
 use Rattle.bay_mms_services.proofs.bay.ServedBay.respond.Goals as goal
 
 pub returns-in-Ok-Initiate-clause-ok : goal.returns-in-Ok-Initiate-clause-ok
 returns-in-Ok-Initiate-clause-ok c =
-    let b = bay_view c.args.self.now in
+    let b = bay_with c.args.inputs.now c.args.self.now in
     rw c.requires.first (answered_from c.answer_reject.result
     (λ (d : Bay). reject_answer None InvalidPdu d) b _
     c.answer_reject.ensures
@@ -21,7 +21,7 @@ returns-in-Ok-Initiate-clause-ok c =
 
 pub returns-in-Ok-Conclude-clause-ok : goal.returns-in-Ok-Conclude-clause-ok
 returns-in-Ok-Conclude-clause-ok c =
-    let b = bay_view c.args.self.now in
+    let b = bay_with c.args.inputs.now c.args.self.now in
     rw c.requires.first (answered_from c.answer_conclude.result
     (λ (d : Bay). plain_answer concluded_text d) b _
     c.answer_conclude.ensures
@@ -30,7 +30,7 @@ returns-in-Ok-Conclude-clause-ok c =
 
 pub returns-in-Err-clause-ok : goal.returns-in-Err-clause-ok
 returns-in-Err-clause-ok c =
-    let b = bay_view c.args.self.now in
+    let b = bay_with c.args.inputs.now c.args.self.now in
     rw c.requires.first (answered_from c.answer_fault.result
     (λ (d : Bay). refusal_answer c.in-Err.fault d) b _
     c.answer_fault.ensures.told (ap

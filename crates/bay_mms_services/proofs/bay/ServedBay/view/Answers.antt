@@ -38,4 +38,4 @@ returns c =
     let o = c.is_truth.ensures.value ∙ seen-opening (switches_of d.switches) d.tree k bound named in
     let x = c.is_truth-2.ensures.value
     ∙ seen-closing (switches_of d.switches) d.tree k bound named in
-    rw (p, o, x) refl
+    rw (p, c.is_local.ensures, o, x) refl

@@ -1,0 +1,3 @@
+pub mod CaseLemmas
+pub mod CountLemmas
+pub mod ReleaseLemmas

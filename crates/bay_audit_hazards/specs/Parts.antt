@@ -1,0 +1,85 @@
+-- What is found of a case, and of several.
+use Rattle.std.specs.Prelude.{ℕ, ◌≡◌, ◌<◌, Bool, true, false, List, slice_get}
+use Rattle.bay_base.specs.declared.position.Dbpos.{Dbpos}
+use Rattle.bay_base.specs.declared.switch.Operation.{Operation}
+use Rattle.bay_audit_rules.specs.Process.{Process}
+use Rattle.bay_audit.specs.Cases.{input_may, is_in, may_be}
+use Rattle.bay_audit.specs.Process.{IsProcess}
+use Rattle.bay_audit.specs.Rules.{AreReported, BoundProgram, Gives, case_count, reported_count}
+use Rattle.bay_audit.specs.declared.answer.ReportedCase.{ReportedCase}
+use Rattle.bay_audit.specs.declared.case.TestAnswer.{TestAnswer}
+use Rattle.bay_diagram.specs.declared.network.Network.{Network}
+use Rattle.bay_diagram.specs.declared.reading.Bound.{Bound}
+use Rattle.bay_diagram.specs.declared.reading.InputSet.{InputSet}
+use Rattle.bay_diagram.specs.declared.reading.Known.{Known}
+use Rattle.bay_diagram.specs.declared.reading.PositionSet.{PositionSet}
+use Rattle.bay_diagram.specs.Reading.{IsAllowed, allowed_by, has_position, has_value}
+use Rattle.bay_audit_hazards.specs.Judged.{IsHazard, is_hazard_of}
+use Rattle.bay_audit_hazards.specs.declared.answer.Evaluation.{Evaluation}
+use Rattle.bay_audit_hazards.specs.declared.answer.Evaluation.TheVariants as evaluation
+use Rattle.bay_audit_hazards.specs.declared.answer.Sweep.{Sweep}
+use Rattle.bay_audit_hazards.specs.declared.answer.Sweep.TheVariants as sweep
+
+-- ---- what is known in a case
+
+-- The sets have each position that the case allows.
+abbrev pub AllowPositions : List TestAnswer → List PositionSet → Type 0
+AllowPositions case sets =
+    (k : ℕ) (position : Dbpos) → may_be case k position ≡ true
+    → has_position (slice_get sets k) position ≡ true
+
+-- The sets have each value that the case allows.
+abbrev pub AllowInputs : List TestAnswer → List InputSet → Type 0
+AllowInputs case sets =
+    (k : ℕ) (value : Bool) → input_may case k value ≡ true
+    → has_value (slice_get sets k) value ≡ true
+
+-- What is known allows each process of the case.
+pub record IsKnown (bound : Bound) (case : List TestAnswer) (known : Known) : Type 0 where
+  pub bounds : known.bound ≡ bound
+  pub allows : (p : Process) → is_in case p ≡ true → IsAllowed (allowed_by known) p
+
+-- ---- a case
+
+-- The evaluation of a case is right.
+abbrev pub IsEvaluated : Network → ℕ → Operation → List TestAnswer → Evaluation → Type 0
+IsEvaluated net k operation case evaluation.Empty =
+    (p : Process) → IsProcess p → is_in case p ≡ false
+IsEvaluated net k operation case evaluation.Harmless =
+    (p : Process) → IsProcess p → is_in case p ≡ true → is_hazard_of net k operation p ≡ false
+IsEvaluated net k operation case evaluation.Hazard = IsHazard net k operation case
+IsEvaluated net k operation case (evaluation.Split test) = Unit {0}
+IsEvaluated net k operation case evaluation.Unclear = Unit {0}
+
+-- ---- several cases
+
+-- The processes of the case are processes of these cases.
+abbrev pub IsPart : List (List TestAnswer) → List TestAnswer → Type 0
+IsPart cases part =
+    (p : Process) → IsProcess p → is_in part p ≡ true → 0 < case_count cases p
+
+-- What was found of several cases is right.
+abbrev pub IsSweep : Network → ℕ → Operation → List (List TestAnswer) → Sweep → Type 0
+IsSweep net k operation cases (sweep.Harmless n) =
+    (p : Process) → IsProcess p → is_hazard_of net k operation p ≡ true → case_count cases p ≡ 0
+IsSweep net k operation cases (sweep.Hazard case) =
+    IsHazard net k operation case × IsPart cases case
+IsSweep net k operation cases sweep.Undecided = Unit {0}
+
+-- ---- the cases of a release
+
+-- In the processes of the first list of cases the switch is released, and in those that are in
+-- neither list it is not.
+pub record ArePartedBy (g : BoundProgram) (k : ℕ) (operation : Operation)
+    (cases : List ReportedCase) (released hanging : List (List TestAnswer)) : Type 0
+  where
+    pub given : (p : Process) → IsProcess p → 0 < case_count released p
+        → Gives true g k operation p
+    pub refused : (p : Process) → IsProcess p → 0 < reported_count cases p
+        → case_count released p ≡ 0 → case_count hanging p ≡ 0 → Gives false g k operation p
+
+-- It is so for each release of which the cases are right.
+abbrev pub AreParted : List ReportedCase → List (List TestAnswer) → List (List TestAnswer) → Type 0
+AreParted cases released hanging =
+    (g : BoundProgram) (k : ℕ) (operation : Operation) → AreReported g k operation cases
+    → ArePartedBy g k operation cases released hanging

@@ -1,0 +1,74 @@
+-- The diagram of a text, for a bay, or the first refusal of the text.
+use Rattle.std.specs.Prelude.{ℕ, nat_lt, List, [], ◌∷◌, length, map, codes, Option, None, Some, Result, Err, if◌then◌else◌}
+use Rattle.toml.specs.Data.{Data, Items, Members, as_array, get_member}
+use Rattle.bay_base.specs.Exact.{unless_refused}
+use Rattle.bay_config.specs.Bay.{document_of}
+use Rattle.bay_config.specs.Key.{has_unknown}
+use Rattle.bay_config.specs.declared.bay.Bay.{Bay}
+use Rattle.bay_diagram.specs.declared.network.Network.{Network}
+use Rattle.bay_diagram_file.specs.Checks.{or, tables_refusal}
+use Rattle.bay_diagram_file.specs.Parts.{network_of}
+use Rattle.bay_diagram_file.specs.Row.{list_of, node_row_of, switch_row_of, values_in}
+use Rattle.bay_diagram_file.specs.declared.fault.DiagramFault.{DiagramFault}
+use Rattle.bay_diagram_file.specs.declared.fault.FaultKind.{FaultKind}
+use Rattle.bay_diagram_file.specs.declared.fault.FaultKind.TheVariants.{BadToml, UnknownKey, MissingKey, BadValue, TooMany}
+use Rattle.bay_diagram_file.specs.declared.fault.Place.TheVariants.{File}
+use Rattle.bay_diagram_file.specs.declared.row.NodeRow.{NodeRow}
+use Rattle.bay_diagram_file.specs.declared.row.SwitchRow.{SwitchRow}
+
+-- ---- the sections
+
+abbrev pub of_file : FaultKind → DiagramFault
+of_file kind = record { kind = kind; place = File }
+
+-- the file has no other section
+abbrev pub keys_refusal : Members → Option DiagramFault
+keys_refusal file =
+    if has_unknown (codes "node" ∷ codes "between" ∷ []) file then Some (of_file UnknownKey)
+    else None
+
+-- a section is a list of 1 to 64 values
+abbrev pub count_refusal : ℕ → Option DiagramFault
+count_refusal n =
+    if nat_lt n 1 then Some (of_file MissingKey)
+    else if nat_lt 64 n then Some (of_file TooMany) else None
+
+abbrev pub list_refusal : Option Items → Option DiagramFault
+list_refusal None = Some (of_file BadValue)
+list_refusal (Some items) = count_refusal (length (list_of items))
+
+abbrev pub section_refusal : Option Data → Option DiagramFault
+section_refusal None = Some (of_file MissingKey)
+section_refusal (Some d) = list_refusal (as_array d)
+
+abbrev pub sections_refusal : Members → Option DiagramFault
+sections_refusal file =
+    or (keys_refusal file)
+    (or (section_refusal (get_member (codes "node") file))
+    (section_refusal (get_member (codes "between") file)))
+
+-- ---- the diagram
+
+abbrev pub node_rows : Members → List NodeRow
+node_rows file = map node_row_of (values_in file (codes "node"))
+
+abbrev pub switch_rows : Members → List SwitchRow
+switch_rows file = map switch_row_of (values_in file (codes "between"))
+
+-- the first refusal of a file: its sections, then their tables
+abbrev pub file_refusal : Bay → Members → Option DiagramFault
+file_refusal bay file =
+    or (sections_refusal file) (tables_refusal bay (node_rows file) (switch_rows file))
+
+abbrev pub network_in : Bay → Members → Result Network DiagramFault
+network_in bay file =
+    unless_refused (file_refusal bay file) (network_of bay (node_rows file) (switch_rows file))
+
+-- a text that is not TOML is refused first
+abbrev pub network_of_document : Bay → Option Members → Result Network DiagramFault
+network_of_document bay None = Err (of_file BadToml)
+network_of_document bay (Some file) = network_in bay file
+
+-- the diagram of a text, or its first refusal
+abbrev pub diagram_of : Bay → List ℕ → Result Network DiagramFault
+diagram_of bay text = network_of_document bay (document_of text)

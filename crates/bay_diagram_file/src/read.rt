@@ -1,0 +1,130 @@
+// Reads a diagram from the text of its file.
+ghost use Rattle.std.specs.Prelude.{◌≡◌};
+ghost use Rattle.std.specs.Option.{ok_or};
+ghost use Rattle.toml.specs.Data.{get_member};
+ghost use Rattle.toml.specs.View.{table_view};
+ghost use Rattle.bay_base.specs.Exact.{Gives};
+ghost use Rattle.bay_config.specs.Bay.{document_of};
+ghost use Rattle.bay_diagram_file.specs.Code.{out_of_memory};
+ghost use Rattle.bay_diagram_file.specs.Diagram as spec;
+ghost use Rattle.bay_diagram_file.specs.declared.fault.FaultKind.TheVariants.{BadToml};
+
+use crate::checks::{first, tables_refusal};
+use crate::fault::{DiagramFault, FaultKind, Place};
+use crate::keys::{find, has_unknown_key, values_at};
+use crate::network::network_of;
+use crate::node_row::node_rows;
+use crate::switch_row::switch_rows;
+use bay_config::bay::Bay;
+use bay_diagram::network::Network;
+use std::alloc::Global;
+use toml::Table;
+
+// The maximum length of a diagram file, in octets.
+const MAX_OCTETS: usize = 262_144;
+
+// The maximum number of tables of a section.
+const MAX_TABLES: usize = 64;
+
+// Returns a fault of the file, or of a section, as a whole.
+fn of_file(kind: FaultKind) -> DiagramFault
+    ensures { result ≡ spec.of_file kind }
+{
+    DiagramFault {
+        kind,
+        place: Place::File,
+    }
+}
+
+// Returns the refusal of a section that is unknown.
+fn keys_refusal(file: &Table) -> Option<DiagramFault>
+    ensures { result ≡ spec.keys_refusal (table_view file.now) }
+{
+    if has_unknown_key(file, &["node", "between"]) {
+        Some(of_file(FaultKind::UnknownKey))
+    } else {
+        None
+    }
+}
+
+// Returns the refusal of a section with this number of values.
+fn count_refusal(count: usize) -> Option<DiagramFault>
+    ensures { result ≡ spec.count_refusal count }
+{
+    if count < 1 {
+        Some(of_file(FaultKind::MissingKey))
+    } else if MAX_TABLES < count {
+        Some(of_file(FaultKind::TooMany))
+    } else {
+        None
+    }
+}
+
+// Returns the refusal of a section: it must be a list of 1 to 64 values.
+fn section_refusal(file: &Table, name: &str) -> Option<DiagramFault>
+    ensures { result ≡ spec.section_refusal (get_member name.now (table_view file.now)) }
+{
+    match find(file, name) {
+        Some(value) => match value.as_array() {
+            Some(values) => count_refusal(values.as_slice().len()),
+            None => Some(of_file(FaultKind::BadValue)),
+        },
+        None => Some(of_file(FaultKind::MissingKey)),
+    }
+}
+
+// Returns the refusal of the sections of a file.
+fn sections_refusal(file: &Table) -> Option<DiagramFault>
+    ensures { result ≡ spec.sections_refusal (table_view file.now) }
+{
+    let nodes = section_refusal(file, "node");
+    let switches = section_refusal(file, "between");
+    first(keys_refusal(file), first(nodes, switches))
+}
+
+// Reads the diagram in the table of a file.
+fn network_from(alloc: Global, bay: &Bay, file: &Table) -> Result<Network, DiagramFault>
+    ensures { Gives out_of_memory (λ x. x) result
+        (spec.network_in bay.now (table_view file.now)) }
+{
+    if let Some(fault) = sections_refusal(file) {
+        return Err(fault);
+    }
+    let nodes = node_rows(alloc, values_at(file, "node"))?;
+    let switches = switch_rows(alloc, values_at(file, "between"))?;
+    if let Some(fault) = tables_refusal(bay, nodes.as_slice(), switches.as_slice()) {
+        return Err(fault);
+    }
+    Ok(network_of(alloc, bay, nodes.as_slice(), switches.as_slice())?)
+}
+
+// Parses a diagram file into its table. Does not parse a text that is too long.
+#[tactic(auto, unfolding(bay_config::specs::Bay::document_of))]
+fn document_at(alloc: Global, text: &str) -> Result<Table, DiagramFault>
+    ensures { Gives out_of_memory table_view result
+        (ok_or (document_of text.now) (spec.of_file BadToml)) }
+{
+    if text.len() > MAX_OCTETS {
+        return Err(of_file(FaultKind::BadToml));
+    }
+    match toml::table_from_str(alloc, text) {
+        Ok(file) => Ok(file),
+        Err(error) => {
+            if error.is_memory() {
+                Err(of_file(FaultKind::OutOfMemory))
+            } else {
+                Err(of_file(FaultKind::BadToml))
+            }
+        }
+    }
+}
+
+/// Reads the diagram of a bay from the text of its file, or returns the first fault of the text.
+pub fn read_diagram(alloc: Global, bay: &Bay, text: &str) -> Result<Network, DiagramFault>
+    // The diagram that the text describes for the bay, or its first refusal; `OutOfMemory` if an
+    // allocation fails.
+    ensures { Gives out_of_memory (λ x. x) result (spec.diagram_of bay.now text.now) }
+{
+    let file = document_at(alloc, text)?;
+    network_from(alloc, bay, &file)
+}
