@@ -30,10 +30,10 @@ WRONG = (
      'Ok(ReadResponse {', f'if size < 260 {{ {LACK} }} Ok(ReadResponse {{'),
     ('the names of a large bay', 'bay_mms/src/names.rt',
      'ends.push(octets.len())?;', f'if ends.len() > 2_000 {{ {LACK} }} ends.push(octets.len())?;'),
-    ('an image over 32 KiB', 'bay_report/src/load.rt',
-     'Form::Image => load_image_octets(alloc, bay, program),',
-     'Form::Image => { if program.len() > 32_767 { return Err(LoadFault::OutOfMemory); }'
-     ' load_image_octets(alloc, bay, program) }'),
+    ('an image over 32 KiB', 'bay_load/src/load.rt',
+     'let image = decode(alloc, image)?;',
+     'if image.len() > 32_767 { return Err(LoadError::OutOfMemory); }'
+     ' let image = decode(alloc, image)?;'),
     ('the room of a server with eight clients', 'bay_server_turn/src/server.rt',
      'let queues = match make_queues(alloc) {',
      'if device.is_open(8) { return Err(AllocFailed { value: device }); }'

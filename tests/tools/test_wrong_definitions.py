@@ -216,7 +216,7 @@ class Laws(Tools):
         backed = definitions_in(DECISIONS.with_name('Backing.antt'))['IsBacked']
         (crate, laws), *further = laws_on(backed)
         self.assertEqual((crate, laws[0].title), (
-            'bay_device_example_laws', 'a_select_with_value_backs_what_it_asked_for'))
+            'bay_device_example_laws', 'a_select_with_value_backs_what_it_requested'))
         self.assertEqual(further[0][0], 'bay_control')
 
     def test_crates_up_to_the_law_are_sources(self):

@@ -13,7 +13,7 @@ use Rattle.bay_assoc.specs.declared.receive.Phase.{Phase}
 use Rattle.bay_assoc.specs.declared.receive.AssociationTerms.{AssociationTerms}
 use Rattle.bay_assoc.specs.declared.receive.Phase.TheVariants.{Idle, Open, Over}
 use Rattle.bay_assoc.specs.Receiving.{mms, release_request, connection_request, data_transfer, idle_meaning, open_meaning, verdict, tsdu_meaning}
-use Rattle.bay_assoc.specs.Receives.{association_terms, StandsLast, IsOpenFor}
+use Rattle.bay_assoc.specs.Receives.{association_terms, IsLastPart, IsOpenFor}
 use Rattle.bay_assoc.specs.Presentation.{Carried, carried_parts, pdv_list, user_part, user_data}
 use Rattle.bay_assoc.specs.Session.{Spdu, connect, finish, abort, transfer, spdu}
 use Rattle.bay_assoc.specs.Tags.{oid_tag, application}
@@ -135,7 +135,7 @@ heard-last (Open terms) new octets pdu b is =
 heard-last old new octets pdu b is = absurd cc
 
 pub stands-last : (old new : Phase) (octets : List ℕ) (h : Heard) → IsBytes octets
-    → tsdu_meaning old octets ≡ Ok (hearing_of h, new) → StandsLast octets h × IsOpenFor h new
+    → tsdu_meaning old octets ≡ Ok (hearing_of h, new) → IsLastPart octets h × IsOpenFor h new
 stands-last old new octets (heard.Mms pdu) b e =
     let last = heard-last old new octets pdu.now b
     ((verdict-fair old octets).back b (mms pdu.now, new) e) in

@@ -7,7 +7,7 @@ use Rattle.std.proofs.lemmas.List.{length-append, take_at, drop_at, append-nil}
 use Rattle.std.proofs.lemmas.List.Elements.{filter-append}
 use Rattle.bay_ber.proofs.BackLemmas.{bind-some, unguarded}
 use Rattle.bay_ber.proofs.FormLemmas.{ExactIn}
-use Rattle.bay_assoc.specs.Session.{Unit, long_size, size_at, counted_at, unit_at, prepend_units, with_front, units_within, units_in, IsSize, Leads, SpellUnits, units, is_user, Users, missing, users_of, parameters}
+use Rattle.bay_assoc.specs.Session.{Unit, long_size, size_at, counted_at, unit_at, prepend_units, with_unit_first, units_within, units_in, IsSize, Leads, SpellUnits, units, is_user, Users, missing, users_of, parameters}
 use Rattle.bay_assoc.specs.SessionReading.{then_user, with_user}
 
 -- ---- one unit
@@ -136,7 +136,7 @@ none-left (suc most) = refl
 
 same-front : (n m : ℕ) (o : Option (Unit × List ℕ))
     → ((x : Unit × List ℕ) → o ≡ Some x → units_within n x.1 ≡ units_within m x.1)
-    → with_front o (units_within n) ≡ with_front o (units_within m)
+    → with_unit_first o (units_within n) ≡ with_unit_first o (units_within m)
 same-front n m (Some x) same = ap (prepend_units (x.0 ∷ [])) (same x refl)
 same-front n m None same = refl
 
@@ -202,7 +202,7 @@ units-within-back (suc most) (octet ∷ octets) us e =
     (λ rest later f. units-within-back most rest later f)
   where
     front-back : (whole : List ℕ) (us : List Unit) (o : Option (Unit × List ℕ))
-        → unit_at whole ≡ o → with_front o (units_within most) ≡ Some us
+        → unit_at whole ≡ o → with_unit_first o (units_within most) ≡ Some us
         → ((rest : List ℕ) (later : List Unit) → units_within most rest ≡ Some later
         → SpellUnits rest later) → SpellUnits whole us
     front-back whole us None is e more = absurd cc

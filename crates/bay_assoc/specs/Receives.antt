@@ -25,9 +25,9 @@ ReceivesTsdu old octets (Err fault) new =
     (new ≡ Failed) × ((fault ≡ OutOfMemory) ⊎ (tsdu_meaning old octets ≡ Err fault))
 
 -- A PDU of MMS is the last part of its TSDU,
-abbrev pub StandsLast : List ℕ → Heard → Type 0
-StandsLast octets (heard.Mms pdu) = (front : List ℕ) × (octets ≡ front ++ pdu.now)
-StandsLast octets h = Unit {0}
+abbrev pub IsLastPart : List ℕ → Heard → Type 0
+IsLastPart octets (heard.Mms pdu) = (front : List ℕ) × (octets ≡ front ++ pdu.now)
+IsLastPart octets h = Unit {0}
 
 -- and is returned only if the association is open.
 abbrev pub IsOpenFor : Heard → Phase → Type 0

@@ -42,15 +42,17 @@ abbrev pub prepend_units : List Unit → Option (List Unit) → Option (List Uni
 prepend_units front = option_map (λ units. front ++ units)
 
 -- a unit before those in the rest, if the rest are units (own)
-abbrev pub with_front : Option (Unit × List ℕ) → (List ℕ → Option (List Unit)) → Option (List Unit)
-with_front (Some first) rest = prepend_units (first.0 ∷ []) (rest first.1)
-with_front None rest = None
+abbrev pub with_unit_first : Option (Unit × List ℕ) → (List ℕ → Option (List Unit))
+    → Option (List Unit)
+with_unit_first (Some first) rest = prepend_units (first.0 ∷ []) (rest first.1)
+with_unit_first None rest = None
 
 -- the units that octets encode, if there are at most `most`
 unfoldable pub units_within : ℕ → List ℕ → Option (List Unit)
 units_within most [] = Some []
 units_within zero (octet ∷ octets) = None
-units_within (suc most) (octet ∷ octets) = with_front (unit_at (octet ∷ octets)) (units_within most)
+units_within (suc most) (octet ∷ octets) =
+    with_unit_first (unit_at (octet ∷ octets)) (units_within most)
 
 -- the units that the octets encode, one after another; a unit has at least two octets, so there are
 -- fewer units than octets

@@ -2,7 +2,7 @@
 ghost use Rattle.std.specs.Prelude.{◌≡◌, ◌<◌, ◌^◌, ◌++◌, ◌↔◌, Ok, length, IfOk, IfSome, IsErrOf, IsSome, IsTrue};
 ghost use Rattle.bay_mms_initiate.specs.Sizes.{IsPduSize};
 ghost use Rattle.bay_assoc.specs.Receiving.{mms, tsdu_meaning};
-ghost use Rattle.bay_assoc.specs.Receives.{association_terms, ReceivesTsdu, StandsLast, IsOpenFor};
+ghost use Rattle.bay_assoc.specs.Receives.{association_terms, ReceivesTsdu, IsLastPart, IsOpenFor};
 ghost use Rattle.bay_assoc.specs.Session.{spdu_in};
 ghost use Rattle.bay_assoc.specs.Sized.{IsShort};
 ghost use Rattle.bay_assoc.specs.TakesMemory.{TakesMemory};
@@ -58,7 +58,7 @@ impl Assoc {
         // An answer has at most 1,000 octets. A PDU of MMS is the last part of its TSDU, and is
         // returned only if the association is open.
         ensures short { IfOk result IsShort }
-        ensures last { IfOk result (StandsLast tsdu.now) }
+        ensures last { IfOk result (IsLastPart tsdu.now) }
         ensures open { IfOk result (λ heard. IsOpenFor heard self.new) }
     {
         let phase = self.phase;

@@ -24,7 +24,7 @@ use Rattle.il_image.specs.declared.value.Value.TheVariants.{Truth}
 use Rattle.il_range.specs.Ranges.{AreIn, IsIn, Setting, has_position}
 use Rattle.il_range.specs.declared.range.Positions.{Positions}
 use Rattle.il_range.proofs.RangeLemmas.{in-among}
-use Rattle.bay_audit.specs.Cases.{allows_position, answer_of, bad_positions, example_of, false_inputs, allows_input, high_after, high_by, high_of, input_may, is_in, is_of_field, lost_case, low_after, low_by, low_of, lesser_int, may_be, meets, position_range, greater_int, first_position, has_at, only, told_positions, range_of, same_field, test_allows_position, test_allows_input, truth_range}
+use Rattle.bay_audit.specs.Cases.{allows_position, answer_of, bad_positions, example_of, false_inputs, allows_input, high_after, high_by, high_of, input_may, is_in, is_of_field, lost_case, low_after, low_by, low_of, lesser_int, may_be, meets, position_range, greater_int, first_position, has_at, only, distinguished_positions, range_of, same_field, test_allows_position, test_allows_input, truth_range}
 use Rattle.bay_audit.specs.Process.{IsLost, IsProcess, process_value}
 use Rattle.bay_audit.specs.declared.case.TestAnswer.{TestAnswer}
 use Rattle.bay_audit.specs.declared.case.Test.{Test}
@@ -210,7 +210,7 @@ module _ (w : Setting) (k : ℕ) (i o n b : Bool) where
 
   -- a position that the switch may have is told
   told-at : (which d : Dbpos) → Allowed d
-      → same_position which d ≡ has_position (told_positions which i o n b) d
+      → same_position which d ≡ has_position (distinguished_positions which i o n b) d
   told-at which Intermediate h =
       sym (ap (λ may. has_at which (first_position i o n) may Intermediate) h)
   told-at which Off h = sym (ap (λ may. has_at which (first_position i o n) may Off) h)
@@ -221,11 +221,11 @@ module _ (w : Setting) (k : ℕ) (i o n b : Bool) where
       → IsIn w (position_value point (Some (leaf.Dbpos d))) (position_range k point i o n b)
   position-in d is h Position = position-number d h
   position-in d is h Open =
-      in-among w (same_position Off d) k (told_positions Off i o n b)
-      (told-at Off d h ∙ ap (has_position (told_positions Off i o n b)) (sym is))
+      in-among w (same_position Off d) k (distinguished_positions Off i o n b)
+      (told-at Off d h ∙ ap (has_position (distinguished_positions Off i o n b)) (sym is))
   position-in d is h Closed =
-      in-among w (same_position On d) k (told_positions On i o n b)
-      (told-at On d h ∙ ap (has_position (told_positions On i o n b)) (sym is))
+      in-among w (same_position On d) k (distinguished_positions On i o n b)
+      (told-at On d h ∙ ap (has_position (distinguished_positions On i o n b)) (sym is))
   position-in d is h EnableOpen = tt
   position-in d is h EnableClose = tt
 

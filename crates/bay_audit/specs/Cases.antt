@@ -178,8 +178,8 @@ has_at which first may at = if may then same_position which at else same_positio
 
 -- the set of the position `which`, for a switch that may have these positions: each other position
 -- counts as the first that it may have
-abbrev pub told_positions : Dbpos → Bool → Bool → Bool → Bool → Positions
-told_positions which i o n b = record {
+abbrev pub distinguished_positions : Dbpos → Bool → Bool → Bool → Bool → Positions
+distinguished_positions which i o n b = record {
   intermediate = has_at which (first_position i o n) i Intermediate;
   off = has_at which (first_position i o n) o Off;
   on = has_at which (first_position i o n) n On;
@@ -189,8 +189,8 @@ told_positions which i o n b = record {
 -- the range of a point of the switch at index k
 abbrev pub position_range : ℕ → SwitchPoint → Bool → Bool → Bool → Bool → Range
 position_range k Position i o n b = Between (least_position i o n) (greatest_position o n b)
-position_range k Open i o n b = among k (told_positions Off i o n b)
-position_range k Closed i o n b = among k (told_positions On i o n b)
+position_range k Open i o n b = among k (distinguished_positions Off i o n b)
+position_range k Closed i o n b = among k (distinguished_positions On i o n b)
 position_range k EnableOpen i o n b = No
 position_range k EnableClose i o n b = No
 

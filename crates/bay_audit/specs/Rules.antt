@@ -259,8 +259,8 @@ pub record IsEarlyBy (inputs : List Value) (first : MachineData) (place : Option
         (outputs_of after.image.points after.slots)) ≡ true
 
 -- the index of a release among the writable points
-abbrev pub place_of : BoundProgram → Rule → Option ℕ
-place_of g rule = position (is_point rule.switch (releasing_point rule.operation)) g.writes
+abbrev pub index_of_release : BoundProgram → Rule → Option ℕ
+index_of_release g rule = position (is_point rule.switch (releasing_point rule.operation)) g.writes
 
 -- For a process of the case that the rule covers and that does not change, such a run from the
 -- program's first values releases the switch.
@@ -271,7 +271,7 @@ pub record IsEarlyIn (g : BoundProgram) (rule : Rule) (time : ℕ) (case : List 
     pub inside : is_in case process ≡ true
     pub asked : holds rule.when process ≡ true
     pub early : IsEarlyBy (map (process_value process) g.reads) (first_machine g.image)
-        (place_of g rule) time
+        (index_of_release g rule) time
 
 -- The answer to a rule that forbids until a condition has held for a time is right. It holds if the
 -- switch is never released in a state that the rule covers, or if a timer establishes it; it is

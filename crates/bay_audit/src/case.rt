@@ -208,8 +208,14 @@ fn has_at(which: Dbpos, first: Dbpos, may: bool, at: Dbpos) -> bool
 
 // Returns the set of the position `which`, for a switch that may have these positions: each other
 // position counts as the first that it may have.
-fn told_positions(which: Dbpos, intermediate: bool, off: bool, on: bool, bad: bool) -> Positions
-    ensures { result ≡ spec.told_positions which intermediate off on bad }
+fn distinguished_positions(
+    which: Dbpos,
+    intermediate: bool,
+    off: bool,
+    on: bool,
+    bad: bool,
+) -> Positions
+    ensures { result ≡ spec.distinguished_positions which intermediate off on bad }
 {
     let first = first_position(intermediate, off, on);
     Positions {
@@ -238,11 +244,11 @@ fn position_range(
         ),
         SwitchPoint::Open => among(
             switch,
-            told_positions(Dbpos::Off, intermediate, off, on, bad),
+            distinguished_positions(Dbpos::Off, intermediate, off, on, bad),
         ),
         SwitchPoint::Closed => among(
             switch,
-            told_positions(Dbpos::On, intermediate, off, on, bad),
+            distinguished_positions(Dbpos::On, intermediate, off, on, bad),
         ),
         SwitchPoint::EnableOpen | SwitchPoint::EnableClose => Range::No,
     }

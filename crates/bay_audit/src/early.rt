@@ -13,7 +13,7 @@ use crate::audit::{plain_demand, split};
 use crate::case::Case;
 use crate::program::AuditedProgram;
 use crate::truth_set::condition_truths_of;
-use crate::verdict::{release_place, verdict};
+use crate::verdict::{release_index, verdict};
 use bay_audit_rules::rule::Rule;
 use il_image::value::Value;
 use il_scan::machine::Machine;
@@ -121,7 +121,7 @@ fn is_early(
     let Some(inputs) = values_of(alloc, program, case)? else {
         return Ok(false);
     };
-    let place = release_place(program.writes(), rule.switch, rule.operation);
+    let place = release_index(program.writes(), rule.switch, rule.operation);
     Ok(releases_early(machine, inputs.as_slice(), place, time))
 }
 

@@ -36,7 +36,7 @@ fn demand(alloc: Global, switch: usize, operation: Operation) -> Result<Demand, 
 }
 
 // Returns the release that a verdict on that demand means, or the test by which to split the case.
-fn told_by(verdict: Verdict) -> Result<CaseRelease, Test>
+fn release_or_test(verdict: Verdict) -> Result<CaseRelease, Test>
     ensures { IsTurn verdict result }
 {
     match verdict {
@@ -132,7 +132,7 @@ pub fn release(
             break;
         };
         passes = passes.saturating_sub(1);
-        match told_by(verdict(alloc, program, &demand, &case)?) {
+        match release_or_test(verdict(alloc, program, &demand, &case)?) {
             Ok(told) => cases.push(ReportedCase { case, told })?,
             Err(test) => split(alloc, &mut left, &case, test)?,
         }

@@ -7,7 +7,7 @@ use crate::answer::{StateDependencies, Verdict};
 use crate::case::{Case, Test, only};
 use crate::demand::{Demand, Goal};
 use crate::program::AuditedProgram;
-use crate::verdict::release_place;
+use crate::verdict::release_index;
 use bay_audit_rules::rule::{ConditionItem, Relation};
 use bay_base::position::Dbpos;
 use bay_config::bay::{MeterField, Source, SwitchPoint};
@@ -112,7 +112,7 @@ fn either(two: [Dbpos; 2]) -> Positions {
 }
 
 // Returns whether a goal distinguishes these positions of a switch from the others.
-fn is_told_apart(
+fn is_distinguished(
     allowed: Positions,
     switch: usize,
     positions: Positions,
@@ -140,7 +140,9 @@ fn set_test(
 ) -> Option<Test> {
     for two in SETS {
         let positions = either(two);
-        if parts(allowed, positions) && is_told_apart(allowed, switch, positions, forecast, goal) {
+        if parts(allowed, positions)
+            && is_distinguished(allowed, switch, positions, forecast, goal)
+        {
             return Some(Test::Position { switch, positions });
         }
     }
@@ -158,7 +160,7 @@ fn point_test(
 ) -> Option<Test> {
     let allowed = allowed_positions(case, switch);
     let test = set_part(allowed, switch, only(position));
-    if test.is_some() && is_told_apart(allowed, switch, only(position), forecast, goal) {
+    if test.is_some() && is_distinguished(allowed, switch, only(position), forecast, goal) {
         return test;
     }
     set_test(allowed, switch, forecast, goal).or(test)
@@ -379,7 +381,7 @@ fn program_split(
 // Returns the slot of a goal: that of a release, or the one that represents a timer.
 fn goal_slot(program: &AuditedProgram<'_>, goal: Goal, forecast: &ScanPrediction) -> usize {
     match goal {
-        Goal::Release { switch, operation } => release_place(program.writes(), switch, operation)
+        Goal::Release { switch, operation } => release_index(program.writes(), switch, operation)
             .and_then(|place| slot_of(program.image().points(), place))
             .unwrap_or(0),
         Goal::Idle { timer } | Goal::Begun { timer } | Goal::Lasting { timer } => {

@@ -17,7 +17,7 @@ use crate::truth_set::{TruthSet, rule_truths};
 use bay_audit_rules::rule::RuleKind;
 use bay_base::switch::Operation;
 use bay_config::bay::{Source, SwitchPoint};
-use bay_process::bind::output_place;
+use bay_process::bind::output_index;
 use il_image::image::ImagePoint;
 use il_range::delay::KnownDelay;
 use il_range::range::Range;
@@ -50,11 +50,11 @@ fn releasing_point(operation: Operation) -> SwitchPoint
 
 /// Returns the index of a release among the writable points; `None` if the program does not name
 /// the point.
-pub(crate) fn release_place(writes: &[Source], switch: usize, operation: Operation) -> Option<usize>
+pub(crate) fn release_index(writes: &[Source], switch: usize, operation: Operation) -> Option<usize>
     ensures { result ≡ position (spec_values.is_point switch (spec.releasing_point operation))
         writes.now }
 {
-    output_place(writes, switch, releasing_point(operation))
+    output_index(writes, switch, releasing_point(operation))
 }
 
 // Returns the ranges of the writable points.
@@ -133,7 +133,7 @@ pub(crate) fn release_range(
         ranges.now switch operation) }
 {
     let outputs = outputs_of(alloc, program.image().points(), ranges)?;
-    let place = release_place(program.writes(), switch, operation);
+    let place = release_index(program.writes(), switch, operation);
     Ok(range_at(outputs.as_slice(), place))
 }
 

@@ -9,7 +9,7 @@ use Rattle.bay_nodes.specs.Names.{StatusNames, control_of, meter_names, node_of,
 use Rattle.bay_nodes.specs.Node.{node_name}
 use Rattle.bay_nodes.specs.declared.switch.Switch.{Switch}
 use Rattle.bay_process.specs.Names.{field_names}
-use Rattle.bay_process.specs.Values.{is_position, is_quality, rows_after_change, rows_after_contact, rows_after_doubt, has_position, tells_doubt, with_status}
+use Rattle.bay_process.specs.Values.{is_position, is_quality, rows_after_change, rows_after_contact, rows_after_doubt, has_position, has_invalid_measure, with_status}
 use Rattle.bay_process.proofs.ToldLemmas.{leaf-other, leaf-own}
 use Rattle.bay_tree.specs.Rows.{leaf_of, with_leaf_of}
 use Rattle.bay_base.specs.declared.position.Dbpos.TheVariants.{Intermediate, Off, On, Bad}
@@ -158,7 +158,7 @@ module _ (n : List ℕ) (value : Leaf) (lasts : Lasts n value) where
   doubt-holds k field now rows is =
       let names = field_names field (meter_names k) in
       let ends = field-ends k field in
-      holds-if (tells_doubt names rows) rows _ is
+      holds-if (has_invalid_measure names rows) rows _ is
       (kept _ n names.time value (leaf.Utc now) (λ e. absurd (lasts.on_time names.time ends.time e))
       (kept rows n names.quality value (leaf.Quality Invalid)
       (lasts.on_quality names.quality ends.quality) is))

@@ -6,7 +6,7 @@ use Rattle.bay_base.specs.declared.point.MeterField.{MeterField}
 use Rattle.bay_nodes.specs.Names.{interlocking_of, meter_names, switch_names}
 use Rattle.bay_nodes.specs.declared.switch.Switch.{Switch}
 use Rattle.bay_process.specs.Names.{field_names}
-use Rattle.bay_process.specs.Values.{rows_after_change, has_position as tells_position, tells_doubt, tells_measure, with_status}
+use Rattle.bay_process.specs.Values.{rows_after_change, has_position as tells_position, has_invalid_measure, has_measure, with_status}
 use Rattle.bay_process.proofs.ToldLemmas.{Keeps, field-away, keeps-contact, keeps-doubt, keeps-measure}
 use Rattle.bay_tree.specs.Rows.{leaf_of, with_leaf_of}
 use Rattle.bay_base.specs.declared.position.Dbpos.{Dbpos}
@@ -107,7 +107,7 @@ quiet-measure : (now k : ℕ) (field : MeterField) (value : ℤ) (s : State) →
     → Quiet s (device_after_measure now k field value s)
 quiet-measure now k field value s typed =
     let names = field_names field (meter_names k) in
-    let told : Bool = tells_measure names value s.rows in
+    let told : Bool = has_measure names value s.rows in
     record {
       machine = refl;
       switches = refl;
@@ -128,7 +128,7 @@ quiet-doubt : (now k : ℕ) (field : MeterField) (s : State)
     → Quiet s (device_after_bad_measure now k field s)
 quiet-doubt now k field s =
     let names = field_names field (meter_names k) in
-    let told : Bool = tells_doubt names s.rows in
+    let told : Bool = has_invalid_measure names s.rows in
     record {
       machine = refl;
       switches = refl;

@@ -9,7 +9,7 @@ use Rattle.bay_audit_rules.specs.declared.rule.RuleKind.TheVariants.{Always, Nev
 use Rattle.bay_base.specs.declared.position.Dbpos.TheVariants.{Bad}
 use Rattle.il_image.specs.Machine.{act, run_from}
 use Rattle.il_image.specs.Opcodes.{opcode_of}
-use Rattle.il_image.specs.Places.{is_place}
+use Rattle.il_image.specs.Offsets.{is_instruction_offset}
 use Rattle.il_image.specs.Reading.{instr_at, instr_from}
 use Rattle.il_range.specs.Foretold.{First}
 use Rattle.il_scan.specs.Scans.{first_machine}
@@ -27,7 +27,7 @@ is-silent = record {
 }
 
 pub breaks-always : IsRule halting_program (at_all_times Always) → ⊥
-unfolding run_from act is_place instr_at instr_from opcode_of
+unfolding run_from act is_instruction_offset instr_at instr_from opcode_of
 breaks-always h =
     let no : false ≡ true =
     h silent is-silent 0 (first_machine halting_program.image) 0 [] [] refl

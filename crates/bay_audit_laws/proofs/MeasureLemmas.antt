@@ -13,7 +13,7 @@ use Rattle.bay_nodes.specs.declared.switch.Switch.{Switch}
 use Rattle.bay_base.specs.declared.switch.SwitchKind.{SwitchKind}
 use Rattle.bay_base.specs.declared.switch.SwitchKind.TheVariants.{Breaker, Disconnector, Earthing}
 use Rattle.bay_process.specs.Names.{field_names}
-use Rattle.bay_process.specs.Values.{is_operation, measure_leaf, number_of_leaf, operation_counted, position_quality, rows_after_change, rows_after_contact, rows_after_doubt, rows_after_measure, has_position, tells_doubt, tells_measure, with_count, with_status}
+use Rattle.bay_process.specs.Values.{is_operation, measure_leaf, number_of_leaf, operation_counted, position_quality, rows_after_change, rows_after_contact, rows_after_doubt, rows_after_measure, has_position, has_invalid_measure, has_measure, with_count, with_status}
 use Rattle.bay_process.proofs.ToldLemmas.{leaf-other}
 use Rattle.bay_tree.specs.Rows.{leaf_of, with_leaf_of}
 use Rattle.bay_base.specs.declared.position.Dbpos.{Dbpos}
@@ -173,13 +173,13 @@ module _ (count : ℕ) where
   pub measure-fits : (names : StatusNames) (value : ℤ) (now : ℕ) (rows : List Row) → Has32Bits value
       → AllFit count rows → AllFit count (rows_after_measure names value now rows)
   measure-fits names value now rows fits all =
-      if-fits (tells_measure names value rows) rows _ all
+      if-fits (has_measure names value rows) rows _ all
       (status-fits names (leaf.Int32 value) Good now rows fits all)
 
   pub doubt-fits : (names : StatusNames) (now : ℕ) (rows : List Row) → AllFit count rows
       → AllFit count (rows_after_doubt names now rows)
   doubt-fits names now rows all =
-      if-fits (tells_doubt names rows) rows _ all
+      if-fits (has_invalid_measure names rows) rows _ all
       (λ k field lt. written-fits _ _ names.time (leaf.Utc now) tt
       (written-fits rows _ names.quality (leaf.Quality Invalid) tt (all k field lt)))
 

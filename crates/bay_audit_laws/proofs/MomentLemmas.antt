@@ -6,7 +6,7 @@ use Rattle.bay_base.specs.declared.point.MeterField.{MeterField}
 use Rattle.bay_nodes.specs.declared.switch.Switch.{Switch}
 use Rattle.bay_connection.specs.ConnectionStates.{ConnectionState, Indication, answers, connection_after, ends, fails, indications, releases, tells}
 use Rattle.bay_device.specs.Device.{State, device_at}
-use Rattle.bay_device.specs.Outcomes.{Outcome, close_outcome, connection_at, contact_outcome, doubt_outcome, event_outcome, initial_connection, input_outcome, last_moment, lost_outcome, measure_outcome, nothing_done, open_outcome, place_of, recv_after, recv_outcome, refusal_of, with_connection, without_owner}
+use Rattle.bay_device.specs.Outcomes.{Outcome, close_outcome, connection_at, contact_outcome, doubt_outcome, event_outcome, initial_connection, input_outcome, last_moment, lost_outcome, measure_outcome, nothing_done, open_outcome, slot_of, recv_after, recv_outcome, refusal_of, with_connection, without_owner}
 use Rattle.bay_device.specs.Receiving.{Done, ReceiveResult, after_indications, after_pdu, on_indication, with_sent}
 use Rattle.bay_device.specs.Steps.{Steps}
 use Rattle.bay_device.specs.declared.event.Event.{Event}
@@ -46,8 +46,8 @@ set-moment (Some i) t s = refl
 
 after-moment : (a : ℕ) (left : ConnectionState) (s : State) (why : Option Why)
     → (recv_after a left s why).moment ≡ s.moment
-after-moment a left s None = set-moment (place_of a) (Some left) s
-after-moment a left s (Some why) = set-moment (place_of a) None (without_owner a s)
+after-moment a left s None = set-moment (slot_of a) (Some left) s
+after-moment a left s (Some why) = set-moment (slot_of a) None (without_owner a s)
 
 -- ---- events
 
@@ -57,14 +57,14 @@ module _ (m now : ℕ) (s : State) (before : m ≤ s.moment) (by : m ≤ now) wh
   open-behind a None talk = before
   open-behind a (Some place) (Some talk) = before
   open-behind a (Some place) None = let e =
-      set-moment (place_of a) (Some (initial_connection a)) (device_at now s) in
+      set-moment (slot_of a) (Some (initial_connection a)) (device_at now s) in
       omega (arith, e, by)
 
   close-behind : (a : ℕ) (talk : Option ConnectionState)
       → m ≤ (close_outcome now a s talk).after.moment
   close-behind a None = before
   close-behind a (Some talk) = let e =
-      set-moment (place_of a) None (without_owner a (device_at now s)) in omega (arith, e, by)
+      set-moment (slot_of a) None (without_owner a (device_at now s)) in omega (arith, e, by)
 
   recv-behind : (choice : Option ℕ) (a : ℕ) (octets : List ℕ) (talk : Option ConnectionState)
       → m ≤ (recv_outcome choice now a octets s talk).after.moment
@@ -104,10 +104,10 @@ module _ (m now : ℕ) (s : State) (before : m ≤ s.moment) (by : m ≤ now) wh
 
   event-behind : (choice : Option ℕ) (event : Event)
       → m ≤ (event_outcome choice now event s).after.moment
-  event-behind choice (Open a) = open-behind a (place_of a) (connection_at (place_of a) s)
+  event-behind choice (Open a) = open-behind a (slot_of a) (connection_at (slot_of a) s)
   event-behind choice (Recv a octets) =
-      recv-behind choice a octets.now (connection_at (place_of a) s)
-  event-behind choice (Close a) = close-behind a (connection_at (place_of a) s)
+      recv-behind choice a octets.now (connection_at (slot_of a) s)
+  event-behind choice (Close a) = close-behind a (connection_at (slot_of a) s)
   event-behind choice (Contact k position) =
       contact-behind k position (slice_get s.switches k)
   event-behind choice (Input k value) = input-behind k value (slice_get s.input_values k)

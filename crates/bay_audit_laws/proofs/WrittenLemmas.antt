@@ -5,7 +5,7 @@ use Rattle.bay_base.specs.declared.point.Source.{Source}
 use Rattle.bay_base.specs.declared.point.SwitchPoint.TheVariants.{EnableOpen, EnableClose}
 use Rattle.bay_nodes.specs.Names.{StatusNames, SwitchNames, switch_names}
 use Rattle.bay_nodes.specs.declared.switch.Switch.{Switch}
-use Rattle.bay_process.specs.Values.{is_operation, operation_counted, output_of, position_quality, rows_after_change, rows_after_contact, rows_after_doubt, rows_after_measure, has_position, tells_doubt, tells_measure, with_count, with_enabled, with_outputs, with_status}
+use Rattle.bay_process.specs.Values.{is_operation, operation_counted, output_of, position_quality, rows_after_change, rows_after_contact, rows_after_doubt, rows_after_measure, has_position, has_invalid_measure, has_measure, with_count, with_enabled, with_outputs, with_status}
 use Rattle.bay_tree.specs.Rows.{leaf_of, with_leaf_of}
 use Rattle.bay_base.specs.declared.position.Dbpos.{Dbpos}
 use Rattle.bay_tree.specs.declared.leaf.Leaf.{Leaf}
@@ -62,13 +62,13 @@ module _ (P : List Row → Type 0)
   pub measure-passes : (names : StatusNames) (value : ℤ) (now : ℕ) (rows : List Row) → P rows
       → P (rows_after_measure names value now rows)
   measure-passes names value now rows p =
-      if-passes (tells_measure names value rows) rows _ p
+      if-passes (has_measure names value rows) rows _ p
       (status-passes names (leaf.Int32 value) Good now rows p)
 
   pub doubt-passes : (names : StatusNames) (now : ℕ) (rows : List Row) → P rows
       → P (rows_after_doubt names now rows)
   doubt-passes names now rows p =
-      if-passes (tells_doubt names rows) rows _ p
+      if-passes (has_invalid_measure names rows) rows _ p
       (write names.time _ _ (write names.quality _ rows p))
 
   enabled-passes : (names : StatusNames) (value : Bool) (now : ℕ) (rows : List Row) → P rows

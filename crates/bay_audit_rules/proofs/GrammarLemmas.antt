@@ -12,7 +12,7 @@ use Rattle.bay_audit_rules.specs.declared.token.RuleToken.TheVariants as token
 use Rattle.bay_audit_rules.specs.declared.token.TestValue.{TestValue}
 use Rattle.bay_audit_rules.proofs.ConditionLemmas.{plus-assoc, plus-four, none-plus, run-over}
 use Rattle.bay_audit_rules.specs.Facts.{Items, ◌⊕◌, item, negation, value_items}
-use Rattle.bay_audit_rules.specs.Grammar.{value_of, AreValues, IsTold, IsFact, Level, operand, conjunction, condition, Reads}
+use Rattle.bay_audit_rules.specs.Grammar.{value_of, AreValues, IsComparison, IsFact, Level, operand, conjunction, condition, Reads}
 use Rattle.bay_audit_rules.specs.Running.{Taken, more_at, fact_at, values_at, is_at, or_alone, with_one_more_token, State, state, append_operators, append_or, after_fact, close_parenthesis, found_if_complete, finish, expects, passes, found_after_tokens, condition_at}
 
 -- ---- tokens that are passed
@@ -76,18 +76,21 @@ fact-found named ts c rest IsFact.alone at_link = refl
 fact-found named ts c rest IsFact.alone at_for = refl
 fact-found named ts c rest IsFact.alone at_when = refl
 fact-found named ts c rest IsFact.related ends = refl
-fact-found named ts c rest (IsFact.valued t {value = value} {ts = us} {c = d} IsTold.plain is-value
+fact-found named ts c rest
+    (IsFact.valued t {value = value} {ts = us} {c = d} IsComparison.plain is-value
     more) ends =
     value-front named t value (us ++ rest) is-value
     ∙ ap (or_alone named) (first-found named false t value us d rest is-value more ends)
-fact-found named ts c rest (IsFact.valued t {value = value} {ts = us} {c = d} IsTold.is is-value
+fact-found named ts c rest
+    (IsFact.valued t {value = value} {ts = us} {c = d} IsComparison.is is-value
     more) ends =
     ap with_one_more_token (value-behind named t value (us ++ rest) is-value
     ∙ first-found named false t value us d rest is-value more ends)
-fact-found named ts c rest (IsFact.valued t {value = value} {ts = us} {c = d} IsTold.not is-value
+fact-found named ts c rest
+    (IsFact.valued t {value = value} {ts = us} {c = d} IsComparison.not is-value
     more) ends =
     ap with_one_more_token (first-found named true t value us d rest is-value more ends)
-fact-found named ts c rest (IsFact.valued t {value = value} {ts = us} {c = d} IsTold.is_not
+fact-found named ts c rest (IsFact.valued t {value = value} {ts = us} {c = d} IsComparison.is_not
     is-value more) ends =
     ap (λ x. with_one_more_token (with_one_more_token x))
     (first-found named true t value us d rest is-value more ends)

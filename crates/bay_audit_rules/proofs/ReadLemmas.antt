@@ -13,7 +13,7 @@ use Rattle.bay_audit_rules.specs.declared.token.RuleToken.TheVariants as token
 use Rattle.bay_audit_rules.specs.declared.token.TestValue.{TestValue}
 use Rattle.bay_audit_rules.specs.declared.token.TestValue.TheVariants.{Position, Truth, Number}
 use Rattle.bay_audit_rules.specs.Facts.{Items, ◌⊕◌, item, negation, value_items}
-use Rattle.bay_audit_rules.specs.Grammar.{value_of, AreValues, IsTold, IsFact, operand, conjunction, condition, Reads}
+use Rattle.bay_audit_rules.specs.Grammar.{value_of, AreValues, IsComparison, IsFact, operand, conjunction, condition, Reads}
 use Rattle.bay_audit_rules.specs.Running.{Taken, more_at, values_at, number_at, is_at, or_alone, with_one_more_token, fact_at, State, state, append_operators, append_or, after_fact, close_parenthesis, found_if_complete, finish, operand_at, after_operand, Phase, expects, passes, over, token_step, found_after_tokens, Found, condition_at}
 use Rattle.bay_audit_rules.proofs.ConditionLemmas.{plus-assoc, plus-four, none-plus}
 use Rattle.bay_audit_rules.proofs.GrammarLemmas.{IsOpen, IsBase, open-settled}
@@ -40,7 +40,8 @@ IsTaken named told ts taken = IsFact named (told ++ take taken.1 ts) taken.0
 
 first-read : (named : NamedObject) (told : List RuleToken) (negated : Bool) (ts : List RuleToken)
     (taken : Taken)
-    → IsTold told negated → values_at named negated ts ≡ Some taken → IsTaken named told ts taken
+    → IsComparison told negated → values_at named negated ts ≡ Some taken
+    → IsTaken named told ts taken
 first-read named told negated [] taken how e = absurd cc
 first-read named told negated (t ∷ ts) taken how e = by-value (value_of t) refl
   where
@@ -94,9 +95,9 @@ is-read named [] taken e = absurd cc
 is-read named (token.Not ∷ ts) taken e =
     let at = behind-some (values_at named true ts) taken e in
     subst (λ (k : Taken). IsFact named (take (suc k.1) (token.Is ∷ (token.Not ∷ ts))) k.0) at.is
-    (first-read named (token.Is ∷ (token.Not ∷ [])) true ts at.first IsTold.is_not at.was)
+    (first-read named (token.Is ∷ (token.Not ∷ [])) true ts at.first IsComparison.is_not at.was)
 is-read named (other ∷ ts) taken e =
-    first-read named (token.Is ∷ []) false (other ∷ ts) taken IsTold.is e
+    first-read named (token.Is ∷ []) false (other ∷ ts) taken IsComparison.is e
 
 alone-read : (named : NamedObject) (ts : List RuleToken) (x : Option Taken) (taken : Taken)
     → values_at named false ts ≡ x → or_alone named x ≡ Some taken
@@ -104,7 +105,7 @@ alone-read : (named : NamedObject) (ts : List RuleToken) (x : Option Taken) (tak
 alone-read named ts None taken e f =
     subst (λ (k : Taken). IsFact named (take k.1 ts) k.0) (same_Some _ taken f) IsFact.alone
 alone-read named ts (Some y) taken e f =
-    first-read named [] false ts taken IsTold.plain (e ∙ f)
+    first-read named [] false ts taken IsComparison.plain (e ∙ f)
 
 pub fact-read : (named : NamedObject) (ts : List RuleToken) (taken : Taken)
     → fact_at named ts ≡ Some taken
@@ -116,7 +117,7 @@ fact-read named (token.Is ∷ ts) taken e =
     one-behind named token.Is ts (is_at named ts) taken e (is-read named ts)
 fact-read named (token.Not ∷ ts) taken e =
     one-behind named token.Not ts (values_at named true ts) taken e
-    (λ y is. first-read named (token.Not ∷ []) true ts y IsTold.not is)
+    (λ y is. first-read named (token.Not ∷ []) true ts y IsComparison.not is)
 fact-read named ts taken e = alone-read named ts (values_at named false ts) taken refl e
 
 -- ---- each condition that is found is one

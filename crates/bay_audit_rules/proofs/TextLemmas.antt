@@ -15,7 +15,7 @@ use Rattle.bay_audit_rules.specs.declared.token.RuleToken.{RuleToken}
 use Rattle.bay_audit_rules.specs.Facts.{Items, ◌⊕◌}
 use Rattle.bay_audit_rules.specs.Grammar.{Spells}
 use Rattle.bay_audit_rules.specs.Meaning.{AllRead, TextRead, prepend_rules, line_tokens, TokensRead, LinesRead, LineRead}
-use Rattle.bay_audit_rules.specs.Reading.{Pushes, Tells}
+use Rattle.bay_audit_rules.specs.Reading.{Pushes, AppendsRules}
 use Rattle.bay_audit_rules.specs.Running.{Taken, fact_at}
 use Rattle.bay_audit_rules.specs.TokenParsing.{only_items, looks_at, statement_at}
 use Rattle.bay_audit_rules.specs.Turns.{TookIf}
@@ -134,7 +134,7 @@ goes-done bay line rules lines IsAnswer p goes =
 pub tells-line : (bay : Bay) (line : ℕ) (text : List ℕ) (ts us : List RuleToken)
     (old new : List Rule)
     (r : Result Unit RuleFault) → us ≡ ts → Some ts ≡ line_tokens bay text
-    → Tells (TokensRead line us) old new r → Tells (LineRead bay line text) old new r
+    → AppendsRules (TokensRead line us) old new r → AppendsRules (LineRead bay line text) old new r
 tells-line bay line text ts us old new (Ok x) same is told = (
   told.0,
   LineRead.tokens (sym is) (subst (λ vs. TokensRead line vs (Ok told.0)) same told.1),
@@ -147,7 +147,7 @@ tells-line bay line text ts us old new (Err fault) same is (inr read) =
 pub goes-err : (bay : Bay) (line : ℕ) (rules new : List Rule) (first : List ℕ)
     (lines more : List (List ℕ)) (IsAnswer : Result (List Rule) RuleFault → Type 0)
     (fault : RuleFault) → lines ≡ first ∷ more → Goes bay line rules lines IsAnswer
-    → Tells (LineRead bay line first) rules new (Err fault)
+    → AppendsRules (LineRead bay line first) rules new (Err fault)
     → (fault ≡ OutOfMemory) ⊎ IsAnswer (Err fault)
 goes-err bay line rules new first lines more IsAnswer fault p goes (inl memory) = inl memory
 goes-err bay line rules new first lines more IsAnswer fault p goes (inr read) =

@@ -32,11 +32,11 @@ pub data AreValues : NamedObject → List RuleToken → Items → Type 0 where
       → AreValues named (token.Bar ∷ t ∷ ts) (value_items named value ⊕ item items.Or ⊕ c)
 
 -- the tokens between a name and its values, and whether they negate
-pub data IsTold : List RuleToken → Bool → Type 0 where
-  plain : IsTold [] false
-  is : IsTold (token.Is ∷ []) false
-  not : IsTold (token.Not ∷ []) true
-  is_not : IsTold (token.Is ∷ token.Not ∷ []) true
+pub data IsComparison : List RuleToken → Bool → Type 0 where
+  plain : IsComparison [] false
+  is : IsComparison (token.Is ∷ []) false
+  not : IsComparison (token.Not ∷ []) true
+  is_not : IsComparison (token.Is ∷ token.Not ∷ []) true
 
 -- a fact: an input alone, which is TRUE; the named object and its values; or a measured value, a
 -- relation and a number
@@ -44,7 +44,7 @@ pub data IsFact : NamedObject → List RuleToken → Items → Type 0 where
   alone : {named : NamedObject} → IsFact named [] (value_items named (Truth true))
   valued : {named : NamedObject} {told : List RuleToken} {negated : Bool} (t : RuleToken)
       {value : TestValue}
-      {ts : List RuleToken} {c : Items} → IsTold told negated → value_of t ≡ Some value
+      {ts : List RuleToken} {c : Items} → IsComparison told negated → value_of t ≡ Some value
       → AreValues named ts c
       → IsFact named (told ++ (t ∷ ts)) (value_items named value ⊕ c ⊕ negation negated)
   related : {named : NamedObject} {relation : Relation} {n : Option ℤ}

@@ -14,10 +14,10 @@ Pushes (Some rules) old new false = ⊥
 Pushes (Some rules) old new true = new ≡ old ++ rules
 
 -- either the rules of a reading were appended, or the fault is that of a reading, or memory ran out
-abbrev pub Tells : (Result (List Rule) RuleFault → Type 0) → List Rule → List Rule
+abbrev pub AppendsRules : (Result (List Rule) RuleFault → Type 0) → List Rule → List Rule
     → Result Unit RuleFault → Type 0
-Tells IsRead old new (Ok x) = (rules : List Rule) × IsRead (Ok rules) × (new ≡ old ++ rules)
-Tells IsRead old new (Err fault) = (fault ≡ OutOfMemory) ⊎ IsRead (Err fault)
+AppendsRules IsRead old new (Ok x) = (rules : List Rule) × IsRead (Ok rules) × (new ≡ old ++ rules)
+AppendsRules IsRead old new (Err fault) = (fault ≡ OutOfMemory) ⊎ IsRead (Err fault)
 
 -- the lines after the first
 abbrev pub rest_lines : Option (List ℕ) → List (List ℕ)

@@ -5,7 +5,7 @@ ghost use Rattle.bay_audit_rules.specs.declared.fault.RuleFault.TheVariants.{Out
 ghost use Rattle.bay_audit_rules.specs.declared.statement.RuleStatement.TheVariants as statement;
 ghost use Rattle.bay_audit_rules.specs.Meaning.{TokensRead, LineRead, AllRead, TextRead, timing_of, rules_of, is_line_end};
 ghost use Rattle.bay_audit_rules.specs.Meaning as spec;
-ghost use Rattle.bay_audit_rules.specs.Reading.{Pushes, Tells, rest_lines};
+ghost use Rattle.bay_audit_rules.specs.Reading.{Pushes, AppendsRules, rest_lines};
 
 use crate::fault::RuleFault;
 use crate::lexer::tokens_of;
@@ -163,7 +163,7 @@ fn push_ways(
 
 // Appends the rules of a line. Returns false if one of its names or times can't have what the line
 // says.
-fn push_said(
+fn push_rules_of_line(
     alloc: Global,
     line: usize,
     said: RuleLine,
@@ -195,7 +195,7 @@ fn push_rules(
     match statement {
         RuleStatement::Silence => Ok(true),
         RuleStatement::Looks(draft) => Ok(draft.into_items().is_some()),
-        RuleStatement::Rule(said) => push_said(alloc, line, said, rules),
+        RuleStatement::Rule(said) => push_rules_of_line(alloc, line, said, rules),
     }
 }
 
@@ -206,7 +206,7 @@ fn read_tokens(
     tokens: &[RuleToken],
     rules: &mut Vec<Rule>,
 ) -> Result<(), RuleFault>
-    ensures { Tells (TokensRead line tokens.now) rules.old.items rules.new.items result }
+    ensures { AppendsRules (TokensRead line tokens.now) rules.old.items rules.new.items result }
 {
     let Some(statement) = statement_of(alloc, tokens)? else {
         return Err(RuleFault::BadLine { line });
@@ -231,7 +231,7 @@ fn read_line(
     text: &[u8],
     rules: &mut Vec<Rule>,
 ) -> Result<(), RuleFault>
-    ensures { Tells (LineRead bay.now line text.now) rules.old.items rules.new.items result }
+    ensures { AppendsRules (LineRead bay.now line text.now) rules.old.items rules.new.items result }
 {
     let Some(tokens) = tokens_of(alloc, bay, text)? else {
         return Err(RuleFault::BadWord { line });

@@ -11,7 +11,7 @@ use Rattle.bay_ber.specs.declared.tag.Tag.{Tag}
 use Rattle.bay_ber.specs.Reading.{Reading, class_of, is_constructed, low_bits, second_at, tag_at, length_at, tlv_at}
 use Rattle.bay_base.specs.Options.{◌>>=◌}
 use Rattle.bay_ber.specs.declared.values.Value.{Value}
-use Rattle.bay_ber.specs.Values.{Part, part_of, SpellAll, part_in, prepend_values, with_front, values_within, values_in, only_one, value_in, at_most_five, few_in, all_of, each_in}
+use Rattle.bay_ber.specs.Values.{Part, part_of, SpellAll, part_in, prepend_values, with_value_first, values_within, values_in, only_one, value_in, at_most_five, few_in, all_of, each_in}
 use Rattle.bay_ber.proofs.ReadLemmas.{IsBytes, bind-ok, chosen, ok-is, with_tag, with_length, length-takes, tlv-takes, tlv-again}
 
 -- ---- what is read leaves less
@@ -86,7 +86,7 @@ none-left (suc most) = refl
 
 same-front : (n m : ℕ) (t : Result Reading BerFault)
     → ((r : Reading) → t ≡ Ok r → values_within n r.rest ≡ values_within m r.rest)
-    → with_front t (values_within n) ≡ with_front t (values_within m)
+    → with_value_first t (values_within n) ≡ with_value_first t (values_within m)
 same-front n m (Ok r) same = ap (prepend_values (part_in r ∷ [])) (same r refl)
 same-front n m (Err fault) same = refl
 
@@ -140,7 +140,7 @@ rest-bytes octets front rest parts fits i =
     omega (arith, fits (length front + i), at)
 
 front-takes : (octets : List ℕ) (most : ℕ) (t : Result Reading BerFault) (parts : List Part)
-    → tlv_at octets ≡ t → IsBytes octets → with_front t (values_within most) ≡ Some parts
+    → tlv_at octets ≡ t → IsBytes octets → with_value_first t (values_within most) ≡ Some parts
     → ((r : Reading) (later : List Part) → IsBytes r.rest → values_within most r.rest ≡ Some later
     → SpellAll r.rest later) → SpellAll octets parts
 front-takes octets most (Err fault) parts read fits e more = absurd cc

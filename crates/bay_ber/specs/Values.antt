@@ -52,16 +52,17 @@ abbrev pub prepend_values : List Part → Option (List Part) → Option (List Pa
 prepend_values front = option_map (λ parts. front ++ parts)
 
 -- a value that was read, before those in the rest, if the rest are values
-abbrev pub with_front : Result Reading BerFault → (List ℕ → Option (List Part)) → Option (List Part)
-with_front (Ok r) rest = prepend_values (part_in r ∷ []) (rest r.rest)
-with_front (Err fault) rest = None
+abbrev pub with_value_first : Result Reading BerFault → (List ℕ → Option (List Part))
+    → Option (List Part)
+with_value_first (Ok r) rest = prepend_values (part_in r ∷ []) (rest r.rest)
+with_value_first (Err fault) rest = None
 
 -- the values that the octets encode, if there are at most `most`
 unfoldable pub values_within : ℕ → List ℕ → Option (List Part)
 values_within most [] = Some []
 values_within zero (octet ∷ octets) = None
 values_within (suc most) (octet ∷ octets) =
-    with_front (tlv_at (octet ∷ octets)) (values_within most)
+    with_value_first (tlv_at (octet ∷ octets)) (values_within most)
 
 -- the values that the octets encode, one after another; a value has at least two octets, so there
 -- are fewer values than octets (X.690 8.9, 8.10)

@@ -26,8 +26,8 @@ task_view (Audit bay program rules effort) =
     Audit bay.now (program_view program) rules.now effort
 
 -- the same, of a task with its log
-abbrev pub asked_view : Invoked (Bor (List ℕ)) → Invoked (List ℕ)
-asked_view asked = record { task = task_view asked.task; log = asked.log }
+abbrev pub invoked_view : Invoked (Bor (List ℕ)) → Invoked (List ℕ)
+invoked_view asked = record { task = task_view asked.task; log = asked.log }
 
 -- the view of a job
 abbrev pub job_view : Job → JobData

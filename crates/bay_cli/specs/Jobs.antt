@@ -157,9 +157,9 @@ is_apart port (Some process) = not (process == port)
 
 -- whether releases are reported to the process; None if the word is another one, or if there is no
 -- process
-abbrev pub tells_of : Option ℕ → Option Text → Option Bool
-tells_of process None = Some false
-tells_of process (Some word) =
+abbrev pub sends_releases : Option ℕ → Option Text → Option Bool
+sends_releases process None = Some false
+sends_releases process (Some word) =
     if is_some process && bytes_eq word (codes "releases") then Some true else None
 
 -- whether the options of supervision fit together: a supervised process needs a port and excludes a
@@ -180,9 +180,9 @@ serve_task bay program port turns trace process limit key file most idle rules t
     then Some (Serve bay program port turns trace process tells limit key file most idle rules)
     else None
 
--- the task of `serve`: a bay and a program, both numbers, a trace and a process, if they were named,
--- whether releases are sent to the process, how it is supervised, how the session is recorded, how
--- long a client may send nothing, and rules, if they were named
+-- the task of `serve`: a bay and a program, both numbers, a trace and a process, if they were
+-- named, whether releases are sent to the process, how it is supervised, how the session is
+-- recorded, how long a client may send nothing, and rules, if they were named
 abbrev pub serve_in : List Row → Option (Task Text)
 serve_in rows =
     option_and_then (λ bay. option_and_then (λ program. option_and_then (λ port. option_and_then
@@ -190,7 +190,8 @@ serve_in rows =
     (serve_task bay program port turns (first_of (codes "trace") rows) (process_in rows)
     (limit_in rows) (first_of (codes "key") rows) (first_of (codes "record") rows) (most_in rows)
     (idle_in rows) (first_of (codes "rules") rows))
-    (tells_of (process_in rows) (first_of (codes "tell") rows))) (turns_in rows)) (port_in rows))
+    (sends_releases (process_in rows) (first_of (codes "tell") rows))) (turns_in rows))
+    (port_in rows))
     (program_in rows)) (first_of (codes "bay") rows)
 
 -- the task of `compile`: its three files
@@ -222,12 +223,12 @@ logs rows =
     option_map_or (λ value. bytes_eq value (codes "true")) (first_of (codes "log") rows) false
 
 -- the task, and whether the log is written
-abbrev pub named_asked : Text → List Row → Option (Invoked Text)
-named_asked name rows =
+abbrev pub named_invocation : Text → List Row → Option (Invoked Text)
+named_invocation name rows =
     option_map (λ task. record { task = task; log = logs rows }) (named_task name rows)
 
 abbrev pub entered_task : Option (Text × List Row) → Option (Invoked Text)
-entered_task = option_and_then (λ p. named_asked p.0 p.1)
+entered_task = option_and_then (λ p. named_invocation p.0 p.1)
 
 -- the parsed words, if they have no fault
 abbrev pub faultless : Kinds → Option (Text × List Row) → Option (Text × List Row)

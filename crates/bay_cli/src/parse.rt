@@ -4,7 +4,7 @@ ghost use Rattle.std.specs.Str.{bytes_eq};
 ghost use Rattle.clap.specs.Words.{first_of, rows_of, found_of, kind_of, subcommand_rows_of};
 ghost use Rattle.bay_cli.specs.Jobs.{parsed_words, audit_in, compile_in, check_in, job_in, number_of, program_in, serve_in, task_in};
 ghost use Rattle.bay_cli.specs.Jobs as spec;
-ghost use Rattle.bay_cli.specs.JobView.{asked_view, job_view, program_view, task_view};
+ghost use Rattle.bay_cli.specs.JobView.{invoked_view, job_view, program_view, task_view};
 
 use crate::command::clap_command;
 use crate::task::{Invoked, ProgramFile, Task};
@@ -189,7 +189,7 @@ fn is_releases(word: &str) -> bool
 // Returns whether releases are reported to the process. Returns `None` if the word requests
 // anything else, or if there is no process.
 fn reports_releases(process: Option<u16>, word: Option<&str>) -> Option<bool>
-    ensures { result ≡ spec.tells_of process (option_map (λ s. s.now) word.entry) }
+    ensures { result ≡ spec.sends_releases process (option_map (λ s. s.now) word.entry) }
 {
     match word {
         Some(word) => {
@@ -309,7 +309,7 @@ fn named_task<'a>(name: &str, found: &ArgMatches<'a>) -> Option<Task<&'a str>>
 
 // Returns the task of the parsed words.
 fn task_from<'a>(matches: &ArgMatches<'a>) -> Option<Invoked<&'a str>>
-    ensures { option_map asked_view result ≡ spec.entered_task (subcommand_rows_of matches.now) }
+    ensures { option_map invoked_view result ≡ spec.entered_task (subcommand_rows_of matches.now) }
 {
     let (name, found) = matches.subcommand()?;
     let task = named_task(name, found)?;
@@ -461,7 +461,7 @@ fn matches_of<'a>(alloc: Global, words: &'a [&'a str]) -> Result<ArgMatches<'a>,
 /// request help, and with `OutOfMemory`.
 pub fn task_of<'a>(alloc: Global, words: &'a [&'a str]) -> Result<Invoked<&'a str>, WordsFault>
     ensures ok { IfOk result
-        (λ t. task_in (map (λ w. w.now) words.entry.now) ≡ Some (asked_view t)) }
+        (λ t. task_in (map (λ w. w.now) words.entry.now) ≡ Some (invoked_view t)) }
     ensures refused { IfErr result
         (λ e. (e ≡ WordsFault.OutOfMemory) ⊎ (task_in (map (λ w. w.now) words.entry.now) ≡ None)) }
 {

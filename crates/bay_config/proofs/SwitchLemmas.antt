@@ -154,7 +154,8 @@ pub no-options : (t : Members) → control_of t ≡ Some Status
 no-options t readable none = (
   ap (option_and_then as_str)
       (absent-key (Some Status) (kind_of t) t (codes "remote") readable refl refl none),
-  ap is_some (absent-key (Some Status) (kind_of t) t (codes "synchrocheck") readable refl refl none),
+  ap is_some (absent-key (Some Status) (kind_of t) t (codes "synchrocheck") readable refl refl
+      none),
 )
 
 -- nor the refusal of a synchrocheck at a switch that is no breaker

@@ -11,8 +11,8 @@
 -- values each key may have, which keys a kind of control excludes, and how many tables a section
 -- has; a missing list counts as an empty one. `Point`: the five points of a switch, the one point
 -- of an input and the six points of a meter, each with its name, its type, its source and whether a
--- program may write it. `Remote`: the inputs of the switches' keys. `Laws`: the properties of every bay that is read. `Code` numbers the
--- faults.
+-- program may write it. `Remote`: the inputs of the switches' keys. `Laws`: the properties of every
+-- bay that is read. `Code` numbers the faults.
 
 -- The definitions of lower crates that public clauses cite.
 pub use Rattle.bay_base.specs.Exact

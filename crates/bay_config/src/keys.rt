@@ -116,7 +116,8 @@ pub fn identifier_at(alloc: Global, table: &Table, key: &str, most: usize) -> Re
 }
 
 /// Reads the identifier at a key, of at most `most` characters; `None` if the table does not have
-/// the key. `BadValue` if its value is not such an identifier, `OutOfMemory` if an allocation fails.
+/// the key. `BadValue` if its value is not such an identifier, `OutOfMemory` if an allocation
+/// fails.
 pub fn identifier_if(
     alloc: Global,
     table: &Table,

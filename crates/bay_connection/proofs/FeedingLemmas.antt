@@ -14,7 +14,7 @@ use Rattle.bay_assoc.specs.declared.receive.Phase.{Phase}
 use Rattle.bay_assoc.specs.declared.receive.Phase.TheVariants as phases
 use Rattle.bay_connection.specs.ConnectionStates.{ConnectionState, Indication, ends, fails, ConnectionStep, over_state, after_doings, connection_step, indications, connection_after}
 use Rattle.bay_connection.specs.Feeding.{CompletesIndication, Completes, Feeds, GoesOn}
-use Rattle.bay_connection.specs.Stack.{AreJoined, IsJoined, IsReady, TellsOf}
+use Rattle.bay_connection.specs.Stack.{AreJoined, IsJoined, IsReady, IndicatesIfSome}
 use Rattle.bay_connection.proofs.CuttingLemmas.{indications-take, left_by-take}
 use Rattle.bay_connection.proofs.GoingLemmas.{told-none}
 
@@ -214,7 +214,7 @@ pub fed-got : (t : ConnectionState) (r : Received) (got : Got) (piece : List ℕ
     (heard : Option Indication) (new : ConnectionState) → IsJoined t
     → feeding.Feeds t.stream piece used (doing_for got r)
     → r.stream ≡ after t.stream (take used piece)
-    → TellsOf (record { stream = r.stream; phase = t.phase }) (doing_for got r) heard new
+    → IndicatesIfSome (record { stream = r.stream; phase = t.phase }) (doing_for got r) heard new
     → FedSo t piece used heard new
 fed-got t r got.More piece used heard new joined fed is so =
     fed-none t.stream.number t.stream.left t.phase piece used heard new r.stream joined fed is so.0

@@ -24,8 +24,8 @@ abbrev pub IsJoined : ConnectionState → Type 0
 IsJoined t = AreJoined t.stream.left t.phase
 
 -- the state of a stack
-abbrev pub talk_of : Stack → ConnectionState
-talk_of s = record { stream = s.transport.stream; phase = s.assoc }
+abbrev pub connection_state_of : Stack → ConnectionState
+connection_state_of s = record { stream = s.transport.stream; phase = s.assoc }
 
 -- the PDU of MMS: the last part of the TSDU that was completed last
 abbrev pub pdu_of : Stack → List ℕ
@@ -33,12 +33,12 @@ pdu_of s = drop (length s.transport.shown - s.pdu) s.transport.shown
 
 -- the view of a stack
 abbrev pub client_of : Stack → Client
-client_of s = record { talk = talk_of s; pdu = pdu_of s }
+client_of s = record { talk = connection_state_of s; pdu = pdu_of s }
 
 -- The invariant of a stack.
-pub record IsKept (s : Stack) : Type 0 where
+pub record IsConsistent (s : Stack) : Type 0 where
   pub within : s.pdu ≤ length s.transport.shown
-  pub joined : IsJoined (talk_of s)
+  pub joined : IsJoined (connection_state_of s)
 
 -- What the transport completed can be handled in this state: for an answer or a TSDU, a size is
 -- agreed.
@@ -63,6 +63,7 @@ Indicates old doing heard new =
     ≡ record { indications = option_to_list heard; left = new }
 
 -- The same, if the transport completed something; else there is no indication, and nothing changes.
-abbrev pub TellsOf : ConnectionState → Option Doing → Option Indication → ConnectionState → Type 0
-TellsOf old None heard new = (heard ≡ None) × (new ≡ old)
-TellsOf old (Some doing) heard new = Indicates old doing heard new
+abbrev pub IndicatesIfSome : ConnectionState → Option Doing → Option Indication → ConnectionState
+    → Type 0
+IndicatesIfSome old None heard new = (heard ≡ None) × (new ≡ old)
+IndicatesIfSome old (Some doing) heard new = Indicates old doing heard new

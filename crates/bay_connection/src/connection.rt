@@ -25,13 +25,13 @@ pub struct Connection {
 
 impl Model for Connection {
     ghost use Rattle.bay_connection.specs.Feeding.{Client};
-    ghost use Rattle.bay_connection.specs.Stack.{client_of, IsKept};
+    ghost use Rattle.bay_connection.specs.Stack.{client_of, IsConsistent};
 
     ghost Value = { Client };
 
     ghost view = { λ c. client_of c.stack };
 
-    ghost invariant = { λ c. IsKept c.stack };
+    ghost invariant = { λ c. IsConsistent c.stack };
 }
 
 impl Connection {

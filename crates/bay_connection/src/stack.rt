@@ -5,7 +5,7 @@ ghost use Rattle.bay_transport.specs.Doings.{Delivers};
 ghost use Rattle.bay_transport.specs.Feeding.{IsGoing, size_agreed, doing_for};
 ghost use Rattle.bay_connection.specs.ConnectionStates.{answers, over_state, data_tpdus, connection_after};
 ghost use Rattle.bay_connection.specs.Feeding.{Feeds, indication_of, IsOpenFor, LendsOnly};
-ghost use Rattle.bay_connection.specs.Stack.{talk_of, pdu_of, client_of, IsKept, IsReady, TakesMemory, Indicates, TellsOf};
+ghost use Rattle.bay_connection.specs.Stack.{connection_state_of, pdu_of, client_of, IsConsistent, IsReady, TakesMemory, Indicates, IndicatesIfSome};
 
 use crate::indication::{FeedResult, Indication};
 use bay_assoc::assoc::Assoc;
@@ -30,8 +30,8 @@ pub struct Stack {
 impl Stack {
     /// Closes both layers: accepts no more octets, and frees the buffers.
     pub(crate) fn close(&mut self)
-        ensures kept { IsKept self.new }
-        ensures closed { talk_of self.new ≡ over_state self.old.transport.stream }
+        ensures kept { IsConsistent self.new }
+        ensures closed { connection_state_of self.new ≡ over_state self.old.transport.stream }
         ensures nothing { pdu_of self.new ≡ [] }
     {
         self.pdu = 0;
@@ -49,13 +49,13 @@ impl Stack {
     }
 
     // Passes the TSDU that the transport shows to the association, and returns its indication.
-    fn hear(&mut self) -> Result<Indication, AllocError>
+    fn handle_tsdu(&mut self) -> Result<Indication, AllocError>
         requires agreed { IsSome (size_agreed self.old.transport.stream) }
         requires nothing { self.old.pdu ≡ 0 }
-        ensures kept { OnOk result (IsKept self.new) }
+        ensures kept { OnOk result (IsConsistent self.new) }
         ensures told { IfOk result
-            (λ heard. Indicates (talk_of self.old) (Delivers self.old.transport.shown)
-            (indication_of heard (client_of self.new)) (talk_of self.new)) }
+            (λ heard. Indicates (connection_state_of self.old) (Delivers self.old.transport.shown)
+            (indication_of heard (client_of self.new)) (connection_state_of self.new)) }
         ensures number { self.new.transport.stream.number ≡ self.old.transport.stream.number }
         ensures open { IfOk result (λ heard. IsOpenFor heard self.new.assoc) }
         ensures lent { IfOk result (λ heard. LendsOnly heard (pdu_of self.new)) }
@@ -103,12 +103,13 @@ impl Stack {
 
     // Returns the indication of what the transport completed.
     fn heard(&mut self, got: Got) -> Result<Indication, AllocError>
-        requires ready { IsReady got (talk_of self.old) }
+        requires ready { IsReady got (connection_state_of self.old) }
         requires nothing { self.old.pdu ≡ 0 }
-        ensures kept { OnOk result (IsKept self.new) }
+        ensures kept { OnOk result (IsConsistent self.new) }
         ensures told { IfOk result
-            (λ heard. TellsOf (talk_of self.old) (doing_for got self.old.transport)
-            (indication_of heard (client_of self.new)) (talk_of self.new)) }
+            (λ heard. IndicatesIfSome (connection_state_of self.old)
+            (doing_for got self.old.transport)
+            (indication_of heard (client_of self.new)) (connection_state_of self.new)) }
         ensures memory { OnErr result (TakesMemory got) }
         ensures number { self.new.transport.stream.number ≡ self.old.transport.stream.number }
         ensures open { IfOk result (λ heard. IsOpenFor heard self.new.assoc) }
@@ -117,7 +118,7 @@ impl Stack {
         match got {
             Got::More => Ok(Indication::Nothing),
             Got::Answer => self.answer(),
-            Got::Tsdu => self.hear(),
+            Got::Tsdu => self.handle_tsdu(),
             Got::Ended => {
                 self.close();
                 Ok(Indication::Ended)
@@ -128,15 +129,15 @@ impl Stack {
     /// Consumes octets of the piece up to the end of the first thing that they complete, or all of
     /// them.
     pub(crate) fn feed(&mut self, piece: &[u8]) -> Result<FeedResult, AllocError>
-        requires { IsKept self.old }
-        ensures kept { OnOk result (IsKept self.new) }
+        requires { IsConsistent self.old }
+        ensures kept { OnOk result (IsConsistent self.new) }
         ensures within { IfOk result (λ fed. fed.used ≤ length piece.now) }
         ensures fed { IfOk result
-            (λ fed. Feeds (talk_of self.old) piece.now fed.used
+            (λ fed. Feeds (connection_state_of self.old) piece.now fed.used
             (indication_of fed.heard (client_of self.new))) }
         ensures left { IfOk result
-            (λ fed. talk_of self.new
-            ≡ connection_after (talk_of self.old) (take fed.used piece.now)) }
+            (λ fed. connection_state_of self.new
+            ≡ connection_after (connection_state_of self.old) (take fed.used piece.now)) }
         ensures memory { OnErr result
             (IsGoing self.old.transport.stream.left × (0 < length piece.now)) }
         ensures number { self.new.transport.stream.number ≡ self.old.transport.stream.number }

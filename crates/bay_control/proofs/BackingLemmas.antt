@@ -11,7 +11,7 @@ use Rattle.bay_control.specs.Acts as act
 use Rattle.bay_control.specs.Backing.{AreBacked, AreBackedAfter, IsBacked}
 use Rattle.bay_control.specs.Happenings.{AreOrderly, Call, Open, Close, Select, SelectWith, Operate, Cancel, Contact, Advance, Happening, Leads, act_of, after_all, entries_of, history, is_open_after, outcome_of}
 use Rattle.bay_control.specs.Decisions.{State, is_choice, is_chosen, is_selected_by, operate_outcome, selection_at}
-use Rattle.bay_control.specs.Requests.{asked_choice, control_of, is_enhanced, is_sbo, same_choice, same_operation}
+use Rattle.bay_control.specs.Requests.{requested_choice, control_of, is_enhanced, is_sbo, same_choice, same_operation}
 use Rattle.bay_control.specs.declared.cause.AddCause.{AddCause}
 use Rattle.bay_control.specs.declared.control.SwitchControl.{SwitchControl}
 use Rattle.bay_control.specs.declared.request.Ask.{Ask}
@@ -140,13 +140,14 @@ operate-backed : (is_open : ℕ → Bool) (past : List Entry) (a k : ℕ) (ask :
     → Holds is_open past s.selection
     → is_ok (operate_outcome a k ask view now s).answer ≡ true
     → is_sbo (control_of s.controls k).model ≡ true
-    → IsBacked s.controls a k (asked_choice ask) now past
+    → IsBacked s.controls a k (requested_choice ask) now past
 operate-backed is_open past a k ask view now s h ok sbo =
     let selection : Option Selection = selection_at now s.controls s.selection in
     let first = passed _ _ _ ok in
     let second = passed _ _ _ first.1 in
     let selected = but-not (is_sbo (control_of s.controls k).model) _ sbo second.0 in
-    found s.controls is_open past a k (asked_choice ask) now s.selection h (and-left _ _ selected)
+    found s.controls is_open past a k (requested_choice ask) now s.selection h
+    (and-left _ _ selected)
     (λ e. or-else (is_enhanced (control_of s.controls k).model) _ e (and-right _ _ selected))
 
 -- ---- whole runs
@@ -181,7 +182,7 @@ call-backed is_open past (SelectWith b j ask) now s h a k choice e ok sbo = absu
 call-backed is_open past (Operate b j ask view) now s h a k choice e ok sbo =
     let by : b ≡ a = cc in
     let of : j ≡ k = cc in
-    let for : asked_choice ask ≡ choice = cc in
+    let for : requested_choice ask ≡ choice = cc in
     let sbo-here : is_sbo (control_of s.controls j).model ≡ true =
     ap (λ (i : ℕ). is_sbo (control_of s.controls i).model) of ∙ sbo in
     subst (λ (c : ℕ). IsBacked s.controls c k choice now past) by

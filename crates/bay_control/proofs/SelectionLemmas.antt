@@ -11,7 +11,7 @@ use Rattle.bay_control.specs.Acts as act
 use Rattle.bay_control.specs.Backing.{choice_of, grants, selects, undoes, undoes_by}
 use Rattle.bay_control.specs.Happenings.{Call, Open, Close, Select, SelectWith, Operate, Cancel, Contact, Advance, act_of, entries_of, is_open_after, is_orderly_call, outcome_of}
 use Rattle.bay_control.specs.Decisions.{State, controls_at, answer_of, cancel_of, is_selected_by, rows_of_cancel, rows_of_operate, rows_of_select, rows_of_select_with, select_of, selection_at, selection_without}
-use Rattle.bay_control.specs.Requests.{asked_choice, control_of}
+use Rattle.bay_control.specs.Requests.{requested_choice, control_of}
 use Rattle.bay_control.specs.declared.cause.AddCause.{AddCause}
 use Rattle.bay_control.specs.declared.control.SwitchControl.{SwitchControl}
 use Rattle.bay_control.specs.declared.request.Choice.{Choice}
@@ -207,13 +207,13 @@ step-holds is_open past (Select a k) now s o h =
     (advanced-holds is_open past now s.controls s.selection h)
     (answer_of (rows_of_select a k (controls_at now s)))
 step-holds is_open past (SelectWith a k ask) now s o h =
-    select-holds is_open past a k now (Some (asked_choice ask))
-    (act.SelectWith a k (asked_choice ask)) (controls_at now s) o (own-select a k) refl
+    select-holds is_open past a k now (Some (requested_choice ask))
+    (act.SelectWith a k (requested_choice ask)) (controls_at now s) o (own-select a k) refl
     (λ b j. refl)
     (advanced-holds is_open past now s.controls s.selection h)
     (answer_of (rows_of_select_with a k ask (controls_at now s)))
 step-holds is_open past (Operate a k ask view) now s o h =
-    operate-holds is_open past a k (asked_choice ask) now
+    operate-holds is_open past a k (requested_choice ask) now
     (is_ok (answer_of (rows_of_operate a k ask view (controls_at now s))))
     (controls_at now s).selection
     (advanced-holds is_open past now s.controls s.selection h)

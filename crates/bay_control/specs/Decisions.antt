@@ -5,7 +5,7 @@ use Rattle.bay_base.specs.Names.{same_name}
 use Rattle.bay_base.specs.declared.switch.Operation.{Operation}
 use Rattle.bay_nodes.specs.declared.switch.Switch.{Switch}
 use Rattle.bay_base.specs.declared.position.Dbpos.{Dbpos}
-use Rattle.bay_control.specs.Requests.{asked_choice, closes_checked, control_of, is_controlled, is_enhanced, is_normal, is_reached, is_released, is_sbo, same_choice}
+use Rattle.bay_control.specs.Requests.{requested_choice, closes_checked, control_of, is_controlled, is_enhanced, is_normal, is_reached, is_released, is_sbo, same_choice}
 use Rattle.bay_control.specs.declared.cause.AddCause.{AddCause}
 use Rattle.bay_control.specs.declared.cause.AddCause.TheVariants.{NotSupported, BlockedBySwitchingHierarchy, SelectFailed, PositionReached, BlockedByMode, BlockedByProcess, BlockedByInterlocking, BlockedBySynchrocheck, CommandAlreadyInExecution, OneOfNControl, ObjectNotSelected}
 use Rattle.bay_control.specs.declared.control.SwitchControl.{SwitchControl}
@@ -172,7 +172,7 @@ abbrev pub rows_of_operate : ℕ → ℕ → Ask → View → State → List Row
 rows_of_operate a k ask view s =
     let c = control_of s.controls k in
     row (not (is_controlled c.model)) NotSupported
-    ∷ row (is_unselected c a k (asked_choice ask) s.selection) ObjectNotSelected
+    ∷ row (is_unselected c a k (requested_choice ask) s.selection) ObjectNotSelected
     ∷ row ask.test BlockedByMode
     ∷ row (is_executing k s.execution) CommandAlreadyInExecution
     ∷ row (other_is_executing k s.execution) OneOfNControl
@@ -216,7 +216,7 @@ select_outcome a k now s = let t =
 
 abbrev pub select_with_outcome : ℕ → ℕ → Ask → ℕ → State → Outcome
 select_with_outcome a k ask now s = let t = controls_at now s in
-    select_of a k now (Some (asked_choice ask)) (answer_of (rows_of_select_with a k ask t)) t
+    select_of a k now (Some (requested_choice ask)) (answer_of (rows_of_select_with a k ask t)) t
 
 -- an operate by the association that selected the switch ends the selection, accepted or not; an
 -- accepted one starts the execution

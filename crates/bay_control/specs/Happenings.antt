@@ -4,7 +4,7 @@ use Rattle.bay_base.specs.declared.position.Dbpos.{Dbpos}
 use Rattle.bay_control.specs.Acts.{Act, Entry}
 use Rattle.bay_control.specs.Acts as act
 use Rattle.bay_control.specs.Decisions.{Outcome, State, controls_at, cancel_outcome, after_contact, without_association, operate_outcome, select_outcome, select_with_outcome}
-use Rattle.bay_control.specs.Requests.{asked_choice}
+use Rattle.bay_control.specs.Requests.{requested_choice}
 use Rattle.bay_control.specs.declared.request.Ask.{Ask}
 use Rattle.bay_control.specs.declared.request.View.{View}
 
@@ -48,8 +48,8 @@ abbrev pub act_of : Call → Option Act
 act_of (Open a) = Some (act.Opened a)
 act_of (Close a) = Some (act.Closed a)
 act_of (Select a k) = Some (act.Select a k)
-act_of (SelectWith a k ask) = Some (act.SelectWith a k (asked_choice ask))
-act_of (Operate a k ask view) = Some (act.Operate a k (asked_choice ask))
+act_of (SelectWith a k ask) = Some (act.SelectWith a k (requested_choice ask))
+act_of (Operate a k ask view) = Some (act.Operate a k (requested_choice ask))
 act_of (Cancel a k) = Some (act.Cancel a k)
 act_of (Contact k position) = None
 act_of Advance = None

@@ -77,8 +77,8 @@ is_local (Some input) inputs = not (unwrap_or (slice_get inputs input) false)
 -- ---- own: requests
 
 -- the operation and the originator of a request
-abbrev pub asked_choice : Ask → Choice
-asked_choice ask = record { operation = ask.operation; origin = ask.origin }
+abbrev pub requested_choice : Ask → Choice
+requested_choice ask = record { operation = ask.operation; origin = ask.origin }
 
 abbrev pub same_operation : Operation → Operation → Bool
 same_operation Open Open = true

@@ -144,7 +144,7 @@ impl ControlTable {
 }
 
 /// Returns whether at least `span` milliseconds have passed since `since`.
-pub(crate) fn is_over(since: u64, span: u32, now: u64) -> bool
+pub(crate) fn has_passed(since: u64, span: u32, now: u64) -> bool
     ensures { result ≡ nat_le (since + span) now }
 {
     since <= now && u64::from(span) <= now - since

@@ -2,10 +2,10 @@
 ghost use Rattle.std.specs.Prelude.{◌≡◌, [], if◌then◌else◌, None};
 ghost use Rattle.bay_control.specs.Decisions.{controls_at, answer_of, cancel_outcome, execution_at, operate_outcome, rows_of_operate, run_out, select_outcome, select_rows, select_with_outcome, selected_switch, selection_at, selection_without, state_of};
 ghost use Rattle.bay_control.specs.Decisions as spec;
-ghost use Rattle.bay_control.specs.Requests.{asked_choice};
+ghost use Rattle.bay_control.specs.Requests.{requested_choice};
 
 use crate::cause::AddCause;
-use crate::control::{ControlTable, is_over};
+use crate::control::{ControlTable, has_passed};
 use crate::request::{Ask, Choice, View, is_reached};
 use crate::selection::{Execution, Selection};
 use bay_base::position::Dbpos;
@@ -59,7 +59,7 @@ impl Controls {
     // Returns whether a select with value was granted for the operation and the originator of a
     // request.
     fn is_chosen(&self, ask: &Ask) -> bool
-        ensures { result ≡ spec.is_chosen (asked_choice ask.now) self.now.selection }
+        ensures { result ≡ spec.is_chosen (requested_choice ask.now) self.now.selection }
     {
         match &self.selection {
             Some(
@@ -67,7 +67,7 @@ impl Controls {
                     choice: Some(choice),
                     ..
                 },
-            ) => choice.is_asked(ask),
+            ) => choice.is_for(ask),
             _ => false,
         }
     }
@@ -80,14 +80,14 @@ impl Controls {
     }
 
     // Returns whether the selection has expired.
-    fn is_selection_over(&self, table: &ControlTable, now: u64) -> bool
+    fn is_selection_expired(&self, table: &ControlTable, now: u64) -> bool
         ensures { (if result then None else self.now.selection)
             ≡ selection_at now table.now self.now.selection }
     {
         match &self.selection {
             Some(selection) => {
                 let timeout = table.of(selection.switch).sbo_timeout_ms;
-                is_over(selection.since, timeout, now)
+                has_passed(selection.since, timeout, now)
             }
             None => false,
         }
@@ -99,7 +99,7 @@ impl Controls {
     {
         let execution = self.execution?;
         let travel = table.of(execution.switch).travel_ms;
-        if is_over(execution.start, travel, now) {
+        if has_passed(execution.start, travel, now) {
             None
         } else {
             Some(execution)
@@ -127,7 +127,7 @@ impl Controls {
         ensures after { state_of table.now self.new
             ≡ controls_at now (state_of table.now self.old) }
     {
-        if self.is_selection_over(table, now) {
+        if self.is_selection_expired(table, now) {
             self.selection = None;
         }
         let before = self.execution;

@@ -1,6 +1,6 @@
 // A client's request, and the view of a switch on which a decision depends.
 ghost use Rattle.std.specs.Prelude.{◌≡◌, ◌≤◌, length};
-ghost use Rattle.bay_control.specs.Requests.{asked_choice, same_choice, same_origin};
+ghost use Rattle.bay_control.specs.Requests.{requested_choice, same_choice, same_origin};
 ghost use Rattle.bay_control.specs.Requests as spec;
 
 use arrayvec::ArrayVec;
@@ -70,8 +70,8 @@ pub struct Choice {
 
 impl Choice {
     /// Returns whether a request is for this operation, by this originator.
-    pub(crate) fn is_asked(&self, ask: &Ask) -> bool
-        ensures { result ≡ same_choice (asked_choice ask.now) self.now }
+    pub(crate) fn is_for(&self, ask: &Ask) -> bool
+        ensures { result ≡ same_choice (requested_choice ask.now) self.now }
     {
         ask.operation == self.operation && ask.origin.is_same(&self.origin)
     }

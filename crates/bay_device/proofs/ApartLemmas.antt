@@ -21,7 +21,7 @@ use Rattle.bay_process.specs.Scans.{outputs_put}
 use Rattle.bay_process.specs.ReportedRows.{AreEnabling, AreInterlocked}
 use Rattle.bay_process.specs.declared.rows.SwitchRows.{SwitchRows}
 use Rattle.bay_process.specs.declared.switch.BoundSwitch.{BoundSwitch}
-use Rattle.bay_process.specs.Values.{with_count, is_operation, operation_counted, position_quality, rows_after_change, rows_after_contact, rows_after_doubt, rows_after_measure, has_position, tells_doubt, tells_measure, with_enabled, with_output, with_status}
+use Rattle.bay_process.specs.Values.{with_count, is_operation, operation_counted, position_quality, rows_after_change, rows_after_contact, rows_after_doubt, rows_after_measure, has_position, has_invalid_measure, has_measure, with_enabled, with_output, with_status}
 use Rattle.bay_mms_services.specs.Bay.{ShowNone}
 use Rattle.bay_mms_services.proofs.ShownLemmas.{shown-kept}
 
@@ -193,7 +193,7 @@ module _ (count : ℕ) where
   pub shows-measure : (k : ℕ) (field : MeterField) (value : ℤ) (now : ℕ) (rows : List Row)
       → Shows rows → Shows (rows_after_measure (field_names field (meter_names k)) value now rows)
   shows-measure k field value now rows shows =
-      shows-if (tells_measure (field_names field (meter_names k)) value rows) rows _ shows
+      shows-if (has_measure (field_names field (meter_names k)) value rows) rows _ shows
       (shows-status (field_names field (meter_names k)) (leaf.Int32 value) Good now rows
       (field-apart k field) shows)
 
@@ -202,7 +202,7 @@ module _ (count : ℕ) where
   shows-doubt k field now rows shows =
       let names = field_names field (meter_names k) in
       let apart = field-apart k field in
-      shows-if (tells_doubt names rows) rows _ shows
+      shows-if (has_invalid_measure names rows) rows _ shows
       (shown-kept count _ names.time _ apart.time_apart
       (shown-kept count rows names.quality _ apart.quality_apart shows))
 

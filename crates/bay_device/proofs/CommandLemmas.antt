@@ -17,7 +17,7 @@ use Rattle.bay_mms_services.proofs.EntryLemmas.{inputs-stay, settings-stay}
 use Rattle.bay_device.specs.Commands.{AreCommanded, CommandsReleased, IsReleasedAt, IsSingle}
 use Rattle.bay_device.specs.Device.{State, device_at, bay_of, ended_at, is_recent}
 use Rattle.bay_device.specs.Receiving.{Done, ReceiveResult, client_at, after_indications, on_indication, after_pdu, sent_on, with_sent}
-use Rattle.bay_device.specs.Outcomes.{Outcome, close_outcome, connection_at, contact_outcome, doubt_outcome, event_outcome, input_outcome, last_moment, measure_outcome, nothing_done, octets_outcome, open_outcome, place_of, quiet_step, recv_outcome}
+use Rattle.bay_device.specs.Outcomes.{Outcome, close_outcome, connection_at, contact_outcome, doubt_outcome, event_outcome, input_outcome, last_moment, measure_outcome, nothing_done, octets_outcome, open_outcome, slot_of, quiet_step, recv_outcome}
 use Rattle.bay_device.specs.Steps.{Steps}
 use Rattle.bay_device.specs.declared.event.Event.{Event}
 use Rattle.bay_device.specs.declared.event.Event.TheVariants.{Open, Recv, Close, Contact, Input, Measure, BadMeasure, Lost, Scan}
@@ -223,10 +223,10 @@ doubt-commanded now k field s (Some id) = none-commanded now s (ended_at now s) 
 event-commanded : (choice : Option ℕ) (now : ℕ) (event : Event) (s : State)
     → Commanded now s (event_outcome choice now event s).answer
 event-commanded choice now (Open a) s =
-    open-commanded now a s (place_of a) (connection_at (place_of a) s)
+    open-commanded now a s (slot_of a) (connection_at (slot_of a) s)
 event-commanded choice now (Recv a octets) s =
-    recv-commanded choice now a octets.now s (connection_at (place_of a) s)
-event-commanded choice now (Close a) s = close-commanded now a s (connection_at (place_of a) s)
+    recv-commanded choice now a octets.now s (connection_at (slot_of a) s)
+event-commanded choice now (Close a) s = close-commanded now a s (connection_at (slot_of a) s)
 event-commanded choice now (Contact k position) s =
     contact-commanded now k position s (slice_get s.switches k)
 event-commanded choice now (Input k value) s =
@@ -309,10 +309,10 @@ doubt-single now k field s (Some id) = none-single
 event-single : (choice : Option ℕ) (now : ℕ) (event : Event) (s : State)
     → AreTimed s.controls.controls → IsSingle (event_outcome choice now event s).answer
 event-single choice now (Open a) s timed =
-    open-single now a s (place_of a) (connection_at (place_of a) s)
+    open-single now a s (slot_of a) (connection_at (slot_of a) s)
 event-single choice now (Recv a octets) s timed =
-    recv-single choice now a octets.now s (connection_at (place_of a) s) timed
-event-single choice now (Close a) s timed = close-single now a s (connection_at (place_of a) s)
+    recv-single choice now a octets.now s (connection_at (slot_of a) s) timed
+event-single choice now (Close a) s timed = close-single now a s (connection_at (slot_of a) s)
 event-single choice now (Contact k position) s timed =
     contact-single now k position s (slice_get s.switches k)
 event-single choice now (Input k value) s timed =

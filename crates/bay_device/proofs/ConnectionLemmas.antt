@@ -4,19 +4,19 @@ use Rattle.std.specs.List.{prefix_len}
 use Rattle.bay_transport.specs.Feeding.{IsGoing}
 use Rattle.bay_connection.specs.Feeding.{Client}
 use Rattle.bay_connection.specs.ConnectionStates.{ConnectionState}
-use Rattle.bay_device.specs.Connections.{AreEight, AreGoing, talk_in, connection_states}
+use Rattle.bay_device.specs.Connections.{AreEight, AreGoing, state_without_pdu, connection_states}
 
 -- a place that is set
 pub talks-set : (clients : List (Option Client)) (place : ℕ) (c : Option Client)
     → connection_states (slice_set clients place c)
-    ≡ slice_set (connection_states clients) place (talk_in c)
+    ≡ slice_set (connection_states clients) place (state_without_pdu c)
 talks-set [] place c = refl
 talks-set (x ∷ clients) zero c = refl
 talks-set (x ∷ clients) (suc place) c =
-    ap (λ ts. talk_in x ∷ ts) (talks-set clients place c)
+    ap (λ ts. state_without_pdu x ∷ ts) (talks-set clients place c)
 
 pub talk-at : (clients : List (Option Client)) (place : ℕ)
-    → talk_in (slice_index_or clients place None)
+    → state_without_pdu (slice_index_or clients place None)
     ≡ unwrap_or (slice_get (connection_states clients) place) None
 talk-at [] place = refl
 talk-at (x ∷ clients) zero = refl
@@ -66,7 +66,7 @@ pub taken : (clients : List (Option Client)) (place : ℕ) (c : Option Client)
 taken clients place None all is = tt
 taken clients place (Some x) all is =
     all.going place x.talk (taken-going (connection_states clients) place x.talk all.going
-    (sym (talk-at clients place) ∙ ap talk_in (sym is)))
+    (sym (talk-at clients place) ∙ ap state_without_pdu (sym is)))
 
 prefix-talks : (clients : List (Option Client))
     → prefix_len (λ t. not (is_none t)) (connection_states clients)

@@ -17,7 +17,7 @@ use Rattle.bay_mms_services.specs.Entries.{entries_in}
 use Rattle.bay_device.specs.Device.{State, device_at, bay_of, device_after_contact}
 use Rattle.bay_device.specs.Entries.{Leading, entries_at, entries_close, entries_closed, entries_heard, entries_octets, entries_of_event, entries_on, entries_open, entries_recv, opens, entries_of_act}
 use Rattle.bay_device.specs.Receiving.{Done, ReceiveResult, client_at, after_indications, on_indication, after_pdu}
-use Rattle.bay_device.specs.Outcomes.{Outcome, close_outcome, without_connection, connection_at, contact_outcome, doubt_outcome, event_outcome, initial_connection, input_outcome, last_moment, lost_outcome, measure_outcome, nothing_done, octets_outcome, open_outcome, outcome, place_of, refusal_of, recv_after, recv_outcome, with_connection, without_owner}
+use Rattle.bay_device.specs.Outcomes.{Outcome, close_outcome, without_connection, connection_at, contact_outcome, doubt_outcome, event_outcome, initial_connection, input_outcome, last_moment, lost_outcome, measure_outcome, nothing_done, octets_outcome, open_outcome, outcome, slot_of, refusal_of, recv_after, recv_outcome, with_connection, without_owner}
 use Rattle.bay_device.specs.Steps.{Steps}
 use Rattle.bay_device.specs.declared.event.Event.{Event}
 use Rattle.bay_device.specs.declared.event.Event.TheVariants.{Open, Recv, Close, Contact, Input, Measure, BadMeasure, Lost, Scan}
@@ -37,7 +37,7 @@ connections-at (Some place) s t same =
 
 opens-same : (s t : State) (a : ℕ) → t.connections ≡ s.connections → opens t a ≡ opens s a
 opens-same s t a same =
-    ap (λ (o : Option ConnectionState). is_some o) (connections-at (place_of a) s t same)
+    ap (λ (o : Option ConnectionState). is_some o) (connections-at (slot_of a) s t same)
 
 -- an association of the eight, by its place
 record IsPlaced (a place : ℕ) : Type 0 where
@@ -50,7 +50,7 @@ placed-if true a place e is = let p : a - 1 ≡ place =
     cc in record { within = grind arith; is = grind arith }
 placed-if false a place e is = absurd cc
 
-placed : (a place : ℕ) → place_of a ≡ Some place → IsPlaced a place
+placed : (a place : ℕ) → slot_of a ≡ Some place → IsPlaced a place
 placed a place is = placed-if (nat_lt 0 a && nat_lt a 9) a place refl is
 
 -- a place that is set, and another one
@@ -70,8 +70,8 @@ beside-set (c ∷ cs) (suc i) (suc j) x apart = beside-set cs i j x (λ e. apart
 
 -- another association's connection, when one is set
 others-at : (a b place : ℕ) (x : Option ConnectionState) (s : State) (o : Option ℕ)
-    → place_of a ≡ Some place
-    → place_of b ≡ o → (b ≡ a → ⊥)
+    → slot_of a ≡ Some place
+    → slot_of b ≡ o → (b ≡ a → ⊥)
     → connection_at o (with_connection (Some place) x s) ≡ connection_at o s
 others-at a b place x s None here there apart = refl
 others-at a b place x s (Some other) here there apart =
@@ -83,23 +83,23 @@ others-at a b place x s (Some other) here there apart =
 
 opens-set-if : (is : Bool) (a b place : ℕ) (x : Option ConnectionState) (s : State)
     → length s.connections ≡ 8
-    → place_of a ≡ Some place → (b == a) ≡ is
+    → slot_of a ≡ Some place → (b == a) ≡ is
     → opens (with_connection (Some place) x s) b ≡ cond is (is_some x) (opens s b)
 opens-set-if true a b place x s sized here is =
-    let same : place_of b ≡ Some place = ap place_of (eqb-true b a is) ∙ here in
+    let same : slot_of b ≡ Some place = ap slot_of (eqb-true b a is) ∙ here in
     let within : place < length s.connections =
     (let p = placed a place here in omega (arith, p.within, sized)) in
     ap (λ (o : Option ℕ). is_some (connection_at o (with_connection (Some place) x s))) same
     ∙ ap (λ (o : Option ConnectionState). is_some o) (at-set s.connections place x within)
 opens-set-if false a b place x s sized here is =
     ap (λ (o : Option ConnectionState). is_some o)
-    (others-at a b place x s (place_of b) here refl
+    (others-at a b place x s (slot_of b) here refl
     (λ e. let yes : (b == a) ≡ true = eq-eqb b a e in
     absurd (let no : true ≡ false = sym yes ∙ is in cc)))
 
 opens-set : (a b place : ℕ) (x : Option ConnectionState) (s : State) → length s.connections ≡ 8
-    → place_of a ≡ Some place
-    → opens (with_connection (place_of a) x s) b ≡ cond (b == a) (is_some x) (opens s b)
+    → slot_of a ≡ Some place
+    → opens (with_connection (slot_of a) x s) b ≡ cond (b == a) (is_some x) (opens s b)
 opens-set a b place x s sized here =
     ap (λ (o : Option ℕ). opens (with_connection o x s) b) here
     ∙ opens-set-if (b == a) a b place x s sized here refl
@@ -188,36 +188,36 @@ kept-if true f a b is opened = sym (ap f (eqb-true b a is) ∙ opened)
 kept-if false f a b is opened = refl
 
 led-opened : (now a place : ℕ) (x : ConnectionState) (s : State) → length s.connections ≡ 8
-    → place_of a ≡ Some place → connection_at (Some place) s ≡ None
-    → Led (entries_of_act now (act.Opened a)) s (with_connection (place_of a) (Some x) s)
+    → slot_of a ≡ Some place → connection_at (Some place) s ≡ None
+    → Led (entries_of_act now (act.Opened a)) s (with_connection (slot_of a) (Some x) s)
 led-opened now a place x s sized here none =
-    called (call.Open a) now s (with_connection (place_of a) (Some x) s)
+    called (call.Open a) now s (with_connection (slot_of a) (Some x) s)
     (ap (λ (o : Option ℕ). not (is_some (connection_at o s))) here
     ∙ ap (λ (o : Option ConnectionState). not (is_some o)) none)
-    (controls-with (place_of a) (Some x) s)
+    (controls-with (slot_of a) (Some x) s)
     (λ b. opens-set a b place (Some x) s sized here ∙ or-if (b == a) (opens s b))
-    (sized-with (place_of a) (Some x) s)
+    (sized-with (slot_of a) (Some x) s)
 
-led-closed : (now a place : ℕ) (s : State) → length s.connections ≡ 8 → place_of a ≡ Some place
+led-closed : (now a place : ℕ) (s : State) → length s.connections ≡ 8 → slot_of a ≡ Some place
     → opens s a ≡ true → Led (entries_of_act now (act.Closed a)) s (without_connection a s)
 led-closed now a place s sized here opened =
     called (call.Close a) now s (without_connection a s) opened
-    (controls-with (place_of a) None (without_owner a s))
+    (controls-with (slot_of a) None (without_owner a s))
     (λ b. opens-set a b place None (without_owner a s) sized here
     ∙ ap (cond (b == a) false) (opens-same s (without_owner a s) b refl)
     ∙ and-if (b == a) (opens s b))
-    (sized-with (place_of a) None (without_owner a s))
+    (sized-with (slot_of a) None (without_owner a s))
 
 led-kept : (a place : ℕ) (x : ConnectionState) (s : State) → length s.connections ≡ 8
-    → place_of a ≡ Some place
-    → opens s a ≡ true → Led [] s (with_connection (place_of a) (Some x) s)
+    → slot_of a ≡ Some place
+    → opens s a ≡ true → Led [] s (with_connection (slot_of a) (Some x) s)
 led-kept a place x s sized here opened =
-    quiet s (with_connection (place_of a) (Some x) s) (controls-with (place_of a) (Some x) s)
+    quiet s (with_connection (slot_of a) (Some x) s) (controls-with (slot_of a) (Some x) s)
     (λ b. opens-set a b place (Some x) s sized here ∙ kept-if (b == a) (opens s) a b refl opened)
-    (sized-with (place_of a) (Some x) s)
+    (sized-with (slot_of a) (Some x) s)
 
 led-after : (now a place : ℕ) (left : ConnectionState) (s : State) (why : Option Why)
-    → length s.connections ≡ 8 → place_of a ≡ Some place → opens s a ≡ true
+    → length s.connections ≡ 8 → slot_of a ≡ Some place → opens s a ≡ true
     → Led (entries_closed now a why) s (recv_after a left s why)
 led-after now a place left s None sized here opened = led-kept a place left s sized here opened
 led-after now a place left s (Some why) sized here opened =
@@ -301,18 +301,18 @@ led-heard choice now a is d opened =
 
 -- ---- a Recv
 
-place-at : (a : ℕ) (o : Option ℕ) (s : State) (talk : ConnectionState) → place_of a ≡ o
-    → connection_at o s ≡ Some talk → (place : ℕ) × (place_of a ≡ Some place)
+place-at : (a : ℕ) (o : Option ℕ) (s : State) (talk : ConnectionState) → slot_of a ≡ o
+    → connection_at o s ≡ Some talk → (place : ℕ) × (slot_of a ≡ Some place)
 place-at a None s talk here is = absurd cc
 place-at a (Some place) s talk here is = (place, here)
 
 led-octets : (choice : Option ℕ) (now a : ℕ) (s : State) (talk : ConnectionState) (octets : List ℕ)
-    → length s.connections ≡ 8 → connection_at (place_of a) s ≡ Some talk
+    → length s.connections ≡ 8 → connection_at (slot_of a) s ≡ Some talk
     → Led (entries_octets choice now a s talk octets) s
     (octets_outcome choice now a s talk octets).after
 led-octets choice now a s talk [] sized is = led-advanced now s
 led-octets choice now a s talk (octet ∷ octets) sized is =
-    let place = place-at a (place_of a) s talk refl is in
+    let place = place-at a (slot_of a) s talk refl is in
     let t : State = device_at now s in
     let left : ConnectionState = connection_after talk (octet ∷ octets) in
     let is-heard : List Indication = indications talk (octet ∷ octets) in
@@ -335,7 +335,7 @@ led-octets choice now a s talk (octet ∷ octets) sized is =
 
 led-recv : (choice : Option ℕ) (now a : ℕ) (octets : List ℕ) (s : State)
     (talk : Option ConnectionState)
-    → length s.connections ≡ 8 → connection_at (place_of a) s ≡ talk
+    → length s.connections ≡ 8 → connection_at (slot_of a) s ≡ talk
     → Led (entries_recv choice now a octets s talk) s
     (recv_outcome choice now a octets s talk).after
 led-recv choice now a octets s None sized is = nothing s
@@ -344,23 +344,23 @@ led-recv choice now a octets s (Some talk) sized is = led-octets choice now a s 
 -- ---- an event
 
 module _ (now : ℕ) (s : State) (sized : length s.connections ≡ 8) where
-  led-open : (a : ℕ) (o : Option ℕ) (talk : Option ConnectionState) → place_of a ≡ o
+  led-open : (a : ℕ) (o : Option ℕ) (talk : Option ConnectionState) → slot_of a ≡ o
       → connection_at o s ≡ talk
       → Led (entries_open now a o talk) s (open_outcome now a s o talk).after
   led-open a None talk here is = nothing s
   led-open a (Some place) (Some talk) here is = nothing s
   led-open a (Some place) None here is =
       behind [] (entries_of_act now (act.Opened a)) s (device_at now s)
-      (with_connection (place_of a) (Some (initial_connection a)) (device_at now s))
+      (with_connection (slot_of a) (Some (initial_connection a)) (device_at now s))
       (led-advanced now s)
       (led-opened now a place (initial_connection a) (device_at now s) sized here
       (connections-at (Some place) s (device_at now s) refl ∙ is))
 
-  led-close : (a : ℕ) (talk : Option ConnectionState) → connection_at (place_of a) s ≡ talk
+  led-close : (a : ℕ) (talk : Option ConnectionState) → connection_at (slot_of a) s ≡ talk
       → Led (entries_close now a talk) s (close_outcome now a s talk).after
   led-close a None is = nothing s
   led-close a (Some talk) is =
-      let place = place-at a (place_of a) s talk refl is in
+      let place = place-at a (slot_of a) s talk refl is in
       let opened : opens (device_at now s) a ≡ true =
       opens-same s (device_at now s) a refl ∙ ap (λ (o : Option ConnectionState). is_some o) is in
       behind [] (entries_of_act now (act.Closed a)) s (device_at now s)
@@ -405,10 +405,10 @@ module _ (now : ℕ) (s : State) (sized : length s.connections ≡ 8) where
 
   led-event : (choice : Option ℕ) (event : Event)
       → Led (entries_of_event choice now event s) s (event_outcome choice now event s).after
-  led-event choice (Open a) = led-open a (place_of a) (connection_at (place_of a) s) refl refl
+  led-event choice (Open a) = led-open a (slot_of a) (connection_at (slot_of a) s) refl refl
   led-event choice (Recv a octets) =
-      led-recv choice now a octets.now s (connection_at (place_of a) s) sized refl
-  led-event choice (Close a) = led-close a (connection_at (place_of a) s) refl
+      led-recv choice now a octets.now s (connection_at (slot_of a) s) sized refl
+  led-event choice (Close a) = led-close a (connection_at (slot_of a) s) refl
   led-event choice (Contact k position) = led-contacted k position (slice_get s.switches k)
   led-event choice (Input k value) = led-input k value (slice_get s.input_values k)
   led-event choice (Measure k field value) = led-measure k field value (slice_get s.meters k)

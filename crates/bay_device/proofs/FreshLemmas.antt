@@ -14,7 +14,7 @@ use Rattle.bay_nodes.specs.Names.{switch_names, meter_names}
 use Rattle.bay_nodes.specs.Node.{node_number}
 use Rattle.bay_nodes.specs.declared.switch.Switch.{Switch}
 use Rattle.bay_process.specs.Names.{field_names}
-use Rattle.bay_process.specs.Values.{measure_leaf, number_of_leaf, position_leaf, position_value, rows_after_change, has_position, tells_doubt, tells_measure, with_status}
+use Rattle.bay_process.specs.Values.{measure_leaf, number_of_leaf, position_leaf, position_value, rows_after_change, has_position, has_invalid_measure, has_measure, with_status}
 use Rattle.bay_mms_services.specs.declared.answer.Command.{Command}
 use Rattle.bay_mms_services.proofs.ReleaseLemmas.{all-of}
 use Rattle.bay_tree.specs.Rows.{leaf_of, with_leaf_of}
@@ -109,7 +109,7 @@ module _ (now : ℕ) (s : State) where
   still-measure k field value None = still-none
   still-measure k field value (Some id) =
       let names = field_names field (meter_names k) in
-      let told : Bool = tells_measure names value s.rows in
+      let told : Bool = has_measure names value s.rows in
       record {
         scans = refl;
         stale = λ h. (or_parts s.is_stale (not told) h).0;
@@ -125,7 +125,7 @@ module _ (now : ℕ) (s : State) where
   still-doubt k field None = still-none
   still-doubt k field (Some id) =
       let names = field_names field (meter_names k) in
-      let told : Bool = tells_doubt names s.rows in
+      let told : Bool = has_invalid_measure names s.rows in
       record {
         scans = refl;
         stale = λ h. (or_parts s.is_stale (not told) h).0;

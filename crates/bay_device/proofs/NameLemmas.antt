@@ -16,7 +16,7 @@ use Rattle.bay_tree.specs.declared.leaf.Quality.{Quality}
 use Rattle.bay_tree.specs.declared.leaf.Quality.TheVariants.{Good, Invalid}
 use Rattle.bay_tree.specs.declared.row.Row.{Row}
 use Rattle.bay_process.specs.Names.{field_names}
-use Rattle.bay_process.specs.Values.{with_count, is_operation, operation_counted, output_of, position_quality, rows_after_change, rows_after_contact, rows_after_doubt, rows_after_measure, has_position, tells_doubt, tells_measure, with_enabled, with_output, with_outputs, with_status}
+use Rattle.bay_process.specs.Values.{with_count, is_operation, operation_counted, output_of, position_quality, rows_after_change, rows_after_contact, rows_after_doubt, rows_after_measure, has_position, has_invalid_measure, has_measure, with_enabled, with_output, with_outputs, with_status}
 use Rattle.bay_mms_services.specs.Accepted.{AreNamedAlike}
 use Rattle.bay_mms_services.specs.Bay.{Bay}
 use Rattle.bay_device.specs.Device.{State, bay_of, device_after_loss}
@@ -90,14 +90,14 @@ contact-names names position now rows =
 pub measure-names : (names : StatusNames) (value : ℤ) (now : ℕ) (rows : List Row)
     → names_of (rows_after_measure names value now rows) ≡ names_of rows
 measure-names names value now rows =
-    names-if (tells_measure names value rows) (names_of rows) rows
+    names-if (has_measure names value rows) (names_of rows) rows
     (with_status names (leaf.Int32 value) Good now rows) refl
     (status-names names (leaf.Int32 value) Good now rows)
 
 pub doubt-names : (names : StatusNames) (now : ℕ) (rows : List Row)
     → names_of (rows_after_doubt names now rows) ≡ names_of rows
 doubt-names names now rows =
-    names-if (tells_doubt names rows) (names_of rows) rows _ refl
+    names-if (has_invalid_measure names rows) (names_of rows) rows _ refl
     (leaf-names names.time (leaf.Utc now)
     (with_leaf_of names.quality (leaf.Quality Invalid) rows)
     ∙ leaf-names names.quality (leaf.Quality Invalid) rows)

@@ -18,7 +18,7 @@ use Rattle.bay_device.specs.Device.{State, device_at, bay_of}
 use Rattle.bay_device.specs.Entries.{entries_at, entries_close, entries_closed, entries_heard, entries_octets, entries_of_event, entries_on, entries_open, entries_recv}
 use Rattle.bay_device.specs.Receiving.{Done, ReceiveResult, client_at, after_indications, on_indication, after_pdu, with_sent}
 use Rattle.bay_device.specs.Operates.{AreOperates, AreReplied, AreRepliedForEvent, IsReplied}
-use Rattle.bay_device.specs.Outcomes.{Outcome, close_outcome, connection_at, contact_outcome, doubt_outcome, event_outcome, input_outcome, last_moment, measure_outcome, nothing_done, octets_outcome, open_outcome, outcome, place_of, recv_outcome, refusal_of}
+use Rattle.bay_device.specs.Outcomes.{Outcome, close_outcome, connection_at, contact_outcome, doubt_outcome, event_outcome, input_outcome, last_moment, measure_outcome, nothing_done, octets_outcome, open_outcome, outcome, slot_of, recv_outcome, refusal_of}
 use Rattle.bay_device.specs.Steps.{Steps}
 use Rattle.bay_device.specs.EntriesTold.{AreAgreed, pdus_after_first, of_answer, pdus_in, connection_state_at, entries_of_close, entries_of_pdus, entries_of_recv, entries_of_step}
 use Rattle.bay_device.specs.declared.event.Event.{Event}
@@ -138,10 +138,10 @@ doubt-gives now k field s (Some id) = refl
 event-gives : (choice : Option ℕ) (now : ℕ) (event : Event) (s : State)
     → Gives (entries_of_event choice now event s) (event_outcome choice now event s).answer
 event-gives choice now (Open a) s =
-    open-gives now a s (place_of a) (connection_at (place_of a) s)
+    open-gives now a s (slot_of a) (connection_at (slot_of a) s)
 event-gives choice now (Recv a octets) s =
-    recv-gives choice now a octets.now s (connection_at (place_of a) s)
-event-gives choice now (Close a) s = close-gives now a s (connection_at (place_of a) s)
+    recv-gives choice now a octets.now s (connection_at (slot_of a) s)
+event-gives choice now (Close a) s = close-gives now a s (connection_at (slot_of a) s)
 event-gives choice now (Contact k position) s =
     contact-gives now k position s (slice_get s.switches k)
 event-gives choice now (Input k value) s =
@@ -278,7 +278,7 @@ replied-step : (now : ℕ) (event : Event) (n : Bay) (talks : List (Option Conne
     → AreRepliedForEvent now event n talks step
 replied-step now (Open a) n talks step is = is
 replied-step now (Recv a octets) n talks step is =
-    replied-recv now a n octets.now (connection_state_at (place_of a) talks) step is
+    replied-recv now a n octets.now (connection_state_at (slot_of a) talks) step is
 replied-step now (Close a) n talks step is = is
 replied-step now (Contact k position) n talks step is = is
 replied-step now (Input k value) n talks step is = is

@@ -6,7 +6,7 @@ use Rattle.bay_connection.specs.ConnectionStates.{ConnectionState, connection_af
 use Rattle.bay_device.specs.Device.{State, device_at, ended_at}
 use Rattle.bay_device.specs.Receiving.{Done}
 use Rattle.bay_device.specs.ReceivingViews.{ComesTo}
-use Rattle.bay_device.specs.Outcomes.{Outcome, closed_by, connection_at, event_outcome, last_moment, nothing_done, outcome, place_of, quiet_step, refusal_of, recv_after, recv_done, recv_outcome, with_connection, without_owner}
+use Rattle.bay_device.specs.Outcomes.{Outcome, closed_by, connection_at, event_outcome, last_moment, nothing_done, outcome, slot_of, quiet_step, refusal_of, recv_after, recv_done, recv_outcome, with_connection, without_owner}
 use Rattle.bay_device.specs.Steps.{IsOutcome, HandlesOctetsFrom, IsWithoutOctets, Receives, Steps}
 use Rattle.bay_device.specs.declared.event.Event.{Event}
 use Rattle.bay_device.specs.declared.event.Event.TheVariants.{Open, Recv, Close, Contact, Input, Measure, BadMeasure, Lost, Scan}
@@ -36,16 +36,16 @@ one place x s =
     ap (λ (cs : List (Option ConnectionState)). record s { connections = cs })
     (set-set s.connections place None x)
 
-placed : (a place : ℕ) (x : Option ConnectionState) (s : State) → place_of a ≡ Some place
-    → with_connection (place_of a) x (record s { connections = slice_set s.connections place None })
-    ≡ with_connection (place_of a) x s
+placed : (a place : ℕ) (x : Option ConnectionState) (s : State) → slot_of a ≡ Some place
+    → with_connection (slot_of a) x (record s { connections = slice_set s.connections place None })
+    ≡ with_connection (slot_of a) x s
 placed a place x s here =
     ap (λ (o : Option ℕ). with_connection o x
     (record s { connections = slice_set s.connections place None })) here ∙ one place x s
     ∙ sym (ap (λ (o : Option ℕ). with_connection o x s) here)
 
 pub after-taken : (a place : ℕ) (s : State) (left : ConnectionState) (why : Option Why)
-    → place_of a ≡ Some place
+    → slot_of a ≡ Some place
     → recv_after a left (record s { connections = slice_set s.connections place None }) why
     ≡ recv_after a left s why
 after-taken a place s left None here = placed a place (Some left) s here
@@ -78,7 +78,7 @@ heard-from now a octets told s new talk why e comes is =
 -- octets that an open association hears are an event that is received
 pub received : (now a : ℕ) (octets : List ℕ) (old new : State) (talk : ConnectionState)
     (step : Step)
-    → connection_at (place_of a) old ≡ Some talk → 0 < length octets
+    → connection_at (slot_of a) old ≡ Some talk → 0 < length octets
     → HandlesOctetsFrom now a octets (ended_at now old) (device_at now old) talk step new
     → Receives now a octets old (Ok step) new
 received now a [] old new talk step here some hears = absurd (omega arith)
@@ -92,7 +92,7 @@ received now a (octet ∷ octets) old new talk step here some hears =
 
 -- without octets, which need no choice
 pub received-none : (now a : ℕ) (old : State) (talk : ConnectionState)
-    → connection_at (place_of a) old ≡ Some talk
+    → connection_at (slot_of a) old ≡ Some talk
     → Receives now a [] old (Ok (quiet_step (ended_at now old))) (device_at now old)
 received-none now a old talk here =
     let whole = ap (recv_outcome None now a [] old) here in
@@ -137,9 +137,9 @@ one-event : (choice : Option ℕ) (now : ℕ) (event : Event) (s : State) → Is
     → event_outcome choice now event s ≡ event_outcome None now event s
 one-event choice now (Open a) s h = refl
 one-event choice now (Recv a octets) s h =
-    ap (λ xs. recv_outcome choice now a xs s (connection_at (place_of a) s)) h
-    ∙ none-heard choice now a s (connection_at (place_of a) s)
-    ∙ sym (ap (λ xs. recv_outcome None now a xs s (connection_at (place_of a) s)) h)
+    ap (λ xs. recv_outcome choice now a xs s (connection_at (slot_of a) s)) h
+    ∙ none-heard choice now a s (connection_at (slot_of a) s)
+    ∙ sym (ap (λ xs. recv_outcome None now a xs s (connection_at (slot_of a) s)) h)
 one-event choice now (Close a) s h = refl
 one-event choice now (Contact k position) s h = refl
 one-event choice now (Input k value) s h = refl

@@ -13,7 +13,7 @@ use Rattle.bay_tree.specs.declared.row.Row.{Row}
 use Rattle.il_scan.specs.Scans.{MachineData}
 use Rattle.bay_device.specs.Device.{State, bay_of, device_at}
 use Rattle.bay_device.specs.Receiving.{ReceiveResult, Done, after_indications, after_pdu, client_at, on_indication, with_sent}
-use Rattle.bay_device.specs.Outcomes.{Outcome, close_outcome, connection_at, event_outcome, initial_connection, last_moment, nothing_done, octets_outcome, open_outcome, outcome, place_of, recv_after, recv_outcome, refusal_of, with_connection, without_owner}
+use Rattle.bay_device.specs.Outcomes.{Outcome, close_outcome, connection_at, event_outcome, initial_connection, last_moment, nothing_done, octets_outcome, open_outcome, outcome, slot_of, recv_after, recv_outcome, refusal_of, with_connection, without_owner}
 use Rattle.bay_device.specs.Steps.{OfAssociation}
 use Rattle.bay_device.specs.declared.event.Event.{Event}
 use Rattle.bay_device.specs.declared.event.Event.TheVariants.{Open, Recv, Close, Contact, Input, Measure, BadMeasure, Lost, Scan}
@@ -106,8 +106,8 @@ same-indications (Some (suc n)) now a (i ∷ is) s d same =
 
 same-left : (a : ℕ) (left : ConnectionState) (s t : State) (why : Option Why) → Same s t
     → Same s (recv_after a left t why)
-same-left a left s t None same = same-with s (place_of a) (Some left) t same
-same-left a left s t (Some why) same = same-with s (place_of a) None (without_owner a t) same
+same-left a left s t None same = same-with s (slot_of a) (Some left) t same
+same-left a left s t (Some why) same = same-with s (slot_of a) None (without_owner a t) same
 
 -- ---- events
 
@@ -117,12 +117,12 @@ module _ (now : ℕ) (s : State) where
   same-open a None talk = refl
   same-open a (Some place) (Some talk) = refl
   same-open a (Some place) None =
-      same-with s (place_of a) (Some (initial_connection a)) (device_at now s) refl
+      same-with s (slot_of a) (Some (initial_connection a)) (device_at now s) refl
 
   same-close : (a : ℕ) (talk : Option ConnectionState) → Same s (close_outcome now a s talk).after
   same-close a None = refl
   same-close a (Some talk) =
-      same-with s (place_of a) None (without_owner a (device_at now s)) refl
+      same-with s (slot_of a) None (without_owner a (device_at now s)) refl
 
   same-octets : (choice : Option ℕ) (a : ℕ) (talk : ConnectionState) (octets : List ℕ)
       → Same s (octets_outcome choice now a s talk octets).after
@@ -140,10 +140,10 @@ module _ (now : ℕ) (s : State) where
 
   pub same-event : (choice : Option ℕ) (event : Event) → OfAssociation event
       → Same s (event_outcome choice now event s).after
-  same-event choice (Open a) of = same-open a (place_of a) (connection_at (place_of a) s)
+  same-event choice (Open a) of = same-open a (slot_of a) (connection_at (slot_of a) s)
   same-event choice (Recv a octets) of =
-      same-heard choice a octets.now (connection_at (place_of a) s)
-  same-event choice (Close a) of = same-close a (connection_at (place_of a) s)
+      same-heard choice a octets.now (connection_at (slot_of a) s)
+  same-event choice (Close a) of = same-close a (connection_at (slot_of a) s)
   same-event choice (Contact k position) of = absurd of
   same-event choice (Input k value) of = absurd of
   same-event choice (Measure k field value) of = absurd of

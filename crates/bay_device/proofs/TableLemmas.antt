@@ -11,7 +11,7 @@ use Rattle.std.proofs.lemmas.Option.{slice_get-map}
 use Rattle.std.proofs.lemmas.Slice.Eq.{bytes_eq-Decides}
 use Rattle.std.proofs.Math.ListN.{set}
 use Rattle.bay_base.specs.Names.{same_name, upper}
-use Rattle.bay_device.specs.Table.{IsTable, key_after, key_of, with_place_of}
+use Rattle.bay_device.specs.Table.{IsTable, key_after, key_of, with_index_of}
 
 -- ---- keys
 
@@ -88,12 +88,12 @@ noted-if false key place firsts k is lt =
     (omega arith, few)
 
 pub noted-lower : (key place : ℕ) (firsts : List ℕ) (k : ℕ) → key < length firsts
-    → get_or (with_place_of key place firsts) k 0 ≤ get_or firsts k 0
+    → get_or (with_index_of key place firsts) k 0 ≤ get_or firsts k 0
 noted-lower key place firsts k lt =
     (noted-if (nat_lt place (get_or firsts key 0)) key place firsts k refl lt).0
 
 noted-here : (key place : ℕ) (firsts : List ℕ) → key < length firsts
-    → get_or (with_place_of key place firsts) key 0 ≤ place
+    → get_or (with_index_of key place firsts) key 0 ≤ place
 noted-here key place firsts lt =
     (noted-if (nat_lt place (get_or firsts key 0)) key place firsts key refl lt).1
 
@@ -105,10 +105,10 @@ sized-if false key place firsts = refl
 -- one name more
 pub Tabled-step : (names : List (List ℕ)) (place : ℕ) (firsts : List ℕ) (name : List ℕ)
     → Tabled names place firsts → slice_get names place ≡ Some name → key_of name < 64
-    → Tabled names (place + 1) (with_place_of (key_of name) place firsts)
+    → Tabled names (place + 1) (with_index_of (key_of name) place firsts)
 Tabled-step names place firsts name t here small =
     let key = key_of name in
-    let after = with_place_of key place firsts in
+    let after = with_index_of key place firsts in
     let lt : key < length firsts = rw t.sized small in
     record {
       sized = sized-if (nat_lt place (get_or firsts key 0)) key place firsts ∙ t.sized;

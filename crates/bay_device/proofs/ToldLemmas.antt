@@ -33,7 +33,7 @@ use Rattle.bay_mms_services.proofs.ShortLemmas.{AreShort, answer-short}
 use Rattle.bay_device.specs.Device.{State, device_at, bay_of, device_after_loss, ran_at}
 use Rattle.bay_device.specs.Entries.{IsIdle, Leading, opens, entries_at, entries_close, entries_closed, entries_heard, entries_octets, entries_of_event, entries_on, entries_open, entries_recv}
 use Rattle.bay_device.specs.Receiving.{Done, ReceiveResult, client_at, after_indications, on_indication, after_pdu, sent_on, size_of, with_sent}
-use Rattle.bay_device.specs.Outcomes.{Outcome, close_outcome, without_connection, closed_by, connection_at, contact_outcome, doubt_outcome, event_outcome, initial_connection, input_outcome, last_moment, lost_outcome, measure_outcome, nothing_done, octets_outcome, open_outcome, outcome, place_of, refusal_of, recv_after, recv_outcome, with_connection, without_owner}
+use Rattle.bay_device.specs.Outcomes.{Outcome, close_outcome, without_connection, closed_by, connection_at, contact_outcome, doubt_outcome, event_outcome, initial_connection, input_outcome, last_moment, lost_outcome, measure_outcome, nothing_done, octets_outcome, open_outcome, outcome, slot_of, refusal_of, recv_after, recv_outcome, with_connection, without_owner}
 use Rattle.bay_device.specs.EntriesTold.{AreAgreed, EntriesLead, of_answer, pdus_in, connection_state_at, state_after_octets, states_after_answer, states_after_recv, states_after_step, entries_of_answer, entries_of_close, entries_of_pdus, entries_of_recv, entries_of_step, with_connection_state}
 use Rattle.bay_device.specs.declared.event.Event.{Event}
 use Rattle.bay_device.specs.declared.event.Event.TheVariants.{Open, Recv, Close, Contact, Input, Measure, BadMeasure, Lost, Scan}
@@ -268,17 +268,17 @@ module _ (n : Bay) (now : ℕ) (s : State) (alike : AreNamedAlike n (bay_of s))
       record { told = refl; left = refl; alike = alike; sized = sized }
   open-told a (Some place) None = record {
     told = refl;
-    left = with-one (place_of a) (Some (initial_connection a)) (device_at now s);
-    alike = alike-with n (place_of a) (Some (initial_connection a)) (device_at now s)
+    left = with-one (slot_of a) (Some (initial_connection a)) (device_at now s);
+    alike = alike-with n (slot_of a) (Some (initial_connection a)) (device_at now s)
         alike-advanced;
-    sized = with-talks (place_of a) (Some (initial_connection a)) (device_at now s) sized tt;
+    sized = with-talks (slot_of a) (Some (initial_connection a)) (device_at now s) sized tt;
   }
 
   -- an association that is closed, on a device with these talks and names
   closed-alike : (a : ℕ) (t : State) → AreNamedAlike n (bay_of t)
       → AreNamedAlike n (bay_of (without_connection a t))
   closed-alike a t same =
-      alike-with n (place_of a) None (without_owner a t)
+      alike-with n (slot_of a) None (without_owner a t)
       (alike-still n (bay_of t) (without_association a t.controls) same)
 
   close-told : (a : ℕ) (talk : Option ConnectionState)
@@ -287,9 +287,9 @@ module _ (n : Bay) (now : ℕ) (s : State) (alike : AreNamedAlike n (bay_of s))
   close-told a None = record { told = refl; left = refl; alike = alike; sized = sized }
   close-told a (Some talk) = record {
     told = refl;
-    left = with-one (place_of a) None (without_owner a (device_at now s));
+    left = with-one (slot_of a) None (without_owner a (device_at now s));
     alike = closed-alike a (device_at now s) alike-advanced;
-    sized = with-talks (place_of a) None (without_owner a (device_at now s)) sized tt;
+    sized = with-talks (slot_of a) None (without_owner a (device_at now s)) sized tt;
   }
 
   -- ---- octets
@@ -297,41 +297,41 @@ module _ (n : Bay) (now : ℕ) (s : State) (alike : AreNamedAlike n (bay_of s))
   after-left : (a : ℕ) (left : ConnectionState) (octet : ℕ) (octets : List ℕ)
       (talk : ConnectionState) (t : State)
       (why : Option Why) → t.connections ≡ talks
-      → connection_state_at (place_of a) talks ≡ Some talk
+      → connection_state_at (slot_of a) talks ≡ Some talk
       → left ≡ connection_after talk (octet ∷ octets)
       → (recv_after a left t why).connections
       ≡ states_after_recv a (octet ∷ octets) talks (closed_by a why)
   after-left a left octet octets talk t None same here is =
-      with-one (place_of a) (Some left) t ∙ ap (with_connection_state (place_of a) (Some left)) same
-      ∙ ap (λ (u : ConnectionState). with_connection_state (place_of a) (Some u) talks) is
-      ∙ sym (ap (λ (o : Option ConnectionState). with_connection_state (place_of a)
+      with-one (slot_of a) (Some left) t ∙ ap (with_connection_state (slot_of a) (Some left)) same
+      ∙ ap (λ (u : ConnectionState). with_connection_state (slot_of a) (Some u) talks) is
+      ∙ sym (ap (λ (o : Option ConnectionState). with_connection_state (slot_of a)
       (state_after_octets (octet ∷ octets) o) talks)
       here)
   after-left a left octet octets talk t (Some why) same here is =
-      with-one (place_of a) None (without_owner a t)
-      ∙ ap (with_connection_state (place_of a) None) same
+      with-one (slot_of a) None (without_owner a t)
+      ∙ ap (with_connection_state (slot_of a) None) same
 
   after-alike : (a : ℕ) (left : ConnectionState) (t : State) (why : Option Why)
       → AreNamedAlike n (bay_of t)
       → AreNamedAlike n (bay_of (recv_after a left t why))
-  after-alike a left t None same = alike-with n (place_of a) (Some left) t same
+  after-alike a left t None same = alike-with n (slot_of a) (Some left) t same
   after-alike a left t (Some why) same = closed-alike a t same
 
   after-sized : (a : ℕ) (left : ConnectionState) (t : State) (why : Option Why)
       → AreAgreed t.connections
       → IsSized left.phase → AreAgreed (recv_after a left t why).connections
-  after-sized a left t None all is = with-talks (place_of a) (Some left) t all is
-  after-sized a left t (Some why) all is = with-talks (place_of a) None (without_owner a t) all tt
+  after-sized a left t None all is = with-talks (slot_of a) (Some left) t all is
+  after-sized a left t (Some why) all is = with-talks (slot_of a) None (without_owner a t) all tt
 
   octets-told : (choice : Option ℕ) (a : ℕ) (talk : ConnectionState) (octets : List ℕ)
-      → connection_at (place_of a) s ≡ Some talk
+      → connection_at (slot_of a) s ≡ Some talk
       → IsTold n talks (λ step. entries_of_recv now a n octets
-      (connection_state_at (place_of a) talks) step.sent
+      (connection_state_at (slot_of a) talks) step.sent
       ++ entries_of_close now step.closed) (λ step. states_after_recv a octets talks step.closed)
       (octets_outcome choice now a s talk octets) (entries_octets choice now a s talk octets)
   octets-told choice a talk [] is =
-      let here : connection_state_at (place_of a) talks ≡ Some talk =
-      sym (at-talk (place_of a) s) ∙ is in
+      let here : connection_state_at (slot_of a) talks ≡ Some talk =
+      sym (at-talk (slot_of a) s) ∙ is in
       record {
         told = ap (λ (o : Option ConnectionState). entries_of_recv now a n [] o [] ++ []) here
             ∙ ap (λ (es : List Entry). es ++ []) (nothing-told now a n (indications talk []));
@@ -340,11 +340,11 @@ module _ (n : Bay) (now : ℕ) (s : State) (alike : AreNamedAlike n (bay_of s))
         sized = sized;
       }
   octets-told choice a talk (octet ∷ octets) is =
-      let here : connection_state_at (place_of a) talks ≡ Some talk =
-      sym (at-talk (place_of a) s) ∙ is in
+      let here : connection_state_at (slot_of a) talks ≡ Some talk =
+      sym (at-talk (slot_of a) s) ∙ is in
       let all : List ℕ = octet ∷ octets in
       let begun : Done = nothing_done (device_at now s) in
-      let phased : IsSized talk.phase = talk-sized (place_of a) s talk sized is in
+      let phased : IsSized talk.phase = talk-sized (slot_of a) s talk sized is in
       let h : ReceiveResult = after_indications choice now a (indications talk all) begun in
       let w : Walks now a n (indications talk all) h begun
       (entries_heard choice now a (indications talk all) begun) =
@@ -368,9 +368,9 @@ module _ (n : Bay) (now : ℕ) (s : State) (alike : AreNamedAlike n (bay_of s))
       }
 
   recv-told : (choice : Option ℕ) (a : ℕ) (octets : List ℕ) (talk : Option ConnectionState)
-      → connection_at (place_of a) s ≡ talk
+      → connection_at (slot_of a) s ≡ talk
       → IsTold n talks (λ step. entries_of_recv now a n octets
-      (connection_state_at (place_of a) talks) step.sent
+      (connection_state_at (slot_of a) talks) step.sent
       ++ entries_of_close now step.closed) (λ step. states_after_recv a octets talks step.closed)
       (recv_outcome choice now a octets s talk) (entries_recv choice now a octets s talk)
   recv-told choice a octets None is =
@@ -480,10 +480,10 @@ module _ (n : Bay) (now : ℕ) (s : State) (alike : AreNamedAlike n (bay_of s))
   event-told : (choice : Option ℕ) (event : Event)
       → IsTold n talks (entries_of_step now event n talks) (states_after_step event talks)
       (event_outcome choice now event s) (entries_of_event choice now event s)
-  event-told choice (Open a) = open-told a (place_of a) (connection_at (place_of a) s)
+  event-told choice (Open a) = open-told a (slot_of a) (connection_at (slot_of a) s)
   event-told choice (Recv a octets) =
-      recv-told choice a octets.now (connection_at (place_of a) s) refl
-  event-told choice (Close a) = close-told a (connection_at (place_of a) s)
+      recv-told choice a octets.now (connection_at (slot_of a) s) refl
+  event-told choice (Close a) = close-told a (connection_at (slot_of a) s)
   event-told choice (Contact k position) = contact-told k position (slice_get s.switches k)
   event-told choice (Input k value) = input-told k value (slice_get s.input_values k)
   event-told choice (Measure k field value) = measure-told k field value (slice_get s.meters k)

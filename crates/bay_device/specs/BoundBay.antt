@@ -5,7 +5,7 @@ use Rattle.bay_base.specs.declared.point.Source.{Source}
 use Rattle.bay_config.specs.Laws.{IsBay}
 use Rattle.bay_control.specs.Decisions.{controls_of, initial}
 use Rattle.bay_process.specs.Layout.{AreBound, AreMetersBound, layout_of, meters_of, switches_of}
-use Rattle.bay_process.specs.ReportedRows.{AreKept}
+use Rattle.bay_process.specs.ReportedRows.{AreStored}
 use Rattle.bay_mms_services.specs.Bay.{rows_with_selection}
 use Rattle.bay_mms_services.specs.Released.{AreTimed}
 use Rattle.bay_mms_services.specs.Views.{bay_view}
@@ -34,4 +34,4 @@ pub record IsBoundBay (bay : Bay) (writes : List Source) (b : BoundBay) : Type 0
   pub ids : meters_of b.meters ≡ bay.meters
   pub bound : AreBound (layout_of b.bay.tree) writes b.bay.switches
   pub metered : AreMetersBound (layout_of b.bay.tree) b.meters
-  pub released : AreKept b.bay.tree (switches_of b.bay.switches) 0 b.releases
+  pub released : AreStored b.bay.tree (switches_of b.bay.switches) 0 b.releases

@@ -6,13 +6,13 @@ use Rattle.bay_connection.specs.ConnectionStates.{ConnectionState}
 use Rattle.bay_device.specs.Outcomes.{associations}
 
 -- the state of a connection, without its last PDU
-abbrev pub talk_in : Option Client → Option ConnectionState
-talk_in None = None
-talk_in (Some client) = Some client.talk
+abbrev pub state_without_pdu : Option Client → Option ConnectionState
+state_without_pdu None = None
+state_without_pdu (Some client) = Some client.talk
 
 -- the state of each connection
 abbrev pub connection_states : List (Option Client) → List (Option ConnectionState)
-connection_states clients = map talk_in clients
+connection_states clients = map state_without_pdu clients
 
 -- Each open association accepts octets.
 abbrev pub AreGoing : List (Option ConnectionState) → Type 0

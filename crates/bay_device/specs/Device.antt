@@ -18,7 +18,7 @@ use Rattle.il_image.specs.declared.value.Value.{Value}
 use Rattle.il_image.specs.declared.value.Value.TheVariants.{Truth, Long}
 use Rattle.il_scan.specs.Scans.{MachineData, outputs_of, scan_start}
 use Rattle.bay_process.specs.Names.{field_names}
-use Rattle.bay_process.specs.Values.{measure_leaf, number_of_leaf, position_leaf, position_value, rows_after_contact, rows_after_doubt, rows_after_measure, has_position, tells_doubt, tells_measure, with_outputs}
+use Rattle.bay_process.specs.Values.{measure_leaf, number_of_leaf, position_leaf, position_value, rows_after_contact, rows_after_doubt, rows_after_measure, has_position, has_invalid_measure, has_measure, with_outputs}
 use Rattle.bay_control.specs.Decisions as control
 use Rattle.bay_control.specs.Decisions.{after_contact, is_done, run_out}
 use Rattle.bay_connection.specs.ConnectionStates.{ConnectionState}
@@ -168,7 +168,7 @@ device_after_measure now k field value s =
     let names = field_names field (meter_names k) in
     record s {
       rows = rows_after_measure names value now s.rows;
-      is_stale = s.is_stale || not (tells_measure names value s.rows);
+      is_stale = s.is_stale || not (has_measure names value s.rows);
       is_lost = false;
     }
 
@@ -178,7 +178,7 @@ device_after_bad_measure now k field s =
     let names = field_names field (meter_names k) in
     record s {
       rows = rows_after_doubt names now s.rows;
-      is_stale = s.is_stale || not (tells_doubt names s.rows);
+      is_stale = s.is_stale || not (has_invalid_measure names s.rows);
       is_lost = false;
     }
 

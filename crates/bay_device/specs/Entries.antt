@@ -8,7 +8,7 @@ use Rattle.bay_connection.specs.ConnectionStates.{Indication, ConnectionState, a
 use Rattle.bay_mms_services.specs.Entries.{entries_in}
 use Rattle.bay_device.specs.Device.{State, device_at, bay_of}
 use Rattle.bay_device.specs.Receiving.{Done, client_at, after_indications, after_pdu, with_sent}
-use Rattle.bay_device.specs.Outcomes.{associations, connection_at, last_moment, nothing_done, place_of}
+use Rattle.bay_device.specs.Outcomes.{associations, connection_at, last_moment, nothing_done, slot_of}
 use Rattle.bay_device.specs.Steps.{Steps}
 use Rattle.bay_device.specs.declared.event.Event.{Event}
 use Rattle.bay_device.specs.declared.event.Event.TheVariants.{Open, Recv, Close, Contact, Input, Measure, BadMeasure, Lost, Scan}
@@ -18,7 +18,7 @@ use Rattle.bay_device.specs.declared.fault.StepFault.{StepFault}
 
 -- an association is open
 abbrev pub opens : State → ℕ → Bool
-opens s a = is_some (connection_at (place_of a) s)
+opens s a = is_some (connection_at (slot_of a) s)
 
 -- A device as load made it: there is no selection, and none of the eight associations is open.
 pub record IsIdle (s : State) : Type 0 where
@@ -82,10 +82,10 @@ entries_close now a (Some talk) = entries_of_act now (Closed a)
 -- the entries of an event whose time is not refused; the process and the program request nothing
 abbrev pub entries_of_event : Option ℕ → ℕ → Event → State → List Entry
 entries_of_event choice now (Open a) s =
-    entries_open now a (place_of a) (connection_at (place_of a) s)
+    entries_open now a (slot_of a) (connection_at (slot_of a) s)
 entries_of_event choice now (Recv a octets) s =
-    entries_recv choice now a octets.now s (connection_at (place_of a) s)
-entries_of_event choice now (Close a) s = entries_close now a (connection_at (place_of a) s)
+    entries_recv choice now a octets.now s (connection_at (slot_of a) s)
+entries_of_event choice now (Close a) s = entries_close now a (connection_at (slot_of a) s)
 entries_of_event choice now (Contact k position) s = []
 entries_of_event choice now (Input k value) s = []
 entries_of_event choice now (Measure k field value) s = []

@@ -18,7 +18,7 @@ use Rattle.bay_mms_services.specs.Accepted.{AreNamedAlike, accepted_in, part_aft
 use Rattle.bay_mms_services.specs.Bay.{Bay}
 use Rattle.bay_device.specs.Device.{State, bay_of}
 use Rattle.bay_device.specs.Entries.{opens, entries_of_act}
-use Rattle.bay_device.specs.Outcomes.{initial_connection, place_of}
+use Rattle.bay_device.specs.Outcomes.{initial_connection, slot_of}
 use Rattle.bay_device.specs.declared.event.Event.{Event}
 use Rattle.bay_device.specs.declared.event.Event.TheVariants.{Open, Recv, Close, Contact, Input, Measure, BadMeasure, Lost, Scan}
 use Rattle.bay_device.specs.declared.event.Sent.{Sent}
@@ -114,7 +114,7 @@ with_connection_state (Some place) talk talks = slice_set talks place talk
 abbrev pub entries_of_step : ℕ → Event → Bay → List (Option ConnectionState) → Step → List Entry
 entries_of_step now (Open a) names talks step = entries_of_act now (Opened a)
 entries_of_step now (Recv a octets) names talks step =
-    entries_of_recv now a names octets.now (connection_state_at (place_of a) talks) step.sent
+    entries_of_recv now a names octets.now (connection_state_at (slot_of a) talks) step.sent
     ++ entries_of_close now step.closed
 entries_of_step now (Close a) names talks step = entries_of_act now (Closed a)
 entries_of_step now (Contact k position) names talks step = []
@@ -133,21 +133,21 @@ abbrev pub states_after_octets : ℕ → List ℕ → List (Option ConnectionSta
     → List (Option ConnectionState)
 states_after_octets a [] talks = talks
 states_after_octets a (octet ∷ octets) talks =
-    with_connection_state (place_of a)
-    (state_after_octets (octet ∷ octets) (connection_state_at (place_of a) talks)) talks
+    with_connection_state (slot_of a)
+    (state_after_octets (octet ∷ octets) (connection_state_at (slot_of a) talks)) talks
 
 abbrev pub states_after_recv : ℕ → List ℕ → List (Option ConnectionState) → Option (ℕ × Why)
     → List (Option ConnectionState)
-states_after_recv a octets talks (Some closed) = with_connection_state (place_of a) None talks
+states_after_recv a octets talks (Some closed) = with_connection_state (slot_of a) None talks
 states_after_recv a octets talks None = states_after_octets a octets talks
 
 -- the states of all connections after an event that is not refused
 abbrev pub states_after_step : Event → List (Option ConnectionState) → Step
     → List (Option ConnectionState)
 states_after_step (Open a) talks step =
-    with_connection_state (place_of a) (Some (initial_connection a)) talks
+    with_connection_state (slot_of a) (Some (initial_connection a)) talks
 states_after_step (Recv a octets) talks step = states_after_recv a octets.now talks step.closed
-states_after_step (Close a) talks step = with_connection_state (place_of a) None talks
+states_after_step (Close a) talks step = with_connection_state (slot_of a) None talks
 states_after_step (Contact k position) talks step = talks
 states_after_step (Input k value) talks step = talks
 states_after_step (Measure k field value) talks step = talks

@@ -11,16 +11,16 @@ use Rattle.bay_process.specs.Values.{is_truth}
 use Rattle.bay_nodes.specs.Names.{StatusNames, control_of, opening_of, closing_of, position_names}
 
 -- the index of the switch with an id, whatever the case of its letters
-abbrev pub switch_place : State → List ℕ → Option ℕ
-switch_place s id = position (λ switch. same_name switch.id id) s.switches
+abbrev pub switch_index : State → List ℕ → Option ℕ
+switch_index s id = position (λ switch. same_name switch.id id) s.switches
 
 -- the index of the input with a name
-abbrev pub input_place : State → List ℕ → Option ℕ
-input_place s name = position (λ n. same_name n name) s.inputs
+abbrev pub input_index : State → List ℕ → Option ℕ
+input_index s name = position (λ n. same_name n name) s.inputs
 
 -- the index of the meter with an id
-abbrev pub meter_place : State → List ℕ → Option ℕ
-meter_place s id = position (λ m. same_name m id) s.meters
+abbrev pub meter_index : State → List ℕ → Option ℕ
+meter_index s id = position (λ m. same_name m id) s.meters
 
 -- an interlocking value, by its names
 abbrev pub is_enabled : State → StatusNames → Bool

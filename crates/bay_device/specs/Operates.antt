@@ -8,7 +8,7 @@ use Rattle.bay_mms_services.specs.Accepted.{accepted_in}
 use Rattle.bay_mms_services.specs.Bay.{Bay}
 use Rattle.bay_mms_services.specs.Entries.{operates_in}
 use Rattle.bay_mms_services.specs.declared.answer.Command.{Command}
-use Rattle.bay_device.specs.Outcomes.{place_of}
+use Rattle.bay_device.specs.Outcomes.{slot_of}
 use Rattle.bay_device.specs.EntriesTold.{pdus_in, connection_state_at, states_after_answer, entries_of_step}
 use Rattle.bay_device.specs.declared.event.Event.{Event}
 use Rattle.bay_device.specs.declared.event.Event.TheVariants.{Open, Recv, Close, Contact, Input, Measure, BadMeasure, Lost, Scan}
@@ -37,7 +37,7 @@ AreReplied now a names octets (Some talk) step = (command : Command)
 abbrev pub AreRepliedForEvent : ℕ → Event → Bay → List (Option ConnectionState) → Step → Type 0
 AreRepliedForEvent now (Open a) names talks step = step.commands ≡ []
 AreRepliedForEvent now (Recv a octets) names talks step =
-    AreReplied now a names octets.now (connection_state_at (place_of a) talks) step
+    AreReplied now a names octets.now (connection_state_at (slot_of a) talks) step
 AreRepliedForEvent now (Close a) names talks step = step.commands ≡ []
 AreRepliedForEvent now (Contact k position) names talks step = step.commands ≡ []
 AreRepliedForEvent now (Input k value) names talks step = step.commands ≡ []

@@ -94,8 +94,8 @@ abbrev pub associations : ℕ
 associations = 8
 
 -- the slot of an association among all; their numbers begin at 1
-abbrev pub place_of : ℕ → Option ℕ
-place_of a = if nat_lt 0 a && nat_lt a (associations + 1) then Some (a - 1) else None
+abbrev pub slot_of : ℕ → Option ℕ
+slot_of a = if nat_lt 0 a && nat_lt a (associations + 1) then Some (a - 1) else None
 
 -- the state of an association's connection, if it is open
 abbrev pub connection_at : Option ℕ → State → Option ConnectionState
@@ -123,14 +123,14 @@ without_owner a s =
 
 -- the same, and the association is no longer open
 abbrev pub without_connection : ℕ → State → State
-without_connection a s = with_connection (place_of a) None (without_owner a s)
+without_connection a s = with_connection (slot_of a) None (without_owner a s)
 
 -- the outcome of opening an association; it is refused if the association is open
 abbrev pub open_outcome : ℕ → ℕ → State → Option ℕ → Option ConnectionState → Outcome
 open_outcome now a s None talk = refusal_of NoSuchAssociation s
 open_outcome now a s (Some place) (Some talk) = refusal_of AlreadyOpen s
 open_outcome now a s (Some place) None =
-    quiet (ended_at now s) (with_connection (place_of a) (Some (initial_connection a))
+    quiet (ended_at now s) (with_connection (slot_of a) (Some (initial_connection a))
     (device_at now s))
 
 -- the outcome of closing an association; it is refused if the association is not open
@@ -140,7 +140,7 @@ close_outcome now a s (Some talk) = quiet (ended_at now s) (without_connection a
 
 -- the device after octets: the association stays open, or the device has closed it
 abbrev pub recv_after : ℕ → ConnectionState → State → Option Why → State
-recv_after a left s None = with_connection (place_of a) (Some left) s
+recv_after a left s None = with_connection (slot_of a) (Some left) s
 recv_after a left s (Some why) = without_connection a s
 
 -- the report that the device closed an association, and why
@@ -186,10 +186,10 @@ recv_outcome choice now a octets s (Some talk) = octets_outcome choice now a s t
 -- the outcome of an event whose time is not refused
 abbrev pub event_outcome : Option ℕ → ℕ → Event → State → Outcome
 event_outcome choice now (Open a) s =
-    open_outcome now a s (place_of a) (connection_at (place_of a) s)
+    open_outcome now a s (slot_of a) (connection_at (slot_of a) s)
 event_outcome choice now (Recv a octets) s =
-    recv_outcome choice now a octets.now s (connection_at (place_of a) s)
-event_outcome choice now (Close a) s = close_outcome now a s (connection_at (place_of a) s)
+    recv_outcome choice now a octets.now s (connection_at (slot_of a) s)
+event_outcome choice now (Close a) s = close_outcome now a s (connection_at (slot_of a) s)
 event_outcome choice now (Contact k position) s =
     contact_outcome now k position s (slice_get s.switches k)
 event_outcome choice now (Input k value) s =

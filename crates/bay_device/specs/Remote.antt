@@ -1,5 +1,5 @@
--- The key of a switch: when a command is issued, the process has reported that the key is at remote.
--- The definitions use events alone, and not the values that the device has of its inputs.
+-- The key of a switch: when a command is issued, the process has reported that the key is at
+-- remote. The definitions use events alone, and not the values that the device has of its inputs.
 use Rattle.std.specs.Prelude.{ℕ, ◌≡◌, ◌==◌, Bool, true, false, if◌then◌else◌, is_ok, All, List, [], ◌∷◌, slice_get, Option, Some, option_and_then, Result, IfOk}
 use Rattle.bay_control.specs.Decisions.{key_in}
 use Rattle.bay_mms_services.specs.declared.answer.Command.{Command}

@@ -3,7 +3,7 @@ use Rattle.std.specs.Prelude.{ℕ, ◌≡◌, List, [], ◌∷◌, Option, Some,
 use Rattle.bay_connection.specs.ConnectionStates.{ConnectionState, indications, connection_after}
 use Rattle.bay_device.specs.Device.{State}
 use Rattle.bay_device.specs.Receiving.{after_indications}
-use Rattle.bay_device.specs.Outcomes.{Outcome, connection_at, nothing_done, outcome, place_of, quiet_step, recv_done, recv_outcome, scan_step}
+use Rattle.bay_device.specs.Outcomes.{Outcome, connection_at, nothing_done, outcome, slot_of, quiet_step, recv_done, recv_outcome, scan_step}
 use Rattle.bay_device.specs.declared.event.Event.{Event}
 use Rattle.bay_device.specs.declared.event.Event.TheVariants.{Open, Recv, Close, Contact, Input, Measure, BadMeasure, Lost, Scan}
 use Rattle.bay_device.specs.declared.event.Scanned.{Scanned}
@@ -45,8 +45,8 @@ pub record Receives (now a : ℕ) (octets : List ℕ) (old : State) (answer : Re
     (new : State) : Type 0 where
   pub choice : Option ℕ
   pub answered : answer ≡ (recv_outcome choice now a octets old
-      (connection_at (place_of a) old)).answer
-  pub left : new ≡ (recv_outcome choice now a octets old (connection_at (place_of a) old)).after
+      (connection_at (slot_of a) old)).answer
+  pub left : new ≡ (recv_outcome choice now a octets old (connection_at (slot_of a) old)).after
 
 -- The same of octets of an open association, after the end of what has expired; `ended` is the
 -- report of that.
@@ -62,7 +62,7 @@ pub record HandlesOctetsFrom (now a : ℕ) (octets : List ℕ) (ended : Option S
 
 abbrev pub HandlesOctets : ℕ → ℕ → List ℕ → Option Sent → State → Step → State → Type 0
 HandlesOctets now a octets ended s step new =
-    (talk : ConnectionState) → connection_at (place_of a) s ≡ Some talk
+    (talk : ConnectionState) → connection_at (slot_of a) s ≡ Some talk
     → HandlesOctetsFrom now a octets ended s talk step new
 
 -- an event of an association

@@ -13,8 +13,8 @@ abbrev pub key_of : List ℕ → ℕ
 key_of name = fold key_after 0 name
 
 -- the table with one more name
-abbrev pub with_place_of : ℕ → ℕ → List ℕ → List ℕ
-with_place_of key place firsts =
+abbrev pub with_index_of : ℕ → ℕ → List ℕ → List ℕ
+with_index_of key place firsts =
     if nat_lt place (get_or firsts key 0) then slice_set firsts key place else firsts
 
 -- no name has an index below that of its key, and no index in the table exceeds the number of names

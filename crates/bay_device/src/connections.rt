@@ -1,7 +1,7 @@
 // The connections of a device's eight associations, each in its slot.
 ghost use Rattle.std.specs.Prelude.{◌≡◌, ◌<◌, None, IfSome, is_none, is_some, length, position, replicate, slice_get, slice_index_or, slice_set, unwrap_or};
 ghost use Rattle.bay_transport.specs.Feeding.{IsGoing};
-ghost use Rattle.bay_device.specs.Connections.{talk_in};
+ghost use Rattle.bay_device.specs.Connections.{state_without_pdu};
 ghost use Rattle.bay_device.specs.Outcomes.{associations};
 
 use crate::event::ASSOCIATIONS;
@@ -28,7 +28,7 @@ impl Model for Connections {
 }
 
 // Returns the lowest slot without a connection; `None` if there is none.
-fn free_place_in(places: &[Option<Connection>; ASSOCIATIONS]) -> Option<usize>
+fn free_slot_in(places: &[Option<Connection>; ASSOCIATIONS]) -> Option<usize>
     ensures lowest { result ≡ position is_none places.now }
     ensures within { IfSome result (λ place. place < associations) }
 {
@@ -82,17 +82,17 @@ impl Connections {
     }
 
     /// Returns the lowest slot without an open association; `None` if all are open.
-    pub fn free_place(&self) -> Option<usize>
+    pub fn free_slot(&self) -> Option<usize>
         ensures lowest { result ≡ position is_none self.now }
         ensures within { IfSome result (λ place. place < associations) }
     {
-        free_place_in(&self.places)
+        free_slot_in(&self.places)
     }
 
     /// Removes and returns the connection in a slot; its association is then not open.
     pub fn take(&mut self, place: usize) -> Option<Connection>
         requires { place < associations }
-        ensures value { talk_in result ≡ unwrap_or (slice_get self.old place) None }
+        ensures value { state_without_pdu result ≡ unwrap_or (slice_get self.old place) None }
         ensures rest { self.new ≡ slice_set self.old place None }
         ensures going { IfSome result (λ c. IsGoing c.talk.stream.left) }
     {
@@ -103,7 +103,7 @@ impl Connections {
     pub fn put(&mut self, place: usize, connection: Option<Connection>)
         requires within { place < associations }
         requires going { IfSome connection (λ c. IsGoing c.talk.stream.left) }
-        ensures { self.new ≡ slice_set self.old place (talk_in connection) }
+        ensures { self.new ≡ slice_set self.old place (state_without_pdu connection) }
     {
         put_at(&mut self.places, place, connection);
     }

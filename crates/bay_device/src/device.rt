@@ -15,7 +15,7 @@ ghost use Rattle.bay_device.specs.Device.{bay_of};
 ghost use Rattle.bay_device.specs.Entries.{IsIdle, Leading};
 ghost use Rattle.bay_device.specs.Fresh.{FreshAt};
 ghost use Rattle.bay_device.specs.Load.{device_of};
-ghost use Rattle.bay_device.specs.LookUps.{switch_place, input_place, meter_place, enabled_of, operating_in, position_of, switches_text};
+ghost use Rattle.bay_device.specs.LookUps.{switch_index, input_index, meter_index, enabled_of, operating_in, position_of, switches_text};
 ghost use Rattle.bay_device.specs.Meaning.{HaltsAt, MeansAt, Runs, is_refused};
 ghost use Rattle.bay_device.specs.Operates.{AllOperate, AreOperates};
 ghost use Rattle.bay_device.specs.Outcomes.{associations, connection_at, event_outcome, outcome, recv_after, refusal_of, without_connection};
@@ -29,7 +29,7 @@ ghost use Rattle.bay_device.specs.declared.event.Event.{Event};
 ghost use Rattle.bay_device.specs.declared.event.Event.TheVariants.{Open, Recv, Close, Contact, Input, Measure, BadMeasure, Lost, Scan};
 
 use crate::connections::Connections;
-use crate::event::{Event, LAST_MOMENT, Scanned, Sent, Step, Why, closed_by, place_of};
+use crate::event::{Event, LAST_MOMENT, Scanned, Sent, Step, Why, association_slot, closed_by};
 use crate::fault::StepFault;
 use crate::initial::state_of;
 use crate::message::EventEffects;
@@ -129,7 +129,7 @@ impl Device {
     fn open(&mut self, now: u64, association: u16) -> Result<Step, StepFault>
         ensures { IsOutcome (event_outcome None now (Open association) self.old) result self.new }
     {
-        let place = match place_of(association) {
+        let place = match association_slot(association) {
             Some(place) => place,
             None => return Err(StepFault::NoSuchAssociation),
         };
@@ -144,7 +144,7 @@ impl Device {
 
     // Closes an association, and ends its selection.
     fn drop_connection(&mut self, association: u16, place: usize)
-        requires { spec.place_of association ≡ Some place }
+        requires { spec.slot_of association ≡ Some place }
         ensures { self.new ≡ without_connection association self.old }
     {
         self.connections.put(place, None);
@@ -155,7 +155,7 @@ impl Device {
     fn close(&mut self, now: u64, association: u16) -> Result<Step, StepFault>
         ensures { IsOutcome (event_outcome None now (Close association) self.old) result self.new }
     {
-        let place = match place_of(association) {
+        let place = match association_slot(association) {
             Some(place) => place,
             None => return Err(StepFault::NoSuchAssociation),
         };
@@ -169,7 +169,7 @@ impl Device {
 
     // Puts the connection of an association back, or closes the association.
     fn finish(&mut self, association: u16, place: usize, connection: Connection, why: Option<Why>)
-        requires here { spec.place_of association ≡ Some place }
+        requires here { spec.slot_of association ≡ Some place }
         requires going { why ≡ None → IsGoing connection.talk.stream.left }
         ensures { self.new ≡ recv_after association connection.talk self.old why }
     {
@@ -180,7 +180,7 @@ impl Device {
     }
 
     // Handles the octets of an open association.
-    fn hear(
+    fn receive_octets(
         &mut self,
         now: u64,
         association: u16,
@@ -188,7 +188,7 @@ impl Device {
         octets: &[u8],
         ended: Option<Sent>,
     ) -> Step
-        requires here { spec.place_of association ≡ Some place }
+        requires here { spec.slot_of association ≡ Some place }
         requires open { IsSome (connection_at (Some place) self.old) }
         requires some { 0 < length octets.now }
         ensures { HandlesOctets now association octets.now ended self.old result self.new }
@@ -223,7 +223,7 @@ impl Device {
     fn recv(&mut self, now: u64, association: u16, octets: &[u8]) -> Result<Step, StepFault>
         ensures { Receives now association octets.now self.old result self.new }
     {
-        let place = match place_of(association) {
+        let place = match association_slot(association) {
             Some(place) => place,
             None => return Err(StepFault::NoSuchAssociation),
         };
@@ -234,7 +234,7 @@ impl Device {
         if octets.is_empty() {
             return Ok(self.quiet(ended));
         }
-        Ok(self.hear(now, association, place, octets, ended))
+        Ok(self.receive_octets(now, association, place, octets, ended))
     }
 
     // Handles the reported position of the switch at an index.
@@ -361,9 +361,8 @@ impl Device {
     }
 
     /// Handles one event at a time in milliseconds since 1970. A refused event changes nothing. If
-    /// an allocation fails, the device closes the association whose octets it was handling and
-    /// changes nothing else: the effects of the PDUs before the failure remain, and the PDU in
-    /// which it occurs has no effect.
+    /// an allocation fails, the device closes the association whose octets it was handling. Then
+    /// the PDUs before the failure have had their effects, and the PDU in which it occurs has none.
     ///
     /// Returns the first of these faults that applies: the time is too large, 114; it is before
     /// that of the last event, 110; the number of the association is not 1 to 8, or the association
@@ -386,8 +385,7 @@ impl Device {
         // If there is a command, the events since load include a scan that is not too old, since
         // which the process has not changed, and after all of them the process is not lost.
         ensures fresh { FreshAt now event.entry self.old result self.new }
-        // Each command is to a switch without a key, or to one whose key the process last reported
-        // to be at remote, and the process was not lost since.
+        // The key of its switch, if any, was reported at remote since the process was last lost.
         ensures remote { RemoteAt now event.entry self.old result self.new }
         // There is at most one command.
         ensures single { IsSingle result }
@@ -409,9 +407,8 @@ impl Device {
         self.do_event(now, event)
     }
 
-    /// Handles the reported position of the switch at an index, counted from 0, as `step` does.
-    /// Returns the report that an operate ended, which is all that the step sends, or the fault of
-    /// `step`.
+    /// Handles the reported position of the switch at an index as `step` does. Returns the report
+    /// that an operate ended, which is all that the step sends, or the fault of `step`.
     pub fn contact(
         &mut self,
         now: u64,
@@ -452,8 +449,7 @@ impl Device {
         // process has not changed, and after all of them the process is not lost;
         ensures fresh { IfOk result
             (λ answers. EachStep FreshAt events.now self.old answers.items self.new) }
-        // the key of its switch, if there is one, was last reported to be at remote, since the last
-        // loss of the process;
+        // the key of its switch, if any, was reported at remote since the process was last lost;
         ensures remote { IfOk result
             (λ answers. EachStep RemoteAt events.now self.old answers.items self.new) }
         // there is at most one command for each event;
@@ -503,8 +499,7 @@ impl Device {
         self.state.bay.revision.as_str()
     }
 
-    /// Returns the index of the switch whose execution has expired at a time in milliseconds since
-    /// 1970; `None` if none has.
+    /// Returns the index of the switch whose execution has expired by a time in ms; else `None`.
     pub fn expired_at(&self, now: u64) -> Option<usize>
         ensures { result ≡ spec_device.over_at now self.now }
     {
@@ -524,9 +519,9 @@ impl Device {
 
     /// Returns whether the association with this number is open.
     pub fn is_open(&self, association: u16) -> bool
-        ensures { result ≡ is_some (connection_at (spec.place_of association) self.now) }
+        ensures { result ≡ is_some (connection_at (spec.slot_of association) self.now) }
     {
-        match place_of(association) {
+        match association_slot(association) {
             Some(place) => self.connections.is_open(place),
             None => false,
         }
@@ -538,7 +533,7 @@ impl Device {
             ≡ option_map (λ place. place + 1) (position is_none self.now.connections) }
         ensures within { IfSome result (λ a. (0 < a) × (a ≤ associations)) }
     {
-        let place = self.connections.free_place()?;
+        let place = self.connections.free_slot()?;
         Some(place as u16 + 1)
     }
 
@@ -551,7 +546,7 @@ impl Device {
 
     /// Returns the index of the switch with this id, ignoring case; `None` if there is none.
     pub fn switch(&self, id: &str) -> Option<usize>
-        ensures { result ≡ switch_place self.now id.now }
+        ensures { result ≡ switch_index self.now id.now }
     {
         self.state.switch(id)
     }
@@ -565,9 +560,9 @@ impl Device {
 
     /// Returns the index of the input with this name, ignoring case; `None` if there is none.
     pub fn input(&self, name: &str) -> Option<usize>
-        ensures { result ≡ input_place self.now name.now }
+        ensures { result ≡ input_index self.now name.now }
     {
-        self.state.input_place(name)
+        self.state.input_index(name)
     }
 
     /// Returns the number of meters in the bay.
@@ -579,13 +574,12 @@ impl Device {
 
     /// Returns the index of the meter with this id, ignoring case; `None` if there is none.
     pub fn meter(&self, id: &str) -> Option<usize>
-        ensures { result ≡ meter_place self.now id.now }
+        ensures { result ≡ meter_index self.now id.now }
     {
-        self.state.meter_place(id)
+        self.state.meter_index(id)
     }
 
-    /// Returns the id of the switch at an index, as the bay file spells it; `None` if there is no
-    /// such switch.
+    /// Returns the id of the switch at an index, as in the bay file; `None` if there is no switch.
     pub fn id(&self, switch: usize) -> Option<&str>
         ensures { option_map (λ id. id.now) result
             ≡ option_map (λ s. s.id) (slice_get self.now.switches switch) }

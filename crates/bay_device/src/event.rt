@@ -63,8 +63,8 @@ pub enum Event<'a> {
 }
 
 /// Returns the slot of an association, its number less 1; `None` if the number is not 1 to 8.
-pub fn place_of(association: u16) -> Option<usize>
-    ensures value { result ≡ spec.place_of association }
+pub fn association_slot(association: u16) -> Option<usize>
+    ensures value { result ≡ spec.slot_of association }
     ensures within { IfSome result (λ place. place < associations) }
 {
     if 0 < association && usize::from(association) < ASSOCIATIONS + 1 {
@@ -72,13 +72,6 @@ pub fn place_of(association: u16) -> Option<usize>
     } else {
         None
     }
-}
-
-/// Returns the report that the device has closed an association, if it has.
-pub(crate) fn closed_by(association: u16, why: Option<Why>) -> Option<(u16, Why)>
-    ensures { result ≡ spec.closed_by association why }
-{
-    Some((association, why?))
 }
 
 /// Octets to send to a client.

@@ -23,7 +23,7 @@ use bay_process::bind::{all_false, spans_of};
 use bay_process::controls::{ControlRows, control_rows};
 use bay_process::meter::BoundMeter;
 use bay_process::parts::{bound_machine, bound_rows, node_names};
-use bay_process::releases::{Releases, kept_releases};
+use bay_process::releases::{Releases, stored_releases};
 use bay_tree::tree::Tree;
 use il_scan::span::Span;
 use il_verify::verify::Verified;
@@ -77,7 +77,7 @@ fn bound_bay(alloc: Global, mut bay: Box<Bay>, writes: &[Source]) -> Result<Boun
     let switches = take_items(alloc, &mut bay.switches);
     let mut bound = bound_rows(alloc, rows, switches, bay.meters.as_slice(), &nodes, writes)?;
     let control_rows = control_rows_of_tree(alloc, &mut bound.tree, bound.switches.len())?;
-    let releases = kept_releases(alloc, &bound.tree, bound.switches.as_slice())?;
+    let releases = stored_releases(alloc, &bound.tree, bound.switches.as_slice())?;
     let names = NameTexts::of_tree(alloc, &bound.tree)?;
     let Bay {
         domain,

@@ -6,13 +6,13 @@
 // device, and their answers), `fault` (the numbers of a refused load, and why an event is refused),
 // `laws` (a program reads nothing that the comparison of two processes leaves out).
 //
-// Internal: `initial` makes the state of a device of a bay and its program. `state` is the state that
-// a step changes, apart from the clients; its methods cannot allocate; bay_process and
-// bay_mms_services make its parts from a bay and a verified image. `step` applies positions, inputs,
-// measured values, scans and time to it, using `process`, and `lost` applies the loss of the
-// process. `connections` has the clients' connections, `octets` and `message` handle their octets,
-// and `termination` has the reports to a client that its operate ended. `look_ups` has the queries,
-// and `table` finds names.
+// Internal: `initial` makes the state of a device of a bay and its program. `state` is the state
+// that a step changes, apart from the clients; its methods cannot allocate; bay_process and
+// bay_mms_services make its parts from a bay and a verified image. `step` applies positions,
+// inputs, measured values, scans and time to it, using `process`, and `lost` applies the loss of
+// the process. `connections` has the clients' connections, `octets` and `message` handle their
+// octets, and `termination` has the reports to a client that its operate ended. `look_ups` has the
+// queries, and `table` finds names.
 #![tactic(auto)]
 
 mod connections;

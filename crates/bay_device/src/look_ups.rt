@@ -3,7 +3,7 @@ ghost use Rattle.std.specs.Prelude.{◌≡◌, List, Option, slice_get, option_m
 ghost use Rattle.bay_connection.specs.ConnectionStates.{ConnectionState};
 ghost use Rattle.bay_tree.specs.declared.leaf.Leaf.TheVariants as leaf;
 ghost use Rattle.bay_process.specs.Layout.{switches_of};
-ghost use Rattle.bay_device.specs.LookUps.{switch_place, enabled_of, position_of};
+ghost use Rattle.bay_device.specs.LookUps.{switch_index, enabled_of, position_of};
 ghost use Rattle.bay_device.specs.LookUps as spec;
 ghost use Rattle.bay_device.specs.StateView.{state_view};
 
@@ -14,31 +14,31 @@ use bay_process::rows::position_at;
 impl DeviceState {
     /// Returns the index of the input with this name, ignoring the case of its letters; `None` if
     /// there is none.
-    pub fn input_place(&self, name: &str) -> Option<usize>
+    pub fn input_index(&self, name: &str) -> Option<usize>
         ensures { (connections : List (Option ConnectionState))
-            → result ≡ spec.input_place (state_view connections self.now) name.now }
+            → result ≡ spec.input_index (state_view connections self.now) name.now }
     {
-        self.tables.inputs.place_of(self.inputs.as_slice(), name)
+        self.tables.inputs.index_of(self.inputs.as_slice(), name)
     }
 
     /// Returns the index of the meter with this id, ignoring the case of its letters; `None` if
     /// there is none.
-    pub fn meter_place(&self, id: &str) -> Option<usize>
+    pub fn meter_index(&self, id: &str) -> Option<usize>
         ensures { (connections : List (Option ConnectionState))
-            → result ≡ spec.meter_place (state_view connections self.now) id.now }
+            → result ≡ spec.meter_index (state_view connections self.now) id.now }
     {
-        self.tables.meters.place_of(self.meters.as_slice(), id)
+        self.tables.meters.index_of(self.meters.as_slice(), id)
     }
 
     /// Returns the index of the switch with this id, ignoring the case of its letters; `None` if
     /// there is none.
     pub fn switch(&self, id: &str) -> Option<usize>
         ensures { (connections : List (Option ConnectionState))
-            → result ≡ switch_place (state_view connections self.now) id.now }
+            → result ≡ switch_index (state_view connections self.now) id.now }
     {
         self.tables
             .switches
-            .place_of(self.bay.switches.as_slice(), id)
+            .index_of(self.bay.switches.as_slice(), id)
     }
 
     /// Returns the id of the switch at an index, as the bay file spells it; `None` if there is no

@@ -6,8 +6,8 @@ ghost use Rattle.bay_nodes.specs.declared.switch.Switch.{Switch};
 ghost use Rattle.bay_process.specs.Layout.{layout_of, switches_of, IsMeterBound};
 ghost use Rattle.bay_process.specs.Names.{field_names};
 ghost use Rattle.bay_process.specs.Scans.{outputs_put};
-ghost use Rattle.bay_process.specs.ReportedRows.{AreInterlocked, AreKept};
-ghost use Rattle.bay_process.specs.Values.{rows_after_contact, rows_after_doubt, rows_after_measure, has_position, tells_doubt, tells_measure};
+ghost use Rattle.bay_process.specs.ReportedRows.{AreInterlocked, AreStored};
+ghost use Rattle.bay_process.specs.Values.{rows_after_contact, rows_after_doubt, rows_after_measure, has_position, has_invalid_measure, has_measure};
 ghost use Rattle.bay_mms_services.specs.Views.{bay_view};
 
 use bay_base::position::Dbpos;
@@ -50,7 +50,7 @@ pub fn measure(
 ) -> bool
     requires { IsMeterBound (layout_of bay.old.tree) _meter rows }
     ensures changed { result
-        ≡ not (tells_measure (field_names field (meter_names _meter)) value bay.old.tree) }
+        ≡ not (has_measure (field_names field (meter_names _meter)) value bay.old.tree) }
     ensures after { bay_view bay.new
         ≡ record (bay_view bay.old) {
           rows = rows_after_measure (field_names field (meter_names _meter)) value now
@@ -73,7 +73,7 @@ pub fn doubt(
 ) -> bool
     requires { IsMeterBound (layout_of bay.old.tree) _meter rows }
     ensures changed { result
-        ≡ not (tells_doubt (field_names field (meter_names _meter)) bay.old.tree) }
+        ≡ not (has_invalid_measure (field_names field (meter_names _meter)) bay.old.tree) }
     ensures after { bay_view bay.new
         ≡ record (bay_view bay.old) {
           rows = rows_after_doubt (field_names field (meter_names _meter)) now bay.old.tree;
@@ -87,7 +87,7 @@ pub fn doubt(
 /// Writes the outputs of a scan to the interlocking values of all switches.
 pub fn write_scan(bay: &mut ServedBay, kept: &mut Releases, outputs: &Outputs<'_>, now: u64)
     requires interlocked { AreInterlocked (layout_of bay.old.tree) bay.old.switches }
-    requires kept { AreKept bay.old.tree (switches_of bay.old.switches) 0 kept.old }
+    requires kept { AreStored bay.old.tree (switches_of bay.old.switches) 0 kept.old }
     ensures after { bay_view bay.new
         ≡ record (bay_view bay.old) {
           rows = outputs_put (layout_of bay.old.tree) bay.old.switches outputs.now now
@@ -95,7 +95,7 @@ pub fn write_scan(bay: &mut ServedBay, kept: &mut Releases, outputs: &Outputs<'_
         } }
     ensures switches { bay.new.switches ≡ bay.old.switches }
     ensures layout { layout_of bay.new.tree ≡ layout_of bay.old.tree }
-    ensures kept { AreKept bay.new.tree (switches_of bay.old.switches) 0 kept.new }
+    ensures kept { AreStored bay.new.tree (switches_of bay.old.switches) 0 kept.new }
 {
     write_outputs(&mut bay.tree, kept, bay.switches.as_slice(), outputs, now);
 }

@@ -5,7 +5,7 @@ ghost use Rattle.bay_process.specs.Layout.{layout_of, switches_of, AreBound, Are
 ghost use Rattle.bay_process.specs.Scans.{AreSpanned, source_value};
 ghost use Rattle.bay_process.specs.Sources.{type_of_source};
 ghost use Rattle.bay_device.specs.Table.{AreTables};
-ghost use Rattle.bay_process.specs.ReportedRows.{AreKept};
+ghost use Rattle.bay_process.specs.ReportedRows.{AreStored};
 
 use crate::table::NameTables;
 use crate::termination::PendingTermination;
@@ -62,7 +62,7 @@ pub struct DeviceState {
     pub due: Option<PendingTermination>,
     ghost bound: { AreBound (layout_of bay.tree) writes bay.switches },
     ghost metered: { AreMetersBound (layout_of bay.tree) meters },
-    ghost released: { AreKept bay.tree (switches_of bay.switches) 0 releases },
+    ghost released: { AreStored bay.tree (switches_of bay.switches) 0 releases },
     ghost tabled: { AreTables bay.switches inputs meters tables },
     ghost typed: { map type_of_source reads ≡ map type_of_point (read_only machine.image.points) },
     ghost spans_sized: { length spans ≡ length bay.switches },

@@ -1,7 +1,7 @@
 // Finds names without a search of the whole list.
 ghost use Rattle.std.specs.Prelude.{◌≡◌, ◌<◌, length, map, position};
 ghost use Rattle.bay_base.specs.Names.{same_name};
-ghost use Rattle.bay_device.specs.Table.{IsTable, AreTables, with_place_of};
+ghost use Rattle.bay_device.specs.Table.{IsTable, AreTables, with_index_of};
 ghost use Rattle.bay_device.specs.Table as spec;
 
 use bay_base::names::same_name;
@@ -77,7 +77,7 @@ impl NameTable {
     // Records that the name at an index has this key.
     fn note(&mut self, key: usize, place: usize)
         requires { key < 64 }
-        ensures { self.new.firsts ≡ with_place_of key place self.old.firsts }
+        ensures { self.new.firsts ≡ with_index_of key place self.old.firsts }
     {
         if place < self.firsts[key] {
             self.firsts[key] = place;
@@ -99,7 +99,7 @@ impl NameTable {
 
     /// Returns the index of the first of these items with this name, ignoring the case of its
     /// letters; `None` if there is none.
-    pub fn place_of<T: Named>(&self, items: &[T], name: &str) -> Option<usize>
+    pub fn index_of<T: Named>(&self, items: &[T], name: &str) -> Option<usize>
         requires { IsTable (map T.name items.now) self.now.firsts }
         ensures { result ≡ position (λ item. same_name (T.name item) name.now) items.now }
     {

@@ -6,11 +6,11 @@ use Rattle.std.proofs.lemmas.List.Sums.{AllPass-from_list_all}
 use Rattle.bay_control.specs.Acts.{Closed, Entry, Opened, Select, SelectWith}
 use Rattle.bay_control.specs.Backing.{IsBacked, choice_of, grants, undoes}
 use Rattle.bay_control.specs.declared.control.SwitchControl.{SwitchControl}
-use Rattle.bay_device_example_laws.specs.Selects.{IsBackedBehind, IsMatchedBehind, accepted_entry, cancel_entry, enhanced_switch, unrelated_entries, one_switch, operate_entry, refused_select, selected_by, selected_with}
+use Rattle.bay_device_example_laws.specs.Selects.{IsBackedAfter, IsMatchedAfter, accepted_entry, cancel_entry, enhanced_switch, unrelated_entries, one_switch, operate_entry, refused_select, selected_by, selected_with}
 use Rattle.bay_device_example_laws.proofs.SplitLemmas.{none-there, one-there, two-there}
 use Rattle.bay_control.specs.declared.request.Choice.{Choice}
 
-pub own-backs : (choice : Choice) → IsBackedBehind choice 1999 (selected_by 1 ∷ [])
+pub own-backs : (choice : Choice) → IsBackedAfter choice 1999 (selected_by 1 ∷ [])
 own-backs choice = record {
   earlier = [];
   select = selected_by 1;
@@ -29,7 +29,7 @@ stays choice k d lt = not-true _
     lt)
 
 pub left-backs : (choice : Choice)
-    → IsBackedBehind choice 1999 (selected_by 1 ∷ unrelated_entries choice)
+    → IsBackedAfter choice 1999 (selected_by 1 ∷ unrelated_entries choice)
 left-backs choice = record {
   earlier = [];
   select = selected_by 1;
@@ -41,24 +41,24 @@ left-backs choice = record {
   matched = λ e. absurd cc;
 }
 
-pub over-backs-none : (choice : Choice) → IsBackedBehind choice 2000 (selected_by 1 ∷ []) → ⊥
+pub over-backs-none : (choice : Choice) → IsBackedAfter choice 2000 (selected_by 1 ∷ []) → ⊥
 over-backs-none choice h =
     let same : h.select ≡ selected_by 1 =
     one-there (selected_by 1) h.earlier h.between h.select h.split in
     let late : 2000 < 0 + 2000 = subst (λ (e : Entry). 2000 < e.now + 2000) same h.in_time in
     omega (arith, late)
 
-pub nothing-backs : (choice : Choice) → IsBackedBehind choice 1999 [] → ⊥
+pub nothing-backs : (choice : Choice) → IsBackedAfter choice 1999 [] → ⊥
 nothing-backs choice h = none-there h.earlier h.between h.select h.split
 
-pub refused-backs-none : (choice : Choice) → IsBackedBehind choice 1999 (refused_select ∷ []) → ⊥
+pub refused-backs-none : (choice : Choice) → IsBackedAfter choice 1999 (refused_select ∷ []) → ⊥
 refused-backs-none choice h =
     let same : h.select ≡ refused_select =
     one-there refused_select h.earlier h.between h.select h.split in
     let own : false ≡ true = subst (λ (e : Entry). grants 1 0 e ≡ true) same h.granted in
     absurd cc
 
-pub another-backs-none : (choice : Choice) → IsBackedBehind choice 1999 (selected_by 2 ∷ []) → ⊥
+pub another-backs-none : (choice : Choice) → IsBackedAfter choice 1999 (selected_by 2 ∷ []) → ⊥
 another-backs-none choice h =
     let same : h.select ≡ selected_by 2 =
     one-there (selected_by 2) h.earlier h.between h.select h.split in
@@ -80,38 +80,38 @@ undone controls choice now e f undoing other h =
     (two-there e f h.earlier h.between h.select h.split)
 
 pub cancelled-backs-none : (choice : Choice)
-    → IsBackedBehind choice 1999 (selected_by 1 ∷ cancel_entry ∷ []) → ⊥
+    → IsBackedAfter choice 1999 (selected_by 1 ∷ cancel_entry ∷ []) → ⊥
 cancelled-backs-none choice h =
     undone one_switch choice 1999 (selected_by 1) cancel_entry refl refl h
 
 pub used-backs-none : (choice : Choice)
-    → IsBackedBehind choice 1999 (selected_by 1 ∷ operate_entry choice ∷ []) → ⊥
+    → IsBackedAfter choice 1999 (selected_by 1 ∷ operate_entry choice ∷ []) → ⊥
 used-backs-none choice h =
     undone one_switch choice 1999 (selected_by 1) (operate_entry choice) refl refl h
 
 pub closed-backs-none : (choice : Choice)
-    → IsBackedBehind choice 1999 (selected_by 1 ∷ accepted_entry (Closed 1) ∷ []) → ⊥
+    → IsBackedAfter choice 1999 (selected_by 1 ∷ accepted_entry (Closed 1) ∷ []) → ⊥
 closed-backs-none choice h =
     undone one_switch choice 1999 (selected_by 1) (accepted_entry (Closed 1)) refl refl h
 
 pub opened-backs-none : (choice : Choice)
-    → IsBackedBehind choice 1999 (selected_by 1 ∷ accepted_entry (Opened 1) ∷ []) → ⊥
+    → IsBackedAfter choice 1999 (selected_by 1 ∷ accepted_entry (Opened 1) ∷ []) → ⊥
 opened-backs-none choice h =
     undone one_switch choice 1999 (selected_by 1) (accepted_entry (Opened 1)) refl refl h
 
 pub taken-backs-none : (choice : Choice)
-    → IsBackedBehind choice 1999 (selected_by 1 ∷ selected_by 2 ∷ []) → ⊥
+    → IsBackedAfter choice 1999 (selected_by 1 ∷ selected_by 2 ∷ []) → ⊥
 taken-backs-none choice h =
     undone one_switch choice 1999 (selected_by 1) (selected_by 2) refl refl h
 
 pub moved-backs-none : (choice : Choice)
-    → IsBackedBehind choice 1999 (selected_by 1 ∷ accepted_entry (Select 1 1) ∷ []) → ⊥
+    → IsBackedAfter choice 1999 (selected_by 1 ∷ accepted_entry (Select 1 1) ∷ []) → ⊥
 moved-backs-none choice h =
     undone one_switch choice 1999 (selected_by 1) (accepted_entry (Select 1 1)) refl refl h
 
 -- ---- enhanced security
 
-pub matched-backs : (choice : Choice) → IsMatchedBehind choice (selected_with choice ∷ [])
+pub matched-backs : (choice : Choice) → IsMatchedAfter choice (selected_with choice ∷ [])
 matched-backs choice = record {
   earlier = [];
   select = selected_with choice;
@@ -125,12 +125,12 @@ matched-backs choice = record {
 
 -- the select that backs asked for what is operated
 asks-for : (choice : Choice) (before : List Entry) (select : Entry)
-    → (h : IsMatchedBehind choice before) → h.select ≡ select → choice_of select.act ≡ Some choice
+    → (h : IsMatchedAfter choice before) → h.select ≡ select → choice_of select.act ≡ Some choice
 asks-for choice before select h is =
     subst (λ (e : Entry). choice_of e.act ≡ Some choice) is (h.matched refl).same
 
 pub other-backs-none : (asked choice : Choice) → asked ≢ choice
-    → IsMatchedBehind choice (selected_with asked ∷ []) → ⊥
+    → IsMatchedAfter choice (selected_with asked ∷ []) → ⊥
 other-backs-none asked choice differs h =
     let is : h.select ≡ selected_with asked =
     one-there (selected_with asked) h.earlier h.between h.select h.split in
@@ -138,7 +138,7 @@ other-backs-none asked choice differs h =
     asks-for choice (selected_with asked ∷ []) (selected_with asked) h is in
     differs cc
 
-pub plain-backs-none : (choice : Choice) → IsMatchedBehind choice (selected_by 1 ∷ []) → ⊥
+pub plain-backs-none : (choice : Choice) → IsMatchedAfter choice (selected_by 1 ∷ []) → ⊥
 plain-backs-none choice h =
     let is : h.select ≡ selected_by 1 =
     one-there (selected_by 1) h.earlier h.between h.select h.split in
@@ -146,7 +146,7 @@ plain-backs-none choice h =
     absurd cc
 
 pub earlier-backs-none : (asked choice : Choice) → asked ≢ choice
-    → IsMatchedBehind choice (selected_with choice ∷ selected_with asked ∷ []) → ⊥
+    → IsMatchedAfter choice (selected_with choice ∷ selected_with asked ∷ []) → ⊥
 earlier-backs-none asked choice differs h =
     let before : List Entry = selected_with choice ∷ selected_with asked ∷ [] in
     ⊎_elim (λ (is : (h.select ≡ selected_with choice) × (h.between ≡ selected_with asked ∷ [])).
@@ -159,7 +159,7 @@ earlier-backs-none asked choice differs h =
     (two-there (selected_with choice) (selected_with asked) h.earlier h.between h.select h.split)
 
 pub taken-matches-none : (choice : Choice)
-    → IsMatchedBehind choice (selected_with choice ∷ accepted_entry (SelectWith 2 0 choice) ∷ [])
+    → IsMatchedAfter choice (selected_with choice ∷ accepted_entry (SelectWith 2 0 choice) ∷ [])
     → ⊥
 taken-matches-none choice h =
     undone enhanced_switch choice 1999 (selected_with choice)
@@ -168,7 +168,7 @@ taken-matches-none choice h =
     refl h
 
 pub moved-matches-none : (choice : Choice)
-    → IsMatchedBehind choice (selected_with choice ∷ accepted_entry (SelectWith 1 1 choice) ∷ [])
+    → IsMatchedAfter choice (selected_with choice ∷ accepted_entry (SelectWith 1 1 choice) ∷ [])
     → ⊥
 moved-matches-none choice h =
     undone enhanced_switch choice 1999 (selected_with choice)
@@ -177,7 +177,7 @@ moved-matches-none choice h =
     refl h
 
 pub another-matches-none : (choice : Choice)
-    → IsMatchedBehind choice (accepted_entry (SelectWith 2 0 choice) ∷ []) → ⊥
+    → IsMatchedAfter choice (accepted_entry (SelectWith 2 0 choice) ∷ []) → ⊥
 another-matches-none choice h =
     let same : h.select ≡ accepted_entry (SelectWith 2 0 choice) =
     one-there (accepted_entry (SelectWith 2 0 choice)) h.earlier h.between h.select h.split in

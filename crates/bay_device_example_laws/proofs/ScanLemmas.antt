@@ -3,7 +3,7 @@ use Rattle.std.proofs.Common.{◌≡◌, ◌≢◌, ℕ, ◌≤◌, ◌+◌, tru
 use Rattle.std.specs.Prelude.{All, IsOk, IsSomeAnd}
 use Rattle.il_image.specs.Machine.{Ending, Halted, Unfinished, act, run_from}
 use Rattle.il_image.specs.Opcodes.{opcode_of}
-use Rattle.il_image.specs.Places.{is_place}
+use Rattle.il_image.specs.Offsets.{is_instruction_offset}
 use Rattle.il_image.specs.Reading.{instr_at, instr_from}
 use Rattle.il_image.specs.declared.value.Value.TheVariants.{Truth}
 use Rattle.il_compile.specs.Meaning.{Memory}
@@ -90,7 +90,7 @@ lost-falls s t step age h = let no : false ≡ true = h.heard in absurd cc
 
 pub one-step : (s : State) (step : Step)
     → HaltsAt 0 Scan (halting_device s) (Ok (record step { scan = Some 1 })) (halting_device s)
-unfolding run_from act is_place instr_at instr_from opcode_of
+unfolding run_from act is_instruction_offset instr_at instr_from opcode_of
 one-step s step = λ _ _. record {
   halts = refl;
   within = λ budget is. is.most 1 (0, refl, (1, refl));
@@ -102,7 +102,7 @@ no-step s step h = h refl refl
 
 pub two-steps : (s : State) (step : Step)
     → HaltsAt 0 Scan (halting_device s) (Ok (record step { scan = Some 2 })) (halting_device s) → ⊥
-unfolding run_from act is_place instr_at instr_from opcode_of
+unfolding run_from act is_instruction_offset instr_at instr_from opcode_of
 two-steps s step h =
     let no : (let e : Ending = Halted [] [] 1 in e) ≡ Halted [] [] 2 =
     (h refl refl).halts in absurd cc
@@ -113,7 +113,7 @@ no-refusal s fault h = h refl refl
 
 never-ends : (s : State) (scan : Option ℕ)
     → IsSomeAnd scan (λ steps. Halts 0 (with_code [] s) steps (with_code [] s)) → ⊥
-unfolding run_from act is_place instr_at instr_from opcode_of
+unfolding run_from act is_instruction_offset instr_at instr_from opcode_of
 never-ends s None h = h
 never-ends s (Some n) h =
     let no : (let e : Ending = Unfinished in e) ≡ Halted [] [] n = h.halts in absurd cc

@@ -17,7 +17,7 @@ abbrev pub close_command : Command
 close_command = record { switch = 0; operation = Close }
 
 -- the step has this command and no other, and sends something
-pub record Tells (command : Command) (step : Step) : Type 0 where
+pub record HasOnlyCommand (command : Command) (step : Step) : Type 0 where
   pub commands : step.commands ≡ command ∷ []
   pub sent : step.sent ≢ []
 

@@ -27,8 +27,8 @@ abbrev pub accepted_entry : Act → Entry
 accepted_entry act = record { now = 0; act = act; is_accepted = true }
 
 -- an operate of that switch by association 1 at a time, after these acts, is backed
-abbrev pub IsBackedBehind : Choice → ℕ → List Entry → Type 0
-IsBackedBehind choice now before = IsBacked one_switch 1 0 choice now before
+abbrev pub IsBackedAfter : Choice → ℕ → List Entry → Type 0
+IsBackedAfter choice now before = IsBacked one_switch 1 0 choice now before
 
 -- a select of the switch by an association
 abbrev pub selected_by : ℕ → Entry
@@ -64,5 +64,5 @@ abbrev pub selected_with : Choice → Entry
 selected_with choice = accepted_entry (SelectWith 1 0 choice)
 
 -- an operate of that switch by association 1 in time, after these acts, is backed
-abbrev pub IsMatchedBehind : Choice → List Entry → Type 0
-IsMatchedBehind choice before = IsBacked enhanced_switch 1 0 choice 1999 before
+abbrev pub IsMatchedAfter : Choice → List Entry → Type 0
+IsMatchedAfter choice before = IsBacked enhanced_switch 1 0 choice 1999 before

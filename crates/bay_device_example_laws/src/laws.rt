@@ -19,11 +19,11 @@ ghost use Rattle.bay_device.specs.declared.event.Event.{Event};
 ghost use Rattle.bay_device.specs.declared.event.Event.TheVariants.{BadMeasure, Close, Contact, Input, Lost, Measure, Open, Recv, Scan};
 ghost use Rattle.bay_device.specs.declared.event.Step.{Step};
 ghost use Rattle.bay_device.specs.declared.fault.StepFault.{StepFault};
-ghost use Rattle.bay_device_example_laws.specs.Commands.{Tells, close_command, interlocked_state, keyed_state, open_command, operating_state, released_state};
+ghost use Rattle.bay_device_example_laws.specs.Commands.{HasOnlyCommand, close_command, interlocked_state, keyed_state, open_command, operating_state, released_state};
 ghost use Rattle.bay_device_example_laws.specs.Keys.{input_past, open_switch, refused_input, two_switches};
 ghost use Rattle.bay_device_example_laws.specs.Operates.{IsAccepted, IsOther, IsRefused, step_with_commands};
 ghost use Rattle.bay_device_example_laws.specs.Scans.{contact_past, halting_device, is_heard_after_loss, lost_past, empty_program, refused_past, scan_past, state_after_reports, with_code, with_slot};
-ghost use Rattle.bay_device_example_laws.specs.Selects.{IsBackedBehind, IsMatchedBehind, accepted_entry, cancel_entry, unrelated_entries, operate_entry, refused_select, selected_by, selected_with};
+ghost use Rattle.bay_device_example_laws.specs.Selects.{IsBackedAfter, IsMatchedAfter, accepted_entry, cancel_entry, unrelated_entries, operate_entry, refused_select, selected_by, selected_with};
 
 /// A select backs an operate of the same switch by the same association until it expires after two
 /// seconds, also if other associations act, requests are refused or another switch is operated in
@@ -32,78 +32,80 @@ ghost use Rattle.bay_device_example_laws.specs.Selects.{IsBackedBehind, IsMatche
 /// opening of the association or by a granted select by another association or of another switch.
 pub fn a_select_backs_its_own_operate()
     ensures backed { (choice : Choice)
-        → IsBackedBehind choice 1999 (selected_by 1 ∷ []) }
+        → IsBackedAfter choice 1999 (selected_by 1 ∷ []) }
     ensures left { (choice : Choice)
-        → IsBackedBehind choice 1999 (selected_by 1 ∷ unrelated_entries choice) }
+        → IsBackedAfter choice 1999 (selected_by 1 ∷ unrelated_entries choice) }
     ensures over { (choice : Choice)
-        → IsBackedBehind choice 2000 (selected_by 1 ∷ []) → ⊥ }
-    ensures missing { (choice : Choice) → IsBackedBehind choice 1999 [] → ⊥ }
+        → IsBackedAfter choice 2000 (selected_by 1 ∷ []) → ⊥ }
+    ensures missing { (choice : Choice) → IsBackedAfter choice 1999 [] → ⊥ }
     ensures of_another { (choice : Choice)
-        → IsBackedBehind choice 1999 (selected_by 2 ∷ []) → ⊥ }
+        → IsBackedAfter choice 1999 (selected_by 2 ∷ []) → ⊥ }
     ensures cancelled { (choice : Choice)
-        → IsBackedBehind choice 1999 (selected_by 1 ∷ cancel_entry ∷ []) → ⊥ }
+        → IsBackedAfter choice 1999 (selected_by 1 ∷ cancel_entry ∷ []) → ⊥ }
     ensures used { (choice : Choice)
-        → IsBackedBehind choice 1999 (selected_by 1 ∷ operate_entry choice ∷ []) → ⊥ }
-    ensures refused { (choice : Choice) → IsBackedBehind choice 1999 (refused_select ∷ [])
+        → IsBackedAfter choice 1999 (selected_by 1 ∷ operate_entry choice ∷ []) → ⊥ }
+    ensures refused { (choice : Choice) → IsBackedAfter choice 1999 (refused_select ∷ [])
         → ⊥ }
     ensures closed { (choice : Choice)
-        → IsBackedBehind choice 1999 (selected_by 1 ∷ accepted_entry (Closed 1) ∷ []) → ⊥ }
+        → IsBackedAfter choice 1999 (selected_by 1 ∷ accepted_entry (Closed 1) ∷ []) → ⊥ }
     ensures opened { (choice : Choice)
-        → IsBackedBehind choice 1999 (selected_by 1 ∷ accepted_entry (Opened 1) ∷ []) → ⊥ }
+        → IsBackedAfter choice 1999 (selected_by 1 ∷ accepted_entry (Opened 1) ∷ []) → ⊥ }
     ensures taken { (choice : Choice)
-        → IsBackedBehind choice 1999 (selected_by 1 ∷ selected_by 2 ∷ []) → ⊥ }
+        → IsBackedAfter choice 1999 (selected_by 1 ∷ selected_by 2 ∷ []) → ⊥ }
     ensures moved { (choice : Choice)
-        → IsBackedBehind choice 1999 (selected_by 1 ∷ accepted_entry (Select 1 1) ∷ []) → ⊥ }
+        → IsBackedAfter choice 1999 (selected_by 1 ∷ accepted_entry (Select 1 1) ∷ []) → ⊥ }
 {}
 
 /// With enhanced security a select with value backs an operate with the same operation and
 /// originator. A select for another operation or by another originator does not back it, nor does
 /// one by another association, one without value, or one after which another select was granted,
 /// also to another association or of another switch.
-pub fn a_select_with_value_backs_what_it_asked_for()
-    ensures backed { (choice : Choice) → IsMatchedBehind choice (selected_with choice ∷ []) }
+pub fn a_select_with_value_backs_what_it_requested()
+    ensures backed { (choice : Choice) → IsMatchedAfter choice (selected_with choice ∷ []) }
     ensures other { (asked choice : Choice) → asked ≢ choice
-        → IsMatchedBehind choice (selected_with asked ∷ []) → ⊥ }
+        → IsMatchedAfter choice (selected_with asked ∷ []) → ⊥ }
     ensures of_another { (choice : Choice)
-        → IsMatchedBehind choice (accepted_entry (SelectWith 2 0 choice) ∷ []) → ⊥ }
-    ensures plain { (choice : Choice) → IsMatchedBehind choice (selected_by 1 ∷ []) → ⊥ }
+        → IsMatchedAfter choice (accepted_entry (SelectWith 2 0 choice) ∷ []) → ⊥ }
+    ensures plain { (choice : Choice) → IsMatchedAfter choice (selected_by 1 ∷ []) → ⊥ }
     ensures earlier { (asked choice : Choice) → asked ≢ choice
-        → IsMatchedBehind choice (selected_with choice ∷ selected_with asked ∷ []) → ⊥ }
+        → IsMatchedAfter choice (selected_with choice ∷ selected_with asked ∷ []) → ⊥ }
     ensures taken { (choice : Choice)
-        → IsMatchedBehind choice
+        → IsMatchedAfter choice
         (selected_with choice ∷ accepted_entry (SelectWith 2 0 choice) ∷ [])
         → ⊥ }
     ensures moved { (choice : Choice)
-        → IsMatchedBehind choice
+        → IsMatchedAfter choice
         (selected_with choice ∷ accepted_entry (SelectWith 1 1 choice) ∷ [])
         → ⊥ }
 {}
 
-/// A device may issue a command to open after a fresh scan that has released it, with the key of the
-/// switch, if it has one, at remote. It may not if one thing differs: there is no scan, the scan is
-/// too old or stale, the process is lost, the key is at local, the switch is not released, a switch
-/// is operating, or the step sends nothing.
+/// A device may issue a command to open after a fresh scan that has released it, with the key of
+/// the switch, if it has one, at remote. It may not if one thing differs: there is no scan, the
+/// scan is too old or stale, the process is lost, the key is at local, the switch is not released,
+/// a switch is operating, or the step sends nothing.
 pub fn a_command_needs_each_of_its_parts()
-    ensures commanded { (s t : State) (event : Event) (step : Step) → Tells open_command step
+    ensures commanded { (s t : State) (event : Event) (step : Step)
+        → HasOnlyCommand open_command step
         → CommandsReleased 5 event (released_state s) (Ok step) t }
-    ensures unscanned { (s t : State) (event : Event) (step : Step) → Tells open_command step
+    ensures unscanned { (s t : State) (event : Event) (step : Step)
+        → HasOnlyCommand open_command step
         → CommandsReleased 5 event (record (released_state s) { last_scan = None }) (Ok step) t
         → ⊥ }
-    ensures old { (s t : State) (event : Event) (step : Step) → Tells open_command step
+    ensures old { (s t : State) (event : Event) (step : Step) → HasOnlyCommand open_command step
         → CommandsReleased 1006 event (released_state s) (Ok step) t → ⊥ }
-    ensures stale { (s t : State) (event : Event) (step : Step) → Tells open_command step
+    ensures stale { (s t : State) (event : Event) (step : Step) → HasOnlyCommand open_command step
         → CommandsReleased 5 event (record (released_state s) { is_stale = true }) (Ok step) t → ⊥ }
-    ensures lost { (s t : State) (event : Event) (step : Step) → Tells open_command step
+    ensures lost { (s t : State) (event : Event) (step : Step) → HasOnlyCommand open_command step
         → CommandsReleased 5 event (record (released_state s) { is_lost = true }) (Ok step) t → ⊥ }
-    ensures remote { (s t : State) (event : Event) (step : Step) → Tells open_command step
+    ensures remote { (s t : State) (event : Event) (step : Step) → HasOnlyCommand open_command step
         → CommandsReleased 5 event (keyed_state true s) (Ok step) t }
-    ensures local { (s t : State) (event : Event) (step : Step) → Tells open_command step
+    ensures local { (s t : State) (event : Event) (step : Step) → HasOnlyCommand open_command step
         → CommandsReleased 5 event (keyed_state false s) (Ok step) t → ⊥ }
-    ensures blocked { (s t : State) (event : Event) (step : Step) → Tells open_command step
+    ensures blocked { (s t : State) (event : Event) (step : Step) → HasOnlyCommand open_command step
         → CommandsReleased 5 event (record (released_state s) { rows = [] }) (Ok step) t → ⊥ }
-    ensures busy { (s t : State) (event : Event) (step : Step) → Tells open_command step
+    ensures busy { (s t : State) (event : Event) (step : Step) → HasOnlyCommand open_command step
         → CommandsReleased 5 event (operating_state s) (Ok step) t → ⊥ }
-    ensures silent { (s t : State) (event : Event) (step : Step) → Tells open_command step
+    ensures silent { (s t : State) (event : Event) (step : Step) → HasOnlyCommand open_command step
         → CommandsReleased 5 event (released_state s) (Ok (record step { sent = [] })) t → ⊥ }
 {}
 
@@ -112,27 +114,29 @@ pub fn a_command_needs_each_of_its_parts()
 /// and the values of another switch release nothing. CILO1 is the node of switch 0.
 pub fn a_close_needs_its_own_release()
     ensures close { (opn : Bool) (s t : State) (event : Event) (step : Step)
-        → Tells close_command step
+        → HasOnlyCommand close_command step
         → CommandsReleased 5 event (interlocked_state (codes "CILO1") opn true s) (Ok step) t }
     ensures open { (cls : Bool) (s t : State) (event : Event) (step : Step)
-        → Tells open_command step
+        → HasOnlyCommand open_command step
         → CommandsReleased 5 event (interlocked_state (codes "CILO1") true cls s) (Ok step) t }
     ensures no_close { (opn : Bool) (s t : State) (event : Event) (step : Step)
-        → Tells close_command step
+        → HasOnlyCommand close_command step
         → CommandsReleased 5 event (interlocked_state (codes "CILO1") opn false s) (Ok step) t → ⊥ }
     ensures no_open { (cls : Bool) (s t : State) (event : Event) (step : Step)
-        → Tells open_command step
+        → HasOnlyCommand open_command step
         → CommandsReleased 5 event (interlocked_state (codes "CILO1") false cls s) (Ok step) t → ⊥ }
-    ensures other_close { (s t : State) (event : Event) (step : Step) → Tells close_command step
+    ensures other_close { (s t : State) (event : Event) (step : Step)
+        → HasOnlyCommand close_command step
         → CommandsReleased 5 event (interlocked_state (codes "CILO2") true true s) (Ok step) t → ⊥ }
-    ensures other_open { (s t : State) (event : Event) (step : Step) → Tells open_command step
+    ensures other_open { (s t : State) (event : Event) (step : Step)
+        → HasOnlyCommand open_command step
         → CommandsReleased 5 event (interlocked_state (codes "CILO2") true true s) (Ok step) t → ⊥ }
 {}
 
 /// A step has a command if octets on an open association requested it and a response accepts it.
 /// The command is neither left out nor doubled, and no other takes its place. No other event has a
 /// command. The association is one that has just been opened.
-pub fn a_command_is_of_octets_that_asked_for_it()
+pub fn a_command_is_of_octets_that_requested_it()
     ensures accepted { (now : ℕ) (names : Bay) (octets : Bor (List ℕ)) (step : Step)
         → IsAccepted now names octets step → AreOperates now (Recv 1 octets) names
         (Some (initial_connection 1) ∷ []) (step_with_commands (open_command ∷ []) step) }
@@ -192,7 +196,7 @@ pub fn a_command_is_of_an_association_that_was_opened()
 /// A scan can precede a command up to its maximum age, also after the report of an unchanged
 /// position; not beyond this age, and not after a change or a loss. A run without an accepted scan
 /// has no such scan.
-pub fn a_scan_stands_until_something_changes()
+pub fn a_scan_is_valid_until_something_changes()
     ensures recent { (s : State) (step : Step) (age : ℕ)
         → HasScan age age (scan_past s step ∷ []) }
     ensures old { (s : State) (step : Step) (age : ℕ)
@@ -212,7 +216,7 @@ pub fn a_scan_stands_until_something_changes()
 
 /// The process is the same while none of its values changes; it is not if a position, an input, a
 /// measured value or a quality differs.
-pub fn a_process_tells_the_same_until_something_changes()
+pub fn a_process_is_the_same_until_something_changes()
     ensures same { (s : State) → IsSameProcess s s }
     ensures position { (a b quality power doubt : Leaf) (input : Bool) (s : State) → a ≢ b
         → IsSameProcess (state_after_reports a quality input power doubt s)
@@ -283,16 +287,16 @@ pub fn a_command_needs_its_key_at_remote()
 /// A command of a device implies that such a scan precedes it among the events since load, no older
 /// than the device allows; a step without a command, or a refused event, implies nothing. A device
 /// that was just loaded has no such command.
-pub fn a_command_says_that_a_scan_is_behind_it()
+pub fn a_command_implies_a_scan_before_it()
     ensures says { (now : ℕ) (event : Event) (s t : State) (step : Step) (past : List Past)
-        → Tells open_command step → Came past s → FreshAt now event s (Ok step) t
+        → HasOnlyCommand open_command step → Came past s → FreshAt now event s (Ok step) t
         → HasScan now s.scan_max_age_ms past }
     ensures silent { (now : ℕ) (event : Event) (s t : State) (step : Step)
         → FreshAt now event s (Ok (step_with_commands [] step)) t }
     ensures refused { (now : ℕ) (event : Event) (s t : State) (fault : StepFault)
         → FreshAt now event s (Err fault) t }
     ensures loaded { (now : ℕ) (event : Event) (s t : State) (step : Step)
-        → Tells open_command step → Came [] s → FreshAt now event s (Ok step) t → ⊥ }
+        → HasOnlyCommand open_command step → Came [] s → FreshAt now event s (Ok step) t → ⊥ }
 {}
 
 /// The scan of a program of HALT alone takes one step, neither none nor two, and is not refused; a

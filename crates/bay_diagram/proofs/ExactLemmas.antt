@@ -7,7 +7,7 @@ use Rattle.bay_diagram.specs.declared.network.Device.{Device}
 use Rattle.bay_diagram.specs.declared.network.Device.TheVariants.{Own, Other}
 use Rattle.bay_diagram.specs.Hazards.{is_hazard}
 use Rattle.bay_diagram.specs.Laws.{HazardsAreExact}
-use Rattle.bay_diagram.specs.Reading.{Allowed, IsAllowed, IsOnly, IsWorse, best_of, is_closed, is_open, may_be_closed, may_be_neither, may_be_open, may_say, reading_of, says, worst_of}
+use Rattle.bay_diagram.specs.Reading.{Allowed, IsAllowed, IsOnly, IsWorse, best_of, is_closed, is_open, may_be_closed, may_be_neither, may_be_open, may_say, reading_of, is_true_input, worst_of}
 use Rattle.bay_base.specs.Positions.{same_position}
 use Rattle.bay_audit_rules.specs.Process.{Process}
 use Rattle.bay_diagram.proofs.GrowthLemmas.{hazards-grow}
@@ -38,11 +38,11 @@ left-false false b h = refl
 -- ---- of an input
 
 module _ (a : Allowed) (p : Process) (only : IsOnly a p) where
-  says-true : (i : Option ℕ) → may_say a i true ≡ true → says p i ≡ true
+  says-true : (i : Option ℕ) → may_say a i true ≡ true → is_true_input p i ≡ true
   says-true None h = cc
   says-true (Some k) h = only.inputs k true h
 
-  says-false : (i : Option ℕ) → may_say a i false ≡ true → not (says p i) ≡ true
+  says-false : (i : Option ℕ) → may_say a i false ≡ true → not (is_true_input p i) ≡ true
   says-false None h = refl
   says-false (Some k) h = not-of-false (p.input k) (only.inputs k false h)
 
@@ -98,29 +98,31 @@ one-input false o h = cc
 
 closed-apart : (p : Process) (d : Device) → is_closed p d ≡ true → is_open p d ≡ false
 closed-apart p (Own k) h = one-position (p.position k) h
-closed-apart p (Other closed opened) h = one-input (says p closed) (says p opened) h
+closed-apart p (Other closed opened) h =
+    one-input (is_true_input p closed) (is_true_input p opened) h
 
 module _ (a : Allowed) (p : Process) (only : IsOnly a p) where
   open-only : (d : Device) → may_be_open a d ≡ true → is_open p d ≡ true
   open-only (Own k) h =
       subst (λ (x : Dbpos). same_position x Off ≡ true) (sym (only.positions k Off h)) refl
   open-only (Other closed opened) h =
-      both-of (may_say a opened true) (may_say a closed false) (says p opened)
-      (not (says p closed)) (says-true a p only opened) (says-false a p only closed) h
+      both-of (may_say a opened true) (may_say a closed false) (is_true_input p opened)
+      (not (is_true_input p closed)) (says-true a p only opened) (says-false a p only closed) h
 
   closed-only : (d : Device) → may_be_closed a d ≡ true → is_closed p d ≡ true
   closed-only (Own k) h =
       subst (λ (x : Dbpos). same_position x On ≡ true) (sym (only.positions k On h)) refl
   closed-only (Other closed opened) h =
-      both-of (may_say a closed true) (may_say a opened false) (says p closed)
-      (not (says p opened)) (says-true a p only closed) (says-false a p only opened) h
+      both-of (may_say a closed true) (may_say a opened false) (is_true_input p closed)
+      (not (is_true_input p opened)) (says-true a p only closed) (says-false a p only opened) h
 
   neither-only : (d : Device) → may_be_neither a d ≡ true
       → (is_open p d || is_closed p d) ≡ false
   neither-only (Own k) h =
       own-neither-only (a.position k) (p.position k) (only.positions k) h
   neither-only (Other closed opened) h =
-      neither-from (says p closed) (says p opened) (may_say a closed true) (may_say a opened true)
+      neither-from (is_true_input p closed) (is_true_input p opened) (may_say a closed true)
+      (may_say a opened true)
       (may_say a closed false) (may_say a opened false)
       (says-true a p only closed) (says-true a p only opened)
       (says-false a p only closed) (says-false a p only opened) h
@@ -165,7 +167,7 @@ best-exact a p only = record {
   moves = λ d. contrapose (may_be_open a d || may_be_closed a d) (is_open p d || is_closed p d)
       (or-both (may_be_open a d) (may_be_closed a d) (is_open p d) (is_closed p d)
       (open-only a p only d) (closed-only a p only d));
-  alive = λ i. contrapose (may_say a i true) (says p i) (says-true a p only i);
+  alive = λ i. contrapose (may_say a i true) (is_true_input p i) (says-true a p only i);
 }
 
 same-truth : (x y : Bool) → (x ≡ true → y ≡ true) → (y ≡ true → x ≡ true) → x ≡ y

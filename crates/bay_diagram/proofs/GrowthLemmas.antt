@@ -19,7 +19,7 @@ use Rattle.bay_diagram.specs.Joined.{IsOf, joined}
 use Rattle.bay_diagram.specs.Laws.{HazardsAreBounded, HazardsGrow}
 use Rattle.bay_diagram.specs.Network.{is_disconnector, is_earthing, is_own, is_source, is_terminal, is_terminal_kind, is_transformer}
 use Rattle.bay_diagram.specs.Reading.{IsWorse, Reading}
-use Rattle.bay_diagram.specs.Walks.{is_free, is_over, leads, takes}
+use Rattle.bay_diagram.specs.Walks.{is_free, is_over, leads, may_lead_over}
 use Rattle.bay_diagram.proofs.JoinedLemmas.{joined-grows}
 use Rattle.bay_diagram.proofs.ReadingLemmas.{best-bounds, worst-bounds}
 
@@ -93,7 +93,7 @@ module _ (net : Network) where
       → ((b : Branch) → Le (is_over r route.over b) (is_over w route.over b))
       → (a b : ℕ) → Le (leads net r route a b) (leads net w route a b)
   leads-more r w route more a b =
-      joined-more (takes net r route) (takes net w route)
+      joined-more (may_lead_over net r route) (may_lead_over net w route)
       (λ c. le-and (is_over r route.over c) (is_over w route.over c)
       (is_free net route c) (is_free net route c) (more c) (same (is_free net route c)))
       net.branches a b

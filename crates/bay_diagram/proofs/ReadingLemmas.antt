@@ -4,7 +4,7 @@ use Rattle.bay_base.specs.declared.position.Dbpos.{Dbpos}
 use Rattle.bay_base.specs.declared.position.Dbpos.TheVariants.{Intermediate, Off, On, Bad}
 use Rattle.bay_diagram.specs.declared.network.Device.{Device}
 use Rattle.bay_diagram.specs.declared.network.Device.TheVariants.{Own, Other}
-use Rattle.bay_diagram.specs.Reading.{Allowed, IsAllowed, IsWorse, ReadingsBound, best_of, is_closed, is_open, may_be_closed, may_be_neither, may_be_open, may_say, reading_of, says, worst_of}
+use Rattle.bay_diagram.specs.Reading.{Allowed, IsAllowed, IsWorse, ReadingsBound, best_of, is_closed, is_open, may_be_closed, may_be_neither, may_be_open, may_say, reading_of, is_true_input, worst_of}
 use Rattle.bay_base.specs.Positions.{same_position}
 use Rattle.bay_audit_rules.specs.Process.{Process}
 
@@ -47,7 +47,7 @@ both-true true false c d f g h = cc
 both-true false b c d f g h = cc
 
 said-true : (a : Allowed) (p : Process) → IsAllowed a p → (i : Option ℕ)
-    → says p i ≡ true → may_say a i true ≡ true
+    → is_true_input p i ≡ true → may_say a i true ≡ true
 said-true a p is None h = cc
 said-true a p is (Some k) h = subst (λ (v : Bool). a.input k v ≡ true) h (is.inputs k)
 
@@ -60,7 +60,7 @@ not-true true h = cc
 not-true false h = refl
 
 said-false : (a : Allowed) (p : Process) → IsAllowed a p → (i : Option ℕ)
-    → not (says p i) ≡ true → may_say a i false ≡ true
+    → not (is_true_input p i) ≡ true → may_say a i false ≡ true
 said-false a p is None h = refl
 said-false a p is (Some k) h =
     subst (λ (v : Bool). a.input k v ≡ true) (not-true (p.input k) h) (is.inputs k)
@@ -81,21 +81,24 @@ open-allowed : (a : Allowed) (p : Process) → IsAllowed a p → (d : Device)
     → is_open p d ≡ true → may_be_open a d ≡ true
 open-allowed a p is (Own k) h = own-open (a.position k) (p.position k) (is.positions k) h
 open-allowed a p is (Other closed opened) h =
-    both-true (says p opened) (not (says p closed)) (may_say a opened true) (may_say a closed false)
+    both-true (is_true_input p opened) (not (is_true_input p closed)) (may_say a opened true)
+    (may_say a closed false)
     (said-true a p is opened) (said-false a p is closed) h
 
 closed-allowed : (a : Allowed) (p : Process) → IsAllowed a p → (d : Device)
     → is_closed p d ≡ true → may_be_closed a d ≡ true
 closed-allowed a p is (Own k) h = own-closed (a.position k) (p.position k) (is.positions k) h
 closed-allowed a p is (Other closed opened) h =
-    both-true (says p closed) (not (says p opened)) (may_say a closed true) (may_say a opened false)
+    both-true (is_true_input p closed) (not (is_true_input p opened)) (may_say a closed true)
+    (may_say a opened false)
     (said-true a p is closed) (said-false a p is opened) h
 
 neither-allowed : (a : Allowed) (p : Process) → IsAllowed a p → (d : Device)
     → (is_open p d || is_closed p d) ≡ false → may_be_neither a d ≡ true
 neither-allowed a p is (Own k) h = own-neither (a.position k) (p.position k) (is.positions k) h
 neither-allowed a p is (Other closed opened) h =
-    neither-of (says p closed) (says p opened) (may_say a closed true) (may_say a closed false)
+    neither-of (is_true_input p closed) (is_true_input p opened) (may_say a closed true)
+    (may_say a closed false)
     (may_say a opened true) (may_say a opened false)
     (said-true a p is closed) (said-false a p is closed)
     (said-true a p is opened) (said-false a p is opened) h
@@ -152,7 +155,7 @@ best-bounds a p is = record {
   sure = λ d. closed-allowed a p is d;
   moves = λ d. best-moves (is_open p d) (is_closed p d) (may_be_open a d) (may_be_closed a d)
       (open-allowed a p is d) (closed-allowed a p is d);
-  alive = λ i. best-alive (says p i) (may_say a i true) (said-true a p is i);
+  alive = λ i. best-alive (is_true_input p i) (may_say a i true) (said-true a p is i);
 }
 
 pub readings-bound : ReadingsBound

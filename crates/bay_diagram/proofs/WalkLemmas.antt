@@ -10,7 +10,7 @@ use Rattle.bay_diagram.specs.declared.network.Network.{Network}
 use Rattle.bay_diagram.specs.declared.walk.Route.{Route}
 use Rattle.bay_diagram.specs.Joined.{label_after, label_of, relabel}
 use Rattle.bay_diagram.specs.Reading.{Reading}
-use Rattle.bay_diagram.specs.Walks.{IsRelabelled, joined_in, label_in, label_next, leads, takes}
+use Rattle.bay_diagram.specs.Walks.{IsRelabelled, joined_in, label_in, label_next, leads, may_lead_over}
 use Rattle.bay_diagram.proofs.JoinedLemmas.{labels-join}
 
 -- ---- labels in a list
@@ -115,13 +115,13 @@ label-more-of p items branches is i d within label same n =
 
 -- two nodes have one label just where a walk of the route leads from one to the other
 pub labels-lead : (net : Network) (r : Reading) (route : Route) (labels : List ℕ)
-    → ((n : ℕ) → label_in labels n ≡ label_of (filter (takes net r route) net.branches) n)
+    → ((n : ℕ) → label_in labels n ≡ label_of (filter (may_lead_over net r route) net.branches) n)
     → (a b : ℕ) → joined_in labels a b ≡ leads net r route a b
 labels-lead net r route labels are a b =
-    rw (are a, are b) (labels-join (filter (takes net r route) net.branches) a b)
+    rw (are a, are b) (labels-join (filter (may_lead_over net r route) net.branches) a b)
 
 pub labels-are-walks : (net : Network) (r : Reading) (route : Route) (labels : List ℕ)
-    → ((n : ℕ) → label_in labels n ≡ label_of (filter (takes net r route) net.branches) n)
+    → ((n : ℕ) → label_in labels n ≡ label_of (filter (may_lead_over net r route) net.branches) n)
     → joined_in labels ≡ leads net r route
 labels-are-walks net r route labels are =
     fun_ext (λ a. fun_ext (λ b. labels-lead net r route labels are a b))

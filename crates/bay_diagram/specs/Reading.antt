@@ -33,19 +33,19 @@ pub record IsWorse (r worse : Reading) : Type 0 where
 -- ---- of a process
 
 -- the input is TRUE
-abbrev pub says : Process → Option ℕ → Bool
-says p None = false
-says p (Some k) = p.input k
+abbrev pub is_true_input : Process → Option ℕ → Bool
+is_true_input p None = false
+is_true_input p (Some k) = p.input k
 
 -- a switch of the bay is known by its position, a switch of another bay by that one of its two
 -- inputs which alone is TRUE
 abbrev pub is_open : Process → Device → Bool
 is_open p (Own k) = same_position (p.position k) Off
-is_open p (Other closed opened) = says p opened && not (says p closed)
+is_open p (Other closed opened) = is_true_input p opened && not (is_true_input p closed)
 
 abbrev pub is_closed : Process → Device → Bool
 is_closed p (Own k) = same_position (p.position k) On
-is_closed p (Other closed opened) = says p closed && not (says p opened)
+is_closed p (Other closed opened) = is_true_input p closed && not (is_true_input p opened)
 
 -- what is known from the values that a process reports
 abbrev pub reading_of : Process → Reading
@@ -53,7 +53,7 @@ reading_of p = record {
   may = λ d. not (is_open p d);
   sure = λ d. is_closed p d;
   moves = λ d. not (is_open p d || is_closed p d);
-  alive = λ i. not (says p i);
+  alive = λ i. not (is_true_input p i);
 }
 
 -- ---- of a case

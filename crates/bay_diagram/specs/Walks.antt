@@ -38,12 +38,12 @@ is_free net route b =
     && (not (b.number == route.without || b.number == route.also_without)
     && not (avoids net route.avoid b.one || avoids net route.avoid b.other))
 
-abbrev pub takes : Network → Reading → Route → Branch → Bool
-takes net r route b = is_over r route.over b && is_free net route b
+abbrev pub may_lead_over : Network → Reading → Route → Branch → Bool
+may_lead_over net r route b = is_over r route.over b && is_free net route b
 
 -- a walk of the route leads from a node to another
 abbrev pub leads : Network → Reading → Route → ℕ → ℕ → Bool
-leads net r route a b = joined (filter (takes net r route) net.branches) a b
+leads net r route a b = joined (filter (may_lead_over net r route) net.branches) a b
 
 -- ---- labels of nodes in a list of 256
 

@@ -83,8 +83,8 @@ fn avoids(network: &Network, avoid: Avoid, node: u8) -> bool
 }
 
 // Returns whether a walk of the route may lead over the branch.
-fn takes(network: &Network, known: &Known, route: Route, branch: &Branch) -> bool
-    ensures { result ≡ spec.takes network.now (reading_in known.now) route branch.now }
+fn may_lead_over(network: &Network, known: &Known, route: Route, branch: &Branch) -> bool
+    ensures { result ≡ spec.may_lead_over network.now (reading_in known.now) route branch.now }
 {
     is_over(known, route.over, branch)
         && (!branch.is_earthing()
@@ -125,11 +125,11 @@ fn relabel_all(labels: &mut [u8; 256], from: u8, to: u8)
 // Joins the nodes of a branch, if a walk of the route may lead over it.
 fn join_by(network: &Network, known: &Known, route: Route, branch: &Branch, labels: &mut [u8; 256])
     ensures next { (n : ℕ) → spec.label_in labels.new n ≡ spec.label_next
-        (spec.takes network.now (reading_in known.now) route branch.now)
+        (spec.may_lead_over network.now (reading_in known.now) route branch.now)
         (spec.label_in labels.old) branch.now n }
     ensures long { length labels.new ≡ 256 }
 {
-    if !takes(network, known, route, branch) {
+    if !may_lead_over(network, known, route, branch) {
         return;
     }
     let from = labels[usize::from(branch.one)];
@@ -141,7 +141,8 @@ fn join_by(network: &Network, known: &Known, route: Route, branch: &Branch, labe
 /// other.
 pub fn labels_of(network: &Network, known: &Known, route: Route) -> [u8; 256]
     ensures { (n : ℕ) → spec.label_in result n ≡ label_of
-        (filter (spec.takes network.now (reading_in known.now) route) network.now.branches) n }
+        (filter (spec.may_lead_over network.now (reading_in known.now) route) network.now.branches)
+        n }
 {
     let mut labels = own_labels();
     for branch in network.branches.as_slice() {

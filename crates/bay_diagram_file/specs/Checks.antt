@@ -1,5 +1,5 @@
--- What the tables of a diagram file must be together, for a bay. Each check has the first table that
--- fails it.
+-- What the tables of a diagram file must be together, for a bay. Each check has the first table
+-- that fails it.
 use Rattle.std.specs.Prelude.{ℕ, Bool, true, false, not, ◌&&◌, ◌||◌, nat_lt, List, [], length, filter, find, position, Option, None, Some, is_none, is_some, unwrap_or, if◌then◌else◌}
 use Rattle.std.specs.Bool.{beq}
 use Rattle.std.specs.List.{list_any}
@@ -137,8 +137,8 @@ has_bad_keys switches s =
     || (is_some s.switch && (is_some s.kind || (is_some s.closed || is_some s.opened))
     || (is_some s.name && is_none s.kind || is_switch switches s.name))
 
--- both nodes of a switch are the same; or an earthing switch has not just one earth, or isolates; or
--- any other switch has an earth
+-- both nodes of a switch are the same; or an earthing switch has not just one earth, or isolates;
+-- or any other switch has an earth
 abbrev pub fits_badly : SwitchKind → Bool → Bool → Bool → Bool
 fits_badly kind one other isolates =
     if is_earthing kind then beq one other || isolates else one || other

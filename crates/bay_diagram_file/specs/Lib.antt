@@ -1,8 +1,8 @@
 -- The single line diagram of a diagram file, for the bay of a bay file.
 --
--- `Diagram` is the main file: the first refusal of a text, and the diagram that it describes. `Row`:
--- the tables of a file, each by itself. `Checks`: what they must be together. `Parts`: the nodes and
--- branches that they describe. `Code`: the number of each fault.
+-- `Diagram` is the main file: the first refusal of a text, and the diagram that it describes.
+-- `Row`: the tables of a file, each by itself. `Checks`: what they must be together. `Parts`: the
+-- nodes and branches that they describe. `Code`: the number of each fault.
 pub mod Checks
 pub mod Code
 pub mod Diagram

@@ -1,7 +1,7 @@
 -- Lemmas on the calls that a source or a sink was asked.
 use Rattle.std.proofs.Common.{◌≡◌, ℕ, ◌+◌, ◌≤◌, Bool, true, false, ◌||◌, List, [], ◌∷◌, ◌++◌, length-append, Result, Ok, Err, is_err, refl, ap, sym, subst, ◌∙◌, arith}
 use Rattle.std.proofs.Math.Bool.{or_assoc}
-use Rattle.bay_io.specs.Calls.{CallsMade, AskedFew, MakesCalls, flushes, read_failed, reads, some_call, write_failed, writes}
+use Rattle.bay_io.specs.Calls.{CallsMade, MakesFewCalls, MakesCalls, flushes, read_failed, reads, some_call, write_failed, writes}
 use Rattle.bay_io.specs.Watched.{write_fails}
 
 pub or-false : (b : Bool) → b ≡ (b || false)
@@ -46,20 +46,20 @@ module _ {S C : Type 0} {does : S → C → S → Type 0} {fails : C → Bool} w
         ∙ ap (λ v. x || v) (sym (some-append fails p.calls q.calls));
   }
 
-  abbrev pub AskedFew-none : (s : S) (b : Bool) (most : ℕ) → AskedFew does fails most s b s b
+  abbrev pub AskedFew-none : (s : S) (b : Bool) (most : ℕ) → MakesFewCalls does fails most s b s b
   AskedFew-none s b most = record { asked = Asked-none s b; few = omega arith }
 
   -- one call more
   abbrev pub AskedFew-step : (a b c : S) (x y z : Bool) (most : ℕ) (call : C)
-      → AskedFew does fails most a x b y → does b call c → z ≡ (y || fails call)
-      → AskedFew does fails (most + 1) a x c z
+      → MakesFewCalls does fails most a x b y → does b call c → z ≡ (y || fails call)
+      → MakesFewCalls does fails (most + 1) a x c z
   AskedFew-step a b c x y z most call p d e = record {
     asked = Asked-then a b c x y z p.asked (Asked-one b c y z call d e);
     few = omega (arith, p.few, length-append p.asked.calls (call ∷ []));
   }
 
   abbrev pub AskedFew-more : (a b : S) (x y : Bool) (few most : ℕ) → few ≤ most
-      → AskedFew does fails few a x b y → AskedFew does fails most a x b y
+      → MakesFewCalls does fails few a x b y → MakesFewCalls does fails most a x b y
   AskedFew-more a b x y few most h p = record { asked = p.asked; few = omega (arith, p.few, h) }
 
 -- ---- which calls fail

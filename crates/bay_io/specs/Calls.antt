@@ -87,7 +87,7 @@ pub record CallsMade {S C : Type 0} (does : S → C → S → Type 0) (fails : C
   pub failed : is ≡ (was || some_call fails calls)
 
 -- the same, with at most `most` calls
-pub record AskedFew {S C : Type 0} (does : S → C → S → Type 0) (fails : C → Bool) (most : ℕ)
+pub record MakesFewCalls {S C : Type 0} (does : S → C → S → Type 0) (fails : C → Bool) (most : ℕ)
     (old : S) (was : Bool) (new : S) (is : Bool) : Type 0 where
   pub asked : CallsMade does fails old was new is
   pub few : length asked.calls ≤ most

@@ -1,6 +1,6 @@
 -- The octets of reads, and how reading ends.
 use Rattle.std.specs.Prelude.{◌≡◌, ℕ, ◌+◌, ◌<◌, ◌≤◌, Bool, true, false, List, [], ◌∷◌, ◌++◌, length, Some, unwrap_or, Result, Ok, Err, MatchResult}
-use Rattle.bay_io.specs.Calls.{AskedFew, ReadCall, read_failed}
+use Rattle.bay_io.specs.Calls.{MakesFewCalls, ReadCall, read_failed}
 use Rattle.bay_io.specs.declared.input.ReadFault.{ReadFault}
 use Rattle.bay_io.specs.declared.input.ReadFault.TheVariants.{TooLong, Failed, OutOfMemory}
 
@@ -36,7 +36,7 @@ FailsAs limit calls OutOfMemory = IsEnded calls × (length (octets_of calls) ≤
 pub record ReadsAll {S A : Type 0} (does : S → ReadCall → S → Type 0) (octets : A → List ℕ)
     (limit : ℕ) (old : S) (was : Bool) (new : S) (is : Bool) (result : Result A ReadFault)
     : Type 0 where
-  pub asked : AskedFew does read_failed (limit + 1) old was new is
+  pub asked : MakesFewCalls does read_failed (limit + 1) old was new is
   pub gave : MatchResult result
       (λ all. (octets all ≡ octets_of asked.asked.calls) × IsEnded asked.asked.calls)
       (FailsAs limit asked.asked.calls)

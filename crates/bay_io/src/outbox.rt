@@ -103,7 +103,7 @@ impl Outbox {
     }
 
     /// Removes the first `count` octets.
-    pub fn drop_front(&mut self, count: usize)
+    pub fn remove_first(&mut self, count: usize)
         requires { count ≤ length self.old }
         ensures { self.new ≡ drop count self.old }
     {

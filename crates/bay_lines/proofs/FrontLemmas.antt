@@ -6,7 +6,7 @@ use Rattle.std.proofs.lemmas.List.Elements.{All-from_get_or}
 use Rattle.std.proofs.lemmas.List.Quantifiers.{position-Some}
 use Rattle.std.specs.List.{position}
 use Rattle.bay_lines.specs.Cuttings.{AreLines, Comes, Cutting, IsLine, LosesNothing, Move, Takes, all_of, cutting_of, took}
-use Rattle.bay_lines.specs.FirstLines.{LineSearchData, Overlong, Waiting, Whole, first_line_of, front_at, is_end, without_return}
+use Rattle.bay_lines.specs.FirstLines.{LineSearchData, Overlong, Waiting, Whole, first_line_of, first_line_at, is_end, without_return}
 
 -- where the end of a line was looked for
 pub first-within : (xs : List ℕ) (o : Option ℕ) → o ≡ position is_end (take 257 xs)
@@ -61,7 +61,7 @@ cuts-front xs line rest e = by-place (position is_end (take 257 xs)) refl e
     by-long false e = absurd cc
 
     by-place : (o : Option ℕ) → position is_end (take 257 xs) ≡ o
-        → front_at xs o ≡ Whole line rest → Cuts xs line rest
+        → first_line_at xs o ≡ Whole line rest → Cuts xs line rest
     by-place None is e = by-long (nat_lt 256 (length xs)) e
     by-place (Some k) is e =
         let line_is : without_return (take k xs) ≡ line = cc in

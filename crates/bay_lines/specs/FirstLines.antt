@@ -27,20 +27,20 @@ abbrev pub without_return : List ℕ → List ℕ
 without_return xs = if ends_in_return xs then take (length xs - 1) xs else xs
 
 -- the first line, from the index of the first LF, if there is one within reach
-abbrev pub front_at : List ℕ → Option ℕ → LineSearchData
-front_at xs None = if nat_lt 256 (length xs) then Overlong else Waiting
-front_at xs (Some k) = Whole (without_return (take k xs)) (drop (k + 1) xs)
+abbrev pub first_line_at : List ℕ → Option ℕ → LineSearchData
+first_line_at xs None = if nat_lt 256 (length xs) then Overlong else Waiting
+first_line_at xs (Some k) = Whole (without_return (take k xs)) (drop (k + 1) xs)
 
 -- The first line. A line has at most 256 octets before its LF; a CR before the LF is no part of the
 -- line.
 abbrev pub first_line_of : List ℕ → LineSearchData
-first_line_of xs = front_at xs (position is_end (take 257 xs))
+first_line_of xs = first_line_at xs (position is_end (take 257 xs))
 
 -- the view of the code's result, which has lengths: of the line, and of the line with its end
-abbrev pub front_view : List ℕ → LineSearch → LineSearchData
-front_view xs found.Waiting = Waiting
-front_view xs found.Overlong = Overlong
-front_view xs (found.Whole line end) = Whole (take line xs) (drop end xs)
+abbrev pub first_line_view : List ℕ → LineSearch → LineSearchData
+first_line_view xs found.Waiting = Waiting
+first_line_view xs found.Overlong = Overlong
+first_line_view xs (found.Whole line end) = Whole (take line xs) (drop end xs)
 
 -- a line that was found lies within the first n octets
 abbrev pub LiesIn : ℕ → LineSearch → Type 0

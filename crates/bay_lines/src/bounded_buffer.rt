@@ -65,7 +65,7 @@ impl<const MOST: usize> BoundedBuffer<MOST> {
     }
 
     /// Removes the first `count` octets.
-    pub fn drop_front(&mut self, count: usize)
+    pub fn remove_first(&mut self, count: usize)
         requires { count ≤ length self.old }
         ensures { self.new ≡ drop count self.old }
     {

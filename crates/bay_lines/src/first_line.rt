@@ -1,6 +1,6 @@
 // Finding the first line in octets.
 ghost use Rattle.std.specs.Prelude.{◌≡◌, ◌+◌, ◌<◌, ◌≤◌, drop, take, length, position, IfSome};
-ghost use Rattle.bay_lines.specs.FirstLines.{LiesIn, Whole, first_line_of, front_view, is_end, without_return};
+ghost use Rattle.bay_lines.specs.FirstLines.{LiesIn, Whole, first_line_of, first_line_view, is_end, without_return};
 ghost use Rattle.bay_lines.specs.FirstLines as spec;
 
 // The most octets of a line before its LF.
@@ -43,7 +43,7 @@ fn length_of(line: &[u8]) -> usize
 fn line_at(octets: &[u8], at: usize) -> LineSearch
     requires within { at < length octets.now }
     requires short { at ≤ 256 }
-    ensures value { front_view octets.now result
+    ensures value { first_line_view octets.now result
         ≡ Whole (without_return (take at octets.now)) (drop (at + 1) octets.now) }
     ensures within { LiesIn (length octets.now) result }
 {
@@ -71,7 +71,7 @@ fn end_in_reach(octets: &[u8]) -> Option<usize>
 /// Finds the first line, which has at most 256 octets before its LF, or determines why there is
 /// none. A CR before the LF is part of the line end.
 pub fn first_line(octets: &[u8]) -> LineSearch
-    ensures value { front_view octets.now result ≡ first_line_of octets.now }
+    ensures value { first_line_view octets.now result ≡ first_line_of octets.now }
     ensures within { LiesIn (length octets.now) result }
 {
     match end_in_reach(octets) {

@@ -47,7 +47,8 @@ check_words (check.TooMany line) = codes "too many names are declared, or parent
 check_words check.OutOfMemory = codes "out of memory"
 
 abbrev pub compile_words : CompileFault → List ℕ
-compile_words compile.CodeTooLong = codes "the image of the program would have more than 65,535 octets"
+compile_words compile.CodeTooLong =
+    codes "the image of the program would have more than 65,535 octets"
 compile_words compile.OutOfMemory = codes "out of memory"
 
 abbrev pub image_words : ImageFault → List ℕ

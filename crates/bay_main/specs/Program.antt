@@ -4,7 +4,7 @@ use Rattle.std.specs.Str.{bytes_eq}
 use Rattle.bay_files.specs.Files.{FileGuards, FileReads, FileWrites}
 use Rattle.bay_io.specs.Calls.{WriteCall, Log}
 use Rattle.bay_io.specs.Watched.{Writing}
-use Rattle.bay_stdio.specs.Descriptor.{DescriptorData, taken_by}
+use Rattle.bay_stdio.specs.Descriptor.{DescriptorData, accepted_octets}
 use Rattle.bay_stdio.specs.Output.{Does, Drains, OutputData, written}
 use Rattle.bay_server_turn.specs.Calls.{Call}
 use Rattle.bay_server.specs.Host.{HostCall}
@@ -66,7 +66,8 @@ OutputDrained contents log_contents old (Refused text) new last =
 -- what is known of a program's output at a call
 abbrev pub SystemDoes : {O E : Type 0} → (O → Option (List ℕ)) → (E → Option (List ℕ))
     → SystemOutput O E → WriteCall → SystemOutput O E → Type 0
-SystemDoes contents log_contents = Does (taken_by contents) AnyCall (taken_by log_contents) AnyCall
+SystemDoes contents log_contents =
+    Does (accepted_octets contents) AnyCall (accepted_octets log_contents) AnyCall
 
 -- The program obeys its arguments; then it writes what is queued of its output, logs a failed
 -- write, and exits with the status of the result.
@@ -79,11 +80,12 @@ pub record Runs {F L H R O E : Type 0} (reads : FileReads F) (guards : FileGuard
   pub new : CommandEnvironment F H R (SystemOutput O E)
   pub ended : CommandResult
   pub obeys : Obeys reads guards writes same step acts remaining
-      (λ output. written (taken_by contents output.out) output.queue)
+      (λ output. written (accepted_octets contents output.out) output.queue)
       (SystemDoes contents log_contents) words old new ended
   pub output : SystemOutput O E
   pub last : CommandResult
-  pub drained : OutputDrained (taken_by contents) (taken_by log_contents) new.writer.inner ended
+  pub drained : OutputDrained (accepted_octets contents) (accepted_octets log_contents)
+      new.writer.inner ended
       output
       last
   pub complains : last ≡ WriteFailed → (told : SystemOutput O E)

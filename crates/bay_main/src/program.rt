@@ -2,7 +2,7 @@
 // standard error and the exit status.
 ghost use Rattle.std.specs.Prelude.{◌≡◌, map, IfOk};
 ghost use Rattle.std.specs.Process.{exit_status};
-ghost use Rattle.bay_stdio.specs.Descriptor.{taken_by};
+ghost use Rattle.bay_stdio.specs.Descriptor.{accepted_octets};
 ghost use Rattle.bay_server_turn.specs.Calls.{Called};
 ghost use Rattle.bay_main.specs.Ending.{status_of};
 ghost use Rattle.bay_main.specs.Program.{Concludes, OutputDrained, Runs, fresh_output, serves};
@@ -181,7 +181,8 @@ fn drain_output<R: Net + AllocGlobal, O: Write + AsRawFd, E: Write + AsRawFd>(
     output: &mut SystemOutput<'_, R, O, E>,
     ended: CommandResult,
 ) -> CommandResult
-    ensures { OutputDrained (taken_by O.contents) (taken_by E.contents) output.old ended output.new
+    ensures { OutputDrained (accepted_octets O.contents) (accepted_octets E.contents) output.old
+        ended output.new
         result }
 {
     match ended {

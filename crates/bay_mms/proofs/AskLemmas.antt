@@ -3,7 +3,7 @@ use Rattle.std.proofs.Common.{◌≡◌, ℕ, List, Option, Some, None, Result, 
 use Rattle.std.specs.Prelude.{◌↔◌}
 use Rattle.bay_ber.proofs.ReadLemmas.{IsBytes}
 use Rattle.bay_mms.specs.Requests.{Message, Denial, unknown, many}
-use Rattle.bay_mms.specs.Grammar.{request, front_id, request_or_fault, answer_to}
+use Rattle.bay_mms.specs.Grammar.{request, leading_id, request_or_fault, answer_to}
 use Rattle.bay_mms.specs.RequestRelations.{Asks, AsksUnknown, AsksMany, IsIdOf, AsksNothing}
 use Rattle.bay_mms.specs.declared.fault.MmsFault.{MmsFault}
 use Rattle.bay_mms.specs.declared.fault.MmsFault.TheVariants as fault
@@ -11,10 +11,10 @@ use Rattle.bay_mms.proofs.GrammarLemmas.{request-exact, front_id-exact}
 
 -- what is spelled is answered
 told-read : (octets : List ℕ) (r : Result Message Denial) → request.Spells octets r
-    → answer_to octets ≡ request_or_fault (front_id.reads octets) (Some r)
+    → answer_to octets ≡ request_or_fault (leading_id.reads octets) (Some r)
 unfolding answer_to
 told-read octets r is =
-    ap (request_or_fault (front_id.reads octets)) (request-exact.read octets r is)
+    ap (request_or_fault (leading_id.reads octets)) (request-exact.read octets r is)
 
 pub asked-read : (octets : List ℕ) (m : Message) → Asks m octets → answer_to octets ≡ Ok m
 asked-read octets m is = told-read octets (Ok m) is
@@ -29,18 +29,18 @@ many-read octets id is = told-read octets (Err (many id)) is
 
 -- ---- the invoke id
 
-id-is : (octets : List ℕ) → IsBytes octets → IsIdOf octets (front_id.reads octets)
-id-is octets b = pick (front_id.reads octets) refl
+id-is : (octets : List ℕ) → IsBytes octets → IsIdOf octets (leading_id.reads octets)
+id-is octets b = pick (leading_id.reads octets) refl
   where
-    pick : (o : Option ℕ) → front_id.reads octets ≡ o → IsIdOf octets o
+    pick : (o : Option ℕ) → leading_id.reads octets ≡ o → IsIdOf octets o
     pick None e = λ id is. let no : None ≡ Some id = sym e ∙ front_id-exact.read octets id is in cc
     pick (Some id) e = front_id-exact.back octets id b e
 
 one-id : (octets : List ℕ) (o : Option ℕ) → IsBytes octets → IsIdOf octets o
-    → front_id.reads octets ≡ o
-one-id octets None b is = pick (front_id.reads octets) refl
+    → leading_id.reads octets ≡ o
+one-id octets None b is = pick (leading_id.reads octets) refl
   where
-    pick : (o : Option ℕ) → front_id.reads octets ≡ o → o ≡ None
+    pick : (o : Option ℕ) → leading_id.reads octets ≡ o → o ≡ None
     pick None e = refl
     pick (Some id) e = absurd (is id (front_id-exact.back octets id b e))
 one-id octets (Some id) b is = front_id-exact.read octets id is
@@ -50,7 +50,7 @@ one-id octets (Some id) b is = front_id-exact.read octets id is
 -- What an answer says of the octets.
 abbrev Says : List ℕ → Result Message MmsFault → Type 0
 Says octets (Ok m) = Asks m octets
-Says octets (Err (fault.BadPdu k)) = k ≡ front_id.reads octets
+Says octets (Err (fault.BadPdu k)) = k ≡ leading_id.reads octets
 Says octets (Err (fault.UnknownService id)) = AsksUnknown id octets
 Says octets (Err (fault.TooMany id)) = AsksMany id octets
 Says octets (Err fault.OutOfMemory) = ⊥
@@ -60,7 +60,7 @@ unfolding answer_to
 answer-says octets b = pick (request.reads octets) refl
   where
     pick : (o : Option (Result Message Denial)) → request.reads octets ≡ o
-        → Says octets (request_or_fault (front_id.reads octets) o)
+        → Says octets (request_or_fault (leading_id.reads octets) o)
     pick None e = refl
     pick (Some (Ok m)) e = request-exact.back octets (Ok m) b e
     pick (Some (Err (unknown id))) e = request-exact.back octets (Err (unknown id)) b e
@@ -87,7 +87,7 @@ many-is octets id b = (λ e. subst (Says octets) e (answer-says octets b), many-
 nothing-asked : (octets : List ℕ) (k : Option ℕ) → IsBytes octets
     → answer_to octets ≡ Err (fault.BadPdu k) → AsksNothing octets k
 nothing-asked octets k b e =
-    let same : k ≡ front_id.reads octets = subst (Says octets) e (answer-says octets b) in
+    let same : k ≡ leading_id.reads octets = subst (Says octets) e (answer-says octets b) in
     record {
       no_request = λ m a. let no : Err (fault.BadPdu k) ≡ Ok m =
           sym e ∙ asked-read octets m a in cc;

@@ -234,8 +234,8 @@ request = one pdu
 
 -- the invoke id, if the octets begin with a value of a confirmed request whose content begins with
 -- an id
-unfoldable pub front_id : Form (List ℕ) ℕ
-front_id = first_form (tagged (constructed 0) (first_form invoke_id))
+unfoldable pub leading_id : Form (List ℕ) ℕ
+leading_id = first_form (tagged (constructed 0) (first_form invoke_id))
 
 -- the result for a request that was read, or for none: then a bad PDU, with the invoke id if it can
 -- be read
@@ -247,4 +247,4 @@ request_or_fault known None = Err (fault.BadPdu known)
 
 -- the request that octets are read as, or their fault
 unfoldable pub answer_to : List ℕ → Result Message MmsFault
-answer_to octets = request_or_fault (front_id.reads octets) (request.reads octets)
+answer_to octets = request_or_fault (leading_id.reads octets) (request.reads octets)

@@ -73,33 +73,33 @@ abbrev pub origin_text : Origin → List ℕ
 origin_text o = element (constructed 2) (origin_parts o)
 
 -- ctlVal, origin and ctlNum (IEC 61850-8-1, Oper)
-abbrev pub operate_front : OperateData → List ℕ
-operate_front o =
+abbrev pub operate_head : OperateData → List ℕ
+operate_head o =
     element (context 3) (truth_octets o.control.ctl_val)
     ++ (origin_text o.control.origin
     ++ element (context 6) (integer_octets (pos o.control.ctl_num)))
 
 -- T, Test and Check (IEC 61850-8-1, Oper)
-abbrev pub operate_back : OperateData → List ℕ
-operate_back o =
+abbrev pub operate_tail : OperateData → List ℕ
+operate_tail o =
     element (context 17) o.control.t
     ++ (element (context 3) (truth_octets o.control.test)
     ++ element (context 4) (bit_string_octets (check_octet o.check ∷ []) 2))
 
 -- CntrlObj and Error (IEC 61850-8-1, LastApplError)
-abbrev pub failure_front : LastApplError → List ℕ
-failure_front e = element (context 10) e.object.now ++ element (context 5) (integer_octets (pos 0))
+abbrev pub failure_head : LastApplError → List ℕ
+failure_head e = element (context 10) e.object.now ++ element (context 5) (integer_octets (pos 0))
 
 -- Origin, ctlNum and AddCause (IEC 61850-8-1, LastApplError)
-abbrev pub failure_back : LastApplError → List ℕ
-failure_back e =
+abbrev pub failure_tail : LastApplError → List ℕ
+failure_tail e =
     origin_text e.origin ++ (element (context 6) (integer_octets (pos e.ctl_num))
     ++ element (context 5) (integer_octets (pos e.add_cause)))
 
 -- the data of an operate (IEC 61850-8-1, Oper)
 abbrev pub operate_text : OperateData → List ℕ
-operate_text o = element (constructed 2) (operate_front o ++ operate_back o)
+operate_text o = element (constructed 2) (operate_head o ++ operate_tail o)
 
 -- the data of a refused control (IEC 61850-8-1, LastApplError)
 abbrev pub failure_data : LastApplError → List ℕ
-failure_data e = element (constructed 2) (failure_front e ++ failure_back e)
+failure_data e = element (constructed 2) (failure_head e ++ failure_tail e)

@@ -2,7 +2,7 @@
 -- profile of IEC 61850-8-1).
 use Rattle.std.specs.Prelude.{ℕ, List, Option, Some, None, Ok, Err}
 use Rattle.bay_mms.specs.Requests.{Message, unknown, many}
-use Rattle.bay_mms.specs.Grammar.{request, front_id}
+use Rattle.bay_mms.specs.Grammar.{request, leading_id}
 
 -- ---- own: the requests that octets encode
 
@@ -20,8 +20,8 @@ AsksMany id octets = request.Spells octets (Err (many id))
 
 -- The octets begin with this invoke id, or with none that can be read.
 abbrev pub IsIdOf : List ℕ → Option ℕ → Type 0
-IsIdOf octets None = (id : ℕ) → front_id.Spells octets id → ⊥
-IsIdOf octets (Some id) = front_id.Spells octets id
+IsIdOf octets None = (id : ℕ) → leading_id.Spells octets id → ⊥
+IsIdOf octets (Some id) = leading_id.Spells octets id
 
 -- The octets encode none of these requests; `known` is the invoke id that they begin with, if any.
 pub record AsksNothing (octets : List ℕ) (known : Option ℕ) : Type 0 where

@@ -112,7 +112,7 @@ pub fn write_page(
         ↔ IsUnknown tree.now (option_copied after.entry) }
     ensures short { IfOk result (λ octets. length octets ≤ size) }
 {
-    let start = tree.place_after(after)?;
+    let start = tree.index_after(after)?;
     let mut writer = Writer::new(alloc, size)?;
     let count = fitting(names, start, id, size);
     let more = count < names.count() - start;

@@ -4,7 +4,7 @@ ghost use Rattle.bay_ber.specs.EncoderBuffers.{sheet_with};
 ghost use Rattle.bay_ber.specs.Writing.{element};
 ghost use Rattle.bay_mms.specs.Controls as spec;
 ghost use Rattle.bay_ber.specs.Tags.{constructed};
-ghost use Rattle.bay_mms.specs.Reports.{variable_text, origin_text, operate_front, operate_back, operate_text, failure_front, failure_back, failure_data, failure_name, item_name, failure_text, termination_text, failed_text};
+ghost use Rattle.bay_mms.specs.Reports.{variable_text, origin_text, operate_head, operate_tail, operate_text, failure_head, failure_tail, failure_data, failure_name, item_name, failure_text, termination_text, failed_text};
 ghost use Rattle.bay_mms.specs.Writing.{text_within};
 ghost use Rattle.bay_base.specs.Exact.{Gives};
 
@@ -42,8 +42,8 @@ fn put_origin(writer: &mut Writer, origin: &Origin<'_>)
 
 // Appends the requested position (ctlVal), the originator and the control number.
 #[tactic(auto, using(bay_ber::proofs::SheetLemmas::sheet_rules))]
-fn put_operate_front(writer: &mut Writer, operate: &OperateData<'_>)
-    ensures { writer.new ≡ sheet_with writer.old (operate_front operate.now) }
+fn put_operate_head(writer: &mut Writer, operate: &OperateData<'_>)
+    ensures { writer.new ≡ sheet_with writer.old (operate_head operate.now) }
 {
     writer.boolean(Tag::context(3), operate.control.ctl_val);
     put_origin(writer, &operate.control.origin);
@@ -59,8 +59,8 @@ fn check_octet(check: Check) -> u8
 
 // Appends the moment, whether it is a test, and the checks.
 #[tactic(auto, using(bay_ber::proofs::SheetLemmas::sheet_rules))]
-fn put_operate_back(writer: &mut Writer, operate: &OperateData<'_>)
-    ensures { writer.new ≡ sheet_with writer.old (operate_back operate.now) }
+fn put_operate_tail(writer: &mut Writer, operate: &OperateData<'_>)
+    ensures { writer.new ≡ sheet_with writer.old (operate_tail operate.now) }
 {
     writer.octets(Tag::context(17), &operate.control.t);
     writer.boolean(Tag::context(3), operate.control.test);
@@ -80,15 +80,15 @@ fn put_operate(writer: &mut Writer, operate: &OperateData<'_>)
     ensures { writer.new ≡ sheet_with writer.old (operate_text operate.now) }
 {
     let start = writer.open(Tag::context_constructed(2));
-    put_operate_front(writer, operate);
-    put_operate_back(writer, operate);
+    put_operate_head(writer, operate);
+    put_operate_tail(writer, operate);
     writer.close(start);
 }
 
 // Appends the control object, and the error, which is 0.
 #[tactic(auto, using(bay_ber::proofs::SheetLemmas::sheet_rules))]
-fn put_failure_front(writer: &mut Writer, failure: &LastApplError<'_>)
-    ensures { writer.new ≡ sheet_with writer.old (failure_front failure.now) }
+fn put_failure_head(writer: &mut Writer, failure: &LastApplError<'_>)
+    ensures { writer.new ≡ sheet_with writer.old (failure_head failure.now) }
 {
     writer.text(Tag::context(10), failure.object);
     writer.int(Tag::context(5), 0);
@@ -96,8 +96,8 @@ fn put_failure_front(writer: &mut Writer, failure: &LastApplError<'_>)
 
 // Appends the originator, the control number and the cause (IEC 61850-7-2, AddCause).
 #[tactic(auto, using(bay_ber::proofs::SheetLemmas::sheet_rules))]
-fn put_failure_back(writer: &mut Writer, failure: &LastApplError<'_>)
-    ensures { writer.new ≡ sheet_with writer.old (failure_back failure.now) }
+fn put_failure_tail(writer: &mut Writer, failure: &LastApplError<'_>)
+    ensures { writer.new ≡ sheet_with writer.old (failure_tail failure.now) }
 {
     put_origin(writer, &failure.origin);
     writer.int(Tag::context(6), i64::from(failure.ctl_num));
@@ -110,8 +110,8 @@ fn put_failure(writer: &mut Writer, failure: &LastApplError<'_>)
     ensures { writer.new ≡ sheet_with writer.old (failure_data failure.now) }
 {
     let start = writer.open(Tag::context_constructed(2));
-    put_failure_front(writer, failure);
-    put_failure_back(writer, failure);
+    put_failure_head(writer, failure);
+    put_failure_tail(writer, failure);
     writer.close(start);
 }
 

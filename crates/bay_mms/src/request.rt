@@ -6,7 +6,7 @@ ghost use Rattle.bay_ber.specs.Forms as forms;
 ghost use Rattle.bay_ber.specs.Reading.{tlv_at};
 ghost use Rattle.bay_ber.specs.Values.{part_of};
 ghost use Rattle.bay_mms.specs.Answers.{IsAnswer, list_of, list_parts, list_pdu};
-ghost use Rattle.bay_mms.specs.Grammar.{service_request, invoke_id, confirmed_parts, under_id, pdu, front_id, request_or_fault};
+ghost use Rattle.bay_mms.specs.Grammar.{service_request, invoke_id, confirmed_parts, under_id, pdu, leading_id, request_or_fault};
 ghost use Rattle.bay_mms.specs.Grammar as spec;
 ghost use Rattle.bay_mms.specs.RequestViews.{request_view};
 
@@ -100,9 +100,9 @@ fn first_value(octets: &[u8]) -> Option<Value<'_>>
 }
 
 // Reads the invoke id of a confirmed request that octets begin with, if it can be read.
-#[tactic(auto, unfolding(crate::specs::Grammar::front_id))]
+#[tactic(auto, unfolding(crate::specs::Grammar::leading_id))]
 fn parse_id(octets: &[u8]) -> Option<u32>
-    ensures { result ≡ front_id.reads octets.now }
+    ensures { result ≡ leading_id.reads octets.now }
 {
     let pdu = first_value(octets)?;
     let id = first_value(pdu.content_with_tag(Tag::context_constructed(0))?)?;
@@ -111,7 +111,7 @@ fn parse_id(octets: &[u8]) -> Option<u32>
 
 // Returns the fault of octets that are no request.
 fn bad_pdu(octets: &[u8]) -> MmsFault
-    ensures { result ≡ MmsFault.BadPdu (front_id.reads octets.now) }
+    ensures { result ≡ MmsFault.BadPdu (leading_id.reads octets.now) }
 {
     MmsFault::BadPdu(parse_id(octets))
 }
@@ -124,7 +124,7 @@ fn with_id<'a>(
     service: &Value<'a>,
 ) -> Result<Request<'a>, MmsFault>
     ensures asked { Gives MmsFault.OutOfMemory request_view result
-        (request_or_fault (front_id.reads octets.now)
+        (request_or_fault (leading_id.reads octets.now)
         ((try_map_form (under_id id) service_request).reads (part_of service.now))) }
     ensures memory { IsErrOf result MmsFault.OutOfMemory → IsSome (list_of (part_of service.now)) }
 {
@@ -145,7 +145,7 @@ fn confirmed_from_parts<'a>(
     parts: &[Value<'a>],
 ) -> Result<Request<'a>, MmsFault>
     ensures asked { Gives MmsFault.OutOfMemory request_view result
-        (request_or_fault (front_id.reads octets.now)
+        (request_or_fault (leading_id.reads octets.now)
         ((try_map_form (λ x. under_id x.0 x.1.0) confirmed_parts).reads (map part_of parts.now))) }
     ensures memory { IsErrOf result MmsFault.OutOfMemory
         → IsSome (list_parts.reads (map part_of parts.now)) }
@@ -167,7 +167,7 @@ fn pdu_from_value<'a>(
     value: &Value<'a>,
 ) -> Result<Request<'a>, MmsFault>
     ensures asked { Gives MmsFault.OutOfMemory request_view result
-        (request_or_fault (front_id.reads octets.now) (pdu.reads (part_of value.now))) }
+        (request_or_fault (leading_id.reads octets.now) (pdu.reads (part_of value.now))) }
     ensures memory { IsErrOf result MmsFault.OutOfMemory
         → IsSome (list_pdu.reads (part_of value.now)) }
 {

@@ -25,7 +25,7 @@ use Rattle.bay_mms.specs.declared.response.ErrorClass.TheVariants.{NoSuchObject,
 use Rattle.bay_mms_services.specs.Accepted.{AreNamedAlike, accepted_in, part_after_id, first_response, is_report, may_be_reported, message_accepted, read_accepted, read_results, service_in, write_accepted, write_results}
 use Rattle.bay_mms_services.specs.Answers.{answer_of, pdu_answer, attributes_answer, plain_answer, service_answer}
 use Rattle.bay_mms_services.specs.Bay.{Bay, with_controls}
-use Rattle.bay_mms_services.specs.Controls.{ask_of, has_reports, object_of, refusal_report, refusal_reports, view_of}
+use Rattle.bay_mms_services.specs.Controls.{control_request_of, has_reports, object_of, refusal_report, refusal_reports, view_of}
 use Rattle.bay_mms_services.specs.Entries.{entries_in, message_entries, read_entries, service_entries, write_entries}
 use Rattle.bay_mms_services.specs.Reads.{nothing_read, read_all}
 use Rattle.bay_mms_services.specs.Replies.{pdu_within_size}
@@ -224,9 +224,10 @@ module _ (c : ClientContext) (b : Bay) (small : c.size ≤ 65000) where
   write-row-are given w row all =
       write-by c b w (λ asks asked next. AreReports next.reports) (λ error. all)
       (λ k item o. decided-are k SelectWith item o.control
-      (select_with_outcome c.association k (ask_of o) c.now w.controls) w all)
+      (select_with_outcome c.association k (control_request_of o) c.now w.controls) w all)
       (λ k item o. decided-are k Operate item o.control
-      (operate_outcome c.association k (ask_of o) (view_of c k b) c.now w.controls) w all)
+      (operate_outcome c.association k (control_request_of o) (view_of c k b) c.now w.controls) w
+      all)
       (λ k item control. decided-are k Cancel item control
       (cancel_outcome c.association k c.now w.controls) w all)
       given row

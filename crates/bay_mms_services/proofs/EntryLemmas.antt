@@ -13,7 +13,7 @@ use Rattle.bay_mms.specs.Requests.{Naming, Message}
 use Rattle.bay_mms.specs.declared.fault.MmsFault.{MmsFault}
 use Rattle.bay_mms_services.specs.Answers.{answer_of, pdu_answer}
 use Rattle.bay_mms_services.specs.Bay.{Bay}
-use Rattle.bay_mms_services.specs.Controls.{ask_of, view_of}
+use Rattle.bay_mms_services.specs.Controls.{control_request_of, view_of}
 use Rattle.bay_mms_services.specs.Entries.{call_of_read, call_of_write, entries_in, message_entries, read_entries, entries_of_call, target_at, write_entries}
 use Rattle.bay_mms_services.specs.Reads.{Reading, nothing_read, read_all, read_one, read_row}
 use Rattle.bay_mms_services.specs.Rows.{row_named}
@@ -59,9 +59,11 @@ module _ (c : ClientContext) (b : Bay) (opens : ℕ → Bool) (is_open : opens c
         write-by c b w
         (λ asks asked next. Led (entries_of_call c w.controls asked) w.controls next.controls)
         (λ error. none-leads opens w.controls)
-        (λ k item o. one-leads (call.SelectWith c.association k (ask_of o)) c.now opens opens
+        (λ k item o. one-leads (call.SelectWith c.association k (control_request_of o)) c.now opens
+        opens
         w.controls is_open (λ a. refl))
-        (λ k item o. one-leads (call.Operate c.association k (ask_of o) (view_of c k b)) c.now opens
+        (λ k item o. one-leads (call.Operate c.association k (control_request_of o) (view_of c k b))
+        c.now opens
         opens w.controls is_open (λ a. refl))
         (λ k item control. one-leads (call.Cancel c.association k) c.now opens opens w.controls
         is_open (λ a. refl))

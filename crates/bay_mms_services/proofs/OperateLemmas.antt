@@ -4,7 +4,7 @@ use Rattle.bay_control.specs.Acts.{Entry}
 use Rattle.bay_control.specs.Acts as act
 use Rattle.bay_control.specs.Decisions.{operate_outcome}
 use Rattle.bay_control.specs.Happenings.{entries_of}
-use Rattle.bay_control.specs.Requests.{asked_choice}
+use Rattle.bay_control.specs.Requests.{requested_choice}
 use Rattle.bay_control.specs.declared.cause.AddCause.{AddCause}
 use Rattle.bay_mms.specs.Controls as asked
 use Rattle.bay_mms.specs.Data.{Datum}
@@ -13,7 +13,7 @@ use Rattle.bay_mms.specs.Requests.{Naming, Message}
 use Rattle.bay_mms.specs.declared.fault.MmsFault.{MmsFault}
 use Rattle.bay_mms_services.specs.Answers.{answer_of, pdu_answer}
 use Rattle.bay_mms_services.specs.Bay.{Bay}
-use Rattle.bay_mms_services.specs.Controls.{ask_of, view_of}
+use Rattle.bay_mms_services.specs.Controls.{control_request_of, view_of}
 use Rattle.bay_mms_services.specs.Entries.{call_of_read, call_of_write, command_of, entries_in, message_entries, operates_in, read_entries, entries_of_call, target_at, write_entries}
 use Rattle.bay_mms_services.specs.Reads.{Reading, nothing_read, read_one}
 use Rattle.bay_mms_services.specs.Rows.{row_named}
@@ -61,7 +61,7 @@ module _ (c : ClientContext) (b : Bay) where
   commands-are : (k : ℕ) (o : asked.Operate) (answer : Result (Unit {0}) AddCause)
       → commands_for k o answer
       ≡ operates_in (entries_of c.now
-      (Some (act.Operate c.association k (asked_choice (ask_of o)))) (is_ok answer))
+      (Some (act.Operate c.association k (requested_choice (control_request_of o)))) (is_ok answer))
   commands-are k o (Ok done) = refl
   commands-are k o (Err why) = refl
 
@@ -72,7 +72,8 @@ module _ (c : ClientContext) (b : Bay) where
       write-by c b w (λ asks asked next. Adds w (entries_of_call c w.controls asked) next)
       (λ error. adds-none w) (λ k item o. adds-none w)
       (λ k item o. ap (λ cs. w.commands ++ cs) (commands-are k o
-      (operate_outcome c.association k (ask_of o) (view_of c k b) c.now w.controls).answer))
+      (operate_outcome c.association k (control_request_of o) (view_of c k b) c.now
+      w.controls).answer))
       (λ k item control. adds-none w)
       given row
 

@@ -4,7 +4,7 @@ use Rattle.std.proofs.Math.ListN.{get_or-map}
 use Rattle.std.specs.Str.{bytes_eq}
 use Rattle.std.proofs.lemmas.Bool.Decides.{nat_tests}
 use Rattle.std.proofs.lemmas.Slice.Eq.{bytes_eq-Decides}
-use Rattle.bay_tree.specs.Rows.{name_at, names_of, place_of}
+use Rattle.bay_tree.specs.Rows.{name_at, names_of, row_index}
 use Rattle.bay_tree.specs.declared.row.Row.{Row}
 use Rattle.bay_tree.proofs.SearchLemmas.{place_of-found}
 use Rattle.bay_nodes.specs.Names.{control_names}
@@ -13,14 +13,14 @@ use Rattle.bay_process.proofs.NodeLemmas.{control-rows-stay}
 use Rattle.bay_process.specs.Controls.{AreAllControlRows, AreControlRows}
 use Rattle.bay_process.specs.declared.controls.ControlRows.{ControlRows}
 use Rattle.bay_process.specs.Layout.{Layout, layout_of, name_in}
-use Rattle.bay_mms_services.specs.Places.{IsFound, is_place, part_by}
+use Rattle.bay_mms_services.specs.Places.{IsFound, is_row, part_by}
 use Rattle.bay_mms_services.specs.Targets.{control_name, or_later, part_at, target_from, target_of}
 use Rattle.bay_mms_services.specs.declared.target.ControlPart.{ControlPart}
 use Rattle.bay_mms_services.specs.declared.target.ControlPart.TheVariants.{Select, SelectWith, Operate, Cancel}
 
 -- a row that is the first of its name
 abbrev pub IsFirst : List Row → ℕ → Type 0
-IsFirst rows handle = place_of rows (name_at rows handle) ≡ Some handle
+IsFirst rows handle = row_index rows (name_at rows handle) ≡ Some handle
 
 same-place : (a b : ℕ) → nat_eq a b ≡ true → a ≡ b
 same-place a b e = grind (arith, nat_tests)
@@ -29,7 +29,7 @@ is-itself : (a : ℕ) → nat_eq a a ≡ true
 is-itself a = grind (arith, nat_tests)
 
 other : (rows : List Row) (p : ℕ) (name : List ℕ) (handle : ℕ) (b : Bool) → nat_eq p handle ≡ b
-    → bytes_eq name (name_at rows handle) ≡ false → Some p ≡ place_of rows name → b ≡ false
+    → bytes_eq name (name_at rows handle) ≡ false → Some p ≡ row_index rows name → b ≡ false
 other rows p name handle false e is at = refl
 other rows p name handle true e is at =
     let same : name ≡ name_at rows handle =
@@ -39,19 +39,19 @@ other rows p name handle true e is at =
     absurd cc
 
 test-if : (rows : List Row) (row : Option ℕ) (name : List ℕ) (handle : ℕ) (b : Bool)
-    → bytes_eq name (name_at rows handle) ≡ b → row ≡ place_of rows name → IsFirst rows handle
-    → is_place handle row ≡ b
+    → bytes_eq name (name_at rows handle) ≡ b → row ≡ row_index rows name → IsFirst rows handle
+    → is_row handle row ≡ b
 test-if rows row name handle true is at first =
     let same : name ≡ name_at rows handle = (bytes_eq-Decides name (name_at rows handle)).0 is in
-    let here : row ≡ Some handle = at ∙ ap (place_of rows) same ∙ first in
-    ap (is_place handle) here ∙ is-itself handle
+    let here : row ≡ Some handle = at ∙ ap (row_index rows) same ∙ first in
+    ap (is_row handle) here ∙ is-itself handle
 test-if rows None name handle false is at first = refl
 test-if rows (Some p) name handle false is at first =
     other rows p name handle (nat_eq p handle) refl is at
 
 place-test : (rows : List Row) (row : Option ℕ) (name : List ℕ) (handle : ℕ)
-    → row ≡ place_of rows name → IsFirst rows handle
-    → is_place handle row ≡ bytes_eq name (name_at rows handle)
+    → row ≡ row_index rows name → IsFirst rows handle
+    → is_row handle row ≡ bytes_eq name (name_at rows handle)
 place-test rows row name handle at first =
     test-if rows row name handle (bytes_eq name (name_at rows handle)) refl at first
 
@@ -81,11 +81,11 @@ target-later k count less name one is =
 
 -- ---- rows and their layout
 
-pub found-named : (rows : List Row) (name : List ℕ) (row : ℕ) → place_of rows name ≡ Some row
+pub found-named : (rows : List Row) (name : List ℕ) (row : ℕ) → row_index rows name ≡ Some row
     → IsFound rows row
 found-named rows name row at =
     let found = place_of-found rows name row at in
-    record { there = found.0; first = ap (place_of rows) found.1 ∙ at }
+    record { there = found.0; first = ap (row_index rows) found.1 ∙ at }
 
 pub name-here : (rows : List Row) (row : ℕ) → name_in (layout_of rows) row ≡ name_at rows row
 name-here rows row = get_or-map (λ (r : Row). r.name) rows row (record { name = []; leaf = None })
@@ -97,7 +97,7 @@ target-there count total name is = ap (λ n. target_of n name) is
 -- ---- a tree of the same layout
 
 -- the row of a name has it
-pub selected-named : (rows : List Row) (row : ℕ) (name : List ℕ) → place_of rows name ≡ Some row
+pub selected-named : (rows : List Row) (row : ℕ) (name : List ℕ) → row_index rows name ≡ Some row
     → name_in (layout_of rows) row ≡ name
 selected-named rows row name at = name-here rows row ∙ (place_of-found rows name row at).1
 

@@ -23,7 +23,7 @@ use Rattle.bay_mms.specs.Requests.{Naming, Message}
 use Rattle.bay_mms.specs.declared.fault.MmsFault.{MmsFault}
 use Rattle.bay_mms_services.specs.Answers.{Answered, answer_of as answer-of, pdu_answer}
 use Rattle.bay_mms_services.specs.Bay.{Bay, with_controls}
-use Rattle.bay_mms_services.specs.Controls.{ask_of, operation_of, view_of}
+use Rattle.bay_mms_services.specs.Controls.{control_request_of, operation_of, view_of}
 use Rattle.bay_mms_services.specs.Reads.{Reading, nothing_read, read_all, read_one, read_row}
 use Rattle.bay_mms_services.specs.Released.{AreTimed, IsReleased, Leaves, enable_name}
 use Rattle.bay_mms_services.specs.Rows.{row_named}
@@ -253,13 +253,14 @@ idle-now now s t (Some e) busy none is =
 
 module _ (c : ClientContext) (b : Bay) (s : State) (k : ℕ) (o : asked.Operate) where
   outcome : Outcome
-  outcome = operate_outcome c.association k (ask_of o) (view_of c k b) c.now s
+  outcome = operate_outcome c.association k (control_request_of o) (view_of c k b) c.now s
 
   released-by : Busies c.now b.controls s → is_ok outcome.answer ≡ true
       → IsReleased c b (record { switch = k; operation = operation_of o.control.ctl_val })
   unfolding outcome
   released-by busy ok =
-      let seen = saw c.association k (ask_of o) (view_of c k b) (controls_at c.now s) ok in
+      let seen =
+      saw c.association k (control_request_of o) (view_of c k b) (controls_at c.now s) ok in
       record {
         heard = seen.heard;
         remote = seen.remote;
@@ -281,7 +282,8 @@ module _ (c : ClientContext) (b : Bay) (s : State) (k : ℕ) (o : asked.Operate)
       → AllByRecursion (λ (x : Command). IsIdle c.now s) (commands_for k o answer)
   unfolding outcome
   idle-operated (Ok done) is = (
-    (saw c.association k (ask_of o) (view_of c k b) (controls_at c.now s) (ap is_ok is)).idle,
+    (saw c.association k (control_request_of o) (view_of c k b) (controls_at c.now s)
+        (ap is_ok is)).idle,
     tt,
   )
   idle-operated (Err why) is = tt
@@ -291,7 +293,8 @@ module _ (c : ClientContext) (b : Bay) (s : State) (k : ℕ) (o : asked.Operate)
   unfolding outcome
   single-operated (Ok done) timed is =
       let seen =
-      saw c.association k (ask_of o) (view_of c k b) (controls_at c.now s) (ap is_ok is) in
+      saw c.association k (control_request_of o) (view_of c k b) (controls_at c.now s) (ap is_ok is)
+      in
       let e : Execution =
       record { switch = k; start = c.now; operation = operation_of o.control.ctl_val } in
       let starts : outcome.after.execution ≡ Some e =
@@ -327,9 +330,10 @@ kept-operate : (c : ClientContext) (b : Bay) (k : ℕ) (item : List ℕ) (w : Wr
     → Kept c b w → Kept c b (write_operate c b k item w (Ok o))
 unfolding outcome
 kept-operate c b k item w o kept =
-    let out = operate_outcome c.association k (ask_of o) (view_of c k b) c.now w.controls in
+    let out =
+    operate_outcome c.association k (control_request_of o) (view_of c k b) c.now w.controls in
     let busy : Busies c.now w.controls out.after =
-    busy-operated c.now k c.association (ask_of o) (view_of c k b) w.controls
+    busy-operated c.now k c.association (control_request_of o) (view_of c k b) w.controls
     (is_ok out.answer) refl in
     record {
       busy = λ e h. busy e (kept.busy e h);
@@ -353,7 +357,7 @@ kept-row c b given w row kept =
     write-by c b w (λ asks asked next. Kept c b next)
     (λ error. record { busy = kept.busy; released = kept.released; sole = kept.sole })
     (λ k item o. kept-decided c b k SelectWith item o.control
-    (select_with_outcome c.association k (ask_of o) c.now w.controls) w refl kept
+    (select_with_outcome c.association k (control_request_of o) c.now w.controls) w refl kept
     (busy-still c.now w.controls))
     (λ k item o. kept-operate c b k item w o kept)
     (λ k item control. kept-decided c b k Cancel item control

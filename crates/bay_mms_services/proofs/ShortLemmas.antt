@@ -12,7 +12,7 @@ use Rattle.bay_mms.specs.declared.fault.MmsFault.{MmsFault}
 use Rattle.bay_mms_services.specs.Answers.{Answered, answer_of}
 use Rattle.bay_mms_services.specs.Bay.{Bay}
 use Rattle.bay_mms_services.specs.Controls as controls
-use Rattle.bay_mms_services.specs.Controls.{IsShort, ask_of, ending_of, endings, failed_report, has_reports, object_of, refusal_report, refusal_reports, termination_report, view_of}
+use Rattle.bay_mms_services.specs.Controls.{IsShort, control_request_of, ending_of, endings, failed_report, has_reports, object_of, refusal_report, refusal_reports, termination_report, view_of}
 use Rattle.bay_mms_services.specs.Replies.{pdu_within_size}
 use Rattle.bay_mms_services.specs.Rows.{row_named}
 use Rattle.bay_mms_services.specs.Writes.{Writing, after_decision, later_ending, nothing_written, write_operate, write_all, write_one, write_row}
@@ -106,7 +106,8 @@ module _ (c : ClientContext) (b : Bay) (most : c.size ≤ 65000) where
   operate-short : (k : ℕ) (item : List ℕ) (w : Writing) (o : asked.Operate)
       → IsFit w → IsFit (write_operate c b k item w (Ok o))
   operate-short k item w o short =
-      let out = operate_outcome c.association k (ask_of o) (view_of c k b) c.now w.controls in (
+      let out =
+      operate_outcome c.association k (control_request_of o) (view_of c k b) c.now w.controls in (
         (decided-short k Operate item o.control out w short).0,
         later-short w.ending (endings c k item o b out.answer) short.1
             (endings-short c k item o b out.answer most),
@@ -117,7 +118,7 @@ module _ (c : ClientContext) (b : Bay) (most : c.size ≤ 65000) where
   row-short given w row short =
       write-by c b w (λ asks asked next. IsFit next) (λ error. short)
       (λ k item o. decided-short k SelectWith item o.control
-      (select_with_outcome c.association k (ask_of o) c.now w.controls) w short)
+      (select_with_outcome c.association k (control_request_of o) c.now w.controls) w short)
       (λ k item o. operate-short k item w o short)
       (λ k item control. decided-short k Cancel item control
       (cancel_outcome c.association k c.now w.controls) w short)

@@ -8,7 +8,7 @@ use Rattle.bay_ber.specs.Writing.{element, integer_octets}
 use Rattle.bay_ber.specs.declared.tag.Tag.{Tag}
 use Rattle.bay_ber.proofs.WriteLemmas.{element-spells}
 use Rattle.bay_nodes.specs.declared.switch.Switch.{Switch}
-use Rattle.bay_tree.specs.Rows.{name_at, place_of}
+use Rattle.bay_tree.specs.Rows.{name_at, row_index}
 use Rattle.bay_tree.specs.declared.leaf.Leaf.{Leaf}
 use Rattle.bay_tree.specs.declared.leaf.Leaf.TheVariants as leaf
 use Rattle.bay_tree.specs.declared.row.Row.{Row}
@@ -45,7 +45,7 @@ use Rattle.bay_mms_services.proofs.WalkLemmas.{read-by, write-by}
 row-alike : (b d : Bay) (name : Naming) → AreNamedAlike b d → row_named d name ≡ row_named b name
 row-alike b d (vmd name) alike = refl
 row-alike b d (domain e item) alike =
-    ap (λ (n : List ℕ). cond (bytes_eq e n) (place_of d.rows item) None) alike.domain
+    ap (λ (n : List ℕ). cond (bytes_eq e n) (row_index d.rows item) None) alike.domain
     ∙ ap (λ (o : Option ℕ). cond (bytes_eq e b.domain) o None)
     (place_of-same d.rows b.rows item alike.names)
 row-alike b d (association name) alike = refl

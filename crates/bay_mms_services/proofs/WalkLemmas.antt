@@ -8,7 +8,7 @@ use Rattle.bay_control.specs.Acts.{Act, Entry}
 use Rattle.bay_control.specs.Decisions.{select_outcome}
 use Rattle.bay_control.specs.Happenings as call
 use Rattle.bay_control.specs.Happenings.{Call}
-use Rattle.bay_control.specs.Requests.{asked_choice}
+use Rattle.bay_control.specs.Requests.{requested_choice}
 use Rattle.bay_mms.specs.Controls as asked
 use Rattle.bay_mms.specs.Controls.{Control, operate_in, cancel_in}
 use Rattle.bay_mms.specs.Data.{Datum}
@@ -27,7 +27,7 @@ use Rattle.bay_mms.proofs.ShortLemmas.{error_short, reject_short}
 use Rattle.bay_mms_services.specs.Accepted.{act_of_read, act_of_write, cancel_act, operate_act, read_act, select_with_act, write_act}
 use Rattle.bay_mms_services.specs.Answers.{Answered, answer_of, attributes_answer, plain_answer, service_answer, one_pdu_answer}
 use Rattle.bay_mms_services.specs.Bay.{Bay, with_controls}
-use Rattle.bay_mms_services.specs.Controls.{ask_of, view_of}
+use Rattle.bay_mms_services.specs.Controls.{control_request_of, view_of}
 use Rattle.bay_mms_services.specs.Entries.{call_of_read, call_of_write, cancel_call, message_entries, operate_call, read_call, read_entries, select_with_call, service_entries, target_at, write_call, write_entries}
 use Rattle.bay_mms_services.specs.Reads.{Reading, nothing_read, read_all, read_part, read_row, read_target, select_done, value_read}
 use Rattle.bay_mms_services.specs.Rows.{row_named}
@@ -69,11 +69,12 @@ module _ (c : ClientContext) (b : Bay) (w : Writing)
     (P : Option Act → Option Call → Writing → Type 0)
     (failed : (error : DataAccessError) → P None None (write_failed error w))
     (selects : (k : ℕ) (item : List ℕ) (o : asked.Operate)
-    → P (Some (act.SelectWith c.association k (asked_choice (ask_of o))))
-    (Some (call.SelectWith c.association k (ask_of o))) (write_select_with c b k item w (Ok o)))
+    → P (Some (act.SelectWith c.association k (requested_choice (control_request_of o))))
+    (Some (call.SelectWith c.association k (control_request_of o)))
+    (write_select_with c b k item w (Ok o)))
     (operates : (k : ℕ) (item : List ℕ) (o : asked.Operate)
-    → P (Some (act.Operate c.association k (asked_choice (ask_of o))))
-    (Some (call.Operate c.association k (ask_of o) (view_of c k b)))
+    → P (Some (act.Operate c.association k (requested_choice (control_request_of o))))
+    (Some (call.Operate c.association k (control_request_of o) (view_of c k b)))
     (write_operate c b k item w (Ok o)))
     (cancels : (k : ℕ) (item : List ℕ) (control : Control) → P (Some (act.Cancel c.association k))
     (Some (call.Cancel c.association k)) (write_cancel c b k item w (Ok control))) where

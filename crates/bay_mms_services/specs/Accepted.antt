@@ -9,7 +9,7 @@ use Rattle.bay_tree.specs.Rows.{names_of}
 use Rattle.bay_control.specs.Acts as act
 use Rattle.bay_control.specs.Acts.{Act, Entry}
 use Rattle.bay_control.specs.Happenings.{entries_of}
-use Rattle.bay_control.specs.Requests.{asked_choice}
+use Rattle.bay_control.specs.Requests.{requested_choice}
 use Rattle.bay_mms.specs.Controls as asked
 use Rattle.bay_mms.specs.Controls.{Control, operate_in, cancel_in}
 use Rattle.bay_mms.specs.Data.{Datum}
@@ -18,7 +18,7 @@ use Rattle.bay_mms.specs.Requests.{Naming, Asking, identify, names, attributes, 
 use Rattle.bay_mms.specs.declared.fault.DataAccessError.{DataAccessError}
 use Rattle.bay_mms.specs.declared.fault.MmsFault.{MmsFault}
 use Rattle.bay_mms_services.specs.Bay.{Bay}
-use Rattle.bay_mms_services.specs.Controls.{ask_of}
+use Rattle.bay_mms_services.specs.Controls.{control_request_of}
 use Rattle.bay_mms_services.specs.Entries.{target_at}
 use Rattle.bay_mms_services.specs.Rows.{row_named}
 use Rattle.bay_mms_services.specs.declared.target.ControlPart.{ControlPart}
@@ -47,12 +47,12 @@ act_of_read a (Some t) = read_act a t.switch t.part
 
 -- a write to SBOw selects, if its data have the right type and range
 abbrev pub select_with_act : ℕ → ℕ → Result asked.Operate DataAccessError → Option Act
-select_with_act a k (Ok o) = Some (act.SelectWith a k (asked_choice (ask_of o)))
+select_with_act a k (Ok o) = Some (act.SelectWith a k (requested_choice (control_request_of o)))
 select_with_act a k (Err fault) = None
 
 -- a write to Oper operates, if its data have the right type and range
 abbrev pub operate_act : ℕ → ℕ → Result asked.Operate DataAccessError → Option Act
-operate_act a k (Ok o) = Some (act.Operate a k (asked_choice (ask_of o)))
+operate_act a k (Ok o) = Some (act.Operate a k (requested_choice (control_request_of o)))
 operate_act a k (Err fault) = None
 
 -- a write to Cancel cancels a selection, if its data have the right type and range

@@ -58,8 +58,8 @@ abbrev pub origin_of : Origin → control.Originator
 origin_of o = record { cat = o.or_cat; ident = o.or_ident }
 
 -- the request of a write to SBOw or Oper
-abbrev pub ask_of : Operate → Ask
-ask_of o =
+abbrev pub control_request_of : Operate → Ask
+control_request_of o =
     record {
       operation = operation_of o.control.ctl_val;
       test = o.control.test;

@@ -16,7 +16,7 @@ use Rattle.bay_mms.specs.Responses.{read_text, write_text}
 use Rattle.bay_mms.specs.declared.fault.DataAccessError.{DataAccessError}
 use Rattle.bay_mms.specs.declared.fault.MmsFault.{MmsFault}
 use Rattle.bay_mms_services.specs.Bay.{Bay}
-use Rattle.bay_mms_services.specs.Controls.{ask_of, view_of}
+use Rattle.bay_mms_services.specs.Controls.{control_request_of, view_of}
 use Rattle.bay_mms_services.specs.Reads.{Reading, nothing_read, read_one, read_all}
 use Rattle.bay_mms_services.specs.Rows.{row_named}
 use Rattle.bay_mms_services.specs.Targets.{target_of}
@@ -48,12 +48,13 @@ call_of_read c (Some t) = read_call c t.switch t.part
 -- ---- writes, if their data have the right type and range
 
 abbrev pub select_with_call : ClientContext → ℕ → Result asked.Operate DataAccessError → Option Call
-select_with_call c k (Ok o) = Some (call.SelectWith c.association k (ask_of o))
+select_with_call c k (Ok o) = Some (call.SelectWith c.association k (control_request_of o))
 select_with_call c k (Err fault) = None
 
 abbrev pub operate_call : ClientContext → ℕ → Bay → Result asked.Operate DataAccessError
     → Option Call
-operate_call c k b (Ok o) = Some (call.Operate c.association k (ask_of o) (view_of c k b))
+operate_call c k b (Ok o) =
+    Some (call.Operate c.association k (control_request_of o) (view_of c k b))
 operate_call c k b (Err fault) = None
 
 abbrev pub cancel_call : ClientContext → ℕ → Result Control DataAccessError → Option Call

@@ -3,7 +3,7 @@ use Rattle.std.specs.Prelude.{ℕ, ℤ, pos, false, List, [], ◌∷◌, Option,
 use Rattle.std.specs.Ordering.{int_eq}
 use Rattle.std.specs.Str.{bytes_eq}
 use Rattle.bay_tree.specs.Page.{rows_after}
-use Rattle.bay_tree.specs.Rows.{names_of, place_of}
+use Rattle.bay_tree.specs.Rows.{names_of, row_index}
 use Rattle.bay_mms.specs.Pages.{first_page}
 use Rattle.bay_mms.specs.Requests.{Place, whole_vmd, in_domain, of_association}
 use Rattle.bay_mms.specs.Responses.{error_text, page_text}
@@ -20,7 +20,7 @@ names_after_name c id b after (Some place) =
 
 abbrev pub variable_names : ClientContext → ℕ → Bay → Option (List ℕ) → List ℕ
 variable_names c id b None = first_page id c.size (names_of b.rows)
-variable_names c id b (Some name) = names_after_name c id b (Some name) (place_of b.rows name)
+variable_names c id b (Some name) = names_after_name c id b (Some name) (row_index b.rows name)
 
 -- an empty list; an error after a name, since there is no such name
 abbrev pub no_names : ℕ → Option (List ℕ) → List ℕ

@@ -1,6 +1,6 @@
 -- The rows of switches and controls in a tree.
 use Rattle.std.specs.Prelude.{◌≡◌, ℕ, ◌==◌, Bool, false, List, Option, Some, None, option_map, slice_get, if◌then◌else◌}
-use Rattle.bay_tree.specs.Rows.{IsHandle, name_at, place_of}
+use Rattle.bay_tree.specs.Rows.{IsHandle, name_at, row_index}
 use Rattle.bay_tree.specs.declared.row.Row.{Row}
 use Rattle.bay_process.specs.Layout.{Layout, switch_in, switches_of, AreSwitchRows}
 use Rattle.bay_nodes.specs.Names.{switch_names}
@@ -10,17 +10,17 @@ use Rattle.bay_mms_services.specs.declared.target.ControlPart.{ControlPart}
 use Rattle.bay_mms_services.specs.declared.target.ControlPart.TheVariants.{Select, SelectWith, Operate, Cancel}
 
 -- the optional row is this one
-abbrev pub is_place : ℕ → Option ℕ → Bool
-is_place place None = false
-is_place place (Some p) = p == place
+abbrev pub is_row : ℕ → Option ℕ → Bool
+is_row place None = false
+is_row place (Some p) = p == place
 
 -- the part of a switch's control that a row is, by the rows of the control
 abbrev pub part_by : ControlRows → ℕ → Option ControlPart
 part_by rows place =
-    if is_place place rows.select then Some Select
-    else if is_place place rows.select_with_value then Some SelectWith
-    else if is_place place rows.operate then Some Operate
-    else if is_place place rows.cancel then Some Cancel
+    if is_row place rows.select then Some Select
+    else if is_row place rows.select_with_value then Some SelectWith
+    else if is_row place rows.operate then Some Operate
+    else if is_row place rows.cancel then Some Cancel
     else None
 
 -- the rows of the switch at index k have its names and their types
@@ -37,7 +37,7 @@ ArePlaced layout switches =
 -- the row is the first one with its own name
 pub record IsFound (rows : List Row) (row : ℕ) : Type 0 where
   pub there : IsHandle rows row
-  pub first : place_of rows (name_at rows row) ≡ Some row
+  pub first : row_index rows (name_at rows row) ≡ Some row
 
 -- the row stSeld of the selected switch, if there is one
 abbrev pub marked_row : List ControlRows → Option ℕ → Option ℕ

@@ -19,8 +19,8 @@ enable_name k Open = (opening_of k).value
 enable_name k Close = (closing_of k).value
 
 -- A command is issued only while the process is not lost, the key of the switch is not at local,
--- the last scan is fresh, the interlocking value of the operation is TRUE in the tree, and no switch
--- of the bay is operating.
+-- the last scan is fresh, the interlocking value of the operation is TRUE in the tree, and no
+-- switch of the bay is operating.
 pub record IsReleased (c : ClientContext) (b : Bay) (command : Command) : Type 0 where
   pub heard : c.lost ≡ false
   pub remote : is_local (control_of b.controls.controls command.switch).key b.inputs ≡ false

@@ -11,7 +11,7 @@ use Rattle.bay_mms.specs.Responses.{failure_result, success_result}
 use Rattle.bay_mms.specs.declared.fault.DataAccessError.{DataAccessError}
 use Rattle.bay_mms.specs.declared.fault.DataAccessError.TheVariants.{ObjectAccessDenied, ObjectNonExistent}
 use Rattle.bay_mms_services.specs.Bay.{Bay}
-use Rattle.bay_mms_services.specs.Controls.{ask_of, endings, operation_of, refusal_reports, view_of, written_decision}
+use Rattle.bay_mms_services.specs.Controls.{control_request_of, endings, operation_of, refusal_reports, view_of, written_decision}
 use Rattle.bay_mms_services.specs.Rows.{row_named}
 use Rattle.bay_mms_services.specs.Targets.{target_of}
 use Rattle.bay_mms_services.specs.declared.answer.Command.{Command}
@@ -89,7 +89,7 @@ abbrev pub write_select_with : ClientContext → Bay → ℕ → List ℕ → Wr
 write_select_with c b k item w (Err error) = write_failed error w
 write_select_with c b k item w (Ok o) =
     after_decision c b k SelectWith item o.control
-    (select_with_outcome c.association k (ask_of o) c.now w.controls)
+    (select_with_outcome c.association k (control_request_of o) c.now w.controls)
     w
 
 abbrev pub write_operate : ClientContext → Bay → ℕ → List ℕ → Writing
@@ -97,7 +97,7 @@ abbrev pub write_operate : ClientContext → Bay → ℕ → List ℕ → Writin
 write_operate c b k item w (Err error) = write_failed error w
 write_operate c b k item w (Ok o) =
     after_operate c b k item o
-    (operate_outcome c.association k (ask_of o) (view_of c k b) c.now w.controls) w
+    (operate_outcome c.association k (control_request_of o) (view_of c k b) c.now w.controls) w
 
 abbrev pub write_cancel : ClientContext → Bay → ℕ → List ℕ → Writing
     → Result Control DataAccessError

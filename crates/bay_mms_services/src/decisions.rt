@@ -43,7 +43,7 @@ impl ServedBay {
 
     /// Returns the tree as clients see it under these controls, with TRUE as stSeld of the selected
     /// switch (IEC 61850-7-3).
-    pub(crate) fn seen(&self, controls: &Controls) -> ClientView<'_>
+    pub(crate) fn tree_view(&self, controls: &Controls) -> ClientView<'_>
         ensures rows { result ≡ client_rows (bay_view self.now)
             (controls_view self.now controls.now) }
         ensures handles { length result ≡ length self.now.tree }

@@ -150,7 +150,7 @@ impl Invocation<'_> {
                     part: ControlPart::Select,
                 },
             ) => self.read_select(switch, row, controls, decisions, response),
-            _ => response.value(&self.bay.seen(controls), row),
+            _ => response.value(&self.bay.tree_view(controls), row),
         }
     }
 

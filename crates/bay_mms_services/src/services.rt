@@ -314,9 +314,9 @@ impl ServedBay {
         }
     }
 
-    /// Answers the octets that a client sent as a PDU of MMS, with these values of the bay's inputs.
-    /// Does not change the bay: `controls` becomes the controls after the PDU, which the caller
-    /// stores once the answer can be sent.
+    /// Answers the octets that a client sent as a PDU of MMS, with these values of the bay's
+    /// inputs. Does not change the bay: `controls` becomes the controls after the PDU, which the
+    /// caller stores once the answer can be sent.
     ///
     /// Each PDU of the answer has at most 65,000 octets, and so have the reports for the end of an
     /// operate. If the response is longer than the agreed size, the answer is an error of the class

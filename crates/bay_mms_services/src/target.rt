@@ -27,8 +27,8 @@ pub struct Target {
 }
 
 // Returns whether this optional row is the row at `handle`.
-fn is_place(row: Option<Handle>, handle: Handle) -> bool
-    ensures { result ≡ spec.is_place handle row }
+fn is_row(row: Option<Handle>, handle: Handle) -> bool
+    ensures { result ≡ spec.is_row handle row }
 {
     row.is_some_and(|r| r == handle)
 }
@@ -37,13 +37,13 @@ fn is_place(row: Option<Handle>, handle: Handle) -> bool
 pub(crate) fn part_at(rows: &ControlRows, handle: Handle) -> Option<ControlPart>
     ensures { result ≡ part_by rows.now handle }
 {
-    if is_place(rows.select, handle) {
+    if is_row(rows.select, handle) {
         Some(ControlPart::Select)
-    } else if is_place(rows.select_with_value, handle) {
+    } else if is_row(rows.select_with_value, handle) {
         Some(ControlPart::SelectWith)
-    } else if is_place(rows.operate, handle) {
+    } else if is_row(rows.operate, handle) {
         Some(ControlPart::Operate)
-    } else if is_place(rows.cancel, handle) {
+    } else if is_row(rows.cancel, handle) {
         Some(ControlPart::Cancel)
     } else {
         None

@@ -84,9 +84,9 @@ fn origin_of(origin: &Origin<'_>) -> Originator
 }
 
 // Returns the request to the controls.
-fn ask_of(operate: &OperateData<'_>) -> Ask
+fn control_request_of(operate: &OperateData<'_>) -> Ask
     requires { length operate.now.control.origin.or_ident.now ≤ 64 }
-    ensures { result ≡ spec_controls.ask_of (operate_view operate.now) }
+    ensures { result ≡ spec_controls.control_request_of (operate_view operate.now) }
 {
     let control = &operate.control;
     Ask {
@@ -258,7 +258,7 @@ impl Invocation<'_> {
             &self.bay.control_table,
             self.client.association,
             part.switch,
-            ask_of(&operate),
+            control_request_of(&operate),
             self.client.now,
         );
         let to = ControlPart::SelectWith;
@@ -384,7 +384,7 @@ impl Invocation<'_> {
             &self.bay.control_table,
             self.client.association,
             switch,
-            ask_of(&operate),
+            control_request_of(&operate),
             self.bay.view(self.inputs, self.client, switch),
             self.client.now,
         );

@@ -157,7 +157,7 @@ impl<'a, C: Clock> TcpLink<'a, C> {
     }
 
     // Records that a connection has sent octets.
-    fn hear(&mut self, place: usize)
+    fn note_octets(&mut self, place: usize)
         ensures { self.new.failures ≡ self.old.failures }
     {
         let since = match self.idle_s {
@@ -205,7 +205,7 @@ impl<C: Clock> Link for TcpLink<'_, C> {
         match read_some(&self.peers[place], room) {
             Ok(0) => Ok(ReadResult::End),
             Ok(n) => {
-                self.hear(place);
+                self.note_octets(place);
                 Ok(ReadResult::Bytes(n))
             }
             Err(error) if would_wait(&error) && !self.is_idle(place) => Ok(ReadResult::Nothing),

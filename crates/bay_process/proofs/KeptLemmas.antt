@@ -10,7 +10,7 @@ use Rattle.bay_nodes.specs.declared.switch.Switch.{Switch}
 use Rattle.il_image.proofs.SetLemmas.{set-elsewhere, set-here}
 use Rattle.bay_process.specs.Layout.{switches_of}
 use Rattle.bay_process.specs.Releases.{Shows, digit_octet, digit_text, digits_from, text_before_digits, released_text, switch_text}
-use Rattle.bay_process.specs.ReportedRows.{AreKept, HoldsRelease, enabled_at, enabled_from}
+use Rattle.bay_process.specs.ReportedRows.{AreStored, HoldsRelease, enabled_at, enabled_from}
 use Rattle.bay_process.specs.Values.{is_truth, with_enabled, with_output}
 use Rattle.bay_process.specs.declared.releases.Releases.{Releases}
 use Rattle.bay_process.specs.declared.switch.BoundSwitch.{BoundSwitch}
@@ -55,7 +55,7 @@ record Keeping (rows : List Row) (ss : List Switch) (n : ℕ) (r : Releases)
       → (r.is_written ≡ true) ⊎ (k < n) → HoldsRelease rows k e
 
 kept-by : (rows : List Row) (ss : List Switch) (n : ℕ) (r : Releases) (told : List Enabled)
-    → Keeping rows ss n r told → AreKept rows ss n r
+    → Keeping rows ss n r told → AreStored rows ss n r
 kept-by rows ss n r told k =
     let is : told ≡ enabled_from rows 0 ss =
     from-all rows 0 ss told k.shows.sized
@@ -100,8 +100,8 @@ shown-stays rows new k stays =
     } in e) (stays _)
 
 -- and so what is kept stands
-pub kept-stays : (rows new : List Row) (ss : List Switch) (r : Releases) → AreKept rows ss 0 r
-    → Keeps rows new → AreKept new ss 0 r
+pub kept-stays : (rows new : List Row) (ss : List Switch) (r : Releases) → AreStored rows ss 0 r
+    → Keeps rows new → AreStored new ss 0 r
 kept-stays rows new ss r kept keeps =
     kept-by new ss 0 r (enabled_from rows 0 ss) record {
       shows = kept.shows;
@@ -147,7 +147,7 @@ output-same rows k stood e names now opens closes is one other =
 
 -- one switch more was written
 module _ (rows new : List Row) (ss : List Switch) (i : ℕ) (r q : Releases) (enabled : Enabled)
-    (now : ℕ) (kept : AreKept rows ss i r) (within : i < length ss) (few : length ss < 2 ^ 64)
+    (now : ℕ) (kept : AreStored rows ss i r) (within : i < length ss) (few : length ss < 2 ^ 64)
     (flag : q.is_written ≡ r.is_written) (own : HoldsRelease new i enabled)
     (is : new ≡ with_enabled (closing_of i) enabled.may_close now
     (with_enabled (opening_of i) enabled.may_open now rows)) where
@@ -183,7 +183,7 @@ module _ (rows new : List Row) (ss : List Switch) (i : ℕ) (r q : Releases) (en
       )
 
   pub kept-written : Shows ss (slice_set (enabled_from rows 0 ss) i enabled) q.text.items
-      q.places.items → AreKept new ss (i + 1) q
+      q.places.items → AreStored new ss (i + 1) q
   kept-written shows =
       kept-by new ss (i + 1) q (slice_set (enabled_from rows 0 ss) i enabled) record {
         shows = shows;
@@ -261,7 +261,7 @@ module _ (rows : List Row) (bs : List BoundSwitch) (i : ℕ) (b : BoundSwitch)
 -- nothing was written
 pub first-kept : (rows : List Row) (bs : List BoundSwitch) (r : Releases) → r.is_written ≡ false
     → r.text.items ≡ rest-text rows 0 bs ++ codes "\n"
-    → r.places.items ≡ digits_from 0 (switches_of bs) → AreKept rows (switches_of bs) 0 r
+    → r.places.items ≡ digits_from 0 (switches_of bs) → AreStored rows (switches_of bs) 0 r
 first-kept rows bs r flag text places = record {
   shows =
       record {

@@ -10,7 +10,7 @@ use Rattle.bay_tree.specs.declared.leaf.Leaf.{Leaf}
 use Rattle.bay_tree.specs.declared.leaf.LeafType.{LeafType}
 use Rattle.bay_tree.specs.declared.leaf.LeafType.TheVariants as leaf_type
 use Rattle.bay_tree.specs.LeafTypes.{leaf_type_of}
-use Rattle.bay_tree.specs.Rows.{IsTree, place_of, row_at, name_at, leaf_of, leaf_type_at, leaf_types_of}
+use Rattle.bay_tree.specs.Rows.{IsTree, row_index, row_at, name_at, leaf_of, leaf_type_at, leaf_types_of}
 use Rattle.bay_tree.specs.declared.leaf.Leaf.TheVariants as leaf
 use Rattle.bay_tree.specs.declared.leaf.Quality.{Quality as Validity}
 use Rattle.bay_tree.proofs.NamedLemmas.{leaf-named, found-leaf}
@@ -258,7 +258,7 @@ rows-snoc layout nodes rows n r all here own k m q hm hq =
 
 -- what no place is found for has no value
 pub selected-leaf_type : (rows : List Row) (name : List ℕ) (handle : ℕ)
-    → HasLeaf rows name leaf_type.Truth → place_of rows name ≡ Some handle
+    → HasLeaf rows name leaf_type.Truth → row_index rows name ≡ Some handle
     → HasLeafType (layout_of rows) handle leaf_type.Truth
 selected-leaf_type rows name handle has at =
     found-leaf_type rows name leaf_type.Truth handle has
@@ -268,7 +268,7 @@ selected-leaf_type rows name handle has at =
     })
 
 pub not-lacking : (rows : List Row) (name : List ℕ) → HasLeaf rows name leaf_type.Truth
-    → place_of rows name ≡ None → ⊥
+    → row_index rows name ≡ None → ⊥
 not-lacking rows name has none =
     there rows name leaf_type.Truth has (lacking-leaf rows name (place_of-none rows name none))
 

@@ -25,7 +25,7 @@ use Rattle.bay_base.specs.declared.point.MeterField.TheVariants.{TotW, TotVAr, H
 use Rattle.bay_nodes.specs.declared.switch.Switch.{Switch}
 use Rattle.bay_base.specs.declared.switch.SwitchKind.{SwitchKind}
 use Rattle.bay_base.specs.declared.switch.SwitchKind.TheVariants.{Breaker, Disconnector, Earthing}
-use Rattle.bay_process.specs.Values.{is_truth, is_quality, with_status, with_enabled, with_count, operation_counted, is_operation, has_position, position_quality, rows_after_change, rows_after_contact, tells_doubt, tells_measure, rows_after_doubt, rows_after_measure}
+use Rattle.bay_process.specs.Values.{is_truth, is_quality, with_status, with_enabled, with_count, operation_counted, is_operation, has_position, position_quality, rows_after_change, rows_after_contact, has_invalid_measure, has_measure, rows_after_doubt, rows_after_measure}
 use Rattle.bay_nodes.specs.Names.{StatusNames, switch_names, node_of, meter_names, interlocking_of, opening_of, closing_of}
 use Rattle.bay_process.specs.Names.{field_names}
 use Rattle.bay_process.specs.declared.switch.Enabled.{Enabled}
@@ -216,13 +216,13 @@ keeps-contact switches j switch position now rows =
 pub keeps-measure : (names : StatusNames) (value : ℤ) (now : ℕ) (rows : List Row) → AreAway names
     → Keeps rows (rows_after_measure names value now rows)
 keeps-measure names value now rows away =
-    keeps-if (tells_measure names value rows) rows rows _ (λ k s. refl)
+    keeps-if (has_measure names value rows) rows rows _ (λ k s. refl)
     (keeps-status names (leaf.Int32 value) _ now rows away)
 
 pub keeps-doubt : (names : StatusNames) (now : ℕ) (rows : List Row) → AreAway names
     → Keeps rows (rows_after_doubt names now rows)
 keeps-doubt names now rows away =
-    keeps-if (tells_doubt names rows) rows rows _ (λ k s. refl)
+    keeps-if (has_invalid_measure names rows) rows rows _ (λ k s. refl)
     (λ j t. leaf-other _ _ names.time _ (away.time_away j t)
     ∙ leaf-other rows _ names.quality _ (away.quality_away j t))
 

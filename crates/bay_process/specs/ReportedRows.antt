@@ -43,7 +43,7 @@ enabled_from rows k (s ∷ ss) = enabled_at rows k ∷ enabled_from rows (k + 1)
 
 -- The stored text has the interlocking values of the rows. A scan has written those of the first n
 -- switches and, once a scan is complete, those of all switches; these have good quality.
-pub record AreKept (rows : List Row) (switches : List Switch) (n : ℕ)
+pub record AreStored (rows : List Row) (switches : List Switch) (n : ℕ)
     (kept : Releases) : Type 0 where
   pub shows : Shows switches (enabled_from rows 0 switches) kept.text.items kept.places.items
   pub written : (k : ℕ) (enabled : Enabled)

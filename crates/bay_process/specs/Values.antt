@@ -112,25 +112,25 @@ is_number n (Some (leaf.Int32 m)) = int_eq n m
 is_number n other = false
 
 -- the rows already have this measured value, with good quality
-abbrev pub tells_measure : StatusNames → ℤ → List Row → Bool
-tells_measure names value rows =
+abbrev pub has_measure : StatusNames → ℤ → List Row → Bool
+has_measure names value rows =
     is_number value (leaf_of names.value rows) && is_quality Good (leaf_of names.quality rows)
 
 -- the rows after a measured value; one that changes neither value nor quality changes nothing
 abbrev pub rows_after_measure : StatusNames → ℤ → ℕ → List Row → List Row
 rows_after_measure names value now rows =
-    if tells_measure names value rows then rows
+    if has_measure names value rows then rows
     else with_status names (leaf.Int32 value) Good now rows
 
 -- the rows already have this measured value as invalid
-abbrev pub tells_doubt : StatusNames → List Row → Bool
-tells_doubt names rows = is_quality Invalid (leaf_of names.quality rows)
+abbrev pub has_invalid_measure : StatusNames → List Row → Bool
+has_invalid_measure names rows = is_quality Invalid (leaf_of names.quality rows)
 
 -- the rows after a report that a measured value is invalid, whose value stays; one that does not
 -- change the quality changes nothing
 abbrev pub rows_after_doubt : StatusNames → ℕ → List Row → List Row
 rows_after_doubt names now rows =
-    if tells_doubt names rows then rows
+    if has_invalid_measure names rows then rows
     else with_leaf_of names.time (leaf.Utc now)
     (with_leaf_of names.quality (leaf.Quality Invalid) rows)
 

@@ -72,7 +72,7 @@ fn is_point(source: Source, switch: usize, point: SwitchPoint) -> bool
 
 /// Returns the index of a point of a switch among the sources of the writable points; `None` if it
 /// is not there.
-pub fn output_place(writes: &[Source], switch: usize, point: SwitchPoint) -> Option<usize>
+pub fn output_index(writes: &[Source], switch: usize, point: SwitchPoint) -> Option<usize>
     ensures { result ≡ position (spec.is_point switch point) writes.now }
 {
     writes
@@ -85,8 +85,8 @@ fn outputs_at(writes: &[Source], switch: usize) -> SwitchOutputs
     ensures { result ≡ spec_layout.outputs_at writes.now switch }
 {
     SwitchOutputs {
-        ena_opn: output_place(writes, switch, SwitchPoint::EnableOpen),
-        ena_cls: output_place(writes, switch, SwitchPoint::EnableClose),
+        ena_opn: output_index(writes, switch, SwitchPoint::EnableOpen),
+        ena_cls: output_index(writes, switch, SwitchPoint::EnableClose),
     }
 }
 

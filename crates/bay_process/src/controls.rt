@@ -1,7 +1,7 @@
 // The rows of the controls of a bay's switches in its tree (IEC 61850-8-1: stSeld, SBO, SBOw, Oper
 // and Cancel).
 ghost use Rattle.std.specs.Prelude.{◌≡◌, ◌++◌, ℕ, List, codes, length, Some, IfOk};
-ghost use Rattle.bay_tree.specs.Rows.{place_of};
+ghost use Rattle.bay_tree.specs.Rows.{row_index};
 ghost use Rattle.bay_tree.specs.declared.leaf.LeafType.TheVariants as leaf_type;
 ghost use Rattle.bay_tree.specs.declared.row.Row.{Row};
 ghost use Rattle.bay_nodes.specs.Names.{ControlNames, control_names_of};
@@ -38,7 +38,7 @@ fn handle_at(
     node: &str,
     path: &str,
 ) -> Result<Option<Handle>, AllocError>
-    ensures { IfOk result (λ handle. handle ≡ place_of tree.now (node.now ++ path.now)) }
+    ensures { IfOk result (λ handle. handle ≡ row_index tree.now (node.now ++ path.now)) }
 {
     let name = row_name(alloc, node, path)?;
     match tree.find(name.as_str()) {
@@ -50,7 +50,7 @@ fn handle_at(
 // Returns the handle of the row `stSeld` of a control.
 fn selected_at(alloc: Global, tree: &Tree, node: &str) -> Result<Handle, AllocError>
     requires { HasLeaf tree.now (control_names_of node.now).selected leaf_type.Truth }
-    ensures { IfOk result (λ handle. place_of tree.now (control_names_of node.now).selected
+    ensures { IfOk result (λ handle. row_index tree.now (control_names_of node.now).selected
         ≡ Some handle) }
 {
     match handle_at(alloc, tree, node, SELECTED)? {

@@ -2,7 +2,7 @@
 ghost use Rattle.std.specs.Prelude.{◌≡◌, not};
 ghost use Rattle.bay_tree.specs.declared.leaf.LeafType.TheVariants as leaf_type;
 ghost use Rattle.bay_tree.specs.Rows.{leaf_of};
-ghost use Rattle.bay_process.specs.Values.{tells_doubt, tells_measure, rows_after_doubt, rows_after_measure};
+ghost use Rattle.bay_process.specs.Values.{has_invalid_measure, has_measure, rows_after_doubt, rows_after_measure};
 ghost use Rattle.bay_process.specs.Values as spec;
 ghost use Rattle.bay_process.specs.Layout.{layout_of, name_in, status_in, field_rows, HasLeafType, AreStatusRows};
 
@@ -61,7 +61,7 @@ fn is_number(tree: &Tree, handle: Handle, number: i32) -> bool
 pub fn take_measure(tree: &mut Tree, rows: StatusRows, value: i32, now: u64) -> bool
     requires { AreStatusRows (layout_of tree.old) leaf_type.Int32 rows }
     ensures changed { result
-        ≡ not (tells_measure (status_in (layout_of tree.old) rows) value tree.old) }
+        ≡ not (has_measure (status_in (layout_of tree.old) rows) value tree.old) }
     ensures rows { tree.new ≡ rows_after_measure (status_in (layout_of tree.old) rows) value now
         tree.old }
     ensures layout { layout_of tree.new ≡ layout_of tree.old }
@@ -79,7 +79,8 @@ pub fn take_measure(tree: &mut Tree, rows: StatusRows, value: i32, now: u64) -> 
 /// value itself stays. Returns whether its quality changed.
 pub fn take_bad_measure(tree: &mut Tree, rows: StatusRows, now: u64) -> bool
     requires { AreStatusRows (layout_of tree.old) leaf_type.Int32 rows }
-    ensures changed { result ≡ not (tells_doubt (status_in (layout_of tree.old) rows) tree.old) }
+    ensures changed { result
+        ≡ not (has_invalid_measure (status_in (layout_of tree.old) rows) tree.old) }
     ensures rows { tree.new ≡ rows_after_doubt (status_in (layout_of tree.old) rows) now tree.old }
     ensures layout { layout_of tree.new ≡ layout_of tree.old }
 {

@@ -4,7 +4,7 @@ ghost use Rattle.bay_nodes.specs.declared.switch.Switch.{Switch};
 ghost use Rattle.bay_process.specs.Layout.{layout_of, switches_of};
 ghost use Rattle.bay_process.specs.Releases.{Shows};
 ghost use Rattle.bay_process.specs.Releases as spec;
-ghost use Rattle.bay_process.specs.ReportedRows.{AreInterlocked, AreKept};
+ghost use Rattle.bay_process.specs.ReportedRows.{AreInterlocked, AreStored};
 ghost use Rattle.bay_process.specs.declared.switch.Enabled.{Enabled as Told};
 
 use crate::rows::is_truth;
@@ -68,13 +68,13 @@ impl Releases {
 
 /// Returns the releases of the switches as the tree has them, before the first scan. Fails only if
 /// an allocation fails.
-pub fn kept_releases(
+pub fn stored_releases(
     alloc: Global,
     tree: &Tree,
     switches: &[BoundSwitch],
 ) -> Result<Releases, AllocError>
     requires { AreInterlocked (layout_of tree.now) switches.now }
-    ensures { IfOk result (AreKept tree.now (switches_of switches.now) 0) }
+    ensures { IfOk result (AreStored tree.now (switches_of switches.now) 0) }
 {
     let mut text = Vec::new(alloc);
     let mut places = Vec::new(alloc);

@@ -12,7 +12,7 @@ ghost use Rattle.bay_process.specs.Values.{output_at, with_enabled, with_output}
 ghost use Rattle.bay_process.specs.Values as spec_values;
 ghost use Rattle.bay_process.specs.Layout.{layout_of, status_in, switch_in, switches_of, AreStatusRows, AreSwitchRows, AreLeafTyped, AreMetersLeafTyped};
 ghost use Rattle.bay_process.specs.Sources.{type_of_source, type_of_switch_point};
-ghost use Rattle.bay_process.specs.ReportedRows.{AreEnabling, AreInterlocked, AreKept, AreValued, IsInterlocked, HoldsRelease};
+ghost use Rattle.bay_process.specs.ReportedRows.{AreEnabling, AreInterlocked, AreStored, AreValued, IsInterlocked, HoldsRelease};
 ghost use Rattle.bay_process.specs.Scans.{source_value, leaf_at, outputs_put};
 ghost use Rattle.bay_process.specs.Scans as spec;
 
@@ -194,7 +194,7 @@ fn write_output(tree: &mut Tree, rows: &SwitchRows, enabled: Enabled, now: u64)
 // Writes the interlocking values of the switch at an index, unless the last scan wrote the same
 // ones.
 #[inline(always)]
-fn tell(
+fn write_interlocking(
     tree: &mut Tree,
     kept: &mut Releases,
     place: usize,
@@ -203,12 +203,13 @@ fn tell(
     now: u64,
 )
     requires rows { IsInterlocked (layout_of tree.old) place rows.now }
-    requires kept { (ss : List Switch) × AreKept tree.old ss place kept.old × (place < length ss) }
+    requires kept { (ss : List Switch) × AreStored tree.old ss place kept.old
+        × (place < length ss) }
     ensures rows { tree.new ≡ with_output (switch_in (layout_of tree.old) rows.now) enabled.may_open
         enabled.may_close now tree.old }
     ensures layout { layout_of tree.new ≡ layout_of tree.old }
-    ensures kept { (ss : List Switch) → AreKept tree.old ss place kept.old → place < length ss
-        → AreKept tree.new ss (place + 1) kept.new }
+    ensures kept { (ss : List Switch) → AreStored tree.old ss place kept.old → place < length ss
+        → AreStored tree.new ss (place + 1) kept.new }
 {
     let stood = kept.get(place);
     if kept.is_written
@@ -231,11 +232,11 @@ pub fn write_outputs(
     now: u64,
 )
     requires interlocked { AreInterlocked (layout_of tree.old) switches.now }
-    requires kept { AreKept tree.old (switches_of switches.now) 0 kept.old }
+    requires kept { AreStored tree.old (switches_of switches.now) 0 kept.old }
     ensures rows { tree.new ≡ outputs_put (layout_of tree.old) switches.now outputs.now now
         tree.old }
     ensures layout { layout_of tree.new ≡ layout_of tree.old }
-    ensures kept { AreKept tree.new (switches_of switches.now) 0 kept.new }
+    ensures kept { AreStored tree.new (switches_of switches.now) 0 kept.new }
 {
     for place in 0..switches.len() {
         let bound = &switches[place];
@@ -243,7 +244,7 @@ pub fn write_outputs(
             may_open: output(outputs, bound.outputs.ena_opn),
             may_close: output(outputs, bound.outputs.ena_cls),
         };
-        tell(tree, kept, place, &bound.rows, enabled, now);
+        write_interlocking(tree, kept, place, &bound.rows, enabled, now);
     }
     kept.is_written = true;
 }

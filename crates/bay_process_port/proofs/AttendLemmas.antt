@@ -3,9 +3,9 @@ use Rattle.std.proofs.Common.{◌≡◌, ℕ, ◌+◌, ◌-◌, ◌==◌, ◌≤
 use Rattle.std.proofs.lemmas.Bool.Decides.{nat_tests}
 use Rattle.std.specs.List.{position}
 use Rattle.std.specs.declared.net.socket_addr.SocketAddrV4.{SocketAddrV4}
-use Rattle.bay_lines.specs.FirstLines.{LineSearchData, Overlong, Waiting, Whole, first_line_of, front_at, is_end}
+use Rattle.bay_lines.specs.FirstLines.{LineSearchData, Overlong, Waiting, Whole, first_line_of, first_line_at, is_end}
 use Rattle.bay_server_turn.proofs.TalkLemmas.{Talks-append}
-use Rattle.bay_process_port.specs.Polling.{Attended, all_told, Attends, ClosesDismissed, Does, Leads, AttendedPart, Script, accepted_in, attendance, attended_here, and_then, close_dismissed, first_part, greet_part, left_alone, offer_part, offered_of, on_taken, read_by, exchange_part, with_report_queued, after_greeting}
+use Rattle.bay_process_port.specs.Polling.{Attended, all_output, Attends, ClosesDismissed, Does, Leads, AttendedPart, Script, accepted_in, attendance, attended_here, and_then, close_dismissed, first_part, greet_part, left_alone, offer_part, offered_of, after_write, read_by, exchange_part, with_report_queued, after_greeting}
 use Rattle.bay_server_turn.specs.Calls.{Call, Accepts, Closes, ReadOutcome, Octets, Silence, Reads, Writes, MakesCalls}
 use Rattle.bay_process_port.specs.Fit.{is_waiting}
 use Rattle.bay_process_port.specs.Ports.{PortData, with_no_data}
@@ -27,19 +27,19 @@ waiting-short xs e = by-place (position is_end (take 257 xs)) e
     by-long true is e = absurd cc
     by-long false is e = grind (arith, nat_tests)
 
-    by-place : (o : Option ℕ) → is_waiting (front_at xs o) ≡ true → length xs ≤ 256
+    by-place : (o : Option ℕ) → is_waiting (first_line_at xs o) ≡ true → length xs ≤ 256
     by-place None e = by-long (nat_lt 256 (length xs)) refl e
     by-place (Some k) e = absurd cc
 
 offered-some : (xs : List ℕ) (taken : Option ℕ) (p : PortData) → (length xs == 0) ≡ false
-    → offered_of xs taken p ≡ on_taken taken p (Writes 1 xs taken ∷ [])
+    → offered_of xs taken p ≡ after_write taken p (Writes 1 xs taken ∷ [])
 offered-some [] taken p e = absurd cc
 offered-some (b ∷ bs) taken p e = refl
 
 told-calls : (t : ReportedTurn) (s : State) (p : PortData) → (with_report_queued t s p).calls ≡ []
-told-calls t s p = by-room (fits_in p.queue (all_told t s p)) refl
+told-calls t s p = by-room (fits_in p.queue (all_output t s p)) refl
   where
-    by-room : (v : Bool) → fits_in p.queue (all_told t s p) ≡ v
+    by-room : (v : Bool) → fits_in p.queue (all_output t s p) ≡ v
         → (with_report_queued t s p).calls ≡ []
     by-room true e = rw e refl
     by-room false e = rw e refl
@@ -56,8 +56,8 @@ module _ {L : Type 0} (step : L → Call → L → Type 0) where
   -- what waits was offered
   pub offers-some : (old new : L) (before after : PortData) (taken : Option ℕ)
       (answer : Result (Unit {0}) DisconnectReason) → (length before.queue == 0) ≡ false
-      → Leads (on_taken taken before (Writes 1 before.queue taken ∷ [])).after after answer
-      → MakesCalls step old (on_taken taken before (Writes 1 before.queue taken ∷ [])).calls new
+      → Leads (after_write taken before (Writes 1 before.queue taken ∷ [])).after after answer
+      → MakesCalls step old (after_write taken before (Writes 1 before.queue taken ∷ [])).calls new
       → Does step offer_part old new before after answer
   offers-some old new before after taken answer some leads talks =
       let is = offered-some before.queue taken before some in

@@ -2,7 +2,7 @@
 use Rattle.std.proofs.Common.{◌≡◌, ℕ, List, Option, None, Some, is_some, option_map, if◌then◌else◌, refl, ap, ap₂, ◌∙◌}
 use Rattle.bay_device.specs.Device.{State}
 use Rattle.bay_process_port.specs.Ports.{PortData, StaysBound, empty_port, with_no_data}
-use Rattle.bay_process_port.specs.Releases.{Release, nothing_told, told_after}
+use Rattle.bay_process_port.specs.Releases.{Release, no_releases_sent, sent_releases_after}
 use Rattle.bay_process_port.specs.Supervised.{Watched, after_alive_answer, settings_in, heard_at, initial_watch}
 use Rattle.bay_process_port.specs.declared.port.Presence.{Presence}
 
@@ -18,7 +18,7 @@ pub emptied-same : (presence : Presence) (p q : PortData) → StaysBound p q
 emptied-same presence p q b = ap₂ (λ t d. empty_port t d presence) b.told b.duties
 
 told-some : (s : State) (told : Option (List (Option Release)))
-    → is_some (told_after s told) ≡ is_some told
+    → is_some (sent_releases_after s told) ≡ is_some told
 told-some s None = refl
 told-some s (Some told) = refl
 
@@ -47,7 +47,7 @@ bound-heard moment p q is = record {
   duties = ap (λ (d : PortData). settings_in d.watch) is ∙ heard-duties moment p.watch;
 }
 
-pub bound-told : (s : State) (p q : PortData) → q.told ≡ told_after s p.told
+pub bound-told : (s : State) (p q : PortData) → q.told ≡ sent_releases_after s p.told
     → q.watch ≡ after_alive_answer p.watch → StaysBound p q
 bound-told s p q told watch = record {
   told = ap is_some told ∙ told-some s p.told;
@@ -59,7 +59,7 @@ pub bound-as : (p q : PortData) → q.told ≡ p.told → q.watch ≡ p.watch �
 bound-as p q told watch = record { told = ap is_some told; duties = ap settings_in watch }
 
 told-again : (told : Option (List (Option Release)))
-    → is_some (if is_some told then Some nothing_told else None) ≡ is_some told
+    → is_some (if is_some told then Some no_releases_sent else None) ≡ is_some told
 told-again None = refl
 told-again (Some told) = refl
 

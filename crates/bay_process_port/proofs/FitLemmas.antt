@@ -10,7 +10,7 @@ use Rattle.bay_process_port.proofs.IntroductionLemmas.{introduced-untold}
 use Rattle.bay_server_turn.proofs.SupervisedLemmas.{timed-told}
 use Rattle.bay_trace.specs.Trace.{LineData, NamedData, blank, at_moment, connects, receives, disconnects, contact, input, measure, bad_measure, lost, scan, process_of, trace_line_of}
 use Rattle.bay_trace.specs.Trace as trace
-use Rattle.bay_process_port.specs.Fit.{is_told, line_or_none}
+use Rattle.bay_process_port.specs.Fit.{has_process_event, line_or_none}
 use Rattle.bay_process_port.specs.Supervised.{SupervisionSettings, Watched, event_in, judge_introduction, is_timely, judge_line, line_in, judge_plain_line, judge_later_line, judge_moment, word_of}
 use Rattle.bay_process_port.specs.declared.connection_event.DisconnectReason.{DisconnectReason}
 use Rattle.bay_process_port.specs.declared.connection_event.DisconnectReason.TheVariants.{OutOfOrder}
@@ -38,7 +38,8 @@ line-some s (Some blank) = refl
 line-some s (Some (at_moment moment named)) = event-some s named
 
 -- a line tells of an event of a device exactly where it tells of one
-pub told-some : (s : State) (line : List ℕ) → is_some (event_in_line s line) ≡ is_told line
+pub told-some : (s : State) (line : List ℕ)
+    → is_some (event_in_line s line) ≡ has_process_event line
 told-some s line = line-some s (trace_line_of line)
 
 -- ---- what a line comes to is what it tells

@@ -3,11 +3,11 @@ use Rattle.std.proofs.Common.{◌≡◌, ℕ, ◌-◌, Bool, ◌||◌, true, fal
 use Rattle.std.specs.declared.net.socket_addr.SocketAddrV4.{SocketAddrV4}
 use Rattle.bay_device.specs.Device.{State}
 use Rattle.bay_lines.specs.FirstLines.{LineSearchData, Waiting, Overlong, Whole, first_line_of}
-use Rattle.bay_process_port.specs.Polling.{Attended, all_told, AttendedPart, Script, accepted_in, attendance, attended_as, attended_here, and_then, closed_or_kept, first_part, greet_part, offer_part, offered_of, on_read, read_by, taken_or_closed, exchange_part, with_report_queued, after_greeting}
+use Rattle.bay_process_port.specs.Polling.{Attended, all_output, AttendedPart, Script, accepted_in, attendance, attended_as, attended_here, and_then, closed_or_open, first_part, greet_part, offer_part, offered_of, on_read, read_by, opened_or_closed, exchange_part, with_report_queued, after_greeting}
 use Rattle.bay_process_port.specs.Fit.{is_waiting}
-use Rattle.bay_process_port.specs.Laws.{IsReadable, IsSilent, TellsInOrder, hears_end, is_end, taken_of}
-use Rattle.bay_process_port.specs.Ports.{PortData, Taken, dismissed_of, with_no_data, judged_at, taken_as, taken_by}
-use Rattle.bay_process_port.specs.Releases.{told_after}
+use Rattle.bay_process_port.specs.Laws.{IsReadable, IsSilent, WritesInOrder, reads_end, is_end, accepted_octets}
+use Rattle.bay_process_port.specs.Ports.{PortData, PortReading, dismissed_of, with_no_data, judged_at, reading_as, reading_by}
+use Rattle.bay_process_port.specs.Releases.{sent_releases_after}
 use Rattle.bay_process_port.specs.ProcessOutput.{ReportedTurn, fits_in}
 use Rattle.bay_process_port.specs.Supervised.{after_alive_answer}
 use Rattle.bay_process_port.specs.declared.connection_event.ConnectionEvent.TheVariants.{Closed, Opened}
@@ -26,8 +26,8 @@ use Rattle.bay_process_port.proofs.WatchLemmas.{line-judged}
 by-readable : (s : State) (now jump : ℕ) (p : PortData) (line : List ℕ)
     (r : Result (Option TimedMessage) DisconnectReason) (f : LineSearchData)
     → judged_at s now jump p ≡ r → first_line_of p.kept ≡ f
-    → (taken_by now r f p).line ≡ Some line
-    → input_of_event (event_in_line s line) ≡ Ok (report_of_event (taken_by now r f p).event)
+    → (reading_by now r f p).line ≡ Some line
+    → input_of_event (event_in_line s line) ≡ Ok (report_of_event (reading_by now r f p).event)
 by-readable s now jump p line (Err why) f is there e = absurd cc
 by-readable s now jump p line (Ok None) f is there e = absurd cc
 by-readable s now jump p line (Ok (Some said)) Waiting is there e = absurd cc
@@ -37,9 +37,9 @@ by-readable s now jump p line (Ok (Some said)) (Whole text rest) is there e =
     (line-judged s now jump p text rest said there is) e
 
 taken-readable : (presence : Presence) (s : State) (now jump : ℕ) (p : PortData) (line : List ℕ)
-    → (taken_as presence s now jump p).line ≡ Some line
+    → (reading_as presence s now jump p).line ≡ Some line
     → input_of_event (event_in_line s line)
-    ≡ Ok (report_of_event (taken_as presence s now jump p).event)
+    ≡ Ok (report_of_event (reading_as presence s now jump p).event)
 taken-readable Away s now jump p line e = absurd cc
 taken-readable Leaving s now jump p line e = absurd cc
 taken-readable (Dismissed why) s now jump p line e = absurd cc
@@ -52,8 +52,8 @@ is-readable s now jump p line e = taken-readable p.presence s now jump p line e
 -- ---- a process that has gone
 
 closed-empty : (before : PortData) (r : Result PortData DisconnectReason) (calls : List Call)
-    (why : DisconnectReason) → (closed_or_kept before r calls).news ≡ Some (Closed why)
-    → (closed_or_kept before r calls).port ≡ with_no_data Leaving before
+    (why : DisconnectReason) → (closed_or_open before r calls).news ≡ Some (Closed why)
+    → (closed_or_open before r calls).port ≡ with_no_data Leaving before
 closed-empty before (Ok p) calls why e = absurd cc
 closed-empty before (Err w) calls why e = refl
 
@@ -63,15 +63,15 @@ record Untaken (p : PortData) (a : Attended) : Type 0 where
   port : a.port ≡ with_no_data Away p
 
 -- a call that brought no end
-ends-none : (calls : List Call) (call : Call) → hears_end (call ∷ []) ≡ false
-    → hears_end (calls ++ call ∷ []) ≡ true → hears_end calls ≡ true
+ends-none : (calls : List Call) (call : Call) → reads_end (call ∷ []) ≡ false
+    → reads_end (calls ++ call ∷ []) ≡ true → reads_end calls ≡ true
 ends-none [] call none ends = let no : true ≡ false = sym ends ∙ none in absurd cc
 ends-none (Accepts a taken ∷ calls) call none ends = ends-none calls call none ends
 ends-none (Reads a room heard ∷ calls) call none ends =
     by-end (is_end heard) (ends-none calls call none) ends
   where
-    by-end : (v : Bool) → (hears_end (calls ++ call ∷ []) ≡ true → hears_end calls ≡ true)
-        → (v || hears_end (calls ++ call ∷ [])) ≡ true → (v || hears_end calls) ≡ true
+    by-end : (v : Bool) → (reads_end (calls ++ call ∷ []) ≡ true → reads_end calls ≡ true)
+        → (v || reads_end (calls ++ call ∷ [])) ≡ true → (v || reads_end calls) ≡ true
     by-end true more e = refl
     by-end false more e = more e
 ends-none (Writes a octets taken ∷ calls) call none ends = ends-none calls call none ends
@@ -79,47 +79,47 @@ ends-none (Closes a ∷ calls) call none ends = ends-none calls call none ends
 
 -- a read that brought an end
 read-ended : (before : PortData) (heard : ReadOutcome) (p : PortData) (calls : List Call)
-    → hears_end calls ≡ false → hears_end (calls ++ (read_by heard p).calls) ≡ true
+    → reads_end calls ≡ false → reads_end (calls ++ (read_by heard p).calls) ≡ true
     → Untaken before
-    (taken_or_closed before (read_by heard p).after (calls ++ (read_by heard p).calls))
+    (opened_or_closed before (read_by heard p).after (calls ++ (read_by heard p).calls))
 read-ended before heard p calls none = by-front (is_waiting (first_line_of p.kept)) refl
   where
     by-heard : (h : ReadOutcome)
         → (let part = on_read h p (Reads 1 4096 h ∷ []) in
-        hears_end (calls ++ part.calls) ≡ true
-        → Untaken before (taken_or_closed before part.after (calls ++ part.calls)))
+        reads_end (calls ++ part.calls) ≡ true
+        → Untaken before (opened_or_closed before part.after (calls ++ part.calls)))
     by-heard (Octets octets) ends =
-        let no : hears_end calls ≡ true =
+        let no : reads_end calls ≡ true =
         ends-none calls (Reads 1 4096 (Octets octets)) refl ends in
         absurd cc
     by-heard Silence ends =
-        let no : hears_end calls ≡ true = ends-none calls (Reads 1 4096 Silence) refl ends in
+        let no : reads_end calls ≡ true = ends-none calls (Reads 1 4096 Silence) refl ends in
         absurd cc
     by-heard Over ends = record { news = refl; port = refl }
     by-heard Broken ends = record { news = refl; port = refl }
 
     by-front : (v : Bool) → is_waiting (first_line_of p.kept) ≡ v
-        → hears_end (calls ++ (read_by heard p).calls) ≡ true
+        → reads_end (calls ++ (read_by heard p).calls) ≡ true
         → Untaken before
-        (taken_or_closed before (read_by heard p).after (calls ++ (read_by heard p).calls))
+        (opened_or_closed before (read_by heard p).after (calls ++ (read_by heard p).calls))
     by-front true e = rw e (by-heard heard)
     by-front false e = rw e (λ ends.
-        let no : hears_end calls ≡ true = ap hears_end (sym (append-nil calls)) ∙ ends in
+        let no : reads_end calls ≡ true = ap reads_end (sym (append-nil calls)) ∙ ends in
         absurd cc)
 
 -- what was done before a read, and the read
 behind-ended : (before : PortData) (r : Result PortData DisconnectReason) (calls : List Call)
     (heard : ReadOutcome)
-    → (hears_end calls ≡ true → Untaken before (taken_or_closed before r calls))
+    → (reads_end calls ≡ true → Untaken before (opened_or_closed before r calls))
     → (let part = and_then (record { after = r; calls = calls }) (read_by heard) in
-    hears_end part.calls ≡ true
-    → Untaken before (taken_or_closed before part.after part.calls))
+    reads_end part.calls ≡ true
+    → Untaken before (opened_or_closed before part.after part.calls))
 behind-ended before (Err why) calls heard first ends = record { news = refl; port = refl }
-behind-ended before (Ok p) calls heard first ends = by-calls (hears_end calls) refl
+behind-ended before (Ok p) calls heard first ends = by-calls (reads_end calls) refl
   where
-    by-calls : (v : Bool) → hears_end calls ≡ v
+    by-calls : (v : Bool) → reads_end calls ≡ v
         → Untaken before
-        (taken_or_closed before (read_by heard p).after (calls ++ (read_by heard p).calls))
+        (opened_or_closed before (read_by heard p).after (calls ++ (read_by heard p).calls))
     by-calls true e = let u = first e in absurd (opened u.news)
       where
         opened : Some Opened ≡ None → ⊥
@@ -127,7 +127,7 @@ behind-ended before (Ok p) calls heard first ends = by-calls (hears_end calls) r
     by-calls false e = read-ended before heard p calls e ends
 
 first-untaken : (now : ℕ) (s : State) (before : PortData) (heard : ReadOutcome × ReadOutcome)
-    → hears_end (first_part now s heard (with_no_data Here before)).calls ≡ true
+    → reads_end (first_part now s heard (with_no_data Here before)).calls ≡ true
     → Untaken before (after_greeting before (first_part now s heard (with_no_data Here before)))
 first-untaken now s before heard =
     let g = greet_part now s (with_no_data Here before) in
@@ -135,10 +135,10 @@ first-untaken now s before heard =
     behind-ended before a.after a.calls heard.1
     (behind-ended before g.after g.calls heard.0
     (λ ends. let no : false ≡ true =
-    ap hears_end (sym (greet-calls now s (with_no_data Here before))) ∙ ends in absurd cc))
+    ap reads_end (sym (greet-calls now s (with_no_data Here before))) ∙ ends in absurd cc))
 
 -- a closing ends nothing
-closes-nothing : (calls : List Call) → hears_end (calls ++ Closes 1 ∷ []) ≡ hears_end calls
+closes-nothing : (calls : List Call) → reads_end (calls ++ Closes 1 ∷ []) ≡ reads_end calls
 closes-nothing [] = refl
 closes-nothing (Accepts a taken ∷ calls) = closes-nothing calls
 closes-nothing (Reads a room heard ∷ calls) = ap (λ v. is_end heard || v) (closes-nothing calls)
@@ -146,13 +146,13 @@ closes-nothing (Writes a octets taken ∷ calls) = closes-nothing calls
 closes-nothing (Closes a ∷ calls) = closes-nothing calls
 
 welcomed-ends : (before : PortData) (r : Result PortData DisconnectReason) (calls : List Call)
-    → hears_end (taken_or_closed before r calls).calls ≡ hears_end calls
+    → reads_end (opened_or_closed before r calls).calls ≡ reads_end calls
 welcomed-ends before (Ok p) calls = refl
 welcomed-ends before (Err why) calls = closes-nothing calls
 
 accepted-untaken : (now : ℕ) (s : State) (taken : Option (Option SocketAddrV4))
     (heard : ReadOutcome × ReadOutcome) (p : PortData)
-    → hears_end (accepted_in now s taken heard p).calls ≡ true
+    → reads_end (accepted_in now s taken heard p).calls ≡ true
     → Untaken p (accepted_in now s taken heard p)
 accepted-untaken now s None heard p ends = absurd cc
 accepted-untaken now s (Some None) heard p ends = absurd cc
@@ -163,8 +163,8 @@ accepted-untaken now s (Some (Some from)) heard p ends =
 
 dismissed-is : (s : State) (now jump : ℕ) (p : PortData) (why : DisconnectReason)
     (r : Result (Option TimedMessage) DisconnectReason) (f : LineSearchData)
-    → p.presence ≡ Here → (taken_by now r f p).port.presence ≡ Dismissed why
-    → taken_by now r f p ≡ dismissed_of why p
+    → p.presence ≡ Here → (reading_by now r f p).port.presence ≡ Dismissed why
+    → reading_by now r f p ≡ dismissed_of why p
 dismissed-is s now jump p why (Err w) f here e =
     let both : Dismissed w ≡ Dismissed why = e in
     let same : w ≡ why = cc in
@@ -186,36 +186,37 @@ is-silent t s now jump script p = record {
       let is = ap (λ presence. attended_as presence t s script p) here in
       ap (λ (a : Attended). a.port) is
       ∙ closed-empty p part.after part.calls why (ap (λ (a : Attended). a.news) (sym is) ∙ e);
-  lost = λ leaving. ap (λ presence. taken_as presence s now jump p) leaving;
+  lost = λ leaving. ap (λ presence. reading_as presence s now jump p) leaving;
   dismisses = λ why here e.
-      let is = ap (λ presence. taken_as presence s now jump p) here in
+      let is = ap (λ presence. reading_as presence s now jump p) here in
       is ∙ dismissed-is s now jump p why (judged_at s now jump p) (first_line_of p.kept) here
-      (ap (λ (x : Taken). x.port.presence) (sym is) ∙ e);
+      (ap (λ (x : PortReading). x.port.presence) (sym is) ∙ e);
   parts = λ why leaving. ap (λ presence. attended_as presence t s script p) leaving;
   calls = λ leaving. ap (λ presence. (attended_as presence t s script p).calls) leaving;
   untaken = λ away ends.
       let is = ap (λ presence. attended_as presence t s script p) away in
       let u = accepted-untaken t.now s script.accepted (script.heard, script.again) p
-      (ap (λ (a : Attended). hears_end a.calls) (sym is) ∙ ends) in
+      (ap (λ (a : Attended). reads_end a.calls) (sym is) ∙ ends) in
       (ap (λ (a : Attended). a.news) is ∙ u.news, ap (λ (a : Attended). a.port) is ∙ u.port);
 }
 
 -- ---- what is told
 
-taken-append : (xs ys : List Call) → taken_of (xs ++ ys) ≡ taken_of xs ++ taken_of ys
+taken-append : (xs ys : List Call)
+    → accepted_octets (xs ++ ys) ≡ accepted_octets xs ++ accepted_octets ys
 taken-append [] ys = refl
 taken-append (Accepts a taken ∷ xs) ys = taken-append xs ys
 taken-append (Reads a room heard ∷ xs) ys = taken-append xs ys
 taken-append (Writes a octets None ∷ xs) ys = taken-append xs ys
 taken-append (Writes a octets (Some n) ∷ xs) ys =
     ap (λ l. take n octets ++ l) (taken-append xs ys)
-    ∙ sym (append_assoc (take n octets) (taken_of xs) (taken_of ys))
+    ∙ sym (append_assoc (take n octets) (accepted_octets xs) (accepted_octets ys))
 taken-append (Closes a ∷ xs) ys = taken-append xs ys
 
 -- a part took a front of what was to be told, and the rest still waits, unless it led to a closing
 record Tells (all : List ℕ) (part : AttendedPart) : Type 0 where
   rest : List ℕ
-  whole : all ≡ taken_of part.calls ++ rest
+  whole : all ≡ accepted_octets part.calls ++ rest
   waits : (p : PortData) → part.after ≡ Ok p → p.queue ≡ rest
 
 tells-behind : (all : List ℕ) (r : Result PortData DisconnectReason) (calls : List Call)
@@ -229,18 +230,18 @@ tells-behind all (Ok p) calls f t next =
     record {
       rest = n.rest;
       whole = t.whole
-          ∙ ap (λ l. taken_of calls ++ l) (sym (t.waits p refl) ∙ n.whole)
-          ∙ sym (append_assoc (taken_of calls) (taken_of (f p).calls) n.rest)
+          ∙ ap (λ l. accepted_octets calls ++ l) (sym (t.waits p refl) ∙ n.whole)
+          ∙ sym (append_assoc (accepted_octets calls) (accepted_octets (f p).calls) n.rest)
           ∙ ap (λ l. l ++ n.rest) (sym (taken-append calls (f p).calls));
       waits = n.waits;
     }
 
 tells-told : (t : ReportedTurn) (s : State) (p : PortData)
-    → Tells (p.queue ++ all_told t s p) (with_report_queued t s p)
+    → Tells (p.queue ++ all_output t s p) (with_report_queued t s p)
 tells-told t s p = by-room (fits_in p.queue all) refl
   where
     all : List ℕ
-    all = all_told t s p
+    all = all_output t s p
 
     by-room : (v : Bool) → fits_in p.queue all ≡ v
         → Tells (p.queue ++ all) (with_report_queued t s p)
@@ -250,7 +251,7 @@ tells-told t s p = by-room (fits_in p.queue all) refl
       waits = λ q is.
           let same : record p {
             queue = p.queue ++ all;
-            told = told_after s p.told;
+            told = sent_releases_after s p.told;
             watch = after_alive_answer p.watch;
           }
           ≡ q = cc in
@@ -305,9 +306,9 @@ tells-read heard p = by-front (is_waiting (first_line_of p.kept)) refl
     })
 
 tells-talked : (t : ReportedTurn) (s : State) (answers : Option ℕ × ReadOutcome) (p : PortData)
-    → Tells (p.queue ++ all_told t s p) (exchange_part t s answers p)
+    → Tells (p.queue ++ all_output t s p) (exchange_part t s answers p)
 tells-talked t s answers p =
-    let all = p.queue ++ all_told t s p in
+    let all = p.queue ++ all_output t s p in
     let a = with_report_queued t s p in
     let ta = tells-behind all a.after a.calls (offer_part answers.0)
     (record {
@@ -322,22 +323,22 @@ tells-talked t s answers p =
     (λ q. tells-read answers.1 q)
 
 closed-tells : (all : List ℕ) (before : PortData) (r : Result PortData DisconnectReason)
-    (calls : List Call) (rest : List ℕ) → all ≡ taken_of calls ++ rest
-    → all ≡ taken_of (closed_or_kept before r calls).calls ++ rest
+    (calls : List Call) (rest : List ℕ) → all ≡ accepted_octets calls ++ rest
+    → all ≡ accepted_octets (closed_or_open before r calls).calls ++ rest
 closed-tells all before (Ok p) calls rest e = e
 closed-tells all before (Err why) calls rest e =
     e ∙ ap (λ l. l ++ rest)
-    (sym (append-nil (taken_of calls)) ∙ sym (taken-append calls (Closes 1 ∷ [])))
+    (sym (append-nil (accepted_octets calls)) ∙ sym (taken-append calls (Closes 1 ∷ [])))
 
 kept-waits : (before : PortData) (r : Result PortData DisconnectReason) (calls : List Call)
     (rest : List ℕ) → ((p : PortData) → r ≡ Ok p → p.queue ≡ rest)
-    → (closed_or_kept before r calls).news ≡ None
-    → (closed_or_kept before r calls).port.queue ≡ rest
+    → (closed_or_open before r calls).news ≡ None
+    → (closed_or_open before r calls).port.queue ≡ rest
 kept-waits before (Ok p) calls rest waits e = waits p refl
 kept-waits before (Err why) calls rest waits e = absurd cc
 
 pub tells-in-order : (t : ReportedTurn) (s : State) (script : Script) (p : PortData)
-    → p.presence ≡ Here → TellsInOrder t s script p
+    → p.presence ≡ Here → WritesInOrder t s script p
 tells-in-order t s script p here =
     let part = exchange_part t s (script.taken, script.heard) p in
     let told = tells-talked t s (script.taken, script.heard) p in
@@ -345,8 +346,9 @@ tells-in-order t s script p here =
     ap (λ presence. attended_as presence t s script p) here in
     record {
       rest = told.rest;
-      whole = closed-tells (p.queue ++ all_told t s p) p part.after part.calls told.rest told.whole
-          ∙ ap (λ (a : Attended). taken_of a.calls ++ told.rest) (sym is);
+      whole = closed-tells (p.queue ++ all_output t s p) p part.after part.calls told.rest
+          told.whole
+          ∙ ap (λ (a : Attended). accepted_octets a.calls ++ told.rest) (sym is);
       waits = λ none. ap (λ (a : Attended). a.port.queue) is
           ∙ kept-waits p part.after part.calls told.rest told.waits
           (ap (λ (a : Attended). a.news) (sym is) ∙ none);

@@ -10,13 +10,13 @@ use Rattle.bay_process_port.specs.Introduction.{introduced_at}
 use Rattle.bay_server_turn.specs.Supervised.{timed_line_of}
 use Rattle.bay_server_turn.specs.declared.process_input.ProcessEvent.{ProcessEvent}
 use Rattle.bay_server_turn.specs.declared.supervised.TimedLine.{TimedLine}
-use Rattle.bay_process_port.specs.Ports.{PortData, Taken, empty_port, judged_at, taken_as, taken_by, taken_line}
+use Rattle.bay_process_port.specs.Ports.{PortData, PortReading, empty_port, judged_at, reading_as, reading_by, reading_at}
 use Rattle.bay_process_port.specs.Supervision.{AreOf, IsOfThisBay, IsOnTime}
-use Rattle.bay_process_port.specs.Uses.{StaysHere, Use, Takes, Attends, after_uses, octets_given, port_after}
+use Rattle.bay_process_port.specs.Uses.{StaysHere, Use, Takes, Attends, after_uses, octets_read, port_after}
 use Rattle.bay_process_port.proofs.UseLemmas.{attends-keep, comes-keep, cut-is, cut_by, moves_of, starts-follow}
 use Rattle.bay_process_port.proofs.FitLemmas.{report-is, timely-event, timely-is, word-event}
 use Rattle.bay_process_port.proofs.WatchLemmas.{accepted-same, attended-same, known-duties, line-judged}
-use Rattle.bay_process_port.specs.Supervised.{SupervisionSettings, Watched, event_in, judge_introduction, is_timely, judge_line, known_as, known_behind, known_by, judge_later_line, judge_moment, initial_watch, word_of}
+use Rattle.bay_process_port.specs.Supervised.{SupervisionSettings, Watched, event_in, judge_introduction, is_timely, judge_line, known_as, watched_after, known_by, judge_later_line, judge_moment, initial_watch, word_of}
 use Rattle.bay_process_port.specs.declared.connection_event.DisconnectReason.{DisconnectReason}
 use Rattle.bay_process_port.specs.declared.port.Presence.{Presence}
 use Rattle.bay_process_port.specs.declared.port.Presence.TheVariants.{Away, Leaving, Dismissed, Here}
@@ -83,7 +83,7 @@ judged-of s now w line said event e is = by-known w.introduced refl
 by-on-time : (s : State) (now jump : ℕ) (p : PortData) (w : Watched) (event : ProcessEvent)
     (r : Result (Option TimedMessage) DisconnectReason) (f : LineSearchData)
     → judged_at s now jump p ≡ r → first_line_of p.kept ≡ f → p.watch ≡ Some w
-    → (taken_by now r f p).event ≡ Some event → IsOnTime s now p w event
+    → (reading_by now r f p).event ≡ Some event → IsOnTime s now p w event
 by-on-time s now jump p w event (Err why) f is there watched e = absurd cc
 by-on-time s now jump p w event (Ok None) f is there watched e = absurd cc
 by-on-time s now jump p w event (Ok (Some said)) Waiting is there watched e = absurd cc
@@ -114,7 +114,7 @@ by-on-time s now jump p w event (Ok (Some said)) (Whole line rest) is there watc
 
 as-on-time : (presence : Presence) (s : State) (now jump : ℕ) (p : PortData) (w : Watched)
     (event : ProcessEvent) → p.watch ≡ Some w
-    → (taken_as presence s now jump p).event ≡ Some event → IsOnTime s now p w event
+    → (reading_as presence s now jump p).event ≡ Some event → IsOnTime s now p w event
 as-on-time Away s now jump p w event watched e = absurd cc
 as-on-time Leaving s now jump p w event watched e = absurd cc
 as-on-time (Dismissed why) s now jump p w event watched e = absurd cc
@@ -123,7 +123,7 @@ as-on-time Here s now jump p w event watched e =
     watched e
 
 pub is-on-time : (s : State) (now jump : ℕ) (p : PortData) (w : Watched) (event : ProcessEvent)
-    → p.watch ≡ Some w → (taken_line s now jump p).event ≡ Some event → IsOnTime s now p w event
+    → p.watch ≡ Some w → (reading_at s now jump p).event ≡ Some event → IsOnTime s now p w event
 is-on-time s now jump p w event watched e =
     as-on-time p.presence s now jump p w event watched e
 
@@ -153,25 +153,25 @@ record StaysWatched (duties : SupervisionSettings) (watch : Option Watched) : Ty
 
 by-watched : (w : Watched) (now : ℕ) (r : Result (Option TimedMessage) DisconnectReason)
     (f : LineSearchData) (p : PortData) → p.watch ≡ Some w
-    → (taken_by now r f p).port.presence ≡ Here
-    → StaysWatched w.duties (taken_by now r f p).port.watch
+    → (reading_by now r f p).port.presence ≡ Here
+    → StaysWatched w.duties (reading_by now r f p).port.watch
 by-watched w now (Err why) f p is still = absurd cc
 by-watched w now (Ok None) f p is still = record { later = w; is = is; owes = refl }
 by-watched w now (Ok (Some said)) Waiting p is still = record { later = w; is = is; owes = refl }
 by-watched w now (Ok (Some said)) Overlong p is still = record { later = w; is = is; owes = refl }
 by-watched w now (Ok (Some said)) (Whole line rest) p is still = record {
   later = known_by now said w;
-  is = ap (known_behind now said) is;
+  is = ap (watched_after now said) is;
   owes = known-duties said.word (record w { heard = min now said.moment; last = said.moment });
 }
 
 use-watched : (w : Watched) (u : Use) (p : PortData) → p.presence ≡ Here → p.watch ≡ Some w
     → (port_after u p).presence ≡ Here → StaysWatched w.duties (port_after u p).watch
 use-watched w (Takes s now jump) p here is still =
-    let whole = ap (λ presence. taken_as presence s now jump p) here in
-    subst (λ (t : Taken). StaysWatched w.duties t.port.watch) (sym whole)
+    let whole = ap (λ presence. reading_as presence s now jump p) here in
+    subst (λ (t : PortReading). StaysWatched w.duties t.port.watch) (sym whole)
     (by-watched w now (judged_at s now jump p) (first_line_of p.kept) p is
-    (ap (λ (t : Taken). t.port.presence) (sym whole) ∙ still))
+    (ap (λ (t : PortReading). t.port.presence) (sym whole) ∙ still))
 use-watched w (Attends t s script) p here is still =
     let h = attended-same w t s script p here is still in
     record { later = h.later; is = h.is; owes = h.duties }
@@ -213,9 +213,9 @@ module _ (w : Watched) (domain revision : List ℕ) (new : w.introduced ≡ fals
       (r : Result (Option TimedMessage) DisconnectReason) (f : LineSearchData)
       → judged_at s now jump p ≡ r → first_line_of p.kept ≡ f → p.presence ≡ Here
       → p.watch ≡ Some w → s.domain ≡ domain → s.revision ≡ revision
-      → (taken_by now r f p).port.presence ≡ Here → StaysHere us (taken_by now r f p).port
+      → (reading_by now r f p).port.presence ≡ Here → StaysHere us (reading_by now r f p).port
       → (StaysHere us p → UsesBegin us p (cutting_of (moves_of us p) p.kept).lines)
-      → (let q = (taken_by now r f p).port in
+      → (let q = (reading_by now r f p).port in
       UsesBegin us q (cut_by r f p.kept (moves_of us q)).lines)
   taken-begin s now jump us p (Err why) f e there here is d v still stays more = absurd cc
   taken-begin s now jump us p (Ok None) f e there here is d v still stays more = more stays
@@ -225,8 +225,8 @@ module _ (w : Watched) (domain revision : List ℕ) (new : w.introduced ≡ fals
       more stays
   taken-begin s now jump us p (Ok (Some said)) (Whole line rest) e there here is d v still stays
       more =
-      let q = record p { kept = rest; watch = known_behind now said p.watch } in
-      let k = uses-watched (known_by now said w) us q here (ap (known_behind now said) is) stays in
+      let q = record p { kept = rest; watch = watched_after now said p.watch } in
+      let k = uses-watched (known_by now said w) us q here (ap (watched_after now said) is) stays in
       let judges : judge_line (Some w) s now line ≡ Ok said =
       ap (λ o. judge_line o s now line) (sym is)
       ∙ line-judged s now jump p line rest said there e in
@@ -257,16 +257,16 @@ begins-uses w domain revision [] p new here is stays of = record {
 begins-uses w domain revision (Takes s now jump ∷ us) p new here is stays of =
     let r = judged_at s now jump p in
     let f = first_line_of p.kept in
-    let whole : taken_line s now jump p ≡ taken_by now r f p =
-    ap (λ presence. taken_as presence s now jump p) here in
+    let whole : reading_at s now jump p ≡ reading_by now r f p =
+    ap (λ presence. reading_as presence s now jump p) here in
     let begun = taken-begin w domain revision new s now jump us p r f refl refl here is of.0 of.1
-    (ap (λ (t : Taken). t.port.presence) (sym whole) ∙ stays.0)
-    (subst (λ (t : Taken). StaysHere us t.port) whole stays.1)
+    (ap (λ (t : PortReading). t.port.presence) (sym whole) ∙ stays.0)
+    (subst (λ (t : PortReading). StaysHere us t.port) whole stays.1)
     (λ again. begins-uses w domain revision us p new here is again of.2) in
     subst (λ (c : Cutting). Begins w.duties domain revision c.lines
-    (after_uses us (taken_line s now jump p).port).watch)
-    (sym (cut-is r f p.kept (moves_of us (taken_line s now jump p).port) refl))
-    (subst (λ (t : Taken). Begins w.duties domain revision
+    (after_uses us (reading_at s now jump p).port).watch)
+    (sym (cut-is r f p.kept (moves_of us (reading_at s now jump p).port) refl))
+    (subst (λ (t : PortReading). Begins w.duties domain revision
     (cut_by r f p.kept (moves_of us t.port)).lines (after_uses us t.port).watch)
     (sym whole) begun)
 begins-uses w domain revision (Attends t s script ∷ us) p new here is stays of =
@@ -277,11 +277,11 @@ begins-uses w domain revision (Attends t s script ∷ us) p new here is stays of
     of in
     let kept = attends-keep t s script p here stays.0 in
     let at : Begins h.later.duties domain revision
-    (cutting_of (moves_of us q) (p.kept ++ octets_given u p)).lines (after_uses us q).watch =
+    (cutting_of (moves_of us q) (p.kept ++ octets_read u p)).lines (after_uses us q).watch =
     subst (λ k. Begins h.later.duties domain revision (cutting_of (moves_of us q) k).lines
     (after_uses us q).watch) kept more in
     subst (λ d. Begins d domain revision
-    (cutting_of (moves_of us q) (p.kept ++ octets_given u p)).lines (after_uses us q).watch)
+    (cutting_of (moves_of us q) (p.kept ++ octets_read u p)).lines (after_uses us q).watch)
     h.duties at
 
 -- from the acceptance on
@@ -310,18 +310,18 @@ begins-away tells duties domain revision (Attends t s script ∷ us) stays of =
     let kept =
     comes-keep tells (Some duties) t.now s script.accepted (script.heard, script.again) stays.0 in
     let at : Begins h.later.duties domain revision
-    (cutting_of (moves_of us q) (octets_given u p0)).lines (after_uses us q).watch =
+    (cutting_of (moves_of us q) (octets_read u p0)).lines (after_uses us q).watch =
     subst (λ k. Begins h.later.duties domain revision (cutting_of (moves_of us q) k).lines
     (after_uses us q).watch) kept more in
     subst (λ d. Begins d domain revision
-    (cutting_of (moves_of us q) (octets_given u p0)).lines (after_uses us q).watch) h.duties at
+    (cutting_of (moves_of us q) (octets_read u p0)).lines (after_uses us q).watch) h.duties at
 
 pub is-of-this-bay : (tells : Bool) (duties : SupervisionSettings) (domain revision : List ℕ)
     (us : List Use)
     (s : State) (now jump : ℕ) (event : ProcessEvent)
     → StaysHere us (empty_port tells (Some duties) Away)
     → AreOf domain revision us
-    → (taken_line s now jump (after_uses us (empty_port tells (Some duties) Away))).event
+    → (reading_at s now jump (after_uses us (empty_port tells (Some duties) Away))).event
     ≡ Some event
     → IsOfThisBay tells duties domain revision us
 is-of-this-bay tells duties domain revision us s now jump event stays of e =

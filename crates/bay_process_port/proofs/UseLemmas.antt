@@ -8,14 +8,14 @@ use Rattle.bay_lines.specs.Cuttings as cuttings
 use Rattle.bay_lines.specs.FirstLines.{LineSearchData, Overlong, Waiting, Whole, first_line_of}
 use Rattle.bay_lines.proofs.FrontLemmas.{nothing-is-lost}
 use Rattle.bay_server_turn.specs.Calls.{Call, Accepts, Reads, Writes, Closes, ReadOutcome, Octets, Silence, Over, Broken}
-use Rattle.bay_process_port.specs.Polling.{Attended, all_told, AttendedPart, Script, accepted_in, attendance, attended_as, attended_here, and_then, closed_or_kept, first_part, greet_part, offer_part, offered_of, on_read, read_by, taken_or_closed, exchange_part, with_report_queued}
-use Rattle.bay_process_port.specs.Fit.{is_told, is_waiting, line_or_none}
-use Rattle.bay_process_port.specs.Ports.{PortData, Taken, with_no_data, empty_port, judged_at, taken_as, taken_by, taken_line}
-use Rattle.bay_process_port.specs.Releases.{told_after}
+use Rattle.bay_process_port.specs.Polling.{Attended, all_output, AttendedPart, Script, accepted_in, attendance, attended_as, attended_here, and_then, closed_or_open, first_part, greet_part, offer_part, offered_of, on_read, read_by, opened_or_closed, exchange_part, with_report_queued}
+use Rattle.bay_process_port.specs.Fit.{has_process_event, is_waiting, line_or_none}
+use Rattle.bay_process_port.specs.Ports.{PortData, PortReading, with_no_data, empty_port, judged_at, reading_as, reading_by, reading_at}
+use Rattle.bay_process_port.specs.Releases.{sent_releases_after}
 use Rattle.bay_process_port.specs.ProcessOutput.{ReportedTurn, fits_in, greeting_text}
-use Rattle.bay_process_port.specs.Uses.{LosesNoLine, StaysHere, Use, Takes, Attends, after_uses, all_given, all_had, given_of, octets_given, octets_in, port_after}
+use Rattle.bay_process_port.specs.Uses.{LosesNoLine, StaysHere, Use, Takes, Attends, after_uses, all_octets_read, all_lines_read, octets_read_by, octets_read, octets_in, port_after}
 use Rattle.bay_process_port.specs.declared.connection_event.DisconnectReason.{DisconnectReason}
-use Rattle.bay_process_port.specs.Supervised.{SupervisionSettings, after_alive_answer, heard_at, known_behind}
+use Rattle.bay_process_port.specs.Supervised.{SupervisionSettings, after_alive_answer, heard_at, watched_after}
 use Rattle.bay_process_port.specs.declared.connection_event.DisconnectReason.TheVariants.{Ended, QueueFull, LinkFailed}
 use Rattle.bay_process_port.specs.declared.supervision.TimedMessage.{TimedMessage}
 use Rattle.bay_process_port.proofs.FitLemmas.{judged-line}
@@ -24,22 +24,23 @@ use Rattle.bay_process_port.specs.declared.port.Presence.TheVariants.{Away, Here
 
 -- ---- what is read is kept
 
-given-append : (xs ys : List Call) → given_of (xs ++ ys) ≡ given_of xs ++ given_of ys
+given-append : (xs ys : List Call)
+    → octets_read_by (xs ++ ys) ≡ octets_read_by xs ++ octets_read_by ys
 given-append [] ys = refl
 given-append (Accepts a taken ∷ xs) ys = given-append xs ys
 given-append (Reads a room heard ∷ xs) ys =
     ap (λ l. octets_in heard ++ l) (given-append xs ys)
-    ∙ sym (append_assoc (octets_in heard) (given_of xs) (given_of ys))
+    ∙ sym (append_assoc (octets_in heard) (octets_read_by xs) (octets_read_by ys))
 given-append (Writes a octets taken ∷ xs) ys = given-append xs ys
 given-append (Closes a ∷ xs) ys = given-append xs ys
 
 -- unless a part led to a closing, what was kept before and then what the link gave is kept
 abbrev Keeps : List ℕ → Result PortData DisconnectReason → List Call → Type 0
-Keeps kept after calls = (q : PortData) → after ≡ Ok q → q.kept ≡ kept ++ given_of calls
+Keeps kept after calls = (q : PortData) → after ≡ Ok q → q.kept ≡ kept ++ octets_read_by calls
 
 -- the port is as it was, but for what does not matter here
 keeps-port : (p : PortData) (kept : List ℕ) (calls : List Call) → p.kept ≡ kept
-    → given_of calls ≡ [] → Keeps kept (Ok p) calls
+    → octets_read_by calls ≡ [] → Keeps kept (Ok p) calls
 keeps-port p kept calls same none q e =
     let is : p ≡ q = cc in
     ap (λ (d : PortData). d.kept) (sym is) ∙ same ∙ sym (append-nil kept)
@@ -56,8 +57,8 @@ keeps-behind : (kept : List ℕ) (r : Result PortData DisconnectReason) (calls :
     Keeps kept b.after b.calls)
 keeps-behind kept (Err why) calls f k next = keeps-closed why kept calls
 keeps-behind kept (Ok p) calls f k next = λ q e.
-    next p q e ∙ ap (λ l. l ++ given_of (f p).calls) (k p refl)
-    ∙ append_assoc kept (given_of calls) (given_of (f p).calls)
+    next p q e ∙ ap (λ l. l ++ octets_read_by (f p).calls) (k p refl)
+    ∙ append_assoc kept (octets_read_by calls) (octets_read_by (f p).calls)
     ∙ ap (λ l. kept ++ l) (sym (given-append calls (f p).calls))
 
 keeps-told : (t : ReportedTurn) (s : State) (p : PortData)
@@ -65,7 +66,7 @@ keeps-told : (t : ReportedTurn) (s : State) (p : PortData)
 keeps-told t s p = by-room (fits_in p.queue all) refl
   where
     all : List ℕ
-    all = all_told t s p
+    all = all_output t s p
 
     by-room : (v : Bool) → fits_in p.queue all ≡ v
         → Keeps p.kept (with_report_queued t s p).after (with_report_queued t s p).calls
@@ -73,7 +74,7 @@ keeps-told t s p = by-room (fits_in p.queue all) refl
         rw e (keeps-port
         (record p {
           queue = p.queue ++ all;
-          told = told_after s p.told;
+          told = sent_releases_after s p.told;
           watch = after_alive_answer p.watch;
         })
         p.kept
@@ -131,9 +132,9 @@ keeps-talked t s answers p =
 -- where the process is still there, it was read into what is kept
 kept-here : (before : PortData) (r : Result PortData DisconnectReason) (calls : List Call)
     (kept : List ℕ) → Keeps kept r calls
-    → (closed_or_kept before r calls).port.presence ≡ Here
-    → (closed_or_kept before r calls).port.kept
-    ≡ kept ++ given_of (closed_or_kept before r calls).calls
+    → (closed_or_open before r calls).port.presence ≡ Here
+    → (closed_or_open before r calls).port.kept
+    ≡ kept ++ octets_read_by (closed_or_open before r calls).calls
 kept-here before (Ok q) calls kept k here = k q refl
 kept-here before (Err why) calls kept k here = absurd cc
 
@@ -141,12 +142,13 @@ pub attends-keep : (t : ReportedTurn) (s : State) (script : Script) (p : PortDat
     → p.presence ≡ Here
     → (attendance t s script p).port.presence ≡ Here
     → (attendance t s script p).port.kept
-    ≡ p.kept ++ given_of (attendance t s script p).calls
+    ≡ p.kept ++ octets_read_by (attendance t s script p).calls
 attends-keep t s script p here still =
     let part = exchange_part t s (script.taken, script.heard) p in
     let is : attendance t s script p ≡ attended_here p part =
     ap (λ presence. attended_as presence t s script p) here in
-    subst (λ (a : Attended). a.port.presence ≡ Here → a.port.kept ≡ p.kept ++ given_of a.calls)
+    subst (λ (a : Attended). a.port.presence ≡ Here
+    → a.port.kept ≡ p.kept ++ octets_read_by a.calls)
     (sym is)
     (kept-here p part.after part.calls p.kept (keeps-talked t s (script.taken, script.heard) p))
     still
@@ -154,9 +156,9 @@ attends-keep t s script p here still =
 -- what a process that is taken has sent meanwhile is kept
 taken-keep : (before : PortData) (r : Result PortData DisconnectReason) (calls : List Call)
     (kept : List ℕ) → Keeps kept r calls
-    → (taken_or_closed before r calls).port.presence ≡ Here
-    → (taken_or_closed before r calls).port.kept
-    ≡ kept ++ given_of (taken_or_closed before r calls).calls
+    → (opened_or_closed before r calls).port.presence ≡ Here
+    → (opened_or_closed before r calls).port.kept
+    ≡ kept ++ octets_read_by (opened_or_closed before r calls).calls
 taken-keep before (Ok q) calls kept k here = k q refl
 taken-keep before (Err why) calls kept k here = absurd cc
 
@@ -164,7 +166,7 @@ pub comes-keep : (tells : Bool) (duties : Option SupervisionSettings) (now : ℕ
     (accepted : Option (Option SocketAddrV4)) (heard : ReadOutcome × ReadOutcome)
     → (accepted_in now s accepted heard (empty_port tells duties Away)).port.presence ≡ Here
     → (accepted_in now s accepted heard (empty_port tells duties Away)).port.kept
-    ≡ given_of (accepted_in now s accepted heard (empty_port tells duties Away)).calls
+    ≡ octets_read_by (accepted_in now s accepted heard (empty_port tells duties Away)).calls
 comes-keep tells duties now s None heard here = absurd cc
 comes-keep tells duties now s (Some None) heard here = absurd cc
 comes-keep tells duties now s (Some (Some from)) heard here =
@@ -219,43 +221,44 @@ moves_of (Takes s now jump ∷ us) p =
     moves_by (judged_at s now jump p) (first_line_of p.kept)
     (moves_of us (port_after (Takes s now jump) p))
 moves_of (Attends t s script ∷ us) p =
-    Comes (octets_given (Attends t s script) p)
+    Comes (octets_read (Attends t s script) p)
     ∷ moves_of us (port_after (Attends t s script) p)
 
 -- What is kept, the lines that turns had, and what came are those of a cutting.
 pub record Follows (moves : List Move) (c : Cutting) (kept all : List ℕ) (had : List (List ℕ))
     : Type 0 where
   pub keeps : c.kept ≡ kept
-  pub had_is : had ≡ filter is_told c.lines
+  pub had_is : had ≡ filter has_process_event c.lines
   pub all_is : all_of moves ≡ all
 
 abbrev pub UseFollows : List Use → PortData → Type 0
 UseFollows us p =
     Follows (moves_of us p) (cutting_of (moves_of us p) p.kept) (after_uses us p).kept
-    (all_given us p) (all_had us p)
+    (all_octets_read us p) (all_lines_read us p)
 
 -- a line is had where it tells something
-had-told : (line : List ℕ) (had lines : List (List ℕ)) → had ≡ filter is_told lines
-    → option_to_list (line_or_none line) ++ had ≡ filter is_told (line ∷ lines)
-had-told line had lines e = by-told (is_told line) refl
+had-told : (line : List ℕ) (had lines : List (List ℕ)) → had ≡ filter has_process_event lines
+    → option_to_list (line_or_none line) ++ had ≡ filter has_process_event (line ∷ lines)
+had-told line had lines e = by-told (has_process_event line) refl
   where
-    by-told : (v : Bool) → is_told line ≡ v
-        → option_to_list (line_or_none line) ++ had ≡ filter is_told (line ∷ lines)
+    by-told : (v : Bool) → has_process_event line ≡ v
+        → option_to_list (line_or_none line) ++ had ≡ filter has_process_event (line ∷ lines)
     by-told true is = rw is (ap (λ l. line ∷ l) e)
     by-told false is = rw is e
 
 -- what a turn takes, and the uses behind it
-record TakeFollows (c : Cutting) (moves : List Move) (us : List Use) (t : Taken) : Type 0 where
+record TakeFollows (c : Cutting) (moves : List Move) (us : List Use) (t : PortReading)
+    : Type 0 where
   keeps : c.kept ≡ (after_uses us t.port).kept
-  had_is : option_to_list t.line ++ all_had us t.port ≡ filter is_told c.lines
-  all_is : all_of moves ≡ all_given us t.port
+  had_is : option_to_list t.line ++ all_lines_read us t.port ≡ filter has_process_event c.lines
+  all_is : all_of moves ≡ all_octets_read us t.port
 
 takes-follow : (s : State) (now jump : ℕ) (us : List Use) (p : PortData)
     (r : Result (Option TimedMessage) DisconnectReason) (f : LineSearchData)
     → judged_at s now jump p ≡ r → first_line_of p.kept ≡ f
-    → (taken_by now r f p).port.presence ≡ Here → UseFollows us (taken_by now r f p).port
-    → (let moves = moves_of us (taken_by now r f p).port in
-    TakeFollows (cut_by r f p.kept moves) (moves_by r f moves) us (taken_by now r f p))
+    → (reading_by now r f p).port.presence ≡ Here → UseFollows us (reading_by now r f p).port
+    → (let moves = moves_of us (reading_by now r f p).port in
+    TakeFollows (cut_by r f p.kept moves) (moves_by r f moves) us (reading_by now r f p))
 takes-follow s now jump us p (Err why) f is there here h = absurd cc
 takes-follow s now jump us p (Ok None) f is there here h =
     record { keeps = h.keeps; had_is = h.had_is; all_is = h.all_is }
@@ -264,13 +267,13 @@ takes-follow s now jump us p (Ok (Some said)) Waiting is there here h =
 takes-follow s now jump us p (Ok (Some said)) Overlong is there here h =
     record { keeps = h.keeps; had_is = h.had_is; all_is = h.all_is }
 takes-follow s now jump us p (Ok (Some said)) (Whole line rest) is there here h =
-    let q : PortData = record p { kept = rest; watch = known_behind now said p.watch } in
+    let q : PortData = record p { kept = rest; watch = watched_after now said p.watch } in
     record {
       keeps = h.keeps;
       had_is =
-          ap (λ o. option_to_list o ++ all_had us q)
+          ap (λ o. option_to_list o ++ all_lines_read us q)
           (judged-line p.watch s now line said (line-judged s now jump p line rest said there is))
-          ∙ had-told line (all_had us q) (cutting_of (moves_of us q) rest).lines h.had_is;
+          ∙ had-told line (all_lines_read us q) (cutting_of (moves_of us q) rest).lines h.had_is;
       all_is = h.all_is;
     }
 
@@ -280,23 +283,23 @@ uses-follow [] p here stays = record { keeps = refl; had_is = refl; all_is = ref
 uses-follow (Takes s now jump ∷ us) p here stays =
     let r = judged_at s now jump p in
     let f = first_line_of p.kept in
-    let is : taken_line s now jump p ≡ taken_by now r f p =
-    ap (λ presence. taken_as presence s now jump p) here in
-    let later : UseFollows us (taken_line s now jump p).port =
-    uses-follow us (taken_line s now jump p).port stays.0 stays.1 in
-    let moves = moves_of us (taken_line s now jump p).port in
+    let is : reading_at s now jump p ≡ reading_by now r f p =
+    ap (λ presence. reading_as presence s now jump p) here in
+    let later : UseFollows us (reading_at s now jump p).port =
+    uses-follow us (reading_at s now jump p).port stays.0 stays.1 in
+    let moves = moves_of us (reading_at s now jump p).port in
     let t : TakeFollows (cut_by r f p.kept moves) (moves_by r f moves) us
-    (taken_line s now jump p) =
-    subst (λ (t : Taken). (let moves = moves_of us t.port in
+    (reading_at s now jump p) =
+    subst (λ (t : PortReading). (let moves = moves_of us t.port in
     TakeFollows (cut_by r f p.kept moves) (moves_by r f moves) us t))
     (sym is)
     (takes-follow s now jump us p r f refl refl
-    (ap (λ (t : Taken). t.port.presence) (sym is) ∙ stays.0)
-    (subst (λ (t : Taken). UseFollows us t.port) is later)) in
+    (ap (λ (t : PortReading). t.port.presence) (sym is) ∙ stays.0)
+    (subst (λ (t : PortReading). UseFollows us t.port) is later)) in
     let cut = cut-is r f p.kept moves refl in
     record {
       keeps = ap (λ (c : Cutting). c.kept) cut ∙ t.keeps;
-      had_is = t.had_is ∙ ap (λ (c : Cutting). filter is_told c.lines) (sym cut);
+      had_is = t.had_is ∙ ap (λ (c : Cutting). filter has_process_event c.lines) (sym cut);
       all_is = t.all_is;
     }
 uses-follow (Attends t s script ∷ us) p here stays =
@@ -306,8 +309,10 @@ uses-follow (Attends t s script ∷ us) p here stays =
     let same = attends-keep t s script p here stays.0 in
     record {
       keeps = ap (λ k. (cutting_of (moves_of us q) k).kept) (sym same) ∙ later.keeps;
-      had_is = later.had_is ∙ ap (λ k. filter is_told (cutting_of (moves_of us q) k).lines) same;
-      all_is = ap (λ l. octets_given u p ++ l) later.all_is;
+      had_is =
+          later.had_is ∙ ap (λ k. filter has_process_event (cutting_of (moves_of us q) k).lines)
+          same;
+      all_is = ap (λ l. octets_read u p ++ l) later.all_is;
     }
 
 -- from the acceptance on
@@ -325,8 +330,10 @@ starts-follow tells duties (Attends t s script ∷ us) stays =
     comes-keep tells duties t.now s script.accepted (script.heard, script.again) stays.0 in
     record {
       keeps = ap (λ k. (cutting_of (moves_of us q) k).kept) (sym same) ∙ later.keeps;
-      had_is = later.had_is ∙ ap (λ k. filter is_told (cutting_of (moves_of us q) k).lines) same;
-      all_is = ap (λ l. octets_given u p0 ++ l) later.all_is;
+      had_is =
+          later.had_is ∙ ap (λ k. filter has_process_event (cutting_of (moves_of us q) k).lines)
+          same;
+      all_is = ap (λ l. octets_read u p0 ++ l) later.all_is;
     }
 
 pub loses-no-line : (tells : Bool) (duties : Option SupervisionSettings) (us : List Use)

@@ -9,14 +9,14 @@ use Rattle.bay_server_turn.specs.Calls.{Call, ReadOutcome, Octets, Silence, Over
 use Rattle.bay_process_port.specs.Introduction.{introduced_at}
 use Rattle.bay_server_turn.specs.Supervised.{timed_line_of}
 use Rattle.bay_server_turn.specs.declared.supervised.TimedLine.{TimedLine}
-use Rattle.bay_process_port.specs.Polling.{Attended, AttendedPart, Script, accepted_in, all_told, attendance, attended_as, attended_here, and_then, closed_or_kept, first_part, greet_part, offer_part, offered_of, on_read, read_by, taken_or_closed, exchange_part, with_report_queued}
+use Rattle.bay_process_port.specs.Polling.{Attended, AttendedPart, Script, accepted_in, all_output, attendance, attended_as, attended_here, and_then, closed_or_open, first_part, greet_part, offer_part, offered_of, on_read, read_by, opened_or_closed, exchange_part, with_report_queued}
 use Rattle.bay_process_port.specs.Fit.{is_waiting}
-use Rattle.bay_process_port.specs.Ports.{PortData, Taken, with_no_data, has_jumped, judged_at, judge_buffer, line_taken, message_of, nothing_of, silence, taken_as, taken_by, taken_here, taken_line}
+use Rattle.bay_process_port.specs.Ports.{PortData, PortReading, with_no_data, has_jumped, judged_at, judge_buffer, line_reading, message_of, empty_reading, silence, reading_as, reading_by, reading_here, reading_at}
 use Rattle.bay_process_port.proofs.FitLemmas.{IsTimely, report-is, timely-is}
-use Rattle.bay_process_port.specs.Releases.{told_after}
+use Rattle.bay_process_port.specs.Releases.{sent_releases_after}
 use Rattle.bay_process_port.specs.Supervision.{IsBelieved, IsHeard}
 use Rattle.bay_process_port.specs.ProcessOutput.{ReportedTurn, fits_in, greeting_text}
-use Rattle.bay_process_port.specs.Supervised.{SupervisionSettings, Watched, after_alive_answer, settings_in, heard_at, judge_introduction, is_timely, judge_line, known_as, known_behind, known_by, overlong_reason, judge_later_line, initial_watch, word_of}
+use Rattle.bay_process_port.specs.Supervised.{SupervisionSettings, Watched, after_alive_answer, settings_in, heard_at, judge_introduction, is_timely, judge_line, known_as, watched_after, known_by, overlong_reason, judge_later_line, initial_watch, word_of}
 use Rattle.bay_process_port.specs.declared.connection_event.DisconnectReason.{DisconnectReason}
 use Rattle.bay_process_port.specs.declared.connection_event.DisconnectReason.TheVariants.{Ended, QueueFull, LinkFailed, Silent, Jumped}
 use Rattle.bay_process_port.specs.declared.port.Presence.{Presence}
@@ -70,16 +70,16 @@ steady-behind w (Ok p) calls f h next = next p (h p refl)
 
 steady-told : (w : Watched) (t : ReportedTurn) (s : State) (p : PortData) → SamePort w p
     → Steady w (with_report_queued t s p).after
-steady-told w t s p h = by-room (fits_in p.queue (all_told t s p)) refl
+steady-told w t s p h = by-room (fits_in p.queue (all_output t s p)) refl
   where
     told : PortData
     told = record p {
-      queue = p.queue ++ all_told t s p;
-      told = told_after s p.told;
+      queue = p.queue ++ all_output t s p;
+      told = sent_releases_after s p.told;
       watch = after_alive_answer p.watch;
     }
 
-    by-room : (v : Bool) → fits_in p.queue (all_told t s p) ≡ v
+    by-room : (v : Bool) → fits_in p.queue (all_output t s p) ≡ v
         → Steady w (with_report_queued t s p).after
     by-room true e = rw e (steady-port w told (record {
       here = h.here;
@@ -151,15 +151,15 @@ steady-begun w now s answers p h =
 
 here-same : (w : Watched) (before : PortData) (r : Result PortData DisconnectReason)
     (calls : List Call)
-    → Steady w r → (closed_or_kept before r calls).port.presence ≡ Here
-    → SameWatch w (closed_or_kept before r calls).port.watch
+    → Steady w r → (closed_or_open before r calls).port.presence ≡ Here
+    → SameWatch w (closed_or_open before r calls).port.watch
 here-same w before (Ok q) calls h here = (h q refl).watch
 here-same w before (Err why) calls h here = absurd cc
 
 come-same : (w : Watched) (before : PortData) (r : Result PortData DisconnectReason)
     (calls : List Call)
-    → Steady w r → (taken_or_closed before r calls).port.presence ≡ Here
-    → SameWatch w (taken_or_closed before r calls).port.watch
+    → Steady w r → (opened_or_closed before r calls).port.presence ≡ Here
+    → SameWatch w (opened_or_closed before r calls).port.watch
 come-same w before (Ok q) calls h here = (h q refl).watch
 come-same w before (Err why) calls h here = absurd cc
 
@@ -332,13 +332,13 @@ known-later s now w line said e = by-known w.introduced refl
 -- ---- what a turn takes of a connected process
 
 -- It is lost, and nothing happened.
-pub record TookLoss (taken : Taken) : Type 0 where
+pub record TookLoss (taken : PortReading) : Type 0 where
   pub lost : taken.is_lost ≡ true
   pub event : taken.event ≡ None
 
 -- Or it is still believed: it has introduced itself, or it had not and nothing happened; its last
 -- line is not too old, and the clock has not jumped.
-pub record Took (now jump : ℕ) (w : Watched) (taken : Taken) : Type 0 where
+pub record Took (now jump : ℕ) (w : Watched) (taken : PortReading) : Type 0 where
   pub not_lost : taken.is_lost ≡ false
   pub here : taken.port.presence ≡ Here
   pub later : Watched
@@ -349,7 +349,7 @@ pub record Took (now jump : ℕ) (w : Watched) (taken : Taken) : Type 0 where
 
 took-none : (s : State) (now jump : ℕ) (p : PortData) (w : Watched) (f : LineSearchData)
     → p.presence ≡ Here → p.watch ≡ Some w → Judged s now jump p f None
-    → Took now jump w (nothing_of p)
+    → Took now jump w (empty_reading p)
 took-none s now jump p w f here watched j = record {
   not_lost = refl;
   here = here;
@@ -361,7 +361,7 @@ took-none s now jump p w f here watched j = record {
 }
   where
     by-known : (v : Bool) → w.introduced ≡ v
-        → (w.introduced ≡ true) ⊎ ((w.introduced ≡ false) × ((nothing_of p).event ≡ None))
+        → (w.introduced ≡ true) ⊎ ((w.introduced ≡ false) × ((empty_reading p).event ≡ None))
     by-known true e = inl e
     by-known false e = inr (e, refl)
 
@@ -377,7 +377,7 @@ not-silent now (Some v) said e = by-span (nat_le (now - v.heard) v.duties.limit)
 
 took-some : (s : State) (now jump : ℕ) (p : PortData) (w : Watched) (f : LineSearchData)
     (said : TimedMessage) → p.presence ≡ Here → p.watch ≡ Some w
-    → Judged s now jump p f (Some said) → Took now jump w (line_taken now said f p)
+    → Judged s now jump p f (Some said) → Took now jump w (line_reading now said f p)
 took-some s now jump p w Waiting said here watched j =
     absurd (not-silent now p.watch said j.front)
 took-some s now jump p w Overlong said here watched j =
@@ -392,7 +392,7 @@ took-some s now jump p w (Whole line rest) said here watched j =
       not_lost = refl;
       here = here;
       later = known_by now said w;
-      watched = ap (known_behind now said) watched;
+      watched = ap (watched_after now said) watched;
       known = inl (known-later s now w line said e);
       recent =
           subst (λ h. now - h ≤ (known_by now said w).duties.limit)
@@ -407,8 +407,8 @@ took-some s now jump p w (Whole line rest) said here watched j =
 took-by : (s : State) (now jump : ℕ) (p : PortData) (w : Watched)
     (r : Result (Option TimedMessage) DisconnectReason) → p.presence ≡ Here → p.watch ≡ Some w
     → judged_at s now jump p ≡ r
-    → TookLoss (taken_by now r (first_line_of p.kept) p)
-    ⊎ Took now jump w (taken_by now r (first_line_of p.kept) p)
+    → TookLoss (reading_by now r (first_line_of p.kept) p)
+    ⊎ Took now jump w (reading_by now r (first_line_of p.kept) p)
 took-by s now jump p w (Err why) here watched e = inl (record { lost = refl; event = refl })
 took-by s now jump p w (Ok None) here watched e =
     inr (took-none s now jump p w (first_line_of p.kept) here watched
@@ -420,33 +420,33 @@ took-by s now jump p w (Ok (Some said)) here watched e =
 -- what a turn takes of a connected process
 pub took : (s : State) (now jump : ℕ) (p : PortData) (w : Watched) → p.presence ≡ Here
     → p.watch ≡ Some w
-    → TookLoss (taken_line s now jump p) ⊎ Took now jump w (taken_line s now jump p)
+    → TookLoss (reading_at s now jump p) ⊎ Took now jump w (reading_at s now jump p)
 took s now jump p w here watched =
-    subst (λ (t : Taken). TookLoss t ⊎ Took now jump w t)
-    (sym (ap (λ presence. taken_as presence s now jump p) here))
+    subst (λ (t : PortReading). TookLoss t ⊎ Took now jump w t)
+    (sym (ap (λ presence. reading_as presence s now jump p) here))
     (took-by s now jump p w (judged_at s now jump p) here watched refl)
 
 -- one that is not supervised is not watched after it
 unwatched : (now : ℕ) (r : Result (Option TimedMessage) DisconnectReason) (f : LineSearchData)
-    (p : PortData) → p.watch ≡ None → (taken_by now r f p).port.watch ≡ None
+    (p : PortData) → p.watch ≡ None → (reading_by now r f p).port.watch ≡ None
 unwatched now (Err why) f p is = ap (λ watch. option_map initial_watch (settings_in watch)) is
 unwatched now (Ok None) f p is = is
 unwatched now (Ok (Some said)) Waiting p is = is
 unwatched now (Ok (Some said)) Overlong p is = is
-unwatched now (Ok (Some said)) (Whole line rest) p is = ap (known_behind now said) is
+unwatched now (Ok (Some said)) (Whole line rest) p is = ap (watched_after now said) is
 
 -- a connected process that is supervised is lost, or believed
 pub is-heard : (s : State) (now jump : ℕ) (p : PortData) → IsHeard s now jump p
 is-heard s now jump p w here watched = by-watch p.watch refl
   where
     by-watch : (watch : Option Watched) → p.watch ≡ watch
-        → ((taken_line s now jump p).is_lost ≡ true)
-        ⊎ (((taken_line s now jump p).port.presence ≡ Here) × IsBelieved s now jump p w)
+        → ((reading_at s now jump p).is_lost ≡ true)
+        ⊎ (((reading_at s now jump p).port.presence ≡ Here) × IsBelieved s now jump p w)
     by-watch None none =
-        let is : taken_line s now jump p ≡ taken_here s now jump p =
-        ap (λ presence. taken_as presence s now jump p) here in
+        let is : reading_at s now jump p ≡ reading_here s now jump p =
+        ap (λ presence. reading_as presence s now jump p) here in
         let no : None ≡ Some w =
-        sym (ap (λ (t : Taken). t.port.watch) is
+        sym (ap (λ (t : PortReading). t.port.watch) is
         ∙ unwatched now (judged_at s now jump p) (first_line_of p.kept) p none) ∙ watched in
         absurd cc
     by-watch (Some v) some = elim (took s now jump p v here some) [
@@ -469,8 +469,8 @@ is-heard s now jump p w here watched = by-watch p.watch refl
 -- behind a turn a process that was there is still there, or is lost in the next
 here-or-lost : (w : Watched) (before : PortData) (r : Result PortData DisconnectReason)
     (calls : List Call)
-    → Steady w r → ((closed_or_kept before r calls).port.presence ≡ Leaving)
-    ⊎ ((closed_or_kept before r calls).port.presence ≡ Here)
+    → Steady w r → ((closed_or_open before r calls).port.presence ≡ Leaving)
+    ⊎ ((closed_or_open before r calls).port.presence ≡ Here)
 here-or-lost w before (Ok q) calls h = inr (h q refl).here
 here-or-lost w before (Err why) calls h = inl refl
 
@@ -524,18 +524,18 @@ owes-emptied presence p = by-watch p.watch
     by-watch (Some w) = refl
 
 pub took-owes : (s : State) (now jump : ℕ) (p : PortData)
-    → settings_in (taken_line s now jump p).port.watch ≡ settings_in p.watch
+    → settings_in (reading_at s now jump p).port.watch ≡ settings_in p.watch
 took-owes s now jump p = by-standing p.presence
   where
     by-word : (said : TimedMessage) (watch : Option Watched)
-        → settings_in (known_behind now said watch) ≡ settings_in watch
+        → settings_in (watched_after now said watch) ≡ settings_in watch
     by-word said None = refl
     by-word said (Some w) =
         ap (λ (d : SupervisionSettings). let o : Option SupervisionSettings = Some d in o)
         (known-duties said.word (record w { heard = min now said.moment; last = said.moment }))
 
     by-judged : (r : Result (Option TimedMessage) DisconnectReason) (f : LineSearchData)
-        → settings_in (taken_by now r f p).port.watch ≡ settings_in p.watch
+        → settings_in (reading_by now r f p).port.watch ≡ settings_in p.watch
     by-judged (Err why) f = owes-emptied (Dismissed why) p
     by-judged (Ok None) f = refl
     by-judged (Ok (Some said)) Waiting = refl
@@ -543,7 +543,7 @@ took-owes s now jump p = by-standing p.presence
     by-judged (Ok (Some said)) (Whole line rest) = by-word said p.watch
 
     by-standing : (presence : Presence)
-        → settings_in (taken_as presence s now jump p).port.watch ≡ settings_in p.watch
+        → settings_in (reading_as presence s now jump p).port.watch ≡ settings_in p.watch
     by-standing Away = refl
     by-standing Leaving = owes-emptied Away p
     by-standing (Dismissed why) = refl
@@ -552,7 +552,7 @@ took-owes s now jump p = by-standing p.presence
 kept-owes : (w : Watched) (before : PortData) (r : Result PortData DisconnectReason)
     (calls : List Call)
     → before.watch ≡ Some w → Steady w r
-    → settings_in (closed_or_kept before r calls).port.watch ≡ Some w.duties
+    → settings_in (closed_or_open before r calls).port.watch ≡ Some w.duties
 kept-owes w before (Ok q) calls is h =
     let same : SameWatch w q.watch = (h q refl).watch in
     ap settings_in same.is ∙ ap (λ d. let o : Option SupervisionSettings = Some d in o) same.duties
@@ -561,7 +561,7 @@ kept-owes w before (Err why) calls is h = owes-emptied Leaving before ∙ ap set
 come-owes : (w : Watched) (before : PortData) (r : Result PortData DisconnectReason)
     (calls : List Call)
     → before.watch ≡ Some w → Steady (initial_watch w.duties) r
-    → settings_in (taken_or_closed before r calls).port.watch ≡ Some w.duties
+    → settings_in (opened_or_closed before r calls).port.watch ≡ Some w.duties
 come-owes w before (Ok q) calls is h =
     let same : SameWatch (initial_watch w.duties) q.watch = (h q refl).watch in
     ap settings_in same.is ∙ ap (λ d. let o : Option SupervisionSettings = Some d in o) same.duties

@@ -7,8 +7,8 @@ use Rattle.bay_process_port.specs.ProcessOutput.{ReportedTurn}
 use Rattle.bay_process_port.specs.Uses.{Use, Attends}
 
 -- after a turn a process is accepted, an A is read, and then this
-abbrev pub front_sent : ReadOutcome → ReportedTurn → State → SocketAddrV4 → List Use
-front_sent again t s from = Attends t s (record {
+abbrev pub sent_after_a : ReadOutcome → ReportedTurn → State → SocketAddrV4 → List Use
+sent_after_a again t s from = Attends t s (record {
   accepted = Some (Some from);
   taken = None;
   heard = Octets (65 ∷ []);

@@ -6,8 +6,8 @@ use Rattle.bay_device.specs.Device.{State}
 use Rattle.bay_lines.specs.FirstLines.{first_line_of}
 use Rattle.bay_process_port.specs.Fit.{is_waiting}
 use Rattle.bay_process_port.specs.Ports.{PortData, with_no_data}
-use Rattle.bay_process_port.specs.Releases.{releases_text, said_in, told_after}
-use Rattle.bay_process_port.specs.ProcessOutput.{ReportedTurn, alive_text, fits_in, greeting_text, lives_in, over_for, over_text}
+use Rattle.bay_process_port.specs.Releases.{releases_text, new_releases, sent_releases_after}
+use Rattle.bay_process_port.specs.ProcessOutput.{ReportedTurn, alive_text, fits_in, greeting_text, lives_in, expiry_for, expiry_text}
 use Rattle.bay_process_port.specs.Supervised.{after_alive_answer, heard_at}
 use Rattle.bay_process_port.specs.declared.connection_event.ConnectionEvent.{ConnectionEvent}
 use Rattle.bay_process_port.specs.declared.connection_event.ConnectionEvent.TheVariants.{Opened, Closed}
@@ -41,31 +41,32 @@ must_close why calls = record { after = Err why; calls = calls }
 
 -- all that is queued after a turn: that an operate has expired, the report of the turn, the
 -- releases that have changed, and that the server is alive
-abbrev pub all_told : ReportedTurn → State → PortData → List ℕ
-all_told t s p =
-    over_text t.now s (over_for p.watch t.over) ++ t.text ++ releases_text s (said_in s p.told)
+abbrev pub all_output : ReportedTurn → State → PortData → List ℕ
+all_output t s p =
+    expiry_text t.now s (expiry_for p.watch t.over) ++ t.text
+    ++ releases_text s (new_releases s p.told)
     ++ alive_text t.now (lives_in p.watch)
 
 -- all of it is queued, or the connection must be closed
 abbrev pub with_report_queued : ReportedTurn → State → PortData → AttendedPart
 with_report_queued t s p =
-    if fits_in p.queue (all_told t s p)
+    if fits_in p.queue (all_output t s p)
     then stays_open (record p {
-      queue = p.queue ++ all_told t s p;
-      told = told_after s p.told;
+      queue = p.queue ++ all_output t s p;
+      told = sent_releases_after s p.told;
       watch = after_alive_answer p.watch;
     }) []
     else must_close QueueFull []
 
 -- after a write of which the link took this
-abbrev pub on_taken : Option ℕ → PortData → List Call → AttendedPart
-on_taken None p calls = must_close LinkFailed calls
-on_taken (Some n) p calls = stays_open (record p { queue = drop n p.queue }) calls
+abbrev pub after_write : Option ℕ → PortData → List Call → AttendedPart
+after_write None p calls = must_close LinkFailed calls
+after_write (Some n) p calls = stays_open (record p { queue = drop n p.queue }) calls
 
 -- the queue is offered once, if there is anything in it
 abbrev pub offered_of : List ℕ → Option ℕ → PortData → AttendedPart
 offered_of [] taken p = stays_open p []
-offered_of (b ∷ bs) taken p = on_taken taken p (Writes 1 (b ∷ bs) taken ∷ [])
+offered_of (b ∷ bs) taken p = after_write taken p (Writes 1 (b ∷ bs) taken ∷ [])
 
 abbrev pub offer_part : Option ℕ → PortData → AttendedPart
 offer_part taken p = offered_of p.queue taken p
@@ -109,16 +110,16 @@ pub record Attended : Type 0 where
   pub calls : List Call
 
 -- the connection of the process is closed, or it stays
-abbrev pub closed_or_kept : PortData → Result PortData DisconnectReason → List Call → Attended
-closed_or_kept before (Ok p) calls = record { port = p; news = None; calls = calls }
-closed_or_kept before (Err why) calls = record {
+abbrev pub closed_or_open : PortData → Result PortData DisconnectReason → List Call → Attended
+closed_or_open before (Ok p) calls = record { port = p; news = None; calls = calls }
+closed_or_open before (Err why) calls = record {
   port = with_no_data Leaving before;
   news = Some (Closed why);
   calls = calls ++ Closes 1 ∷ [];
 }
 
 abbrev pub attended_here : PortData → AttendedPart → Attended
-attended_here before part = closed_or_kept before part.after part.calls
+attended_here before part = closed_or_open before part.after part.calls
 
 -- a process that was accepted is greeted, if it is supervised
 abbrev pub greet_part : ℕ → State → PortData → AttendedPart
@@ -137,13 +138,13 @@ first_part now s answers p =
     and_then (and_then (greet_part now s p) (read_by answers.0)) (read_by answers.1)
 
 -- the connection is opened, or closed if it has ended
-abbrev pub taken_or_closed : PortData → Result PortData DisconnectReason → List Call → Attended
-taken_or_closed before (Ok p) calls = record { port = p; news = Some Opened; calls = calls }
-taken_or_closed before (Err why) calls =
+abbrev pub opened_or_closed : PortData → Result PortData DisconnectReason → List Call → Attended
+opened_or_closed before (Ok p) calls = record { port = p; news = Some Opened; calls = calls }
+opened_or_closed before (Err why) calls =
     record { port = with_no_data Away before; news = None; calls = calls ++ Closes 1 ∷ [] }
 
 abbrev pub after_greeting : PortData → AttendedPart → Attended
-after_greeting before part = taken_or_closed before part.after part.calls
+after_greeting before part = opened_or_closed before part.after part.calls
 
 abbrev pub with_call : Call → Attended → Attended
 with_call call a = record a { calls = call ∷ a.calls }

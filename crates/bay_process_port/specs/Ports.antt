@@ -3,8 +3,8 @@ use Rattle.std.specs.Prelude.{◌≡◌, ℕ, ◌-◌, nat_le, nat_lt, Bool, tru
 use Rattle.bay_device.specs.Device.{State}
 use Rattle.bay_lines.specs.FirstLines.{LineSearchData, Waiting, Overlong, Whole, first_line_of}
 use Rattle.bay_lines.specs.Escaped.{shown_text}
-use Rattle.bay_process_port.specs.Releases.{Release, nothing_told}
-use Rattle.bay_process_port.specs.Supervised.{SupervisionSettings, Watched, settings_in, event_in, judge_line, known_behind, line_in, overlong_reason, initial_watch}
+use Rattle.bay_process_port.specs.Releases.{Release, no_releases_sent}
+use Rattle.bay_process_port.specs.Supervised.{SupervisionSettings, Watched, settings_in, event_in, judge_line, watched_after, line_in, overlong_reason, initial_watch}
 use Rattle.bay_process_port.specs.declared.connection_event.DisconnectReason.{DisconnectReason}
 use Rattle.bay_process_port.specs.declared.connection_event.DisconnectReason.TheVariants.{Jumped, Silent}
 use Rattle.bay_process_port.specs.declared.port.Presence.{Presence}
@@ -27,7 +27,7 @@ empty_port tells duties presence = record {
   presence = presence;
   kept = [];
   queue = [];
-  told = if tells then Some nothing_told else None;
+  told = if tells then Some no_releases_sent else None;
   watch = option_map initial_watch duties;
 }
 
@@ -64,17 +64,17 @@ after_dismissal Here p = p
 
 -- what a turn takes: whether the process is lost; an event, if there is one, and the line that
 -- reports it; and the port after it
-pub record Taken : Type 0 where
+pub record PortReading : Type 0 where
   pub is_lost : Bool
   pub event : Option ProcessEvent
   pub line : Option (List ℕ)
   pub port : PortData
 
-abbrev pub nothing_of : PortData → Taken
-nothing_of p = record { is_lost = false; event = None; line = None; port = p }
+abbrev pub empty_reading : PortData → PortReading
+empty_reading p = record { is_lost = false; event = None; line = None; port = p }
 
 -- a process that is believed no more is lost, and its connection is closed after the turn
-abbrev pub dismissed_of : DisconnectReason → PortData → Taken
+abbrev pub dismissed_of : DisconnectReason → PortData → PortReading
 dismissed_of why p = record {
   is_lost = true;
   event = None;
@@ -117,47 +117,48 @@ judged_at s now jump p =
 -- ---- what a turn takes
 
 -- a line that was judged is taken
-abbrev pub line_taken : ℕ → TimedMessage → LineSearchData → PortData → Taken
-line_taken now said Waiting p = nothing_of p
-line_taken now said Overlong p = nothing_of p
-line_taken now said (Whole line rest) p = record {
+abbrev pub line_reading : ℕ → TimedMessage → LineSearchData → PortData → PortReading
+line_reading now said Waiting p = empty_reading p
+line_reading now said Overlong p = empty_reading p
+line_reading now said (Whole line rest) p = record {
   is_lost = false;
   event = event_in said.word;
   line = line_in said.word line;
-  port = record p { kept = rest; watch = known_behind now said p.watch };
+  port = record p { kept = rest; watch = watched_after now said p.watch };
 }
 
-abbrev pub taken_by : ℕ → Result (Option TimedMessage) DisconnectReason → LineSearchData → PortData
-    → Taken
-taken_by now (Err why) f p = dismissed_of why p
-taken_by now (Ok None) f p = nothing_of p
-taken_by now (Ok (Some said)) f p = line_taken now said f p
+abbrev pub reading_by : ℕ → Result (Option TimedMessage) DisconnectReason → LineSearchData
+    → PortData
+    → PortReading
+reading_by now (Err why) f p = dismissed_of why p
+reading_by now (Ok None) f p = empty_reading p
+reading_by now (Ok (Some said)) f p = line_reading now said f p
 
-abbrev pub taken_here : State → ℕ → ℕ → PortData → Taken
-taken_here s now jump p = taken_by now (judged_at s now jump p) (first_line_of p.kept) p
+abbrev pub reading_here : State → ℕ → ℕ → PortData → PortReading
+reading_here s now jump p = reading_by now (judged_at s now jump p) (first_line_of p.kept) p
 
 -- the loss of a process that has disconnected
-abbrev pub lost_of : PortData → Taken
+abbrev pub lost_of : PortData → PortReading
 lost_of p = record { is_lost = true; event = None; line = None; port = with_no_data Away p }
 
-abbrev pub taken_as : Presence → State → ℕ → ℕ → PortData → Taken
-taken_as Away s now jump p = nothing_of p
-taken_as Leaving s now jump p = lost_of p
-taken_as (Dismissed why) s now jump p = nothing_of p
-taken_as Here s now jump p = taken_here s now jump p
+abbrev pub reading_as : Presence → State → ℕ → ℕ → PortData → PortReading
+reading_as Away s now jump p = empty_reading p
+reading_as Leaving s now jump p = lost_of p
+reading_as (Dismissed why) s now jump p = empty_reading p
+reading_as Here s now jump p = reading_here s now jump p
 
 -- What a turn takes of the port at a moment, if the system's clock has gone on this far beyond the
 -- steady one since the turn before: of a process that is connected and still believed the next line
 -- that it has sent; of one that has gone, or is believed no more, once, that it is lost.
-abbrev pub taken_line : State → ℕ → ℕ → PortData → Taken
-taken_line s now jump p = taken_as p.presence s now jump p
+abbrev pub reading_at : State → ℕ → ℕ → PortData → PortReading
+reading_at s now jump p = reading_as p.presence s now jump p
 
 -- A turn that has a line of a trace takes only that the process is lost.
-abbrev pub loss_in : Taken → PortData → Taken
-loss_in taken p = if taken.is_lost then taken else nothing_of p
+abbrev pub loss_in : PortReading → PortData → PortReading
+loss_in taken p = if taken.is_lost then taken else empty_reading p
 
-abbrev pub taken_loss : State → ℕ → ℕ → PortData → Taken
-taken_loss s now jump p = loss_in (taken_line s now jump p) p
+abbrev pub loss_reading : State → ℕ → ℕ → PortData → PortReading
+loss_reading s now jump p = loss_in (reading_at s now jump p) p
 
 -- the line, escaped
 abbrev pub shown_line : Option (List ℕ) → List ℕ

@@ -33,17 +33,17 @@ reported_turn now turn s =
 abbrev pub over_line : ℕ → List ℕ → List ℕ
 over_line now id = decimal now ++ codes " over " ++ id ++ codes "\n"
 
-abbrev pub over_part : ℕ → Option Switch → List ℕ
-over_part now None = []
-over_part now (Some switch) = over_line now switch.id
+abbrev pub expiry_part : ℕ → Option Switch → List ℕ
+expiry_part now None = []
+expiry_part now (Some switch) = over_line now switch.id
 
-abbrev pub over_text : ℕ → State → Option ℕ → List ℕ
-over_text now s None = []
-over_text now s (Some k) = over_part now (slice_get s.switches k)
+abbrev pub expiry_text : ℕ → State → Option ℕ → List ℕ
+expiry_text now s None = []
+expiry_text now s (Some k) = expiry_part now (slice_get s.switches k)
 
-abbrev pub over_for : Option Watched → Option ℕ → Option ℕ
-over_for None over = None
-over_for (Some w) over = over
+abbrev pub expiry_for : Option Watched → Option ℕ → Option ℕ
+expiry_for None over = None
+expiry_for (Some w) over = over
 
 -- the server is alive, if the turn took a line by which the process is
 abbrev pub lives_in : Option Watched → Bool

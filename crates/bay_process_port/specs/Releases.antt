@@ -17,27 +17,28 @@ is_same None release = false
 is_same (Some last) release = beq last.0 release.0 && beq last.1 release.1
 
 -- what is sent for the switch at an index: its release, if it is not the one that was sent last
-abbrev pub said_at : ℕ → Option Release → Option Release → List (ℕ × Release)
-said_at k last None = []
-said_at k last (Some release) = if is_same last release then [] else (k, release) ∷ []
+abbrev pub release_at : ℕ → Option Release → Option Release → List (ℕ × Release)
+release_at k last None = []
+release_at k last (Some release) = if is_same last release then [] else (k, release) ∷ []
 
 -- what is sent for the switches from index k on, by what was sent for each last
-abbrev pub said_from : State → ℕ → List (Option Release) → List (ℕ × Release)
-said_from s k [] = []
-said_from s k (last ∷ told) = said_at k last (enabled_of s k) ++ said_from s (k + 1) told
+abbrev pub releases_from : State → ℕ → List (Option Release) → List (ℕ × Release)
+releases_from s k [] = []
+releases_from s k (last ∷ told) = release_at k last (enabled_of s k) ++ releases_from s (k + 1) told
 
 -- what is sent to a process, if it receives releases
-abbrev pub said_in : State → Option (List (Option Release)) → List (ℕ × Release)
-said_in s None = []
-said_in s (Some told) = said_from s 0 told
+abbrev pub new_releases : State → Option (List (Option Release)) → List (ℕ × Release)
+new_releases s None = []
+new_releases s (Some told) = releases_from s 0 told
 
 -- what was sent last after that: the release of each switch
-abbrev pub told_after : State → Option (List (Option Release)) → Option (List (Option Release))
-told_after s = option_map (λ told. map (enabled_of s) (range_with_len 0 (length told)))
+abbrev pub sent_releases_after : State → Option (List (Option Release))
+    → Option (List (Option Release))
+sent_releases_after s = option_map (λ told. map (enabled_of s) (range_with_len 0 (length told)))
 
 -- nothing was sent for any of 32 switches
-unfoldable pub nothing_told : List (Option Release)
-nothing_told = replicate 32 None
+unfoldable pub no_releases_sent : List (Option Release)
+no_releases_sent = replicate 32 None
 
 -- ---- as text
 
@@ -59,6 +60,7 @@ releases_text s (said ∷ more) =
 -- ---- what a process knows of it
 
 -- the last release that was sent for the switch at an index
-abbrev pub last_said : ℕ → Option Release → List (ℕ × Release) → Option Release
-last_said k last [] = last
-last_said k last (said ∷ more) = last_said k (if said.0 == k then Some said.1 else last) more
+abbrev pub last_release_sent : ℕ → Option Release → List (ℕ × Release) → Option Release
+last_release_sent k last [] = last
+last_release_sent k last (said ∷ more) =
+    last_release_sent k (if said.0 == k then Some said.1 else last) more

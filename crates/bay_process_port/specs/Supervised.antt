@@ -122,8 +122,8 @@ abbrev pub known_by : ℕ → TimedMessage → Watched → Watched
 known_by now said w =
     known_as said.word (record w { heard = min now said.moment; last = said.moment })
 
-abbrev pub known_behind : ℕ → TimedMessage → Option Watched → Option Watched
-known_behind now said watch = option_map (known_by now said) watch
+abbrev pub watched_after : ℕ → TimedMessage → Option Watched → Option Watched
+watched_after now said watch = option_map (known_by now said) watch
 
 -- the process was answered that the server is alive
 abbrev pub after_alive_answer : Option Watched → Option Watched

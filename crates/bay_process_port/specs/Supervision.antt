@@ -4,8 +4,8 @@ use Rattle.std.specs.Prelude.{◌≡◌, ◌⊎◌, ℕ, ◌-◌, ◌≤◌, Boo
 use Rattle.bay_device.specs.Device.{State}
 use Rattle.bay_lines.specs.Cuttings.{AreLines}
 use Rattle.bay_lines.specs.FirstLines.{Whole, first_line_of}
-use Rattle.bay_process_port.specs.Ports.{PortData, empty_port, taken_line}
-use Rattle.bay_process_port.specs.Uses.{Attends, Takes, Use, all_given}
+use Rattle.bay_process_port.specs.Ports.{PortData, empty_port, reading_at}
+use Rattle.bay_process_port.specs.Uses.{Attends, Takes, Use, all_octets_read}
 use Rattle.bay_process_port.specs.Supervised.{SupervisionSettings, Watched}
 use Rattle.bay_process_port.specs.declared.port.Presence.TheVariants.{Away, Here}
 use Rattle.bay_process_port.specs.Introduction.{introduced_at}
@@ -49,7 +49,7 @@ pub record IsOfThisBay (tells : Bool) (duties : SupervisionSettings) (domain rev
   pub text : List ℕ
   pub rest : List ℕ
   pub are : AreLines (first ∷ lines) text
-  pub given : all_given uses (empty_port tells (Some duties) Away) ≡ text ++ rest
+  pub given : all_octets_read uses (empty_port tells (Some duties) Away) ≡ text ++ rest
   pub moment : ℕ
   pub introduces : introduced_at duties.key domain revision first ≡ Some moment
 
@@ -69,13 +69,13 @@ pub record IsLive (now : ℕ) (p : PortData) : Type 0 where
 -- from a moment at most the supervision's milliseconds before the turn, and the system's clock has
 -- gone on by no more than these milliseconds beyond the steady one.
 pub record IsBelieved (s : State) (now jump : ℕ) (p : PortData) (w : Watched) : Type 0 where
-  pub not_lost : (taken_line s now jump p).is_lost ≡ false
+  pub not_lost : (reading_at s now jump p).is_lost ≡ false
   pub recent : now - w.heard ≤ w.duties.limit
   pub no_jump : jump ≤ w.duties.limit
 
 -- Otherwise the turn begins with the loss, and takes no line.
 abbrev pub IsHeard : State → ℕ → ℕ → PortData → Type 0
 IsHeard s now jump p = (w : Watched) → p.presence ≡ Here
-    → (taken_line s now jump p).port.watch ≡ Some w
-    → ((taken_line s now jump p).is_lost ≡ true)
-    ⊎ (((taken_line s now jump p).port.presence ≡ Here) × IsBelieved s now jump p w)
+    → (reading_at s now jump p).port.watch ≡ Some w
+    → ((reading_at s now jump p).is_lost ≡ true)
+    ⊎ (((reading_at s now jump p).port.presence ≡ Here) × IsBelieved s now jump p w)

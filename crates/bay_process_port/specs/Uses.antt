@@ -6,9 +6,9 @@ use Rattle.bay_device.specs.LookUps.{may_open, may_close}
 use Rattle.bay_lines.specs.Cuttings.{AreLines}
 use Rattle.bay_server_turn.specs.Calls.{Call, Accepts, Reads, Writes, Closes, ReadOutcome, Octets, Silence, Over, Broken}
 use Rattle.bay_process_port.specs.Polling.{Script, attendance}
-use Rattle.bay_process_port.specs.Fit.{is_told}
-use Rattle.bay_process_port.specs.Ports.{PortData, empty_port, taken_line}
-use Rattle.bay_process_port.specs.Releases.{Release, last_said, said_in}
+use Rattle.bay_process_port.specs.Fit.{has_process_event}
+use Rattle.bay_process_port.specs.Ports.{PortData, empty_port, reading_at}
+use Rattle.bay_process_port.specs.Releases.{Release, last_release_sent, new_releases}
 use Rattle.bay_process_port.specs.ProcessOutput.{ReportedTurn}
 use Rattle.bay_process_port.specs.Supervised.{SupervisionSettings}
 use Rattle.bay_process_port.specs.declared.port.Presence.{Presence}
@@ -24,13 +24,13 @@ pub data Use : Type 0 where
 
 -- the port after a use
 abbrev pub port_after : Use → PortData → PortData
-port_after (Takes s now jump) p = (taken_line s now jump p).port
+port_after (Takes s now jump) p = (reading_at s now jump p).port
 port_after (Attends t s script) p = (attendance t s script p).port
 
 -- the line that the turn takes
-abbrev pub line_had : Use → PortData → List (List ℕ)
-line_had (Takes s now jump) p = option_to_list (taken_line s now jump p).line
-line_had (Attends t s script) p = []
+abbrev pub line_read : Use → PortData → List (List ℕ)
+line_read (Takes s now jump) p = option_to_list (reading_at s now jump p).line
+line_read (Attends t s script) p = []
 
 abbrev pub octets_in : ReadOutcome → List ℕ
 octets_in (Octets octets) = octets
@@ -39,16 +39,16 @@ octets_in Over = []
 octets_in Broken = []
 
 -- the octets that the link read
-abbrev pub given_of : List Call → List ℕ
-given_of [] = []
-given_of (Accepts a taken ∷ calls) = given_of calls
-given_of (Reads a room heard ∷ calls) = octets_in heard ++ given_of calls
-given_of (Writes a octets taken ∷ calls) = given_of calls
-given_of (Closes a ∷ calls) = given_of calls
+abbrev pub octets_read_by : List Call → List ℕ
+octets_read_by [] = []
+octets_read_by (Accepts a taken ∷ calls) = octets_read_by calls
+octets_read_by (Reads a room heard ∷ calls) = octets_in heard ++ octets_read_by calls
+octets_read_by (Writes a octets taken ∷ calls) = octets_read_by calls
+octets_read_by (Closes a ∷ calls) = octets_read_by calls
 
-abbrev pub octets_given : Use → PortData → List ℕ
-octets_given (Takes s now jump) p = []
-octets_given (Attends t s script) p = given_of (attendance t s script p).calls
+abbrev pub octets_read : Use → PortData → List ℕ
+octets_read (Takes s now jump) p = []
+octets_read (Attends t s script) p = octets_read_by (attendance t s script p).calls
 
 -- ---- one use after the other
 
@@ -56,13 +56,13 @@ abbrev pub after_uses : List Use → PortData → PortData
 after_uses [] p = p
 after_uses (u ∷ us) p = after_uses us (port_after u p)
 
-abbrev pub all_had : List Use → PortData → List (List ℕ)
-all_had [] p = []
-all_had (u ∷ us) p = line_had u p ++ all_had us (port_after u p)
+abbrev pub all_lines_read : List Use → PortData → List (List ℕ)
+all_lines_read [] p = []
+all_lines_read (u ∷ us) p = line_read u p ++ all_lines_read us (port_after u p)
 
-abbrev pub all_given : List Use → PortData → List ℕ
-all_given [] p = []
-all_given (u ∷ us) p = octets_given u p ++ all_given us (port_after u p)
+abbrev pub all_octets_read : List Use → PortData → List ℕ
+all_octets_read [] p = []
+all_octets_read (u ∷ us) p = octets_read u p ++ all_octets_read us (port_after u p)
 
 -- the process is connected after each of them
 abbrev pub StaysHere : List Use → PortData → Type 0
@@ -76,26 +76,26 @@ pub record LosesNoLine (tells : Bool) (duties : Option SupervisionSettings) (use
   pub lines : List (List ℕ)
   pub text : List ℕ
   pub are : AreLines lines text
-  pub given : all_given uses (empty_port tells duties Away)
+  pub given : all_octets_read uses (empty_port tells duties Away)
       ≡ text ++ (after_uses uses (empty_port tells duties Away)).kept
-  pub had : all_had uses (empty_port tells duties Away) ≡ filter is_told lines
+  pub had : all_lines_read uses (empty_port tells duties Away) ≡ filter has_process_event lines
 
 -- ---- releases
 
 -- the releases that are sent in a use: after a turn, to a connected process
-abbrev pub said_as : Presence → State → PortData → List (ℕ × Release)
-said_as Away s p = []
-said_as Leaving s p = []
-said_as (Dismissed why) s p = []
-said_as Here s p = said_in s p.told
+abbrev pub releases_sent_as : Presence → State → PortData → List (ℕ × Release)
+releases_sent_as Away s p = []
+releases_sent_as Leaving s p = []
+releases_sent_as (Dismissed why) s p = []
+releases_sent_as Here s p = new_releases s p.told
 
-abbrev pub said_of : Use → PortData → List (ℕ × Release)
-said_of (Takes s now jump) p = []
-said_of (Attends t s script) p = said_as p.presence s p
+abbrev pub releases_sent : Use → PortData → List (ℕ × Release)
+releases_sent (Takes s now jump) p = []
+releases_sent (Attends t s script) p = releases_sent_as p.presence s p
 
-abbrev pub all_said : List Use → PortData → List (ℕ × Release)
-all_said [] p = []
-all_said (u ∷ us) p = said_of u p ++ all_said us (port_after u p)
+abbrev pub all_releases_sent : List Use → PortData → List (ℕ × Release)
+all_releases_sent [] p = []
+all_releases_sent (u ∷ us) p = releases_sent u p ++ all_releases_sent us (port_after u p)
 
 -- For a process that was connected before a turn, and receives releases, the release that was sent
 -- last for each switch is its release.
@@ -104,5 +104,6 @@ abbrev pub IsUpToDate : Option SupervisionSettings → List Use → ReportedTurn
 IsUpToDate duties uses t s script = (after_uses uses (empty_port true duties Away)).presence ≡ Here
     → (attendance t s script (after_uses uses (empty_port true duties Away))).news ≡ None
     → (k : ℕ) → k < 32 → k < length s.switches
-    → last_said k None (all_said (uses ++ Attends t s script ∷ []) (empty_port true duties Away))
+    → last_release_sent k None
+    (all_releases_sent (uses ++ Attends t s script ∷ []) (empty_port true duties Away))
     ≡ Some (may_open s k, may_close s k)

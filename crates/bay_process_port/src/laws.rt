@@ -3,9 +3,9 @@ ghost use Rattle.std.specs.Prelude.{◌≡◌, ℕ, Bool, false, true, List, Non
 ghost use Rattle.std.specs.declared.net.socket_addr.SocketAddrV4.{SocketAddrV4};
 ghost use Rattle.bay_device.specs.Device.{State};
 ghost use Rattle.bay_process_port.specs.Polling.{Script};
-ghost use Rattle.bay_process_port.specs.Examples.{front_sent};
-ghost use Rattle.bay_process_port.specs.Laws.{IsReadable, IsSilent, TellsInOrder};
-ghost use Rattle.bay_process_port.specs.Ports.{PortData, empty_port, taken_line};
+ghost use Rattle.bay_process_port.specs.Examples.{sent_after_a};
+ghost use Rattle.bay_process_port.specs.Laws.{IsReadable, IsSilent, WritesInOrder};
+ghost use Rattle.bay_process_port.specs.Ports.{PortData, empty_port, reading_at};
 ghost use Rattle.bay_process_port.specs.Supervision.{AreOf, IsHeard, IsOfThisBay, IsOnTime};
 ghost use Rattle.bay_process_port.specs.ProcessOutput.{ReportedTurn};
 ghost use Rattle.bay_process_port.specs.Uses.{IsUpToDate, LosesNoLine, StaysHere, Use, after_uses};
@@ -33,7 +33,7 @@ pub fn a_process_ends_no_server()
 /// connection is closed.
 pub fn a_process_gets_reports_in_order()
     ensures { (t : ReportedTurn) (s : State) (script : Script) (p : PortData)
-        → p.presence ≡ Here → TellsInOrder t s script p }
+        → p.presence ≡ Here → WritesInOrder t s script p }
 {}
 
 /// No line of a process is lost, repeated or joined with another. While the process is connected,
@@ -50,9 +50,9 @@ pub fn a_process_loses_no_line()
 /// which the connection ends does.
 pub fn a_partial_line_ends_with_its_process()
     ensures here { (t : ReportedTurn) (s : State) (from : SocketAddrV4)
-        → LosesNoLine false None (front_sent Silence t s from) }
+        → LosesNoLine false None (sent_after_a Silence t s from) }
     ensures gone { (t : ReportedTurn) (s : State) (from : SocketAddrV4)
-        → LosesNoLine false None (front_sent Over t s from) → ⊥ }
+        → LosesNoLine false None (sent_after_a Over t s from) → ⊥ }
 {}
 
 /// A process that receives releases knows them: after each turn, while the process is connected,
@@ -70,7 +70,7 @@ pub fn a_process_knows_the_releases()
 /// process has introduced itself.
 pub fn no_old_message()
     ensures { (s : State) (now jump : ℕ) (p : PortData) (w : Watched) (event : ProcessEvent)
-        → p.watch ≡ Some w → (taken_line s now jump p).event ≡ Some event
+        → p.watch ≡ Some w → (reading_at s now jump p).event ≡ Some event
         → IsOnTime s now p w event }
 {}
 
@@ -81,7 +81,7 @@ pub fn a_supervised_process_is_of_this_bay()
         (uses : List Use)
         (s : State) (now jump : ℕ) (event : ProcessEvent)
         → StaysHere uses (empty_port tells (Some duties) Away) → AreOf domain revision uses
-        → (taken_line s now jump (after_uses uses (empty_port tells (Some duties) Away))).event
+        → (reading_at s now jump (after_uses uses (empty_port tells (Some duties) Away))).event
         ≡ Some event
         → IsOfThisBay tells duties domain revision uses }
 {}

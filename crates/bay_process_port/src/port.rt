@@ -2,14 +2,14 @@
 ghost use Rattle.std.specs.Prelude.{◌≡◌, false, None, IfOk, option_map};
 ghost use Rattle.bay_server_turn.specs.Calls.{Called};
 ghost use Rattle.bay_process_port.specs.Polling.{Does, Leads, first_part, greet_part, offer_part, read_by, with_report_queued};
-ghost use Rattle.bay_process_port.specs.Ports.{StaysBound, initial_port, with_no_data, judged_at, line_taken, reason_in, after_dismissal, shown_line, taken_here, taken_line, taken_loss};
+ghost use Rattle.bay_process_port.specs.Ports.{StaysBound, initial_port, with_no_data, judged_at, line_reading, reason_in, after_dismissal, shown_line, reading_here, reading_at, loss_reading};
 ghost use Rattle.bay_process_port.specs.Ports as spec;
 ghost use Rattle.bay_lines.specs.FirstLines.{first_line_of};
 ghost use Rattle.bay_process_port.specs.ProcessOutput.{lives_in, reported_turn};
 ghost use Rattle.bay_process_port.specs.Supervised.{after_alive_answer, event_in, heard_at, line_in, initial_watch};
 
 use crate::connection_event::DisconnectReason;
-use crate::process_output::{ProcessQueue, put_alive, put_greeting, put_over, put_turn_report};
+use crate::process_output::{ProcessQueue, put_alive, put_expiry, put_greeting, put_turn_report};
 use crate::releases::{ReportedReleases, nothing_reported, put_releases};
 use crate::supervision::{
     ProcessMessage, SupervisedProcess, SupervisionSettings, TimedMessage, check_line,
@@ -217,20 +217,20 @@ impl Port {
     // Takes the first line, which was judged to be this message, if there is a whole one.
     fn accept_line(&mut self, now: u64, said: TimedMessage) -> PortInput
         ensures lost { result.is_lost
-            ≡ (line_taken now said (first_line_of self.old.kept) self.old).is_lost }
+            ≡ (line_reading now said (first_line_of self.old.kept) self.old).is_lost }
         ensures event { result.event
-            ≡ (line_taken now said (first_line_of self.old.kept) self.old).event }
+            ≡ (line_reading now said (first_line_of self.old.kept) self.old).event }
         ensures shown { result.shown
-            ≡ shown_line (line_taken now said (first_line_of self.old.kept) self.old).line }
+            ≡ shown_line (line_reading now said (first_line_of self.old.kept) self.old).line }
         ensures port { self.new
-            ≡ (line_taken now said (first_line_of self.old.kept) self.old).port }
+            ≡ (line_reading now said (first_line_of self.old.kept) self.old).port }
     {
         match self.found {
             LineSearch::Waiting => PortInput::none(false),
             LineSearch::Overlong => PortInput::none(false),
             LineSearch::Whole { line, end } => {
                 let given = PortInput::of(said.word, &self.kept.as_slice()[..line]);
-                self.kept.drop_front(end);
+                self.kept.remove_first(end);
                 self.found = first_line(self.kept.as_slice());
                 if let Some(watch) = &mut self.watch {
                     watch.accept_message(now, said);
@@ -242,10 +242,10 @@ impl Port {
 
     // Takes the next line of a connected process, or that it is believed no more.
     fn take_here(&mut self, device: &Device, now: u64, jump: u64) -> PortInput
-        ensures lost { result.is_lost ≡ (taken_here device.now now jump self.old).is_lost }
-        ensures event { result.event ≡ (taken_here device.now now jump self.old).event }
-        ensures shown { result.shown ≡ shown_line (taken_here device.now now jump self.old).line }
-        ensures port { self.new ≡ (taken_here device.now now jump self.old).port }
+        ensures lost { result.is_lost ≡ (reading_here device.now now jump self.old).is_lost }
+        ensures event { result.event ≡ (reading_here device.now now jump self.old).event }
+        ensures shown { result.shown ≡ shown_line (reading_here device.now now jump self.old).line }
+        ensures port { self.new ≡ (reading_here device.now now jump self.old).port }
     {
         match self.check(device, now, jump) {
             Ok(None) => PortInput::none(false),
@@ -263,10 +263,10 @@ impl Port {
     /// it has gone, or if it is believed no more: its line ends the connection, or it is supervised
     /// and silent for longer than it may be, or the system's clock has jumped by more than that.
     pub fn take_line(&mut self, device: &Device, now: u64, jump: u64) -> PortInput
-        ensures lost { result.is_lost ≡ (taken_line device.now now jump self.old).is_lost }
-        ensures event { result.event ≡ (taken_line device.now now jump self.old).event }
-        ensures shown { result.shown ≡ shown_line (taken_line device.now now jump self.old).line }
-        ensures port { self.new ≡ (taken_line device.now now jump self.old).port }
+        ensures lost { result.is_lost ≡ (reading_at device.now now jump self.old).is_lost }
+        ensures event { result.event ≡ (reading_at device.now now jump self.old).event }
+        ensures shown { result.shown ≡ shown_line (reading_at device.now now jump self.old).line }
+        ensures port { self.new ≡ (reading_at device.now now jump self.old).port }
     {
         match self.presence {
             Presence::Away => PortInput::none(false),
@@ -282,8 +282,8 @@ impl Port {
     /// Takes only that the process is lost, for a turn that has a line of a trace, and leaves the
     /// lines of the process where they are. Returns whether the process is lost.
     pub fn take_loss(&mut self, device: &Device, now: u64, jump: u64) -> bool
-        ensures lost { result ≡ (taken_loss device.now now jump self.old).is_lost }
-        ensures port { self.new ≡ (taken_loss device.now now jump self.old).port }
+        ensures lost { result ≡ (loss_reading device.now now jump self.old).is_lost }
+        ensures port { self.new ≡ (loss_reading device.now now jump self.old).port }
     {
         match self.presence {
             Presence::Away => false,
@@ -302,8 +302,8 @@ impl Port {
         }
     }
 
-    /// If a turn has dismissed the process and its connection is still to be closed, returns why, and
-    /// sets the presence to `Away`.
+    /// If a turn has dismissed the process and its connection is still to be closed, returns why,
+    /// and sets the presence to `Away`.
     pub(crate) fn take_dismissal(&mut self) -> Option<DisconnectReason>
         ensures reason { result ≡ reason_in self.old.presence }
         ensures port { self.new ≡ after_dismissal self.old.presence self.old }
@@ -350,7 +350,7 @@ impl Port {
             None
         };
         let lives = self.answer();
-        if put_over(&mut self.queue, device, moment, over)
+        if put_expiry(&mut self.queue, device, moment, over)
             && put_turn_report(&mut self.queue, device, moment, turn)
             && put_releases(&mut self.queue, device, &mut self.told)
             && put_alive(&mut self.queue, moment, lives)
@@ -397,7 +397,7 @@ impl Port {
         }
         match link.write(PROCESS, self.queue.as_slice()) {
             Ok(count) => {
-                self.queue.drop_front(count);
+                self.queue.remove_first(count);
                 Ok(())
             }
             Err(_) => Err(DisconnectReason::LinkFailed),

@@ -1,7 +1,7 @@
 // Queues what a process receives after a turn.
 ghost use Rattle.std.specs.Prelude.{◌≡◌, slice_get};
 ghost use Rattle.bay_report.specs.Lines.{command_line, command_text, commands_text, refusal_line};
-ghost use Rattle.bay_process_port.specs.ProcessOutput.{PutsWhole, alive_text, greeting_text, over_line, over_text, refusal_text, process_turn_text};
+ghost use Rattle.bay_process_port.specs.ProcessOutput.{PutsWhole, alive_text, greeting_text, over_line, expiry_text, refusal_text, process_turn_text};
 ghost use Rattle.bay_process_port.specs.ProcessOutput as spec;
 
 use crate::supervision::SupervisedProcess;
@@ -99,7 +99,7 @@ pub fn put_turn_report(queue: &mut ProcessQueue, device: &Device, moment: u64, t
 }
 
 // Appends that the operate of the switch with this id has expired.
-fn put_over_line(queue: &mut ProcessQueue, moment: u64, id: &str) -> bool
+fn put_expiry_line(queue: &mut ProcessQueue, moment: u64, id: &str) -> bool
     ensures { PutsWhole queue.old (over_line moment id.now) queue.new result }
 {
     let mut moments = Buffer::new();
@@ -112,23 +112,28 @@ fn put_over_line(queue: &mut ProcessQueue, moment: u64, id: &str) -> bool
 }
 
 // Appends that the operate of the switch at an index has expired.
-fn put_over_of(queue: &mut ProcessQueue, device: &Device, moment: u64, switch: usize) -> bool
+fn put_expiry_of(queue: &mut ProcessQueue, device: &Device, moment: u64, switch: usize) -> bool
     ensures { PutsWhole queue.old
-        (spec.over_part moment (slice_get device.now.switches switch)) queue.new result }
+        (spec.expiry_part moment (slice_get device.now.switches switch)) queue.new result }
 {
     match device.id(switch) {
-        Some(id) => put_over_line(queue, moment, id),
+        Some(id) => put_expiry_line(queue, moment, id),
         None => queue.put_parts(&[]),
     }
 }
 
 /// Appends that the operate of a switch has expired, if one has. Returns false if there is not room
 /// for the line.
-pub fn put_over(queue: &mut ProcessQueue, device: &Device, moment: u64, over: Option<usize>) -> bool
-    ensures { PutsWhole queue.old (over_text moment device.now over) queue.new result }
+pub fn put_expiry(
+    queue: &mut ProcessQueue,
+    device: &Device,
+    moment: u64,
+    over: Option<usize>,
+) -> bool
+    ensures { PutsWhole queue.old (expiry_text moment device.now over) queue.new result }
 {
     match over {
-        Some(switch) => put_over_of(queue, device, moment, switch),
+        Some(switch) => put_expiry_of(queue, device, moment, switch),
         None => queue.put_parts(&[]),
     }
 }

@@ -2,7 +2,7 @@
 ghost use Rattle.std.specs.Prelude.{◌≡◌, length, map, slice_get, if◌then◌else◌};
 ghost use Rattle.std.specs.List.{range_with_len};
 ghost use Rattle.bay_device.specs.LookUps.{enabled_of};
-ghost use Rattle.bay_process_port.specs.Releases.{nothing_told, release_line, release_part, releases_text, said_at, said_from, said_in, told_after};
+ghost use Rattle.bay_process_port.specs.Releases.{no_releases_sent, release_line, release_part, releases_text, release_at, releases_from, new_releases, sent_releases_after};
 ghost use Rattle.bay_process_port.specs.Releases as spec;
 ghost use Rattle.bay_process_port.specs.ProcessOutput.{PutsWhole};
 
@@ -35,9 +35,9 @@ impl Model for ReportedReleases {
 
 impl ReportedReleases {
     /// Creates the state before anything was sent.
-    #[tactic(auto, unfolding(crate::specs::Releases::nothing_told))]
+    #[tactic(auto, unfolding(crate::specs::Releases::no_releases_sent))]
     pub fn new() -> Self
-        ensures { result ≡ nothing_told }
+        ensures { result ≡ no_releases_sent }
     {
         ReportedReleases {
             releases: [None; SWITCHES],
@@ -56,7 +56,7 @@ impl ReportedReleases {
 
 /// Returns the state before anything was sent, if a process receives releases.
 pub fn nothing_reported(tells_releases: bool) -> Option<ReportedReleases>
-    ensures { result ≡ (if tells_releases then Some nothing_told else None) }
+    ensures { result ≡ (if tells_releases then Some no_releases_sent else None) }
 {
     if tells_releases {
         Some(ReportedReleases::new())
@@ -108,7 +108,7 @@ fn put_change(
     last: Option<SwitchRelease>,
 ) -> bool
     ensures { PutsWhole queue.old
-        (releases_text device.now (said_at place last (enabled_of device.now place))) queue.new
+        (releases_text device.now (release_at place last (enabled_of device.now place))) queue.new
         result }
 {
     match device.ena(place) {
@@ -125,7 +125,7 @@ fn put_change(
 
 // Appends the line of each switch whose release is not the one that was sent last.
 fn put_changes(queue: &mut ProcessQueue, device: &Device, told: &[Option<SwitchRelease>]) -> bool
-    ensures { PutsWhole queue.old (releases_text device.now (said_from device.now 0 told.now))
+    ensures { PutsWhole queue.old (releases_text device.now (releases_from device.now 0 told.now))
         queue.new result }
 {
     prove!(queue.as_slice().len() <= QUEUE);
@@ -146,8 +146,8 @@ pub fn put_releases(
     told: &mut Option<ReportedReleases>,
 ) -> bool
     ensures queue { PutsWhole queue.old
-        (releases_text device.now (said_in device.now told.old)) queue.new result }
-    ensures told { told.new ≡ told_after device.now told.old }
+        (releases_text device.now (new_releases device.now told.old)) queue.new result }
+    ensures told { told.new ≡ sent_releases_after device.now told.old }
 {
     match told {
         Some(told) => {

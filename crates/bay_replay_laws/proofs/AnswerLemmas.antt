@@ -15,7 +15,7 @@ use Rattle.bay_device.specs.Entries.{IsIdle}
 use Rattle.bay_device.specs.Fresh.{Past}
 use Rattle.bay_device.specs.Receiving.{ReceiveResult, Done, after_indications, after_pdu, on_indication, sent_on, with_sent}
 use Rattle.bay_device.specs.Operates.{AreOperates, AreReplied, AreRepliedForEvent, IsReplied}
-use Rattle.bay_device.specs.Outcomes.{Outcome, connection_at, last_moment, nothing_done, outcome, place_of, recv_outcome, refusal_of}
+use Rattle.bay_device.specs.Outcomes.{Outcome, connection_at, last_moment, nothing_done, outcome, slot_of, recv_outcome, refusal_of}
 use Rattle.bay_device.specs.Remote.{AreAtRemote, IsAtRemote}
 use Rattle.bay_device.specs.Steps.{Steps}
 use Rattle.bay_device.specs.EntriesTold.{AreAgreed, pdu_in, pdus_in, connection_state_at}
@@ -84,7 +84,7 @@ record FromOctets (now : ℕ) (event : Event) (names : Bay) (s : State) (step : 
   octets : Bor (List ℕ)
   event_is : event ≡ Recv association octets
   talk : ConnectionState
-  connected : connection_at (place_of association) s ≡ Some talk
+  connected : connection_at (slot_of association) s ≡ Some talk
   replied : IsReplied now association names (indications talk octets.now) (pdus_in step.sent)
       command
 
@@ -99,7 +99,7 @@ talk-is (Some place) s = refl
 module _ (now : ℕ) (names : Bay) (s : State) (step : Step) (command : Command)
     (has : Contains step.commands command) where
   of-talk : (a : ℕ) (octets : Bor (List ℕ)) (talk : Option ConnectionState)
-      → connection_at (place_of a) s ≡ talk → AreReplied now a names octets.now talk step
+      → connection_at (slot_of a) s ≡ talk → AreReplied now a names octets.now talk step
       → FromOctets now (Recv a octets) names s step command
   of-talk a octets None is replied = none-has step.commands command replied has
   of-talk a octets (Some talk) is replied = record {
@@ -114,8 +114,8 @@ module _ (now : ℕ) (names : Bay) (s : State) (step : Step) (command : Command)
   of-event : (event : Event) → AreRepliedForEvent now event names s.connections step
       → FromOctets now event names s step command
   of-event (Recv a octets) replied =
-      of-talk a octets (connection_at (place_of a) s) refl
-      (subst (λ t. AreReplied now a names octets.now t step) (talk-is (place_of a) s) replied)
+      of-talk a octets (connection_at (slot_of a) s) refl
+      (subst (λ t. AreReplied now a names octets.now t step) (talk-is (slot_of a) s) replied)
   of-event (Open a) replied = none-has step.commands command replied has
   of-event (Close a) replied = none-has step.commands command replied has
   of-event (Contact k position) replied = none-has step.commands command replied has
@@ -184,8 +184,8 @@ module _ (now a : ℕ) where
       subst (λ (r : Result Step StepFault). IfOk r AllOn)
       (sym (steps.answered ∙ ap (λ e. (outcome steps.choice now e old).answer) is))
       (on-if (nat_lt last_moment now) (nat_lt now old.moment)
-      (recv_outcome steps.choice now a octets.now old (connection_at (place_of a) old)) old
-      (on-recv steps.choice octets.now old (connection_at (place_of a) old)))
+      (recv_outcome steps.choice now a octets.now old (connection_at (slot_of a) old)) old
+      (on-recv steps.choice octets.now old (connection_at (slot_of a) old)))
 
 -- ---- the line of sent octets
 

@@ -32,7 +32,7 @@ use Rattle.cmd_replay.proofs.KeptLemmas.{Scanned, scan_told, step-on-time, turne
 use Rattle.bay_device.proofs.LoadedLemmas.{file-sound}
 use Rattle.bay_replay_laws.specs.Meant.{AreMeant, AreValues, IsMeant, ScansAreMeant}
 use Rattle.bay_replay_laws.specs.Printed.{PrintedScan, PrintedSwitch, printed_scan, lines_in, printed_budget}
-use Rattle.bay_replay_laws.specs.ReadBack.{HaveIds, switches_told}
+use Rattle.bay_replay_laws.specs.ReadBack.{HaveIds, switches_digits}
 use Rattle.bay_replay_laws.specs.Released.{IsCommandLineFor}
 use Rattle.bay_replay_laws.proofs.LineLemmas.{decimal-free}
 use Rattle.bay_replay_laws.proofs.OrderLemmas.{load, no-read, of-each, printed-for, stands}
@@ -100,14 +100,14 @@ own-truth false = refl
 are-values : (s : State) (writes : List Source) (outputs : List Value) (k : ℕ)
     (switches : List Switch)
     → ((j : ℕ) → j < k + length switches → HoldsRelease s.rows j (told_by writes outputs j))
-    → AreValues writes outputs k switches (switches_told s k switches)
+    → AreValues writes outputs k switches (switches_digits s k switches)
 are-values s writes outputs k [] told = refl
 are-values s writes outputs k (switch ∷ switches) told =
     let here = told k (omega arith) in (
-      switches_told s (k + 1) switches,
+      switches_digits s (k + 1) switches,
       ap₂ (λ (opens closes : Bool). let p : PrintedSwitch =
           record { id = switch.id; opens = opens; closes = closes } in
-          p ∷ switches_told s (k + 1) switches)
+          p ∷ switches_digits s (k + 1) switches)
           (ap (is_truth true) here.opening.value_is
           ∙ own-truth (output_of k EnableOpen writes outputs))
           (ap (is_truth true) here.closing.value_is
@@ -130,7 +130,7 @@ module _ (first : State) (past : List Past) (steps : EachPast Steps first past)
   scan_said p count = record {
     moment = p.now;
     steps = count;
-    switches = switches_told p.after 0 p.after.switches;
+    switches = switches_digits p.after 0 p.after.switches;
   }
 
   -- A scan's line is read as what it tells.
@@ -151,7 +151,7 @@ module _ (first : State) (past : List Past) (steps : EachPast Steps first past)
       let early : p.now < 2 ^ 64 = omega arith in
       some-same (scan_said p l.steps) read
       (sym (ap printed_scan l.is
-      ∙ scan-read p.now l.steps (switches_told p.after 0 p.after.switches) early small
+      ∙ scan-read p.now l.steps (switches_digits p.after 0 p.after.switches) early small
       (told-plain p.after 0 p.after.switches (subst HaveIds
       (sym (past-fixed first (p ∷ at.earlier) here).switches) ids))) ∙ reads)
 
@@ -190,7 +190,7 @@ module _ (c : Checked) (first : State) (past : List Past) (steps : EachPast Step
       (scan-told old outputs p.now count most many
       (past-both first at.earlier most both here.1) j less)) in
       let values : AreValues first.writes outputs 0 first.switches
-      (switches_told p.after 0 first.switches) =
+      (switches_digits p.after 0 first.switches) =
       are-values p.after first.writes outputs 0 first.switches
       (λ j less. rows j (omega (arith, less)))
       in
@@ -210,7 +210,7 @@ module _ (c : Checked) (first : State) (past : List Past) (steps : EachPast Step
         after = meant.after;
         means = meant.is;
         values = subst (λ (ss : List Switch). AreValues first.writes outputs 0 first.switches
-            (switches_told p.after 0 ss)) (sym switches) values;
+            (switches_digits p.after 0 ss)) (sym switches) values;
       })
 
 -- ---- the text of a run

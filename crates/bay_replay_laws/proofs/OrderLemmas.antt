@@ -18,7 +18,7 @@ use Rattle.cmd_replay.specs.Replay.{LoadReport, PartsReport}
 use Rattle.cmd_replay.specs.Scenario.{ScenarioParts, scenario_of}
 use Rattle.cmd_replay.specs.History.{EachPast, device_after}
 use Rattle.bay_replay_laws.specs.Printed.{PrintedCommand, ended, lines_in, printed_command}
-use Rattle.bay_replay_laws.specs.ReadBack.{HaveIds, switches_told}
+use Rattle.bay_replay_laws.specs.ReadBack.{HaveIds, switches_digits}
 use Rattle.bay_replay_laws.specs.Released.{IsCommandLineFor}
 use Rattle.bay_replay_laws.specs.Reports.{HasNone, IsOf, OfEach}
 use Rattle.cmd_replay.specs.Runs.{IsRun, printed_of}
@@ -273,7 +273,7 @@ of-command now answer s line command reads (inl scan) =
     no-read printed_command other-no-command load-no-command line command
     (ap printed_command scan.is
     ∙ no-command-line (decimal now) (codes "scan")
-    ((codes "steps=" ++ decimal scan.steps) ++ told_text (switches_told s 0 s.switches))
+    ((codes "steps=" ++ decimal scan.steps) ++ told_text (switches_digits s 0 s.switches))
     (decimal-free 32 now no-space) refl refl) reads
 of-command now answer s line command reads (inr (inl l)) = l
 of-command now answer s line command reads (inr (inr other)) =

@@ -21,7 +21,7 @@ use Rattle.bay_report.specs.Report.{report_text}
 use Rattle.bay_report.specs.Lines.{closed_text, closing_text, command_line, command_part, commands_text, done_text, ended_text, order_text, ran_text, refusal_line, scan_text, send_text, sends_text, step_text, why_text}
 use Rattle.bay_process.specs.Releases.{digit_text}
 use Rattle.bay_replay_laws.specs.Printed.{PrintedSwitch}
-use Rattle.bay_replay_laws.specs.ReadBack.{HaveIds, switches_told}
+use Rattle.bay_replay_laws.specs.ReadBack.{HaveIds, switches_digits}
 use Rattle.cmd_replay.proofs.KeptLemmas.{scan_told}
 use Rattle.bay_replay_laws.proofs.LineLemmas.{AreLines, decimal-free, free, free-append, hex-free, more-lines, no-lines, one-line}
 use Rattle.bay_replay_laws.proofs.NameLemmas.{name-plain}
@@ -35,7 +35,7 @@ pub record IsScanLine (now : ℕ) (answer : Result Step StepFault) (s : State) (
     : Type 0 where
   pub steps : ℕ
   pub told : scan_told answer ≡ Some steps
-  pub is : line ≡ scan_line now steps (switches_told s 0 s.switches)
+  pub is : line ≡ scan_line now steps (switches_digits s 0 s.switches)
 
 -- A line is that of one of its commands.
 pub record IsCommandLine (now : ℕ) (answer : Result Step StepFault) (s : State) (line : List ℕ)
@@ -63,7 +63,7 @@ load-is report =
 -- ---- a scan
 
 told-is : (s : State) (k : ℕ) (switches : List Switch)
-    → switches_text s k switches ≡ told_text (switches_told s k switches)
+    → switches_text s k switches ≡ told_text (switches_digits s k switches)
 told-is s k [] = refl
 told-is s k (switch ∷ switches) =
     let p : PrintedSwitch =
@@ -73,14 +73,14 @@ told-is s k (switch ∷ switches) =
     ∙ ap (λ t. 32 ∷ (word_of p ++ t)) (told-is s (k + 1) switches)
 
 pub scan-is : (now steps : ℕ) (s : State)
-    → scan_text now steps s ≡ scan_line now steps (switches_told s 0 s.switches) ++ 10 ∷ []
+    → scan_text now steps s ≡ scan_line now steps (switches_digits s 0 s.switches) ++ 10 ∷ []
 scan-is now steps s =
     ap (λ t. decimal now ++ codes " scan steps=" ++ decimal steps ++ t ++ codes "\n")
     (told-is s 0 s.switches)
-    ∙ scan-whole (decimal now) (decimal steps) (told_text (switches_told s 0 s.switches))
+    ∙ scan-whole (decimal now) (decimal steps) (told_text (switches_digits s 0 s.switches))
 
 pub told-plain : (s : State) (k : ℕ) (switches : List Switch) → HaveIds switches
-    → AllPlain (switches_told s k switches)
+    → AllPlain (switches_digits s k switches)
 told-plain s k [] ids = tt
 told-plain s k (switch ∷ switches) ids =
     (name-plain 16 switch.id ids.0, told-plain s (k + 1) switches ids.1)
@@ -199,8 +199,8 @@ module _ (now : ℕ) (answer : Result Step StepFault) (s : State) (ids : HaveIds
   ran-lines None told = no-lines
   ran-lines (Some steps) told =
       let all = told-plain s 0 s.switches ids in
-      whole-line (scan_text now steps s) (scan_line now steps (switches_told s 0 s.switches))
-      (scan-is now steps s) (scan-free now steps (switches_told s 0 s.switches) all)
+      whole-line (scan_text now steps s) (scan_line now steps (switches_digits s 0 s.switches))
+      (scan-is now steps s) (scan-free now steps (switches_digits s 0 s.switches) all)
       (inl (record { steps = steps; told = told; is = refl }))
 
   module _ (step : Step) (done : answer ≡ Ok step) where

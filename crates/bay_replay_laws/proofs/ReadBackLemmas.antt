@@ -2,7 +2,7 @@
 use Rattle.std.proofs.Common.{refl}
 use Rattle.std.specs.Fmt.{decimal}
 use Rattle.hex.specs.Hex.{encode_lower}
-use Rattle.bay_replay_laws.specs.ReadBack.{ReadsBudgets, ReadsCommands, ReadsScans, ReadsSends, switches_told}
+use Rattle.bay_replay_laws.specs.ReadBack.{ReadsBudgets, ReadsCommands, ReadsScans, ReadsSends, switches_digits}
 use Rattle.bay_replay_laws.proofs.LineLemmas.{hex-free}
 use Rattle.bay_replay_laws.proofs.NameLemmas.{name-plain}
 use Rattle.bay_replay_laws.proofs.PrintLemmas.{command-is, load-is, scan-is, told-plain}
@@ -18,9 +18,9 @@ reads-budgets report small = (
 
 pub reads-scans : ReadsScans
 reads-scans now steps s early few ids = (
-  scan_line now steps (switches_told s 0 s.switches),
+  scan_line now steps (switches_digits s 0 s.switches),
   scan-is now steps s,
-  scan-read now steps (switches_told s 0 s.switches) early few (told-plain s 0 s.switches ids),
+  scan-read now steps (switches_digits s 0 s.switches) early few (told-plain s 0 s.switches ids),
 )
 
 pub reads-commands : ReadsCommands

@@ -10,7 +10,7 @@ use Rattle.std.specs.Str.Parse.{digits_value}
 use Rattle.bay_base.specs.declared.switch.Operation.{Operation}
 use Rattle.bay_base.specs.declared.switch.Operation.TheVariants as operations
 use Rattle.bay_process.specs.Releases.{digit_text}
-use Rattle.bay_replay_laws.specs.Printed.{PrintedSwitch, budget_in, command_in, command_of, number_named, number_of, order_of, parts_in, printed_budget, printed_command, printed_scan, printed_send, scan_in, scan_of, send_in, switch_in, switch_told, switches_in, words_in}
+use Rattle.bay_replay_laws.specs.Printed.{PrintedSwitch, budget_in, command_in, command_of, number_named, number_of, order_of, parts_in, printed_budget, printed_command, printed_scan, printed_send, scan_in, scan_of, send_in, switch_in, switch_digits, switches_in, words_in}
 use Rattle.bay_replay_laws.proofs.LineLemmas.{NoDigit, decimal-free, free, free-append, split-at, split-none}
 
 -- ---- numbers
@@ -117,7 +117,7 @@ words-told word (p ∷ ps) plain all =
     ∙ ap (λ ls. word ∷ ls) (words-told (word_of p) ps (word-free 32 p all.0.no_space refl) all.1)
 
 digits-read : (id : List ℕ) (a b : Bool)
-    → switch_told id (digit_text a ++ digit_text b)
+    → switch_digits id (digit_text a ++ digit_text b)
     ≡ Some (record { id = id; opens = a; closes = b })
 digits-read id true true = refl
 digits-read id true false = refl

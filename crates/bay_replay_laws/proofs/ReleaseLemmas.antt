@@ -25,7 +25,7 @@ use Rattle.bay_report.specs.Report.{report_text}
 use Rattle.cmd_replay.specs.Scenario.{ScenarioParts}
 use Rattle.cmd_replay.specs.History.{AllFresh, EachPast, device_after}
 use Rattle.bay_replay_laws.specs.Printed.{PrintedCommand, PrintedSwitch, ended, printed_command, printed_scan}
-use Rattle.bay_replay_laws.specs.ReadBack.{HaveIds, switches_told}
+use Rattle.bay_replay_laws.specs.ReadBack.{HaveIds, switches_digits}
 use Rattle.bay_replay_laws.specs.Released.{AreReleased, CommandsAreReleased, IsCommandLineFor, IsReleasedBy, lets}
 use Rattle.cmd_replay.specs.Runs.{IsRun}
 use Rattle.cmd_replay.proofs.HistoryLemmas.{past-fixed}
@@ -53,7 +53,7 @@ fresh-in age later p earlier past split all = at later (subst (AllFresh age) spl
 
 told-at : (s : State) (j k : ℕ) (switches : List Switch) (switch : Switch)
     → slice_get switches k ≡ Some switch
-    → Contains (switches_told s j switches)
+    → Contains (switches_digits s j switches)
     (record { id = switch.id; opens = may_open s (j + k); closes = may_close s (j + k) })
 told-at s j k [] switch here = absurd cc
 told-at s j zero (x ∷ switches) switch here =
@@ -68,18 +68,18 @@ told-at s j zero (x ∷ switches) switch here =
 told-at s j (suc k) (x ∷ switches) switch here =
     let there : j + 1 + k ≡ j + suc k = omega arith in
     let later =
-    subst (λ n. Contains (switches_told s (j + 1) switches)
+    subst (λ n. Contains (switches_digits s (j + 1) switches)
     (record { id = switch.id; opens = may_open s n; closes = may_close s n })) there
     (told-at s (j + 1) k switches switch here) in
     (suc later.0, omega (arith, later.1), later.2)
 
 told-first : (s : State) (k : ℕ) (switches : List Switch) (switch : Switch)
     → slice_get switches k ≡ Some switch
-    → Contains (switches_told s 0 switches)
+    → Contains (switches_digits s 0 switches)
     (record { id = switch.id; opens = may_open s k; closes = may_close s k })
 told-first s k switches switch here =
     let there : 0 + k ≡ k = omega arith in
-    subst (λ n. Contains (switches_told s 0 switches)
+    subst (λ n. Contains (switches_digits s 0 switches)
     (record { id = switch.id; opens = may_open s n; closes = may_close s n })) there
     (told-at s 0 k switches switch here)
 
@@ -108,14 +108,14 @@ scan_answer ended steps = Ok (record {
 -- What is printed for a scan is what tells of an end, and its line.
 record ScanLines (q : Past) (steps : ℕ) (own : List (List ℕ)) : Type 0 where
   before : List (List ℕ)
-  is : own ≡ before ++ scan_line q.now steps (switches_told q.after 0 q.after.switches) ∷ []
+  is : own ≡ before ++ scan_line q.now steps (switches_digits q.after 0 q.after.switches) ∷ []
 
 scan-lines : (q : Past) (ended_by : Option Sent) (steps : ℕ) (own : List (List ℕ))
     → HaveIds q.after.switches → q.answer ≡ scan_answer ended_by steps
     → step_text q.now q.answer q.after ≡ ended own
     → Each (λ line. IsLineOf q.now q.answer q.after line) own → ScanLines q steps own
 scan-lines q ended_by steps own ids answered whole each =
-    let line : List ℕ = scan_line q.now steps (switches_told q.after 0 q.after.switches) in
+    let line : List ℕ = scan_line q.now steps (switches_digits q.after 0 q.after.switches) in
     let first = ended-lines q.now q.answer q.after ids ended_by in
     let all = told-plain q.after 0 q.after.switches ids in
     let text : step_text q.now q.answer q.after ≡ ended (first.lines ++ line ∷ []) =
@@ -127,7 +127,7 @@ scan-lines q ended_by steps own ids answered whole each =
       before = first.lines;
       is = same-lines _ (λ l. Unit {0}) own (first.lines ++ line ∷ []) each
           (each-append (λ l. Unit {0}) first.lines (line ∷ []) (each-none _ first.lines first.each)
-          ((scan-free q.now steps (switches_told q.after 0 q.after.switches) all, tt), tt))
+          ((scan-free q.now steps (switches_digits q.after 0 q.after.switches) all, tt), tt))
           (sym whole ∙ text);
     }
 
@@ -265,13 +265,13 @@ module _ (age : ℕ) (first : State) (past : List Past) (known : Known age first
       ap (λ ss. slice_get ss k) (switches
       ∙ sym (order-switches first past known.steps known.ids before line at l)) ∙ l.here in
       let place : before ≡ (flat g.others ++ lines.before)
-      ++ scan_line q.now steps (switches_told q.after 0 q.after.switches)
+      ++ scan_line q.now steps (switches_digits q.after 0 q.after.switches)
       ∷ (flat g.between ++ at.part) =
       at.behind
       ∙ ap (λ ls. ls ++ at.part) (g.split
       ∙ ap (λ o. (flat g.others ++ o) ++ flat g.between) lines.is)
       ∙ regroup (flat g.others) lines.before
-      (scan_line q.now steps (switches_told q.after 0 q.after.switches)) (flat g.between)
+      (scan_line q.now steps (switches_digits q.after 0 q.after.switches)) (flat g.between)
       at.part in
       subst (IsReleasedBy age begin past (load ∷ before) line)
       (order-read first past known.steps known.ids before line at l command reads)
@@ -288,18 +288,18 @@ module _ (age : ℕ) (first : State) (past : List Past) (known : Known age first
             at.own));
         scanned = s.done.event_is;
         front = load ∷ (flat g.others ++ lines.before);
-        told = scan_line q.now steps (switches_told q.after 0 q.after.switches);
+        told = scan_line q.now steps (switches_digits q.after 0 q.after.switches);
         back = flat g.between ++ at.part;
         lines = ap (λ ls. load ∷ ls) place;
         printed = printed-for begin load load_is q s.earlier g.others lines.before []
-            (scan_line q.now steps (switches_told q.after 0 q.after.switches)) g.are
+            (scan_line q.now steps (switches_digits q.after 0 q.after.switches)) g.are
             (g.is.whole ∙ ap ended lines.is);
         read = record {
           moment = q.now;
           steps = steps;
-          switches = switches_told q.after 0 q.after.switches;
+          switches = switches_digits q.after 0 q.after.switches;
         };
-        is = scan-read q.now steps (switches_told q.after 0 q.after.switches) (small late) few
+        is = scan-read q.now steps (switches_digits q.after 0 q.after.switches) (small late) few
             (told-plain q.after 0 q.after.switches ids);
         releases =
             record {

@@ -11,7 +11,7 @@ use Rattle.bay_mms_services.specs.Entries.{operates_in}
 use Rattle.bay_mms_services.specs.declared.answer.Command.{Command}
 use Rattle.bay_device.specs.Device.{State, bay_of}
 use Rattle.bay_device.specs.Fresh.{Past}
-use Rattle.bay_device.specs.Outcomes.{connection_at, place_of}
+use Rattle.bay_device.specs.Outcomes.{connection_at, slot_of}
 use Rattle.bay_device.specs.Remote.{IsAtRemote}
 use Rattle.bay_device.specs.EntriesTold.{pdu_in}
 use Rattle.bay_device.specs.declared.event.Event.TheVariants.{Recv}
@@ -46,7 +46,7 @@ pub record IsAnswered (begin : List ℕ) (first : State) (past : List Past)
   pub named : switch.id ≡ command.id
   pub operation : operate.operation ≡ command.operation
   pub talk : ConnectionState
-  pub connected : connection_at (place_of association) (device_after first earlier) ≡ Some talk
+  pub connected : connection_at (slot_of association) (device_after first earlier) ≡ Some talk
   pub terms : Terms
   pub pdu : List ℕ
   pub asked : Contains (indications talk octets.now) (tells terms pdu)

@@ -2,8 +2,8 @@
 --
 -- `Printed`: how a line is read, by its words alone; `ReadBack`: each line that is printed is read
 -- so. `Released` is the main file: the scan before a command's line; `Answered`: the request and
--- the response of a command, and the key of its switch. `Texts`: scans are within the budget; `Meant`: their lines have what
--- the program means; `Reports`: statements on each report.
+-- the response of a command, and the key of its switch. `Texts`: scans are within the budget;
+-- `Meant`: their lines have what the program means; `Reports`: statements on each report.
 
 -- What public clauses cite of the crates below.
 pub use Rattle.bay_device.specs.Fresh

@@ -67,12 +67,12 @@ switch_of id (Some opens) (Some closes) =
 switch_of id _ _ = None
 
 -- two digits
-abbrev pub switch_told : List ℕ → List ℕ → Option PrintedSwitch
-switch_told id (x ∷ y ∷ []) = switch_of id (truth_of x) (truth_of y)
-switch_told id _ = None
+abbrev pub switch_digits : List ℕ → List ℕ → Option PrintedSwitch
+switch_digits id (x ∷ y ∷ []) = switch_of id (truth_of x) (truth_of y)
+switch_digits id _ = None
 
 abbrev pub switch_in : List (List ℕ) → Option PrintedSwitch
-switch_in (id ∷ digits ∷ []) = switch_told id digits
+switch_in (id ∷ digits ∷ []) = switch_digits id digits
 switch_in _ = None
 
 abbrev pub switches_in : List (List ℕ) → Option (List PrintedSwitch)

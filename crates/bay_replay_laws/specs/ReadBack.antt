@@ -19,11 +19,11 @@ HaveIds [] = Unit {0}
 HaveIds (switch ∷ switches) = (is_identifier 16 switch.id ≡ true) × HaveIds switches
 
 -- the switches of a device, from index k on, and whether each may be opened and closed
-abbrev pub switches_told : State → ℕ → List Switch → List PrintedSwitch
-switches_told s k [] = []
-switches_told s k (switch ∷ switches) =
+abbrev pub switches_digits : State → ℕ → List Switch → List PrintedSwitch
+switches_digits s k [] = []
+switches_digits s k (switch ∷ switches) =
     record { id = switch.id; opens = may_open s k; closes = may_close s k }
-    ∷ switches_told s (k + 1) switches
+    ∷ switches_digits s (k + 1) switches
 
 -- a text is one line, with its end
 abbrev pub IsEnded : List ℕ → List ℕ → Type 0
@@ -41,7 +41,7 @@ ReadsScans =
     (now steps : ℕ) (s : State) → now < 2 ^ 64 → steps < 2 ^ 64 → HaveIds s.switches
     → (line : List ℕ) × IsEnded (scan_text now steps s) line
     × (printed_scan line ≡ Some (record
-    { moment = now; steps = steps; switches = switches_told s 0 s.switches }))
+    { moment = now; steps = steps; switches = switches_digits s 0 s.switches }))
 
 abbrev pub ReadsCommands : Type 0
 ReadsCommands =

@@ -11,7 +11,7 @@ use Rattle.bay_server.specs.Clock.{ClockData, after_reading, jump_of, moment_rea
 use Rattle.bay_server.specs.Host.{HostCall, Pauses, Tells}
 use Rattle.bay_report.specs.Report.{IsLast, Prints}
 use Rattle.bay_report.specs.TextLines.{CutsLine, lines_of}
-use Rattle.bay_server.specs.ServeReport.{AfterTurn, Chosen, ProcessData, PollsProcess, MayPause, Serving, ServesTurns, ReportsAndPolls, ReportsConnectionEvent, ReportsTurn, ReportsTurnRefusal, TurnFails, TurnGoes, choice_of, choose_input, moment_of, told_lines}
+use Rattle.bay_server.specs.ServeReport.{AfterTurn, Chosen, ProcessData, PollsProcess, MayPause, Serving, ServesTurns, ReportsAndPolls, ReportsConnectionEvent, ReportsTurn, ReportsTurnRefusal, TurnFails, TurnGoes, choice_of, choose_input, moment_of, numbered_lines}
 use Rattle.bay_process_port.specs.declared.connection_event.ConnectionEvent.{ConnectionEvent}
 use Rattle.bay_server.specs.Serving.{TriesTurn}
 use Rattle.bay_server.specs.ChangeLines.{bay_seen}
@@ -39,35 +39,37 @@ use Rattle.bay_server.specs.declared.process.NextInput.{NextInput}
 -- ---- the lines of a trace that are not empty
 
 told-some : (k : ℕ) (line : List ℕ) (lines : List (List ℕ)) → (length line == 0) ≡ false
-    → told_lines k (line ∷ lines) ≡ (k, line) ∷ told_lines (k + 1) lines
+    → numbered_lines k (line ∷ lines) ≡ (k, line) ∷ numbered_lines (k + 1) lines
 told-some k [] lines e = absurd cc
 told-some k (b ∷ bs) lines e = refl
 
 told-none : (k : ℕ) (line : List ℕ) (lines : List (List ℕ)) → (length line == 0) ≡ true
-    → told_lines k (line ∷ lines) ≡ told_lines (k + 1) lines
+    → numbered_lines k (line ∷ lines) ≡ numbered_lines (k + 1) lines
 told-none k line lines e =
-    ap (λ l. told_lines k (l ∷ lines)) (nil-from-length line (grind (arith, nat_tests)))
+    ap (λ l. numbered_lines k (l ∷ lines)) (nil-from-length line (grind (arith, nat_tests)))
 
-module _ (k : ℕ) (text : List ℕ) (all : List (ℕ × List ℕ)) (is : told_lines k (lines_of text) ≡ all)
+module _ (k : ℕ) (text : List ℕ) (all : List (ℕ × List ℕ))
+    (is : numbered_lines k (lines_of text) ≡ all)
   where
     -- the next line is not empty
     pub told-line : (line rest : List ℕ) → CutsLine text line rest → (length line == 0) ≡ false
-        → all ≡ (k, line) ∷ told_lines (k + 1) (lines_of rest)
+        → all ≡ (k, line) ∷ numbered_lines (k + 1) (lines_of rest)
     told-line line rest cuts e =
-        sym is ∙ (ap (told_lines k) (lines-cut text line rest cuts)
+        sym is ∙ (ap (numbered_lines k) (lines-cut text line rest cuts)
         ∙ told-some k line (lines_of rest) e)
 
     -- it is empty
     pub told-blank : (line rest : List ℕ) → CutsLine text line rest → (length line == 0) ≡ true
-        → told_lines (k + 1) (lines_of rest) ≡ all
+        → numbered_lines (k + 1) (lines_of rest) ≡ all
     told-blank line rest cuts e =
-        sym (ap (told_lines k) (lines-cut text line rest cuts) ∙ told-none k line (lines_of rest) e)
+        sym (ap (numbered_lines k) (lines-cut text line rest cuts)
+        ∙ told-none k line (lines_of rest) e)
         ∙ is
 
     -- there is none
     pub told-end : (length text == 0) ≡ true → all ≡ []
     told-end e =
-        sym is ∙ ap (λ t. told_lines k (lines_of t))
+        sym is ∙ ap (λ t. numbered_lines k (lines_of t))
         (nil-from-length text (grind (arith, nat_tests)))
 
 -- ---- a link that has another below it, to which each call goes

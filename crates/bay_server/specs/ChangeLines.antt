@@ -12,7 +12,7 @@ use Rattle.bay_mms_services.specs.declared.answer.Command.{Command}
 use Rattle.bay_server_turn.specs.Served.{reported_in}
 use Rattle.bay_server_turn.specs.declared.turn_report.Turn.{Turn}
 use Rattle.bay_server.specs.ConnectionLines.{count_at, count_at_closings, count_at_memory, first_ten, left_out, left_out_log}
-use Rattle.bay_server.specs.LogLines.{asked_log, closed_line, id_of, concat, memory_line, opened_log, refused_log}
+use Rattle.bay_server.specs.LogLines.{decisions_log, closed_line, id_of, concat, memory_line, opened_log, refused_log}
 use Rattle.bay_server.specs.declared.change_lines.Column.{Column}
 use Rattle.bay_server.specs.declared.change_lines.Column.TheVariants.{Position, Release}
 use Rattle.bay_server.specs.declared.change_lines.SwitchView.{SwitchView}
@@ -130,7 +130,7 @@ turn_log now count next before s turn =
     ++ first_ten (count_at now count) (opened_log now turn.opened)
     ++ lost_log now (reported_in next.given).is_lost
     ++ refused_log now turn.refused next.shown
-    ++ flat_map (asked_log now s) turn.decisions
+    ++ flat_map (decisions_log now s) turn.decisions
     ++ map (closed_line now) (first_ten (count_at_closings now turn count) turn.closed)
     ++ map (memory_line now) (first_ten (count_at_memory now turn count) turn.memory)
     ++ ends_log now before s turn ++ switches_log Position now s 0 before.switches

@@ -15,8 +15,8 @@ pub record ClockData : Type 0 where
   pub carry : ℕ
   pub side : ClockSide
 
--- the side of a system's time, relative to a moment: at most 1,000 milliseconds away, more than that
--- ahead, or more than that late
+-- the side of a system's time, relative to a moment: at most 1,000 milliseconds away, more than
+-- that ahead, or more than that late
 abbrev pub side_of : ℕ → ℕ → ClockSide
 side_of moment system =
     if nat_lt (moment + 1000) system then Ahead

@@ -200,9 +200,9 @@ abbrev pub decision_line : ℕ → State → ControlDecision → List ℕ
 decision_line now s decision = line_of now (id_of s decision.switch) decision decision.asked
 
 -- the decisions on what an association requested, if the device handled octets of it
-abbrev pub asked_log : ℕ → State → Option (List ControlDecision) → List (List ℕ)
-asked_log now s None = []
-asked_log now s (Some decisions) = map (decision_line now s) decisions
+abbrev pub decisions_log : ℕ → State → Option (List ControlDecision) → List (List ℕ)
+decisions_log now s None = []
+decisions_log now s (Some decisions) = map (decision_line now s) decisions
 
 -- ---- turns
 

@@ -17,7 +17,7 @@ use Rattle.bay_server.specs.LogLines.{connection_event_log, shift_log, unserved_
 use Rattle.bay_server.specs.RecordLine.{record_log}
 use Rattle.bay_process_port.specs.Polling.{Attends, attendance}
 use Rattle.bay_lines.specs.Escaped.{shown_text}
-use Rattle.bay_process_port.specs.Ports.{PortData, shown_line, taken_line, taken_loss}
+use Rattle.bay_process_port.specs.Ports.{PortData, shown_line, reading_at, loss_reading}
 use Rattle.bay_process_port.specs.ProcessOutput.{reported_turn}
 use Rattle.bay_process_port.specs.declared.connection_event.ConnectionEvent.{ConnectionEvent}
 use Rattle.bay_server_turn.specs.Calls.{Call}
@@ -32,10 +32,10 @@ use Rattle.bay_server.specs.declared.connection_lines.LineCount.{LineCount}
 use Rattle.bay_server.specs.declared.process.NextInput.{NextInput}
 
 -- the lines of a trace that are not empty, each with its number among all
-abbrev pub told_lines : ℕ → List (List ℕ) → List (ℕ × List ℕ)
-told_lines k [] = []
-told_lines k ([] ∷ lines) = told_lines (k + 1) lines
-told_lines k ((b ∷ bs) ∷ lines) = (k, b ∷ bs) ∷ told_lines (k + 1) lines
+abbrev pub numbered_lines : ℕ → List (List ℕ) → List (ℕ × List ℕ)
+numbered_lines k [] = []
+numbered_lines k ([] ∷ lines) = numbered_lines (k + 1) lines
+numbered_lines k ((b ∷ bs) ∷ lines) = (k, b ∷ bs) ∷ numbered_lines (k + 1) lines
 
 -- a line that the code returns as a slice
 abbrev pub line_view : Option (ℕ × Bor (List ℕ)) → Option (ℕ × List ℕ)
@@ -104,13 +104,13 @@ pub record Chosen (L : Type 0) : Type 0 where
 -- a process has gone, or is believed no more, and is lost now; and the process after that
 abbrev pub loss_of : {L : Type 0} → State → ℕ → ℕ → Option (ProcessData L) → Bool
 loss_of s now jump None = false
-loss_of s now jump (Some p) = (taken_loss s now jump p.port).is_lost
+loss_of s now jump (Some p) = (loss_reading s now jump p.port).is_lost
 
-abbrev pub behind_loss : {L : Type 0} → State → ℕ → ℕ → Option (ProcessData L)
+abbrev pub after_loss : {L : Type 0} → State → ℕ → ℕ → Option (ProcessData L)
     → Option (ProcessData L)
-behind_loss s now jump None = None
-behind_loss s now jump (Some p) =
-    Some (record { link = p.link; port = (taken_loss s now jump p.port).port })
+after_loss s now jump None = None
+after_loss s now jump (Some p) =
+    Some (record { link = p.link; port = (loss_reading s now jump p.port).port })
 
 -- the input of a turn with a line, with the loss of the process
 abbrev pub with_loss : Bool → TurnInput → TurnInput
@@ -135,7 +135,7 @@ from_port s now jump lines None = record {
   process = None;
 }
 from_port s now jump lines (Some p) =
-    let taken = taken_line s now jump p.port in
+    let taken = reading_at s now jump p.port in
     record {
       next = record {
         number = 0;
@@ -154,7 +154,7 @@ from_trace None s now jump lines process = from_port s now jump lines process
 from_trace (Some line) s now jump lines process = record {
   next = next_by s (loss_of s now jump process) line;
   lines = drop 1 lines;
-  process = behind_loss s now jump process;
+  process = after_loss s now jump process;
 }
 
 abbrev pub choose_input : {L : Type 0} → State → ℕ → ℕ → List (ℕ × List ℕ) → Option (ProcessData L)
@@ -173,7 +173,7 @@ choice_of clocks b =
     choose_input b.held.device (moment_of clocks b) (jump_of clocks b.clock) b.lines b.process
 
 -- The host's clocks were read. If the side of the system's time changed, that was logged.
-pub record AsksClocks {L H W : Type 0} (acts : H → HostCall L → H → Type 0)
+pub record ReadsClocks {L H W : Type 0} (acts : H → HostCall L → H → Type 0)
     (contents : W → Option (List ℕ)) (asks : W → WriteCall → W → Type 0) (clocks : Clocks)
     (before : Serving L H) (host : H) (old new : Writing W) : Type 0 where
   pub told : acts before.host (Tells clocks.system clocks.steady) host
@@ -207,8 +207,10 @@ module _ {L W : Type 0} (step : L → Call → L → Type 0) (contents : W → O
         before.link after.link after.port news
     pub printed : ReportsConnectionEvent contents asks now news old new answer
 
-  -- The process's connection is served, if there is a process; without one the writer stays as it is.
-  abbrev pub PollsProcess : ℕ → Turn → State → Option (ProcessData L) → Option (ProcessData L) → Writing W
+  -- The process's connection is served, if there is a process; without one the writer stays as it
+  -- is.
+  abbrev pub PollsProcess : ℕ → Turn → State → Option (ProcessData L) → Option (ProcessData L)
+      → Writing W
       → Writing W → Result ℕ WriteFault → Type 0
   PollsProcess now turn s None None old new answer = Stays old new answer
   PollsProcess now turn s None (Some after) old new answer = ⊥
@@ -236,7 +238,7 @@ module _ {L H W : Type 0} (step : L → Call → L → Type 0) (acts : H → Hos
       (answer : Result ℕ WriteFault) : Type 0 where
     pub clocks : Clocks
     pub begun : Writing W
-    pub asked : AsksClocks acts contents asks clocks before host old begun
+    pub asked : ReadsClocks acts contents asks clocks before host old begun
     pub fault : ServeFault
     pub is : turn_refusal (moment_read clocks before.clock) (choice_of clocks before).next.given
         before.held ≡ Some fault
@@ -250,7 +252,7 @@ module _ {L H W : Type 0} (step : L → Call → L → Type 0) (acts : H → Hos
       (new : Writing W) (answer : Result ℕ WriteFault) : Type 0 where
     pub clocks : Clocks
     pub begun : Writing W
-    pub asked : AsksClocks acts contents asks clocks before after.host old begun
+    pub asked : ReadsClocks acts contents asks clocks before after.host old begun
     pub clock : after.clock ≡ after_reading clocks before.clock
     pub lines : after.lines ≡ (choice_of clocks before).lines
     pub turn : Turn

@@ -112,7 +112,7 @@ fn log_word<'a, W: Sink>(
 }
 
 // Logs the position or the release of a switch, if it has changed.
-fn log_seen<W: Sink>(
+fn log_change<W: Sink>(
     writer: &mut WatchedWriter<W>,
     column: Column,
     moment: u64,
@@ -149,7 +149,7 @@ fn log_switch<W: Sink>(
     ensures { LogsAll W.contents W.does writer.old
         (switch_log column moment device.now place before) writer.new }
 {
-    log_seen(
+    log_change(
         writer,
         column,
         moment,

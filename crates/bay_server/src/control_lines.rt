@@ -3,7 +3,7 @@ ghost use Rattle.std.specs.Prelude.{◌≡◌, map};
 ghost use Rattle.std.specs.List.{flat_map};
 ghost use Rattle.bay_io.specs.Sent.{Logs};
 ghost use Rattle.bay_server.specs.Logging.{LogsAll};
-ghost use Rattle.bay_server.specs.LogLines.{asked_log, decision_line, id_of, selected_line, sign_text, written_line};
+ghost use Rattle.bay_server.specs.LogLines.{decisions_log, decision_line, id_of, selected_line, sign_text, written_line};
 ghost use Rattle.bay_server.specs.LogLines as spec;
 
 use bay_base::listing::Listing;
@@ -178,13 +178,13 @@ fn log_decisions<W: Sink>(
 
 // Logs the decisions on the controls that an association requested, if the device handled octets of
 // it.
-fn log_asked<W: Sink>(
+fn log_requests<W: Sink>(
     writer: &mut WatchedWriter<W>,
     device: &Device,
     moment: u64,
     decisions: &Option<Listing<ControlDecision>>,
 )
-    ensures { LogsAll W.contents W.does writer.old (asked_log moment device.now decisions.now)
+    ensures { LogsAll W.contents W.does writer.old (decisions_log moment device.now decisions.now)
         writer.new }
 {
     match decisions {
@@ -201,10 +201,10 @@ pub fn log_controls<W: Sink>(
     asked: &[Option<Listing<ControlDecision>>],
 )
     ensures { LogsAll W.contents W.does writer.old
-        (flat_map (asked_log moment device.now) asked.now)
+        (flat_map (decisions_log moment device.now) asked.now)
         writer.new }
 {
     for decisions in asked {
-        log_asked(writer, device, moment, decisions);
+        log_requests(writer, device, moment, decisions);
     }
 }

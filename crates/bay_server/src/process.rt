@@ -1,7 +1,7 @@
 // The process, and the input of a turn.
 ghost use Rattle.std.specs.Prelude.{◌≡◌, []};
 ghost use Rattle.bay_server_turn.specs.Calls.{Called};
-ghost use Rattle.bay_server.specs.ServeReport.{AttendsTo, PollsProcess, behind_loss, choose_input, from_port, loss_of, next_by};
+ghost use Rattle.bay_server.specs.ServeReport.{AttendsTo, PollsProcess, after_loss, choose_input, from_port, loss_of, next_by};
 ghost use Rattle.bay_server.specs.ServeReport as spec;
 
 use crate::trace_lines::TraceLines;
@@ -110,7 +110,7 @@ fn take_port_input<L>(
 // Takes whether a process has gone, or is believed no more, and is lost now.
 fn take_loss<L>(process: &mut Option<Process<L>>, device: &Device, moment: u64, jump: u64) -> bool
     ensures lost { result ≡ loss_of device.now moment jump process.old }
-    ensures process { process.new ≡ behind_loss device.now moment jump process.old }
+    ensures process { process.new ≡ after_loss device.now moment jump process.old }
 {
     match process {
         Some(process) => process.port.take_loss(device, moment, jump),

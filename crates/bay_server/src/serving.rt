@@ -3,7 +3,7 @@ ghost use Rattle.std.specs.Prelude.{◌≡◌, ◌⊎◌};
 ghost use Rattle.bay_server.specs.ConnectionLines.{no_lines};
 ghost use Rattle.bay_server.specs.Host.{Pauses};
 ghost use Rattle.bay_report.specs.TextLines.{lines_of};
-ghost use Rattle.bay_server.specs.ServeReport.{ReportsAndPolls, ServesTurns, told_lines};
+ghost use Rattle.bay_server.specs.ServeReport.{ReportsAndPolls, ServesTurns, numbered_lines};
 ghost use Rattle.bay_server.specs.Serving.{TriesTurn, with_host};
 ghost use Rattle.bay_server_turn.specs.Calls.{Called};
 
@@ -195,7 +195,7 @@ pub fn serve_turns<L: Link + Drop, H: Host<L>, W: Sink>(
           count = no_lines;
           host = host.old;
           process = process;
-          lines = told_lines 1 (lines_of trace.now);
+          lines = numbered_lines 1 (lines_of trace.now);
         }) writer.old host.new writer.new result }
 {
     let mut served = Served {

@@ -1,7 +1,7 @@
 // The lines of a trace, one after another.
 ghost use Rattle.std.specs.Prelude.{◌≡◌, drop, slice_get};
 ghost use Rattle.bay_report.specs.TextLines.{lines_of};
-ghost use Rattle.bay_server.specs.ServeReport.{line_view, told_lines};
+ghost use Rattle.bay_server.specs.ServeReport.{line_view, numbered_lines};
 
 use bay_report::text_lines::split_line;
 use std::marker::Model;
@@ -16,11 +16,11 @@ pub struct TraceLines<'a> {
 impl<'a> Model for TraceLines<'a> {
     ghost use Rattle.std.specs.Prelude.{ℕ, List, ◌+◌, ◌^◌, ◌<◌, length};
     ghost use Rattle.bay_report.specs.TextLines.{lines_of};
-    ghost use Rattle.bay_server.specs.ServeReport.{told_lines};
+    ghost use Rattle.bay_server.specs.ServeReport.{numbered_lines};
 
     ghost Value = { List (ℕ × List ℕ) };
 
-    ghost view = { λ t. told_lines t.number (lines_of t.rest.now) };
+    ghost view = { λ t. numbered_lines t.number (lines_of t.rest.now) };
 
     ghost invariant = { λ t. t.number + length t.rest.now < 2 ^ 64 };
 }
@@ -28,7 +28,7 @@ impl<'a> Model for TraceLines<'a> {
 impl<'a> TraceLines<'a> {
     /// Creates the lines of a trace, numbered from 1.
     pub fn new(trace: &'a [u8]) -> Self
-        ensures { result ≡ told_lines 1 (lines_of trace.entry.now) }
+        ensures { result ≡ numbered_lines 1 (lines_of trace.entry.now) }
     {
         TraceLines {
             rest: trace,

@@ -58,7 +58,8 @@ fn put_closings<W: Sink>(writer: &mut WatchedWriter<W>, moment: u64, closed: &[(
 
 // Writes the lines of the associations that were closed because the device was out of memory.
 fn put_memories<W: Sink>(writer: &mut WatchedWriter<W>, moment: u64, memory: &[u16])
-    ensures { Puts W.contents W.does writer.old (memory_closings_text moment memory.now) writer.new }
+    ensures { Puts W.contents W.does writer.old (memory_closings_text moment memory.now)
+        writer.new }
 {
     for association in memory {
         put_closing_line(writer, moment, *association, Why::Memory);
@@ -215,7 +216,8 @@ fn write_turn_refusal<W: Sink>(
     fault: ServeFault,
     number: usize,
 ) -> Result<u8, WriteFault>
-    ensures { Prints W.contents W.does (IsLast (turn_refusal_text fault number) 3) writer.old writer.new
+    ensures { Prints W.contents W.does (IsLast (turn_refusal_text fault number) 3) writer.old
+        writer.new
         result }
 {
     match fault {

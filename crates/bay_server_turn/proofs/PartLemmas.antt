@@ -5,7 +5,7 @@ use Rattle.bay_server_turn.specs.Calls.{Call, Accepts, Reads, Closes, MakesCalls
 use Rattle.bay_server_turn.specs.Offers.{Offer}
 use Rattle.bay_server_turn.specs.Served.{Performs, PerformsEach, Offers, Opens, Serves, TakesIn}
 use Rattle.bay_server_turn.specs.AssociationStates.{is_draining}
-use Rattle.bay_server_turn.specs.Turns.{ServerData, TurnData, Script, TurnState, accept_calls_at, after_accept, after_each, after_first, after_line, first_of, after_reads, after_scan, turn_begin, calls_of_each, close_at_once, free_place, calls_on_read, after_end, is_up, line_calls, with_line, offer_calls, offer_end, offer_of, offer_one, on_accept, on_read, opening_at, after_opening, after_closing, queue_of, read_calls, read_one, scan_calls, after_turn_scan, after_closing_full, calls_closing_full, state_at, after_turn, turn_state, with_queue}
+use Rattle.bay_server_turn.specs.Turns.{ServerData, TurnData, Script, TurnState, accept_calls_at, after_accept, after_each, after_first, after_line, first_of, after_reads, after_scan, turn_begin, calls_of_each, close_at_once, lowest_free_association, calls_on_read, after_end, is_up, line_calls, with_line, offer_calls, offer_end, offer_of, offer_one, on_accept, on_read, opening_at, after_opening, after_closing, queue_of, read_calls, read_one, scan_calls, after_turn_scan, after_closing_full, calls_closing_full, state_at, after_turn, turn_state, with_queue}
 use Rattle.bay_server_turn.specs.declared.link.ReadResult.{ReadResult}
 use Rattle.bay_device.specs.Device.{over_at}
 use Rattle.bay_server_turn.specs.declared.process_input.ProcessEvent.{ProcessEvent}
@@ -32,7 +32,7 @@ module _ {L : Type 0} (step : L → Call → L → Type 0) where
   -- ---- a connection that waits
 
   accepts : (old new : L) (now place : ℕ) (taken : Option (Option SocketAddrV4))
-      (before after : TurnState) → free_place before.server ≡ Some place
+      (before after : TurnState) → lowest_free_association before.server ≡ Some place
       → MakesCalls step old (accept_calls_at now (Some place) taken before) new
       → after ≡ on_accept now (Some place) taken before
       → Opens step now old new before after (opening_at (Some place) taken)
@@ -49,7 +49,7 @@ module _ {L : Type 0} (step : L → Call → L → Type 0) where
       }
 
   pub accepts-some : (old mid new : L) (now place : ℕ) (from : SocketAddrV4)
-      (before between after : TurnState) → free_place before.server ≡ Some place
+      (before between after : TurnState) → lowest_free_association before.server ≡ Some place
       → step old (Accepts (place + 1) (Some (Some from))) mid
       → between ≡ after_opening now place before
       → MakesCalls step mid (calls_closing_full now between) new
@@ -62,14 +62,14 @@ module _ {L : Type 0} (step : L → Call → L → Type 0) where
 
   -- no connection was taken
   pub accepts-none : (old new : L) (now place : ℕ) (before : TurnState)
-      → free_place before.server ≡ Some place
+      → lowest_free_association before.server ≡ Some place
       → step old (Accepts (place + 1) (Some None)) new
       → Opens step now old new before before None
   accepts-none old new now place before e s =
       accepts old new now place (Some None) before before e (new, s, refl) refl
 
   pub accepts-failed : (old new : L) (now place : ℕ) (before : TurnState)
-      → free_place before.server ≡ Some place
+      → lowest_free_association before.server ≡ Some place
       → step old (Accepts (place + 1) None) new
       → Opens step now old new before before None
   accepts-failed old new now place before e s =

@@ -28,12 +28,12 @@ is_close_reported LeavingFull = true
 is_close_reported Gone = true
 
 -- its queue accepts replies: none does after a reply that did not fit
-abbrev pub takes_replies : AssociationState → Bool → Bool
-takes_replies Steady is_open = is_open
-takes_replies Full is_open = false
-takes_replies Leaving is_open = true
-takes_replies LeavingFull is_open = false
-takes_replies Gone is_open = false
+abbrev pub accepts_replies : AssociationState → Bool → Bool
+accepts_replies Steady is_open = is_open
+accepts_replies Full is_open = false
+accepts_replies Leaving is_open = true
+accepts_replies LeavingFull is_open = false
+accepts_replies Gone is_open = false
 
 -- the state after a reply that did not fit
 abbrev pub after_full : AssociationState → AssociationState

@@ -3,7 +3,7 @@ use Rattle.std.specs.Prelude.{◌≡◌, ℕ, nat_lt, Bool, false, true, List, �
 use Rattle.std.specs.Borrow.{Bor}
 use Rattle.std.specs.declared.net.socket_addr.SocketAddrV4.{SocketAddrV4}
 use Rattle.bay_device.specs.Device.{State, over_at}
-use Rattle.bay_device.specs.LookUps.{input_place, meter_place, switch_place}
+use Rattle.bay_device.specs.LookUps.{input_index, meter_index, switch_index}
 use Rattle.bay_device.specs.Outcomes.{associations, last_moment}
 use Rattle.bay_trace.specs.Trace.{LineData, NamedData, blank, at_moment, connects, receives, disconnects, contact, input, measure, bad_measure, lost, scan, process_of, trace_line_of}
 use Rattle.bay_server_turn.specs.Calls.{Call, MakesCalls}
@@ -30,13 +30,13 @@ process_event s (connects a) = None
 process_event s (receives a octets) = None
 process_event s (disconnects a) = None
 process_event s (contact id position) =
-    Some (Contact (unwrap_or (switch_place s id) (length s.switches)) position)
+    Some (Contact (unwrap_or (switch_index s id) (length s.switches)) position)
 process_event s (input name value) =
-    Some (Input (unwrap_or (input_place s name) (length s.input_values)) value)
+    Some (Input (unwrap_or (input_index s name) (length s.input_values)) value)
 process_event s (measure id field value) =
-    Some (Measure (unwrap_or (meter_place s id) (length s.meters)) field value)
+    Some (Measure (unwrap_or (meter_index s id) (length s.meters)) field value)
 process_event s (bad_measure id field) =
-    Some (BadMeasure (unwrap_or (meter_place s id) (length s.meters)) field)
+    Some (BadMeasure (unwrap_or (meter_index s id) (length s.meters)) field)
 process_event s lost = None
 process_event s scan = None
 

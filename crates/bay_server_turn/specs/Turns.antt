@@ -6,7 +6,7 @@ use Rattle.bay_mms_services.specs.declared.answer.Command.{Command}
 use Rattle.bay_mms_services.specs.declared.answer.ControlDecision.{ControlDecision}
 use Rattle.bay_device.specs.Code.{step_code_of}
 use Rattle.bay_device.specs.Device.{State}
-use Rattle.bay_device.specs.Outcomes.{associations, connection_at, outcome, place_of, Outcome}
+use Rattle.bay_device.specs.Outcomes.{associations, connection_at, outcome, slot_of, Outcome}
 use Rattle.bay_device.specs.declared.event.Event.{Event}
 use Rattle.bay_device.specs.declared.event.Event.TheVariants.{Open, Recv, Close, Contact, Input, Measure, BadMeasure, Lost, Scan}
 use Rattle.bay_device.specs.declared.event.Sent.{Sent}
@@ -17,7 +17,7 @@ use Rattle.bay_device.specs.declared.fault.StepFault.{StepFault}
 use Rattle.bay_trace.specs.Resolving.{borrowed}
 use Rattle.bay_server_turn.specs.Calls.{Call, Accepts, Reads, Closes, ReadOutcome, Octets, Silence, Over, Broken}
 use Rattle.bay_server_turn.specs.Offers.{Offer, Offered, offering_of}
-use Rattle.bay_server_turn.specs.AssociationStates.{after_full, is_full, is_draining, is_close_reported, takes_replies}
+use Rattle.bay_server_turn.specs.AssociationStates.{after_full, is_full, is_draining, is_close_reported, accepts_replies}
 use Rattle.bay_server_turn.specs.declared.process_input.ProcessEvent.{ProcessEvent}
 use Rattle.bay_server_turn.specs.declared.process_input.ProcessEvent.TheVariants as process
 use Rattle.bay_server_turn.specs.declared.process_input.ProcessReport.{ProcessReport}
@@ -134,11 +134,11 @@ put_whole place octets s =
 abbrev pub put_at : Option ℕ → List ℕ → TurnState → TurnState
 put_at None octets s = s
 put_at (Some place) octets s =
-    if takes_replies (state_at place s) (is_up place s) then put_whole place octets s else s
+    if accepts_replies (state_at place s) (is_up place s) then put_whole place octets s else s
 
 -- what the device sends is queued for its association
 abbrev pub put_sent : Sent → TurnState → TurnState
-put_sent sent s = put_at (place_of sent.association) sent.octets s
+put_sent sent s = put_at (slot_of sent.association) sent.octets s
 
 -- everything that is sent, in order
 abbrev pub put_all : List Sent → TurnState → TurnState
@@ -210,8 +210,8 @@ calls_closing_full now s = calls_closing_some_full now associations s
 -- ---- a connection that waits
 
 -- the lowest association that is free
-abbrev pub free_place : ServerData → Option ℕ
-free_place h = position is_none h.device.connections
+abbrev pub lowest_free_association : ServerData → Option ℕ
+lowest_free_association h = position is_none h.device.connections
 
 abbrev pub after_opening : ℕ → ℕ → TurnState → TurnState
 after_opening now place s = after_event now (Open (place + 1)) s
@@ -239,14 +239,14 @@ opening_at (Some place) (Some None) = None
 opening_at (Some place) (Some (Some from)) = Some (place + 1, from)
 
 abbrev pub opening_of : Option (Option SocketAddrV4) → ServerData → Option (ℕ × SocketAddrV4)
-opening_of taken h = opening_at (free_place h) taken
+opening_of taken h = opening_at (lowest_free_association h) taken
 
 -- One connection that waits is accepted, under the lowest free number.
 abbrev pub with_accept : ℕ → Option (Option SocketAddrV4) → TurnState → TurnState
-with_accept now taken s = on_accept now (free_place s.server) taken s
+with_accept now taken s = on_accept now (lowest_free_association s.server) taken s
 
 abbrev pub accept_calls : ℕ → Option (Option SocketAddrV4) → TurnState → List Call
-accept_calls now taken s = accept_calls_at now (free_place s.server) taken s
+accept_calls now taken s = accept_calls_at now (lowest_free_association s.server) taken s
 
 -- ---- reading
 

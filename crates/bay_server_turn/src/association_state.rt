@@ -54,8 +54,8 @@ impl AssociationState {
     }
 
     /// Returns whether its queue accepts replies, given whether the association is open.
-    pub fn takes_replies(self, is_open: bool) -> bool
-        ensures { result ≡ spec.takes_replies self is_open }
+    pub fn accepts_replies(self, is_open: bool) -> bool
+        ensures { result ≡ spec.accepts_replies self is_open }
     {
         match self {
             AssociationState::Steady => is_open,

@@ -76,7 +76,7 @@ fn offer_one<L: Link>(
         close_at_once(server, notes, link, now, place, CloseReason::LinkFailed);
         close_overflowed(server, notes, link, now);
     } else {
-        server.drop_front(place, offered.done);
+        server.remove_first(place, offered.done);
     }
 }
 

@@ -30,7 +30,7 @@ pub fn accept_one<L: Link>(
         (turn_state server.old notes.old) (turn_state server.new notes.new) result }
     ensures commands { notes.new.commands ≡ notes.old.commands }
 {
-    let Some(place) = server.free_place() else {
+    let Some(place) = server.lowest_free_association() else {
         return None;
     };
     let association = place as u16 + 1;

@@ -7,7 +7,7 @@ ghost use Rattle.bay_server_turn.specs.Turns as spec;
 
 use crate::server::Server;
 use crate::turn_builder::TurnBuilder;
-use bay_device::event::{Event, Sent, place_of};
+use bay_device::event::{Event, Sent, association_slot};
 use bay_mms_services::answer::Command;
 
 // Appends a reply to the queue of an association as a whole, or notes that it did not fit.
@@ -28,12 +28,12 @@ pub fn put_sent(server: &mut Server, notes: &mut TurnBuilder, sent: &Sent)
         ≡ spec.put_sent sent.now (turn_state server.old notes.old) }
     ensures commands { notes.new.commands ≡ notes.old.commands }
 {
-    let Some(place) = place_of(sent.association) else {
+    let Some(place) = association_slot(sent.association) else {
         return;
     };
     if notes
         .association_state(place)
-        .takes_replies(server.is_open(place))
+        .accepts_replies(server.is_open(place))
     {
         put_whole(server, notes, place, sent.octets.as_slice());
     }

@@ -108,8 +108,8 @@ impl Server {
     }
 
     /// Returns the index of the lowest free association; `None` if none is free.
-    pub(crate) fn free_place(&self) -> Option<usize>
-        ensures lowest { result ≡ spec.free_place self.now }
+    pub(crate) fn lowest_free_association(&self) -> Option<usize>
+        ensures lowest { result ≡ spec.lowest_free_association self.now }
         ensures within { IfSome result (λ place. place < associations) }
     {
         let association = self.parts.device.free_association()?;
@@ -173,12 +173,12 @@ impl Server {
     }
 
     /// Removes the first `count` octets of the queue of the association at an index.
-    pub(crate) fn drop_front(&mut self, place: usize, count: usize)
+    pub(crate) fn remove_first(&mut self, place: usize, count: usize)
         requires place { place < associations }
         requires count { count ≤ length (queue_at place self.old) }
         ensures { self.new ≡ put_queue place (drop count (queue_at place self.old)) self.old }
     {
-        self.parts.queues[place].drop_front(count);
+        self.parts.queues[place].remove_first(count);
     }
 
     /// Empties the queue of the association at an index.

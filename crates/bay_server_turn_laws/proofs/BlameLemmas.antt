@@ -3,15 +3,16 @@ use Rattle.std.proofs.Common.{Bool, List, [], ap, arith, false, inl, inr, refl, 
 use Rattle.bay_server_turn.specs.Calls.{Call, Called, MakesCalls, failures_after, is_failed}
 use Rattle.bay_server_turn.specs.declared.turn_report.CloseReason.{CloseReason}
 use Rattle.bay_server_turn_laws.specs.Causes.{has_some}
-use Rattle.bay_server_turn_laws.specs.Faults.{is_link_failed, tells_failure}
+use Rattle.bay_server_turn_laws.specs.Faults.{is_link_failed, reports_failure}
 
 pub tells-append : (xs : List (ℕ × CloseReason)) (a : ℕ) (closing : CloseReason)
-    → is_link_failed closing ≡ false → tells_failure (xs ++ (a, closing) ∷ []) ≡ tells_failure xs
+    → is_link_failed closing ≡ false
+    → reports_failure (xs ++ (a, closing) ∷ []) ≡ reports_failure xs
 tells-append [] a closing e = rw e refl
 tells-append (x ∷ xs) a closing e = ap (λ b. is_link_failed x.1 || b) (tells-append xs a closing e)
 
 pub only-failed : (calls : List Call)
-    → (tells_failure [] ≡ true) ⊎ (has_some is_failed calls ≡ true)
+    → (reports_failure [] ≡ true) ⊎ (has_some is_failed calls ≡ true)
     → has_some is_failed calls ≡ true
 only-failed calls (inl e) = absurd (cc)
 only-failed calls (inr e) = e

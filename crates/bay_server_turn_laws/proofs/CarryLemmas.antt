@@ -3,15 +3,15 @@ use Rattle.std.proofs.Common.{◌≡◌, ◌≢◌, ℕ, ◌+◌, ◌<◌, ◌�
 use Rattle.std.proofs.lemmas.Bool.{eqb-true, eq-eqb, leb-false}
 use Rattle.std.proofs.lemmas.List.{get_or-set_same, get_or-set_other, length-set}
 use Rattle.bay_device.specs.Device.{State}
-use Rattle.bay_device.specs.Outcomes.{place_of}
+use Rattle.bay_device.specs.Outcomes.{slot_of}
 use Rattle.bay_device.specs.declared.event.Sent.{Sent}
 use Rattle.bay_device.specs.declared.event.Step.{Step}
 use Rattle.bay_device.specs.declared.fault.StepFault.{StepFault}
-use Rattle.bay_server_turn.specs.AssociationStates.{after_full, takes_replies}
+use Rattle.bay_server_turn.specs.AssociationStates.{after_full, accepts_replies}
 use Rattle.bay_server_turn.specs.Turns.{TurnState, has_room, is_up, put_all, put_at, put_ended, put_quiet, put_sent, record_refusal, put_whole, queue_of, state_at, with_state, with_device, with_noted, with_queue}
 use Rattle.bay_server_turn.specs.declared.association_state.AssociationState.{AssociationState}
 use Rattle.bay_server_turn.specs.declared.association_state.AssociationState.TheVariants.{Steady, Full, Leaving, LeavingFull, Gone}
-use Rattle.bay_server_turn_laws.specs.Causes.{is_queue_full, tells}
+use Rattle.bay_server_turn_laws.specs.Causes.{is_queue_full, reports_close}
 use Rattle.bay_server_turn_laws.specs.Flows.{all_to, answer_to, end_to, octets_to}
 use Rattle.bay_server_turn_laws.proofs.QuietLemmas.{IsQuiet}
 use Rattle.bay_server_turn_laws.proofs.UpLemmas.{number-of, place-of, up_at}
@@ -44,7 +44,8 @@ pub record Carried (now p : ℕ) (held taken sent : List ℕ) (s : TurnState) : 
   pub sound : IsSound now s
   pub carries : Carries taken held sent (state_at p s) (is_up p s) (queue_of p s)
   -- where its queue is told to be full, more is lost than there is room for
-  pub full : tells is_queue_full (p + 1) s.noted.closed ≡ true → 262144 < length carries.lost
+  pub full : reports_close is_queue_full (p + 1) s.noted.closed ≡ true
+      → 262144 < length carries.lost
 
 abbrev pub Carries-as : (taken held sent : List ℕ) (x y : AssociationState) (u v : Bool)
     (q r : List ℕ)
@@ -76,7 +77,7 @@ Carried-if now p held taken sent false s t c d = d
 
 -- ---- a reply
 
-may-take : (x : AssociationState) (u : Bool) (q lost : List ℕ) → takes_replies x u ≡ true
+may-take : (x : AssociationState) (u : Bool) (q lost : List ℕ) → accepts_replies x u ≡ true
     → MayLose x u q lost → (lost ≡ []) × ((r : List ℕ) → MayLose x u r [])
 may-take Steady true q lost e m = (m, λ r. refl)
 may-take Steady false q lost e m = absurd (cc)
@@ -85,7 +86,7 @@ may-take Leaving u q lost e m = (m.0, λ r. (refl, m.1))
 may-take LeavingFull u q lost e m = absurd (cc)
 may-take Gone u q lost e m = absurd (cc)
 
-may-fill : (x : AssociationState) (u : Bool) (q lost : List ℕ) → takes_replies x u ≡ true
+may-fill : (x : AssociationState) (u : Bool) (q lost : List ℕ) → accepts_replies x u ≡ true
     → MayLose x u q lost → (more : List ℕ) → 262144 < length q + length more
     → MayLose (after_full x) u q more
 may-fill Steady true q lost e m more over = over
@@ -95,7 +96,7 @@ may-fill Leaving u q lost e m more over = m.1
 may-fill LeavingFull u q lost e m more over = absurd (cc)
 may-fill Gone u q lost e m more over = absurd (cc)
 
-may-drop : (x : AssociationState) (u : Bool) (q lost : List ℕ) → takes_replies x u ≡ false
+may-drop : (x : AssociationState) (u : Bool) (q lost : List ℕ) → accepts_replies x u ≡ false
     → MayLose x u q lost → (more : List ℕ) → length lost ≤ length more → MayLose x u q more
 may-drop Steady true q lost e m more le = absurd (cc)
 may-drop Steady false q lost e m more le = m
@@ -120,7 +121,7 @@ also-held taken held sent q lost more n e =
     ∙ also-lost taken held sent q lost more e
 
 put-here_if : (b r : Bool) (now p : ℕ) (held taken sent octets : List ℕ) (s : TurnState) → p < 8
-    → takes_replies (state_at p s) (is_up p s) ≡ b → has_room (queue_of p s) octets ≡ r
+    → accepts_replies (state_at p s) (is_up p s) ≡ b → has_room (queue_of p s) octets ≡ r
     → Carried now p held taken sent s
     → Carried now p held taken (sent ++ octets)
     (if b then (if r then with_queue p (queue_of p s ++ octets) s
@@ -190,7 +191,7 @@ put-here : (now p : ℕ) (held taken sent octets : List ℕ) (s : TurnState) →
     → Carried now p held taken sent s
     → Carried now p held taken (sent ++ octets) (put_at (Some p) octets s)
 put-here now p held taken sent octets s h c =
-    put-here_if (takes_replies (state_at p s) (is_up p s)) (has_room (queue_of p s) octets) now p
+    put-here_if (accepts_replies (state_at p s) (is_up p s)) (has_room (queue_of p s) octets) now p
     held taken sent octets s h refl refl c
 
 -- ---- what is done at another place
@@ -235,7 +236,7 @@ put-there now p held taken sent octets (Some i) s n c =
     let q = queue_of i s ++ octets in
     let x = after_full (state_at i s) in
     let far : i ≢ p = λ e. n (ap (λ k. Some k) e) in
-    Carried-if now p held taken sent (takes_replies (state_at i s) (is_up i s))
+    Carried-if now p held taken sent (accepts_replies (state_at i s) (is_up i s))
     (put_whole i octets s) s
     (Carried-if now p held taken sent (has_room (queue_of i s) octets) (with_queue i q s)
     (with_noted (with_state i x s.noted) s)
@@ -246,16 +247,16 @@ put-there now p held taken sent octets (Some i) s n c =
 
 sent-if : (b : Bool) (now p a : ℕ) (held taken sent octets : List ℕ) (s : TurnState) → p < 8
     → (a == p + 1) ≡ b → Carried now p held taken sent s
-    → Carried now p held taken (sent ++ (if b then octets else [])) (put_at (place_of a) octets s)
+    → Carried now p held taken (sent ++ (if b then octets else [])) (put_at (slot_of a) octets s)
 sent-if true now p a held taken sent octets s h e c =
-    let place : place_of a ≡ Some p = ap place_of (eqb-true a (p + 1) e) ∙ place-of p h in
+    let place : slot_of a ≡ Some p = ap slot_of (eqb-true a (p + 1) e) ∙ place-of p h in
     subst (λ o. Carried now p held taken (sent ++ octets) (put_at o octets s)) (sym place)
     (put-here now p held taken sent octets s h c)
 sent-if false now p a held taken sent octets s h e c =
-    let other : place_of a ≡ Some p → ⊥ = λ q. let same : (a == p + 1) ≡ true =
+    let other : slot_of a ≡ Some p → ⊥ = λ q. let same : (a == p + 1) ≡ true =
     eq-eqb a (p + 1) (number-of a p q) in cc in
     Carried-sent now p held taken sent (sent ++ []) _
-    (put-there now p held taken sent octets (place_of a) s other c) (sym (append-nil sent))
+    (put-there now p held taken sent octets (slot_of a) s other c) (sym (append-nil sent))
 
 put_sent-carried : (now p : ℕ) (held taken sent : List ℕ) (x : Sent) (s : TurnState) → p < 8
     → Carried now p held taken sent s

@@ -10,7 +10,7 @@ use Rattle.bay_server_turn.specs.declared.association_state.AssociationState.{As
 use Rattle.bay_server_turn.specs.declared.association_state.AssociationState.TheVariants.{Full, Gone, Leaving, LeavingFull, Steady}
 use Rattle.bay_server_turn.specs.declared.turn_report.CloseReason.{CloseReason}
 use Rattle.bay_server_turn.specs.declared.turn_report.CloseReason.TheVariants as closing
-use Rattle.bay_server_turn_laws.specs.Causes.{IsCaused, has_reason, has_some, is_end, is_ended, is_fault, is_memory, is_queue_full, is_refusal, names, reason_in, tells}
+use Rattle.bay_server_turn_laws.specs.Causes.{IsCaused, has_reason, has_some, is_end, is_ended, is_fault, is_memory, is_queue_full, is_refusal, names, reason_in, reports_close}
 use Rattle.bay_server_turn_laws.specs.Faults.{is_link_failed}
 use Rattle.bay_server_turn_laws.proofs.CallLemmas.{and-no, other-number, same-number}
 use Rattle.bay_server_turn_laws.proofs.ClosingLemmas.{IsOwn}
@@ -38,7 +38,7 @@ record IsOpen (x y : Bool) (z : List Why) (a : ℕ) (n : TurnData) : Type 0 wher
   failed : x ≡ false
   over : y ≡ false
   closed : z ≡ []
-  full : tells is_queue_full a n.closed ≡ false
+  full : reports_close is_queue_full a n.closed ≡ false
 
 -- that a call of it failed, that its client ended, and for which reasons the device closed it
 pub record Knows (p : ℕ) (failed over : Bool) (reasons : List Why) (n : TurnData) : Type 0 where
@@ -48,7 +48,7 @@ pub record Knows (p : ℕ) (failed over : Bool) (reasons : List Why) (n : TurnDa
   leaving : is_draining (state_in p n) ≡ true → (over || has_reason reasons) ≡ true
   -- what was told of and nothing else closed had no room
   pub told : is_close_reported (state_in p n) ≡ true → failed ≡ false → over ≡ false → reasons ≡ []
-      → tells is_queue_full (p + 1) n.closed ≡ true
+      → reports_close is_queue_full (p + 1) n.closed ≡ true
 
 pub knows-as : (p : ℕ) (a b : Bool) (c : List Why) (d e : Bool) (f : List Why) (n : TurnData)
     → a ≡ d
@@ -67,15 +67,17 @@ pub record StillIn (p : ℕ) (n : TurnData) (standings : List AssociationState)
       → is_close_reported (state_in p n) ≡ false
   leaving : is_draining (get_or standings p Steady) ≡ true → is_draining (state_in p n) ≡ true
   same : (is : CloseReason → Bool) → is closing.QueueFull ≡ false
-      → tells is (p + 1) closed ≡ tells is (p + 1) n.closed
+      → reports_close is (p + 1) closed ≡ reports_close is (p + 1) n.closed
   lacked : names (p + 1) memory ≡ names (p + 1) n.memory
-  full : tells is_queue_full (p + 1) closed ≡ true
-      → (tells is_queue_full (p + 1) n.closed ≡ true)
+  full : reports_close is_queue_full (p + 1) closed ≡ true
+      → (reports_close is_queue_full (p + 1) n.closed ≡ true)
       ⊎ ((is_close_reported (state_in p n) ≡ false)
       × (is_close_reported (get_or standings p Steady) ≡ true))
   closes : is_close_reported (get_or standings p Steady) ≡ true
-      → (is_close_reported (state_in p n) ≡ true) ⊎ (tells is_queue_full (p + 1) closed ≡ true)
-  more : tells is_queue_full (p + 1) n.closed ≡ true → tells is_queue_full (p + 1) closed ≡ true
+      → (is_close_reported (state_in p n) ≡ true)
+      ⊎ (reports_close is_queue_full (p + 1) closed ≡ true)
+  more : reports_close is_queue_full (p + 1) n.closed ≡ true
+      → reports_close is_queue_full (p + 1) closed ≡ true
 
 -- so is what is noted later
 abbrev pub Still : ℕ → TurnData → TurnData → Type 0
@@ -99,10 +101,10 @@ still-open p a b c n m s e o = record {
   failed = o.failed;
   over = o.over;
   closed = o.closed;
-  full = by-full (tells is_queue_full (p + 1) m.closed) refl;
+  full = by-full (reports_close is_queue_full (p + 1) m.closed) refl;
 }
   where
-    by-full : (v : Bool) → tells is_queue_full (p + 1) m.closed ≡ v → v ≡ false
+    by-full : (v : Bool) → reports_close is_queue_full (p + 1) m.closed ≡ v → v ≡ false
     by-full false is = refl
     by-full true is = absurd (elim (s.full is) [
       | inl t ↦ let f : true ≡ false = sym t ∙ o.full in cc
@@ -169,7 +171,8 @@ module _ (p : ℕ) (low : p < 8) where
     stands-other : (x : AssociationState) (place : ℕ) (l : List (ℕ × CloseReason)) (memory : List ℕ)
         (m : TurnData)
         → place ≢ p
-        → ((is : CloseReason → Bool) → tells is (p + 1) l ≡ tells is (p + 1) m.closed)
+        → ((is : CloseReason → Bool)
+        → reports_close is (p + 1) l ≡ reports_close is (p + 1) m.closed)
         → names (p + 1) memory ≡ names (p + 1) m.memory → Still p n m
         → Still p n (with_state place x (record m { closed = l; memory = memory }))
     stands-other x place l memory m ne told lacked s =
@@ -304,10 +307,10 @@ module _ (p : ℕ) (low : p < 8) where
   left-as : (x y : Bool) (z : List Why) (over : Bool) (reasons : List Why) (n : TurnData)
       (l : List (ℕ × CloseReason)) (memory : List ℕ)
       → is_close_reported (state_in p n) ≡ false → Knows p x y z n
-      → tells is_link_failed (p + 1) l ≡ tells is_link_failed (p + 1) n.closed
-      → tells is_queue_full (p + 1) l ≡ tells is_queue_full (p + 1) n.closed
-      → tells is_ended (p + 1) l ≡ (over || has_some is_end reasons)
-      → ((code : ℕ) → tells (is_fault code) (p + 1) l ≡ has_some (is_refusal code) reasons)
+      → reports_close is_link_failed (p + 1) l ≡ reports_close is_link_failed (p + 1) n.closed
+      → reports_close is_queue_full (p + 1) l ≡ reports_close is_queue_full (p + 1) n.closed
+      → reports_close is_ended (p + 1) l ≡ (over || has_some is_end reasons)
+      → ((code : ℕ) → reports_close (is_fault code) (p + 1) l ≡ has_some (is_refusal code) reasons)
       → names (p + 1) memory ≡ has_some is_memory reasons → (over || has_reason reasons) ≡ true
       → Knows p x over reasons (with_state p Leaving (record n { closed = l; memory = memory }))
   left-as x y z over reasons n l memory e k link queue ended fault lacked some =
@@ -332,8 +335,9 @@ module _ (p : ℕ) (low : p < 8) where
       (why : CloseReason)
       (n : TurnData) → is_close_reported (state_in p n) ≡ false → b ≡ false → Knows p x y z n
       → is_link_failed why ≡ false → is_queue_full why ≡ false
-      → (tells is_ended (p + 1) n.closed || is_ended why) ≡ (over || has_some is_end reasons)
-      → ((code : ℕ) → (tells (is_fault code) (p + 1) n.closed || is_fault code why)
+      → (reports_close is_ended (p + 1) n.closed || is_ended why)
+      ≡ (over || has_some is_end reasons)
+      → ((code : ℕ) → (reports_close (is_fault code) (p + 1) n.closed || is_fault code why)
       ≡ has_some (is_refusal code) reasons)
       → names (p + 1) n.memory ≡ has_some is_memory reasons → (over || has_reason reasons) ≡ true
       → Knows p x over reasons (with_state p Leaving

@@ -2,7 +2,7 @@
 use Rattle.std.proofs.Common.{Bool, Err, List, None, Ok, Option, Result, Some, [], ap, append-nil, append_assoc, cond, false, refl, sym, true, ℕ, ◌++◌, ◌+◌, ◌==◌, ◌∙◌, ◌∷◌, ◌≡◌, ◌≢◌}
 use Rattle.bay_connection.specs.ConnectionStates.{ConnectionState}
 use Rattle.bay_device.specs.Device.{State}
-use Rattle.bay_device.specs.Outcomes.{closed_by, connection_at, octets_outcome, outcome, place_of, recv_outcome}
+use Rattle.bay_device.specs.Outcomes.{closed_by, connection_at, octets_outcome, outcome, slot_of, recv_outcome}
 use Rattle.bay_device.specs.declared.event.Event.TheVariants.{Recv}
 use Rattle.bay_device.specs.declared.event.Step.{Step}
 use Rattle.bay_device.specs.declared.event.Why.{Why}
@@ -103,7 +103,7 @@ pub outcome-own : (choice : Option ℕ) (now a : ℕ) (octets : List ℕ) (s : S
 outcome-own choice now a octets s =
     at_any_moment (λ o. IsOwn a (closed_in o.answer)) choice now (Recv a (borrowed octets)) s
     (λ f. tt)
-    (recv-own choice now a octets s (connection_at (place_of a) s))
+    (recv-own choice now a octets s (connection_at (slot_of a) s))
 
 -- an association that is open was not told of
 pub up-untold : (x : AssociationState) (up : Bool) (q lost : List ℕ) → MayLose x up q lost

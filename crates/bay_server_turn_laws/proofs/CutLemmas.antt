@@ -9,7 +9,7 @@ use Rattle.bay_server_turn.specs.Turns.{TurnData, TurnState, close_at_once, is_u
 use Rattle.bay_server_turn.specs.declared.association_state.AssociationState.{AssociationState}
 use Rattle.bay_server_turn.specs.declared.association_state.AssociationState.TheVariants.{Full, Gone, Leaving, LeavingFull, Steady}
 use Rattle.bay_server_turn.specs.declared.turn_report.CloseReason.{CloseReason}
-use Rattle.bay_server_turn_laws.specs.Causes.{is_queue_full, tells}
+use Rattle.bay_server_turn_laws.specs.Causes.{is_queue_full, reports_close}
 use Rattle.bay_server_turn_laws.specs.Flows.{answer_to}
 use Rattle.bay_server_turn_laws.proofs.CalmLemmas.{closing-puts}
 use Rattle.bay_server_turn_laws.proofs.CarryLemmas.{Carried, Carries, Carries-as, IsSound, MayLose, also-lost, device-carried, longer, longer-behind, other-queue, other-standing, put_quiet-carried}
@@ -24,7 +24,8 @@ use Rattle.bay_server_turn_laws.proofs.UpLemmas.{close-outcome-far, close-outcom
 -- notes with the same standings, in which it is told no more that the queue was full
 pub noted-carried : (now p : ℕ) (held taken sent : List ℕ) (n : TurnData) (s : TurnState)
     → n.standings ≡ s.noted.standings
-    → tells is_queue_full (p + 1) n.closed ≡ tells is_queue_full (p + 1) s.noted.closed
+    → reports_close is_queue_full (p + 1) n.closed
+    ≡ reports_close is_queue_full (p + 1) s.noted.closed
     → Carried now p held taken sent s → Carried now p held taken sent (with_noted n s)
 noted-carried now p held taken sent n s e same c = record {
   sound = record {
@@ -66,7 +67,7 @@ cut-far now p i held taken sent why s h n c =
 pub cut-lost : (now p : ℕ) (held taken sent rest : List ℕ) (why : CloseReason) (s : TurnState)
     → p < 8
     → now ≤ last_moment → IsSound now s → taken ++ rest ≡ held ++ sent
-    → ((is_queue_full why ≡ true) ⊎ (tells is_queue_full (p + 1) s.noted.closed ≡ true)
+    → ((is_queue_full why ≡ true) ⊎ (reports_close is_queue_full (p + 1) s.noted.closed ≡ true)
     → 262144 < length rest)
     → Carried now p held taken
     (sent ++ answer_to (p + 1) (outcome None now (Close (p + 1)) s.server.device).answer)
@@ -107,7 +108,7 @@ cut-lost now p held taken sent rest why s h past sound is over =
       full = λ e. longer 262144 rest more
           (elim (full-by p why t.noted e) [
             | inl f ↦ over (inl f)
-            | inr f ↦ over (inr (sym (ap (tells is_queue_full (p + 1))
+            | inr f ↦ over (inr (sym (ap (reports_close is_queue_full (p + 1))
                 (stepped-closed now (Close (p + 1)) s)) ∙ f))
           ]);
     }

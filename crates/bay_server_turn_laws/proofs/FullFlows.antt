@@ -5,7 +5,7 @@ use Rattle.bay_server_turn.specs.Turns.{ServerData, Script, TurnState, after_tur
 use Rattle.bay_server_turn.specs.declared.process_input.ProcessReport.{ProcessReport}
 use Rattle.bay_server_turn_laws.specs.Events.{done_at, turn_events}
 use Rattle.bay_server_turn_laws.specs.Flows.{IsInTime, IsTidy, sent_to, written_by_calls}
-use Rattle.bay_server_turn_laws.specs.Fullness.{IsOpenIn, IsToldWhereFull}
+use Rattle.bay_server_turn_laws.specs.Fullness.{IsOpenIn, IsReportedIfFull}
 use Rattle.bay_server_turn_laws.specs.Room.{AreInRoom}
 use Rattle.bay_server_turn_laws.proofs.CauseFlows.{knows-turn}
 use Rattle.bay_server_turn_laws.proofs.OpenFlows.{turned-open}
@@ -20,7 +20,7 @@ pub told-where-full : (now : ℕ) (given : ProcessReport) (script : Script) (h :
     → IsTidy h
     → IsInTime now h → AreInRoom h → length script.readings ≡ 8
     → length script.offers ≡ 8 → (p : ℕ) → p < 8 → IsOpenIn p script h
-    → IsToldWhereFull now given script h p
+    → IsReportedIfFull now given script h p
 told-where-full now given script h tidy time room readings offers p low up =
     let t : TurnState = after_turn now given script h in
     let taken = written_by_calls (p + 1) (turn_calls now given script h) in

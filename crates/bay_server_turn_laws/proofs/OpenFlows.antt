@@ -13,7 +13,7 @@ use Rattle.bay_device.specs.declared.fault.StepFault.{StepFault}
 use Rattle.bay_trace.specs.Resolving.{borrowed}
 use Rattle.bay_server_turn.specs.Calls.{Call}
 use Rattle.bay_server_turn.specs.AssociationStates.{is_close_reported}
-use Rattle.bay_server_turn.specs.Turns.{ServerData, Script, TurnState, after_event, after_opening, after_turn, close_at_once, free_place, after_end, is_up, is_up_in, start_closing, after_device_close, put_answer, state_in, state_at, after_octets, turn_begin, turn_calls, with_device, with_noted}
+use Rattle.bay_server_turn.specs.Turns.{ServerData, Script, TurnState, after_event, after_opening, after_turn, close_at_once, lowest_free_association, after_end, is_up, is_up_in, start_closing, after_device_close, put_answer, state_in, state_at, after_octets, turn_begin, turn_calls, with_device, with_noted}
 use Rattle.bay_server_turn.specs.declared.process_input.ProcessReport.{ProcessReport}
 use Rattle.bay_server_turn.specs.declared.association_state.AssociationState.TheVariants.{Gone, Leaving, Steady}
 use Rattle.bay_server_turn.specs.declared.turn_report.CloseReason.{CloseReason}
@@ -82,7 +82,7 @@ module _ (now p : ℕ) (low : p < 8) where
 
   -- one that was taken is open
   opened-here : (s : TurnState) → s.server.device.moment ≤ now → now ≤ last_moment
-      → free_place s.server ≡ Some p → Opened (after_opening now p s)
+      → lowest_free_association s.server ≡ Some p → Opened (after_opening now p s)
   opened-here s before past free e =
       let found = position-Some is_none s.server.device.connections p None free in
       let a = outcome None now (Open (p + 1)) s.server.device in

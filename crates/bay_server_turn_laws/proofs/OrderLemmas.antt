@@ -9,9 +9,9 @@ use Rattle.bay_device.specs.declared.event.Event.TheVariants.{Open}
 use Rattle.bay_server_turn.specs.Calls.{Call, Closes}
 use Rattle.bay_server_turn.specs.Offers.{Offer, Offered}
 use Rattle.bay_server_turn.specs.AssociationStates.{is_draining}
-use Rattle.bay_server_turn.specs.Turns.{ServerData, TurnData, Reading, Script, TurnState, after_accept, after_each, after_first, after_line, after_opening, after_reads, after_scan, after_closing_full, after_turn, calls_of_each, first_of, free_place, is_up, offer_calls, offer_end, offer_of, offer_one, on_accept, queue_of, read_one, state_at, turn_begin, turn_calls, with_device}
+use Rattle.bay_server_turn.specs.Turns.{ServerData, TurnData, Reading, Script, TurnState, after_accept, after_each, after_first, after_line, after_opening, after_reads, after_scan, after_closing_full, after_turn, calls_of_each, first_of, lowest_free_association, is_up, offer_calls, offer_end, offer_of, offer_one, on_accept, queue_of, read_one, state_at, turn_begin, turn_calls, with_device}
 use Rattle.bay_server_turn.specs.declared.process_input.ProcessReport.{ProcessReport}
-use Rattle.bay_server_turn_laws.specs.Causes.{fails_for, has_some, is_queue_full, tells}
+use Rattle.bay_server_turn_laws.specs.Causes.{fails_for, has_some, is_queue_full, reports_close}
 use Rattle.bay_server_turn_laws.specs.Events.{ChosenEvent, accept_events, accept_events_at, closing_of, done_at, events_of_each, line_events, offer_events, read_events, scan_events, events_closing_full, surely}
 use Rattle.bay_server_turn_laws.specs.Order.{AreClosings, AreInOrder, IsClosing, IsInOrder, Then, ThenReads, open_events_at}
 use Rattle.bay_server_turn_laws.proofs.Acts.{Scans}
@@ -102,70 +102,71 @@ module _ (now : ℕ) (final : TurnData) where
   -- ---- what is offered
 
   module _ (has_reason : ℕ → Bool)
-      (full : (a : ℕ) → tells is_queue_full a final.closed ≡ true → has_reason a ≡ true) where
-    cut-reason : (events : List ChosenEvent) → Cut now 8 final events
-        → AreClosings has_reason events
-    cut-reason events h =
-        All-weaker (IsClosing _) (IsClosing has_reason)
-        (λ e c. let is_one : IsClosing has_reason e = (c.0, c.1, full c.0 c.2) in is_one) events h
+      (full : (a : ℕ) → reports_close is_queue_full a final.closed ≡ true → has_reason a ≡ true)
+    where
+      cut-reason : (events : List ChosenEvent) → Cut now 8 final events
+          → AreClosings has_reason events
+      cut-reason events h =
+          All-weaker (IsClosing _) (IsClosing has_reason)
+          (λ e c. let is_one : IsClosing has_reason e = (c.0, c.1, full c.0 c.2) in is_one) events h
 
-    -- an association of which a write fails is closed
-    first-closes : (place : ℕ) (o : Offer) (s : TurnState)
-        → ((a : ℕ) → has_some (fails_for a) (offer_calls now place o s) ≡ true
-        → has_reason a ≡ true)
-        → AreClosings has_reason (offered_first now 8 place o s)
-    first-closes place o s =
-        by-standing (is_draining (state_at place s)) (is_up place s) made.failed
-        (offering place (queue_of place s) o.takes o.fails)
-      where
-        made : Offered
-        made = offer_of place o s
+      -- an association of which a write fails is closed
+      first-closes : (place : ℕ) (o : Offer) (s : TurnState)
+          → ((a : ℕ) → has_some (fails_for a) (offer_calls now place o s) ≡ true
+          → has_reason a ≡ true)
+          → AreClosings has_reason (offered_first now 8 place o s)
+      first-closes place o s =
+          by-standing (is_draining (state_at place s)) (is_up place s) made.failed
+          (offering place (queue_of place s) o.takes o.fails)
+        where
+          made : Offered
+          made = offer_of place o s
 
-        by-standing : (leaving up failed : Bool)
-            → Offering place (queue_of place s) made.left failed made.calls
-            → ((a : ℕ) → has_some (fails_for a)
-            (cond leaving (made.calls ++ Closes (place + 1) ∷ [])
-            (cond up (made.calls ++ offer_end now place failed s) [])) ≡ true
-            → has_reason a ≡ true)
-            → AreClosings has_reason (cond leaving []
-            (cond up (cond failed (closing_of place ∷ []) []) []))
-        by-standing true up failed m reason = All-nil (IsClosing has_reason)
-        by-standing false true true m reason =
-            let is_one : IsClosing has_reason (closing_of place) = (
-              place + 1,
-              refl,
-              reason (place + 1) (some-append _ made.calls (offer_end now place true s)
-                  ∙ or_left _ _ m.own.fails),
-            ) in
-            All-cons (IsClosing has_reason) (closing_of place) [] is_one
-            (All-nil (IsClosing has_reason))
-        by-standing false true false m reason = All-nil (IsClosing has_reason)
-        by-standing false false failed m reason = All-nil (IsClosing has_reason)
+          by-standing : (leaving up failed : Bool)
+              → Offering place (queue_of place s) made.left failed made.calls
+              → ((a : ℕ) → has_some (fails_for a)
+              (cond leaving (made.calls ++ Closes (place + 1) ∷ [])
+              (cond up (made.calls ++ offer_end now place failed s) [])) ≡ true
+              → has_reason a ≡ true)
+              → AreClosings has_reason (cond leaving []
+              (cond up (cond failed (closing_of place ∷ []) []) []))
+          by-standing true up failed m reason = All-nil (IsClosing has_reason)
+          by-standing false true true m reason =
+              let is_one : IsClosing has_reason (closing_of place) = (
+                place + 1,
+                refl,
+                reason (place + 1) (some-append _ made.calls (offer_end now place true s)
+                    ∙ or_left _ _ m.own.fails),
+              ) in
+              All-cons (IsClosing has_reason) (closing_of place) [] is_one
+              (All-nil (IsClosing has_reason))
+          by-standing false true false m reason = All-nil (IsClosing has_reason)
+          by-standing false false failed m reason = All-nil (IsClosing has_reason)
 
-    offers-close : (place : ℕ) (cs : List Offer) (s : TurnState) → place + length cs ≤ 8
-        → length s.noted.standings ≡ 8 → AreCalm s.noted.standings
-        → Whole (after_each (offer_one now) place cs s)
-        → ((a : ℕ) → has_some (fails_for a)
-        (calls_of_each (offer_one now) (offer_calls now) place cs s) ≡ true → has_reason a ≡ true)
-        → AreClosings has_reason (events_of_each (offer_one now) (offer_events now) place cs s)
-    offers-close place [] s few sized calm whole reason = All-nil (IsClosing has_reason)
-    offers-close place (c ∷ cs) s few sized calm whole reason =
-        let t : TurnState = offer_one now place c s in
-        let calls = offer_calls now place c s in
-        let behind = calls_of_each (offer_one now) (offer_calls now) (place + 1) cs t in
-        let m = offer-through now 8 place c s (omega arith) sized calm in
-        let later =
-        offers-pass now 8 (place + 1) cs t (omega arith) m.passes.sized m.passes.calm in
-        All-append (IsClosing has_reason) (offer_events now place c s)
-        (events_of_each (offer_one now) (offer_events now) (place + 1) cs t)
-        (subst (AreClosings has_reason) (sym m.is)
-        (All-append (IsClosing has_reason) (offered_first now 8 place c s) m.cut
-        (first-closes place c s
-        (λ a e. reason a (some-append (fails_for a) calls behind ∙ or_left _ _ e)))
-        (cut-reason m.cut (m.closes final (before now 8 final t
-        (after_each (offer_one now) (place + 1) cs t) _ _ later.leads whole)))))
-        (offers-close (place + 1) cs t (omega arith) m.passes.sized m.passes.calm whole
-        (λ a e. reason a (some-append (fails_for a) calls behind ∙ or_right _ _ e)))
+      offers-close : (place : ℕ) (cs : List Offer) (s : TurnState) → place + length cs ≤ 8
+          → length s.noted.standings ≡ 8 → AreCalm s.noted.standings
+          → Whole (after_each (offer_one now) place cs s)
+          → ((a : ℕ) → has_some (fails_for a)
+          (calls_of_each (offer_one now) (offer_calls now) place cs s) ≡ true → has_reason a ≡ true)
+          → AreClosings has_reason (events_of_each (offer_one now) (offer_events now) place cs s)
+      offers-close place [] s few sized calm whole reason = All-nil (IsClosing has_reason)
+      offers-close place (c ∷ cs) s few sized calm whole reason =
+          let t : TurnState = offer_one now place c s in
+          let calls = offer_calls now place c s in
+          let behind = calls_of_each (offer_one now) (offer_calls now) (place + 1) cs t in
+          let m = offer-through now 8 place c s (omega arith) sized calm in
+          let later =
+          offers-pass now 8 (place + 1) cs t (omega arith) m.passes.sized m.passes.calm in
+          All-append (IsClosing has_reason) (offer_events now place c s)
+          (events_of_each (offer_one now) (offer_events now) (place + 1) cs t)
+          (subst (AreClosings has_reason) (sym m.is)
+          (All-append (IsClosing has_reason) (offered_first now 8 place c s) m.cut
+          (first-closes place c s
+          (λ a e. reason a (some-append (fails_for a) calls behind ∙ or_left _ _ e)))
+          (cut-reason m.cut (m.closes final (before now 8 final t
+          (after_each (offer_one now) (place + 1) cs t) _ _ later.leads whole)))))
+          (offers-close (place + 1) cs t (omega arith) m.passes.sized m.passes.calm whole
+          (λ a e. reason a (some-append (fails_for a) calls behind ∙ or_right _ _ e)))
 
 -- ---- a whole turn
 
@@ -195,10 +196,10 @@ in-order now given script h readings offers =
     let final = s5.noted in
     let told = final.closed in
     let why = λ (a : ℕ).
-    tells is_queue_full a told || has_some (fails_for a) (turn_calls now given script h) in
+    reports_close is_queue_full a told || has_some (fails_for a) (turn_calls now given script h) in
     let lost = first_of given in
     let line = given.event in
-    let m1 = (accept-turned now 8 h (free_place h) script.accepted refl).passes in
+    let m1 = (accept-turned now 8 h (lowest_free_association h) script.accepted refl).passes in
     let m0 = line-through now 8 lost s1 m1.sized m1.calm in
     let p0 = m0.passes in
     let p2 =
@@ -221,7 +222,7 @@ in-order now given script h readings offers =
     (λ a e.
     let whole : Fails a (turn_calls now given script h) =
     fails-later a _ failing (record { is = e }) in
-    or_right (tells is_queue_full a told) _ whole.is) in
+    or_right (reports_close is_queue_full a told) _ whole.is) in
     let opens = accept_events now script.accepted (turn_begin h) in
     let losses = line_events now lost s1 in
     let reads = events_of_each (read_one now) (read_events now) 0 script.readings z in
@@ -229,7 +230,7 @@ in-order now given script h readings offers =
     let scans = scan_events now s3 in
     subst (AreInOrder now told why given script h.device)
     (sym (right-nested opens losses reads lines scans last))
-    (then-accept now final _ h (free_place h) script.accepted
+    (then-accept now final _ h (lowest_free_association h) script.accepted
     (losses ++ (reads ++ (lines ++ (scans ++ last)))) w1
     (then-part now final _ s1 z _ _ _ (reads ++ (lines ++ (scans ++ last))) m0 w0
     (then-reads now final _ 0 script.readings z (lines ++ (scans ++ last))

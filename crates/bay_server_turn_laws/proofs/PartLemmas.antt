@@ -17,7 +17,7 @@ use Rattle.bay_server_turn.specs.declared.turn_report.CloseReason.{CloseReason}
 use Rattle.bay_server_turn.specs.declared.turn_report.CloseReason.TheVariants as closing
 use Rattle.bay_server_turn_laws.specs.Causes.{has_some}
 use Rattle.bay_server_turn_laws.specs.Events.{ChosenEvent, closing_of, commands_in, commands_of, done_at, surely, turn_events}
-use Rattle.bay_server_turn_laws.specs.Faults.{is_link_failed, tells_failure}
+use Rattle.bay_server_turn_laws.specs.Faults.{is_link_failed, reports_failure}
 use Rattle.bay_server_turn_laws.proofs.Acts.{Act, Asks, Breaks, Can, Fills, HangsUp, Hears, Offers, Parts, Scans, Tells, after, calls_by, events_by}
 use Rattle.bay_server_turn_laws.proofs.CallLemmas.{some-append}
 use Rattle.bay_server_turn_laws.proofs.DoneLemmas.{commands-append}
@@ -33,14 +33,14 @@ pub record Part (now : ℕ) (s : TurnState) (calls : List Call) (events : List C
   pub device : t.server.device ≡ (done_at now events s.server.device).after
   pub commands : t.noted.commands
       ≡ s.noted.commands ++ commands_of (done_at now events s.server.device).answers
-  pub blames : tells_failure t.noted.closed ≡ true
-      → (tells_failure s.noted.closed ≡ true) ⊎ (has_some is_failed calls ≡ true)
+  pub blames : reports_failure t.noted.closed ≡ true
+      → (reports_failure s.noted.closed ≡ true) ⊎ (has_some is_failed calls ≡ true)
 
 -- such notes, by the calls and the answers up to here
 record Tells_of (calls : List Call) (answers : List (Result Step StepFault)) (n : TurnData)
     : Type 0 where
   commands : n.commands ≡ commands_of answers
-  blames : tells_failure n.closed ≡ true → has_some is_failed calls ≡ true
+  blames : reports_failure n.closed ≡ true → has_some is_failed calls ≡ true
 
 module _ (now : ℕ) where
   -- ---- what an act adds

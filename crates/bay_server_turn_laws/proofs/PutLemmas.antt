@@ -1,13 +1,13 @@
 -- What putting replies into queues keeps, and what telling does to how associations stand.
 use Rattle.std.proofs.Common.{Bool, Err, List, None, Ok, Option, Result, Some, [], cond, false, if◌then◌else◌, length, refl, true, ℕ, ◌++◌, ◌+◌, ◌∙◌, ◌∷◌, ◌≡◌}
 use Rattle.std.proofs.lemmas.List.{length-set}
-use Rattle.bay_device.specs.Outcomes.{place_of}
+use Rattle.bay_device.specs.Outcomes.{slot_of}
 use Rattle.bay_device.specs.declared.event.Sent.{Sent}
 use Rattle.bay_device.specs.declared.event.Step.{Step}
 use Rattle.bay_device.specs.declared.event.Why.{Why}
 use Rattle.bay_device.specs.declared.event.Why.TheVariants.{Ended, Fault, Memory}
 use Rattle.bay_device.specs.declared.fault.StepFault.{StepFault}
-use Rattle.bay_server_turn.specs.AssociationStates.{after_full, is_close_reported, takes_replies}
+use Rattle.bay_server_turn.specs.AssociationStates.{after_full, is_close_reported, accepts_replies}
 use Rattle.bay_server_turn.specs.Turns.{TurnData, TurnState, has_room, is_up, put_all, put_at, put_ended, put_quiet, put_sent, put_whole, queue_of, state_in, state_at, with_state, close_reported, with_closing, with_noted, with_queue}
 use Rattle.bay_server_turn.specs.declared.turn_report.CloseReason.{CloseReason}
 use Rattle.bay_server_turn.specs.declared.turn_report.CloseReason.TheVariants as closing
@@ -27,7 +27,7 @@ module _ (P : TurnState → Type 0) (k : IsPut P) where
   at : (place : Option ℕ) (octets : List ℕ) (s : TurnState) → P s → P (put_at place octets s)
   at None octets s p = p
   at (Some place) octets s p =
-      takes (takes_replies (state_at place s) (is_up place s))
+      takes (accepts_replies (state_at place s) (is_up place s))
     where
       fitting : (room : Bool) → has_room (queue_of place s) octets ≡ room
           → P (cond room (with_queue place (queue_of place s ++ octets) s)
@@ -41,11 +41,11 @@ module _ (P : TurnState → Type 0) (k : IsPut P) where
 
   pub puts-all : (sent : List Sent) (s : TurnState) → P s → P (put_all sent s)
   puts-all [] s p = p
-  puts-all (x ∷ more) s p = puts-all more (put_sent x s) (at (place_of x.association) x.octets s p)
+  puts-all (x ∷ more) s p = puts-all more (put_sent x s) (at (slot_of x.association) x.octets s p)
 
   pub puts-ended : (sent : Option Sent) (s : TurnState) → P s → P (put_ended sent s)
   puts-ended None s p = p
-  puts-ended (Some sent) s p = at (place_of sent.association) sent.octets s p
+  puts-ended (Some sent) s p = at (slot_of sent.association) sent.octets s p
 
   pub puts-quiet : (answer : Result Step StepFault) (s : TurnState) → P s → P (put_quiet answer s)
   puts-quiet (Err fault) s p = p

@@ -5,7 +5,7 @@ use Rattle.bay_nodes.specs.declared.switch.Switch.{Switch}
 use Rattle.bay_base.specs.declared.point.MeterField.{MeterField}
 use Rattle.bay_connection.specs.ConnectionStates.{ConnectionState}
 use Rattle.bay_device.specs.Device.{State}
-use Rattle.bay_device.specs.Outcomes.{Outcome, close_outcome, connection_at, contact_outcome, event_outcome, doubt_outcome, input_outcome, last_moment, measure_outcome, octets_outcome, open_outcome, outcome, place_of, recv_outcome, refusal_of}
+use Rattle.bay_device.specs.Outcomes.{Outcome, close_outcome, connection_at, contact_outcome, event_outcome, doubt_outcome, input_outcome, last_moment, measure_outcome, octets_outcome, open_outcome, outcome, slot_of, recv_outcome, refusal_of}
 use Rattle.bay_device.specs.Steps.{IsWithoutOctets}
 use Rattle.bay_device.specs.declared.event.Event.{Event}
 use Rattle.bay_device.specs.declared.event.Event.TheVariants.{Open, Recv, Close, Contact, Input, Measure, BadMeasure, Lost, Scan}
@@ -70,10 +70,10 @@ recv-quiet choice now a octets s (Some talk) e =
 
 event-quiet : (choice : Option ℕ) (now : ℕ) (event : Event) (s : State) → IsWithoutOctets event
     → IsQuiet (event_outcome choice now event s).answer
-event-quiet choice now (Open a) s h = open-quiet now a s (place_of a) (connection_at (place_of a) s)
+event-quiet choice now (Open a) s h = open-quiet now a s (slot_of a) (connection_at (slot_of a) s)
 event-quiet choice now (Recv a octets) s h =
-    recv-quiet choice now a octets.now s (connection_at (place_of a) s) h
-event-quiet choice now (Close a) s h = close-quiet now a s (connection_at (place_of a) s)
+    recv-quiet choice now a octets.now s (connection_at (slot_of a) s) h
+event-quiet choice now (Close a) s h = close-quiet now a s (connection_at (slot_of a) s)
 event-quiet choice now (Contact k position) s h =
     contact-quiet now k position s (slice_get s.switches k)
 event-quiet choice now (Input k value) s h = input-quiet now k value s (slice_get s.input_values k)

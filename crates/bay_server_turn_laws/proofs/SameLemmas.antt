@@ -10,14 +10,14 @@ use Rattle.bay_server_turn.specs.Turns.{TurnData, TurnState, after_closing, mark
 use Rattle.bay_server_turn.specs.declared.turn_report.CloseReason.{CloseReason}
 use Rattle.bay_server_turn.specs.declared.turn_report.CloseReason.TheVariants as closing
 use Rattle.bay_server_turn_laws.specs.Events.{commands_in}
-use Rattle.bay_server_turn_laws.specs.Faults.{is_link_failed, tells_failure}
+use Rattle.bay_server_turn_laws.specs.Faults.{is_link_failed, reports_failure}
 use Rattle.bay_server_turn_laws.proofs.BlameLemmas.{tells-append}
 use Rattle.bay_server_turn_laws.proofs.PutLemmas.{IsPut, puts-all, puts-ended, puts-quiet}
 
 pub record Same (s t : TurnState) : Type 0 where
   pub device : t.server.device ≡ s.server.device
   pub commands : t.noted.commands ≡ s.noted.commands
-  pub failures : tells_failure t.noted.closed ≡ tells_failure s.noted.closed
+  pub failures : reports_failure t.noted.closed ≡ reports_failure s.noted.closed
 
 pub Same-refl : (s : TurnState) → Same s s
 Same-refl s = record { device = refl; commands = refl; failures = refl }
@@ -42,7 +42,7 @@ put_told-same (Ok step) s = puts-ended (Same s) (same-put s) step.ended s (Same-
 
 pub record SameNotes (n m : TurnData) : Type 0 where
   pub commands : m.commands ≡ n.commands
-  pub failures : tells_failure m.closed ≡ tells_failure n.closed
+  pub failures : reports_failure m.closed ≡ reports_failure n.closed
 
 notes-if : (n m : TurnData) (b : Bool) → SameNotes n m → SameNotes n (if b then n else m)
 notes-if n m true h = record { commands = refl; failures = refl }
@@ -105,7 +105,7 @@ left_by-same place (Some closed) s = leaves-same place closed.1 s
 pub record Commands (added : List Command) (s t : TurnState) : Type 0 where
   pub device : t.server.device ≡ s.server.device
   pub commands : t.noted.commands ≡ s.noted.commands ++ added
-  pub failures : tells_failure t.noted.closed ≡ tells_failure s.noted.closed
+  pub failures : reports_failure t.noted.closed ≡ reports_failure s.noted.closed
 
 pub put_answer-commands : (place : ℕ) (answer : Result Step StepFault) (s : TurnState)
     → Commands (commands_in answer) s (put_answer place answer s)

@@ -11,7 +11,7 @@ use Rattle.bay_server_turn.specs.declared.association_state.AssociationState.{As
 use Rattle.bay_server_turn.specs.declared.association_state.AssociationState.TheVariants.{Full, Gone, Leaving, LeavingFull, Steady}
 use Rattle.bay_server_turn.specs.declared.turn_report.CloseReason.{CloseReason}
 use Rattle.bay_server_turn.specs.declared.turn_report.CloseReason.TheVariants as closing
-use Rattle.bay_server_turn_laws.specs.CloseReports.{and_if, closings_of, times_in, times_told}
+use Rattle.bay_server_turn_laws.specs.CloseReports.{and_if, closings_of, times_in, times_reported}
 use Rattle.bay_server_turn_laws.proofs.KeepLemmas.{Each, IsNoted}
 use Rattle.bay_server_turn_laws.proofs.KeptLemmas.{keep-turn}
 use Rattle.bay_server_turn_laws.proofs.WalkLemmas.{turn-is-acts}
@@ -95,7 +95,7 @@ comes-told (y ∷ l) (suc j) (suc p) x low is new =
 -- ---- once
 
 abbrev IsOnce : TurnData → Type 0
-IsOnce n = (p : ℕ) → times_told (p + 1) n.closed n.memory ≤ often n.standings p
+IsOnce n = (p : ℕ) → times_reported (p + 1) n.closed n.memory ≤ often n.standings p
 
 -- another standing, of which nothing new is told
 stand-once : (place : ℕ) (x : AssociationState) (n : TurnData)
@@ -165,7 +165,7 @@ once-kept = record {
 -- of each association it is told once at most
 pub told-once : (now : ℕ) (given : ProcessReport) (script : Script) (h : ServerData) (place : ℕ)
     → length script.readings ≡ 8 → length script.offers ≡ 8
-    → times_told (place + 1) (after_turn now given script h).noted.closed
+    → times_reported (place + 1) (after_turn now given script h).noted.closed
     (after_turn now given script h).noted.memory ≤ 1
 told-once now given script h place reads offers =
     let t : TurnState = after_turn now given script h in

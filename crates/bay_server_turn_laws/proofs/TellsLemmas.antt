@@ -9,7 +9,7 @@ use Rattle.bay_server_turn.specs.AssociationStates.{is_close_reported}
 use Rattle.bay_server_turn.specs.Turns.{TurnData, TurnState, after_event, state_in, close_reported, with_closing}
 use Rattle.bay_server_turn.specs.declared.turn_report.CloseReason.{CloseReason}
 use Rattle.bay_server_turn.specs.declared.turn_report.CloseReason.TheVariants as closing
-use Rattle.bay_server_turn_laws.specs.Causes.{has_some, is_queue_full, tells}
+use Rattle.bay_server_turn_laws.specs.Causes.{has_some, is_queue_full, reports_close}
 use Rattle.bay_server_turn_laws.proofs.CallLemmas.{other-number, same-number}
 use Rattle.bay_server_turn_laws.proofs.KeepLemmas.{keep-stepped}
 
@@ -34,33 +34,34 @@ or-true false = refl
 
 module _ (is : CloseReason → Bool) (p : ℕ) where
   pub tells-other : (place : ℕ) (why : CloseReason) (l : List (ℕ × CloseReason)) → place ≢ p
-      → tells is (p + 1) (l ++ (place + 1, why) ∷ []) ≡ tells is (p + 1) l
+      → reports_close is (p + 1) (l ++ (place + 1, why) ∷ []) ≡ reports_close is (p + 1) l
   tells-other place why l ne =
       some-append _ l ((place + 1, why) ∷ [])
-      ∙ sym (or-none (tells is (p + 1) l) _
+      ∙ sym (or-none (reports_close is (p + 1) l) _
       (ap (λ b. (b && is why) || false) (other-number place p ne)))
 
   pub tells-own : (why : CloseReason) (l : List (ℕ × CloseReason))
-      → tells is (p + 1) (l ++ (p + 1, why) ∷ []) ≡ (tells is (p + 1) l || is why)
+      → reports_close is (p + 1) (l ++ (p + 1, why) ∷ []) ≡ (reports_close is (p + 1) l || is why)
   tells-own why l =
       some-append _ l ((p + 1, why) ∷ [])
-      ∙ ap (λ b. tells is (p + 1) l || b)
+      ∙ ap (λ b. reports_close is (p + 1) l || b)
       (ap (λ b. (b && is why) || false) (same-number p) ∙ sym (or-none (is why) false refl))
 
   pub tells-not : (why : CloseReason) (l : List (ℕ × CloseReason)) → is why ≡ false
-      → tells is (p + 1) (l ++ (p + 1, why) ∷ []) ≡ tells is (p + 1) l
-  tells-not why l e = tells-own why l ∙ sym (or-none (tells is (p + 1) l) (is why) e)
+      → reports_close is (p + 1) (l ++ (p + 1, why) ∷ []) ≡ reports_close is (p + 1) l
+  tells-not why l e = tells-own why l ∙ sym (or-none (reports_close is (p + 1) l) (is why) e)
 
   pub tells-now : (why : CloseReason) (l : List (ℕ × CloseReason)) → is why ≡ true
-      → tells is (p + 1) (l ++ (p + 1, why) ∷ []) ≡ true
+      → reports_close is (p + 1) (l ++ (p + 1, why) ∷ []) ≡ true
   tells-now why l e =
-      tells-own why l ∙ ap (λ b. tells is (p + 1) l || b) e ∙ or-true (tells is (p + 1) l)
+      tells-own why l ∙ ap (λ b. reports_close is (p + 1) l || b) e
+      ∙ or-true (reports_close is (p + 1) l)
 
 -- ---- that a queue was full
 
 module _ (p : ℕ) where
   abbrev FullIn : TurnData → Bool
-  FullIn n = tells is_queue_full (p + 1) n.closed
+  FullIn n = reports_close is_queue_full (p + 1) n.closed
 
   entry-other : (b : Bool) (place : ℕ) (why : CloseReason) (n : TurnData) → place ≢ p
       → FullIn (cond b n (record n { closed = n.closed ++ (place + 1, why) ∷ [] })) ≡ FullIn n

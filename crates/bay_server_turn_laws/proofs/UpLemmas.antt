@@ -8,7 +8,7 @@ use Rattle.bay_connection.specs.ConnectionStates.{Indication, ConnectionState, a
 use Rattle.bay_device.proofs.LostLemmas.{Fixed, lost-fixed}
 use Rattle.bay_device.specs.Device.{State, device_at, ended_at}
 use Rattle.bay_device.specs.Receiving.{ReceiveResult, Done, after_indications, after_pdu, on_indication, with_sent}
-use Rattle.bay_device.specs.Outcomes.{Outcome, close_outcome, closed_by, connection_at, contact_outcome, doubt_outcome, event_outcome, initial_connection, input_outcome, last_moment, lost_outcome, measure_outcome, nothing_done, open_outcome, outcome, place_of, recv_after, recv_done, recv_outcome, refusal_of, with_connection, without_connection, without_owner}
+use Rattle.bay_device.specs.Outcomes.{Outcome, close_outcome, closed_by, connection_at, contact_outcome, doubt_outcome, event_outcome, initial_connection, input_outcome, last_moment, lost_outcome, measure_outcome, nothing_done, open_outcome, outcome, slot_of, recv_after, recv_done, recv_outcome, refusal_of, with_connection, without_connection, without_owner}
 use Rattle.bay_device.specs.declared.event.Event.{Event}
 use Rattle.bay_device.specs.declared.event.Event.TheVariants.{BadMeasure, Close, Contact, Input, Lost, Measure, Open, Recv, Scan}
 use Rattle.bay_device.specs.declared.event.Sent.{Sent}
@@ -60,7 +60,7 @@ some-up (x ∷ ts) (suc i) t e = some-up ts i t e
 
 -- ---- numbers of associations
 
-pub place-of : (place : ℕ) → place < 8 → place_of (place + 1) ≡ Some place
+pub place-of : (place : ℕ) → place < 8 → slot_of (place + 1) ≡ Some place
 place-of place h =
     let low : nat_lt 0 (place + 1) ≡ true = lt-ltb 0 (place + 1) (omega arith) in
     let high : nat_lt (place + 1) 9 ≡ true = lt-ltb (place + 1) 9 (omega arith) in
@@ -75,7 +75,7 @@ number-if true (suc a) i f e = let same : suc a - 1 ≡ i =
     ap (λ (o : Option ℕ). unwrap_or o (suc a - 1)) e in omega (arith, same)
 number-if false a i f e = absurd (cc)
 
-pub number-of : (a place : ℕ) → place_of a ≡ Some place → a ≡ place + 1
+pub number-of : (a place : ℕ) → slot_of a ≡ Some place → a ≡ place + 1
 number-of a place e =
     number-if (nat_lt 0 a && nat_lt a 9) a place (and_left (nat_lt 0 a) (nat_lt a 9)) e
 
@@ -144,13 +144,13 @@ open-moment : (now a : ℕ) (s : State) (place : Option ℕ) (talk : Option Conn
 open-moment now a s None talk h = h
 open-moment now a s (Some place) (Some talk) h = h
 open-moment now a s (Some place) None h = let e =
-    set-moment (place_of a) (Some (initial_connection a)) (device_at now s) in omega (arith, e)
+    set-moment (slot_of a) (Some (initial_connection a)) (device_at now s) in omega (arith, e)
 
 close-moment : (now a : ℕ) (s : State) (talk : Option ConnectionState) → s.moment ≤ now
     → (close_outcome now a s talk).after.moment ≤ now
 close-moment now a s None h = h
 close-moment now a s (Some talk) h = let e =
-    set-moment (place_of a) None (without_owner a (device_at now s)) in omega (arith, e)
+    set-moment (slot_of a) None (without_owner a (device_at now s)) in omega (arith, e)
 
 contact-keeps : (now k : ℕ) (position : Dbpos) (s : State) (switch : Option Switch)
     → Keeps now s (contact_outcome now k position s switch).after
@@ -195,9 +195,9 @@ process-keeps choice now process.Lost s = lost-keeps now s
 
 after-moment : (now a : ℕ) (left : ConnectionState) (s : State) (why : Option Why) → s.moment ≤ now
     → (recv_after a left s why).moment ≤ now
-after-moment now a left s None h = let e = set-moment (place_of a) (Some left) s in omega (arith, e)
+after-moment now a left s None h = let e = set-moment (slot_of a) (Some left) s in omega (arith, e)
 after-moment now a left s (Some why) h = let e =
-    set-moment (place_of a) None (without_owner a s) in omega (arith, e)
+    set-moment (slot_of a) None (without_owner a s) in omega (arith, e)
 
 recv-moment : (choice : Option ℕ) (now a : ℕ) (octets : List ℕ) (s : State)
     (talk : Option ConnectionState)
@@ -214,10 +214,10 @@ recv-moment choice now a (octet ∷ octets) s (Some talk) h =
 event-moment : (choice : Option ℕ) (now : ℕ) (event : Event) (s : State) → s.moment ≤ now
     → (event_outcome choice now event s).after.moment ≤ now
 event-moment choice now (Open a) s h =
-    open-moment now a s (place_of a) (connection_at (place_of a) s) h
+    open-moment now a s (slot_of a) (connection_at (slot_of a) s) h
 event-moment choice now (Recv a octets) s h =
-    recv-moment choice now a octets.now s (connection_at (place_of a) s) h
-event-moment choice now (Close a) s h = close-moment now a s (connection_at (place_of a) s) h
+    recv-moment choice now a octets.now s (connection_at (slot_of a) s) h
+event-moment choice now (Close a) s h = close-moment now a s (connection_at (slot_of a) s) h
 event-moment choice now (Contact k position) s h =
     (contact-keeps now k position s (slice_get s.switches k)).moment h
 event-moment choice now (Input k value) s h =
@@ -256,13 +256,13 @@ open-up : (now a p : ℕ) (s : State) (place : Option ℕ) (talk : Option Connec
 open-up now a p s None talk e = e
 open-up now a p s (Some place) (Some talk) e = e
 open-up now a p s (Some place) None e =
-    set-open (place_of a) p (initial_connection a) (device_at now s) e
+    set-open (slot_of a) p (initial_connection a) (device_at now s) e
 
 pub open-outcome-up : (choice : Option ℕ) (now a p : ℕ) (s : State)
     → NotClosed p s (outcome choice now (Open a) s).after
 open-outcome-up choice now a p s =
     at_any_moment (λ o. NotClosed p s o.after) choice now (Open a) s (λ f. λ e. e)
-    (open-up now a p s (place_of a) (connection_at (place_of a) s))
+    (open-up now a p s (slot_of a) (connection_at (slot_of a) s))
 
 in_time : (choice : Option ℕ) (now : ℕ) (event : Event) (s : State) → now ≤ last_moment
     → s.moment ≤ now
@@ -297,20 +297,20 @@ open-outcome-here choice now p s h past before long free =
 
 -- ---- an association is closed
 
-other-place : (i p : ℕ) → i ≢ p → place_of (i + 1) ≡ Some p → ⊥
+other-place : (i p : ℕ) → i ≢ p → slot_of (i + 1) ≡ Some p → ⊥
 other-place i p n e = let same : i + 1 ≡ p + 1 = number-of (i + 1) p e in n (omega arith)
 
 close-far : (now i p : ℕ) (s : State) (talk : Option ConnectionState) → i ≢ p
     → up_at p (close_outcome now (i + 1) s talk).after ≡ up_at p s
 close-far now i p s None n = refl
 close-far now i p s (Some talk) n =
-    set-far (place_of (i + 1)) p None (without_owner (i + 1) (device_at now s)) (other-place i p n)
+    set-far (slot_of (i + 1)) p None (without_owner (i + 1) (device_at now s)) (other-place i p n)
 
 pub close-outcome-far : (choice : Option ℕ) (now i p : ℕ) (s : State) → i ≢ p
     → up_at p (outcome choice now (Close (i + 1)) s).after ≡ up_at p s
 close-outcome-far choice now i p s n =
     at_any_moment (λ o. up_at p o.after ≡ up_at p s) choice now (Close (i + 1)) s (λ f. refl)
-    (close-far now i p s (connection_at (place_of (i + 1)) s) n)
+    (close-far now i p s (connection_at (slot_of (i + 1)) s) n)
 
 closed-here : (p : ℕ) (s : State) → p < 8 → up_at p (without_connection (p + 1) s) ≡ false
 closed-here p s h =
@@ -319,7 +319,7 @@ closed-here p s h =
     ∙ none-down t.connections p
 
 close-here : (now p : ℕ) (s : State) (talk : Option ConnectionState) → p < 8
-    → connection_at (place_of (p + 1)) s ≡ talk
+    → connection_at (slot_of (p + 1)) s ≡ talk
     → up_at p (close_outcome now (p + 1) s talk).after ≡ false
 close-here now p s None h e =
     ap (λ o. is_some (connection_at o s)) (sym (place-of p h))
@@ -331,15 +331,15 @@ pub close-outcome-here : (choice : Option ℕ) (now p : ℕ) (s : State) → p <
     → up_at p (outcome choice now (Close (p + 1)) s).after ≡ false
 close-outcome-here choice now p s h past before =
     ap (λ (o : Outcome). up_at p o.after) (in_time choice now (Close (p + 1)) s past before)
-    ∙ close-here now p s (connection_at (place_of (p + 1)) s) h refl
+    ∙ close-here now p s (connection_at (slot_of (p + 1)) s) h refl
 
 -- ---- octets of an association
 
 after-far : (now i p : ℕ) (left : ConnectionState) (s : State) (why : Option Why) → i ≢ p
     → up_at p (recv_after (i + 1) left s why) ≡ up_at p s
-after-far now i p left s None n = set-far (place_of (i + 1)) p (Some left) s (other-place i p n)
+after-far now i p left s None n = set-far (slot_of (i + 1)) p (Some left) s (other-place i p n)
 after-far now i p left s (Some why) n =
-    set-far (place_of (i + 1)) p None (without_owner (i + 1) s) (other-place i p n)
+    set-far (slot_of (i + 1)) p None (without_owner (i + 1) s) (other-place i p n)
 
 recv-far : (choice : Option ℕ) (now i p : ℕ) (octets : List ℕ) (s : State)
     (talk : Option ConnectionState)
@@ -359,7 +359,7 @@ pub recv-outcome-far : (choice : Option ℕ) (now i p : ℕ) (octets : List ℕ)
 recv-outcome-far choice now i p octets s n =
     at_any_moment (λ o. up_at p o.after ≡ up_at p s) choice now (Recv (i + 1) (borrowed octets)) s
     (λ f. refl)
-    (recv-far choice now i p octets s (connection_at (place_of (i + 1)) s) n)
+    (recv-far choice now i p octets s (connection_at (slot_of (i + 1)) s) n)
 
 -- it is open still, or the answer says that the device has closed it
 abbrev pub LeftOpen : ℕ → Option (ℕ × Why) → State → Type 0
@@ -378,7 +378,7 @@ after-here : (now p : ℕ) (left : ConnectionState) (ended : Option Sent) (h : R
     → HeardOpen p (recv_done (p + 1) left ended h).answer (recv_done (p + 1) left ended h).after
 after-here now p left ended h None low up e =
     let s : State = h.done.state in
-    let open_now : up_at p (with_connection (place_of (p + 1)) (Some left) s) ≡ true =
+    let open_now : up_at p (with_connection (slot_of (p + 1)) (Some left) s) ≡ true =
     ap (λ (o : Option ℕ). up_at p (with_connection o (Some left) s)) (place-of p low)
     ∙ some-up s.connections p left up in
     subst (λ w. LeftOpen p (closed_by (p + 1) w) (recv_after (p + 1) left s w)) (sym e) open_now
@@ -407,4 +407,4 @@ pub recv-outcome-here : (choice : Option ℕ) (now p : ℕ) (octets : List ℕ) 
 recv-outcome-here choice now p octets s h up =
     at_any_moment (λ o. HeardOpen p o.answer o.after) choice now (Recv (p + 1) (borrowed octets)) s
     (λ f. up)
-    (recv-here choice now p octets s (connection_at (place_of (p + 1)) s) h up)
+    (recv-here choice now p octets s (connection_at (slot_of (p + 1)) s) h up)

@@ -12,13 +12,13 @@ use Rattle.bay_trace.specs.Resolving.{borrowed}
 use Rattle.bay_server_turn.specs.Calls.{Accepts, Broken, Call, Closes, Octets, Over, ReadOutcome, Reads, Silence}
 use Rattle.bay_server_turn.specs.Offers.{Offer, Offered}
 use Rattle.bay_server_turn.specs.AssociationStates.{after_full, is_full, is_draining, is_close_reported}
-use Rattle.bay_server_turn.specs.Turns.{ServerData, TurnData, Reading, Script, TurnState, accept_calls_at, after_accept, after_each, after_event, after_first, after_line, after_opening, after_closing, after_reads, after_scan, after_closing_full, after_turn, calls_of_each, close_at_once, event_of, first_full, first_of, free_place, calls_on_read, is_up, start_closing, line_calls, offer_calls, offer_end, offer_of, offer_one, on_accept, on_read, queue_of, read_calls, read_one, after_closing_some_full, after_closing_next_full, calls_closing_full, calls_closing_some_full, calls_closing_next_full, state_in, state_at, turn_begin, turn_calls, with_device, with_line, with_noted, with_queue}
+use Rattle.bay_server_turn.specs.Turns.{ServerData, TurnData, Reading, Script, TurnState, accept_calls_at, after_accept, after_each, after_event, after_first, after_line, after_opening, after_closing, after_reads, after_scan, after_closing_full, after_turn, calls_of_each, close_at_once, event_of, first_full, first_of, lowest_free_association, calls_on_read, is_up, start_closing, line_calls, offer_calls, offer_end, offer_of, offer_one, on_accept, on_read, queue_of, read_calls, read_one, after_closing_some_full, after_closing_next_full, calls_closing_full, calls_closing_some_full, calls_closing_next_full, state_in, state_at, turn_begin, turn_calls, with_device, with_line, with_noted, with_queue}
 use Rattle.bay_server_turn.specs.declared.process_input.ProcessEvent.{ProcessEvent}
 use Rattle.bay_server_turn.specs.declared.process_input.ProcessReport.{ProcessReport}
 use Rattle.bay_server_turn.specs.declared.association_state.AssociationState.TheVariants.{Full, Gone, Steady}
 use Rattle.bay_server_turn.specs.declared.turn_report.CloseReason.{CloseReason}
 use Rattle.bay_server_turn.specs.declared.turn_report.CloseReason.TheVariants as closing
-use Rattle.bay_server_turn_laws.specs.Causes.{is_queue_full, tells}
+use Rattle.bay_server_turn_laws.specs.Causes.{is_queue_full, reports_close}
 use Rattle.bay_server_turn_laws.specs.Events.{ChosenEvent, accept_events_at, closing_of, done_at, events_of_each, failed_events, heard_events, line_events, offer_events, read_events, events_closing_full, events_closing_some_full, events_closing_next_full, surely, turn_events}
 use Rattle.bay_server_turn_laws.specs.Order.{AreClosings, IsClosing, received_events, read_at, process_events}
 use Rattle.bay_server_turn_laws.proofs.Acts.{Act, Asks, Breaks, Can, Fills, HangsUp, Hears, IsIdle, IsOpenAt, Offers, Parts, Scans, Tells, accepts, after, broken, calls_by, events_by, silent}
@@ -34,16 +34,17 @@ use Rattle.bay_server_turn_laws.proofs.TellsLemmas.{tells-now}
 -- ---- what is told in the end
 
 -- what was told at some place is told in the end
-tells-later : (is : CloseReason → Bool) (a : ℕ) (n m : TurnData) → Grown n m
-    → tells is a n.closed ≡ true
-    → tells is a m.closed ≡ true
-tells-later is a n m g e =
-    ap (tells is a) g.closed ∙ some-append _ n.closed g.closings
-    ∙ or_left (tells is a n.closed) (tells is a g.closings) e
+reports_close-later : (is : CloseReason → Bool) (a : ℕ) (n m : TurnData) → Grown n m
+    → reports_close is a n.closed ≡ true
+    → reports_close is a m.closed ≡ true
+reports_close-later is a n m g e =
+    ap (reports_close is a) g.closed ∙ some-append _ n.closed g.closings
+    ∙ or_left (reports_close is a n.closed) (reports_close is a g.closings) e
 
 -- of an association that is closed since its queue is full it is told
 cut-told : (now place : ℕ) (s : TurnState) → state_at place s ≡ Full
-    → tells is_queue_full (place + 1) (close_at_once now closing.QueueFull place s).noted.closed
+    → reports_close is_queue_full (place + 1)
+    (close_at_once now closing.QueueFull place s).noted.closed
     ≡ true
 unfolding close_at_once
 cut-told now place s full =
@@ -53,7 +54,7 @@ cut-told now place s full =
     (ap is_close_reported (puts.fills.full place full))
   where
     entry : (b : Bool) (n : TurnData) → b ≡ false
-        → tells is_queue_full (place + 1)
+        → reports_close is_queue_full (place + 1)
         (cond b n (record n { closed = n.closed ++ (place + 1, closing.QueueFull) ∷ [] })).closed
         ≡ true
     entry true n e = absurd (cc)
@@ -136,7 +137,7 @@ module _ (now most : ℕ) where
 
   -- each of the events closes an association of which it is told in the end that its queue was full
   abbrev pub Cut : TurnData → List ChosenEvent → Type 0
-  Cut final = AreClosings (λ a. tells is_queue_full a final.closed)
+  Cut final = AreClosings (λ a. reports_close is_queue_full a final.closed)
 
   record Settles (s : TurnState) (c : List Call) (e : List ChosenEvent) (t : TurnState)
       : Type 0 where
@@ -162,14 +163,16 @@ module _ (now most : ℕ) where
       record {
         leads = Goes (Fills place) s (calls t) (events t) (f t) sized can later.leads;
         closes = λ final whole.
-            let is_one : IsClosing (λ a. tells is_queue_full a final.closed) (closing_of place) = (
+            let is_one : IsClosing (λ a. reports_close is_queue_full a final.closed)
+            (closing_of place) = (
               place + 1,
               refl,
-              tells-later is_queue_full (place + 1) t.noted final
+              reports_close-later is_queue_full (place + 1) t.noted final
                   (before final t (f t) (calls t) (events t) later.leads whole)
                   (cut-told now place s full),
             ) in
-            All-cons (IsClosing (λ a. tells is_queue_full a final.closed)) (closing_of place)
+            All-cons (IsClosing (λ a. reports_close is_queue_full a final.closed))
+            (closing_of place)
             (events t) is_one (later.closes final whole);
       }
 
@@ -412,7 +415,7 @@ module _ (now most : ℕ) where
   -- before the first act: the connection that waited was taken and opened, or none
   pub data Begins (h : ServerData) : TurnState → List Call → List ChosenEvent → Type 0 where
     Quietly : Begins h (turn_begin h) [] []
-    Opening : (place : ℕ) (from : SocketAddrV4) → free_place h ≡ Some place
+    Opening : (place : ℕ) (from : SocketAddrV4) → lowest_free_association h ≡ Some place
         → Begins h (after_opening now place (turn_begin h))
         (Accepts (place + 1) (Some (Some from)) ∷ []) (surely (Open (place + 1)) ∷ [])
 
@@ -426,7 +429,7 @@ module _ (now most : ℕ) where
     pub more : List Call
     pub further : List ChosenEvent
     pub passes : Passes start more further t
-    pub opens : (place : ℕ) (from : SocketAddrV4) → free_place h ≡ Some place
+    pub opens : (place : ℕ) (from : SocketAddrV4) → lowest_free_association h ≡ Some place
         → taken ≡ Some (Some from) → start ≡ after_opening now place (turn_begin h)
     pub calls_are : calls ++ more ≡ c
     pub events_are : events ++ further ≡ e
@@ -441,7 +444,7 @@ module _ (now most : ℕ) where
   -- nothing is opened
   quiet-turned : (h : ServerData) (taken : Option (Option SocketAddrV4)) (calls : List Call)
       → Passes (turn_begin h) calls [] (turn_begin h)
-      → ((place : ℕ) (from : SocketAddrV4) → free_place h ≡ Some place
+      → ((place : ℕ) (from : SocketAddrV4) → lowest_free_association h ≡ Some place
       → taken ≡ Some (Some from) → ⊥)
       → Turned h taken calls [] (turn_begin h)
   quiet-turned h taken calls passes none = record {
@@ -461,7 +464,7 @@ module _ (now most : ℕ) where
   begun-calm h i = ap is_full (all-steady i)
 
   pub accept-turned : (h : ServerData) (place : Option ℕ) (taken : Option (Option SocketAddrV4))
-      → free_place h ≡ place
+      → lowest_free_association h ≡ place
       → Turned h taken (accept_calls_at now place taken (turn_begin h))
       (accept_events_at now place taken (turn_begin h)) (on_accept now place taken (turn_begin h))
   accept-turned h None taken is =
@@ -526,7 +529,7 @@ module _ (now most : ℕ) where
       (then-turned h script.accepted s2 s3 _ _ _ _
       (then-turned h script.accepted z s2 _ _ _ _
       (then-turned h script.accepted s1 z _ _ _ _
-      (accept-turned h (free_place h) script.accepted refl)
+      (accept-turned h (lowest_free_association h) script.accepted refl)
       (λ sized calm. (line-through (first_of given) s1 sized calm).passes))
       (reads-pass 0 script.readings z (omega (arith, reads))))
       (λ sized calm. (line-through given.event s2 sized calm).passes))

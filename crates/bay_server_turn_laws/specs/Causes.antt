@@ -92,8 +92,9 @@ is_queue_full QueueFull = true
 is_queue_full LinkFailed = false
 
 -- An entry reports that the association was closed, for a reason that passes the test.
-abbrev pub tells : (CloseReason → Bool) → ℕ → List (ℕ × CloseReason) → Bool
-tells is a closed = has_some (λ (entry : ℕ × CloseReason). entry.0 == a && is entry.1) closed
+abbrev pub reports_close : (CloseReason → Bool) → ℕ → List (ℕ × CloseReason) → Bool
+reports_close is a closed =
+    has_some (λ (entry : ℕ × CloseReason). entry.0 == a && is entry.1) closed
 
 -- the number of the association is one of the numbers
 abbrev pub names : ℕ → List ℕ → Bool
@@ -108,11 +109,11 @@ names a numbers = has_some (λ number. number == a) numbers
 pub record IsCaused (failed over : Bool) (reasons : List Why) (a : ℕ)
     (told : List (ℕ × CloseReason))
     (memory : List ℕ) : Type 0 where
-  pub ended : tells is_ended a told ≡ (over || has_some is_end reasons)
-  pub fault : (code : ℕ) → tells (is_fault code) a told ≡ has_some (is_refusal code) reasons
+  pub ended : reports_close is_ended a told ≡ (over || has_some is_end reasons)
+  pub fault : (code : ℕ) → reports_close (is_fault code) a told ≡ has_some (is_refusal code) reasons
   pub lacked : names a memory ≡ has_some is_memory reasons
-  pub link : tells is_link_failed a told ≡ (failed && not (over || has_reason reasons))
-  pub queue : tells is_queue_full a told ≡ true
+  pub link : reports_close is_link_failed a told ≡ (failed && not (over || has_reason reasons))
+  pub queue : reports_close is_queue_full a told ≡ true
       → (failed ≡ false) × (over ≡ false) × (reasons ≡ [])
 
 -- The same for one association in a turn.

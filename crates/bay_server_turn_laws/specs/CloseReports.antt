@@ -21,8 +21,8 @@ times_in a [] = 0
 times_in a (number ∷ numbers) = and_if (number == a) (times_in a numbers)
 
 -- how often its closing is reported: with its reason, or as out of memory
-abbrev pub times_told : ℕ → List (ℕ × CloseReason) → List ℕ → ℕ
-times_told a closed memory = closings_of a closed + times_in a memory
+abbrev pub times_reported : ℕ → List (ℕ × CloseReason) → List ℕ → ℕ
+times_reported a closed memory = closings_of a closed + times_in a memory
 
 -- the association that the device closed in an answer, and why
 abbrev pub closed_in : Result Step StepFault → Option (ℕ × Why)

@@ -13,7 +13,7 @@ use Rattle.bay_trace.specs.Resolving.{borrowed}
 use Rattle.bay_server_turn.specs.Calls.{ReadOutcome, Octets, Silence, Over, Broken}
 use Rattle.bay_server_turn.specs.Offers.{Offer}
 use Rattle.bay_server_turn.specs.AssociationStates.{is_draining}
-use Rattle.bay_server_turn.specs.Turns.{ServerData, Reading, Script, TurnState, after_accept, after_first, after_line, after_reads, after_scan, turn_begin, close_at_once, first_full, first_of, free_place, after_end, is_up, offer_of, offer_one, after_opening, read_one, state_at, after_event, event_of, after_octets, after_process_event, after_turn}
+use Rattle.bay_server_turn.specs.Turns.{ServerData, Reading, Script, TurnState, after_accept, after_first, after_line, after_reads, after_scan, turn_begin, close_at_once, first_full, first_of, lowest_free_association, after_end, is_up, offer_of, offer_one, after_opening, read_one, state_at, after_event, event_of, after_octets, after_process_event, after_turn}
 use Rattle.bay_server_turn.specs.declared.process_input.ProcessEvent.{ProcessEvent}
 use Rattle.bay_server_turn.specs.declared.process_input.ProcessReport.{ProcessReport}
 use Rattle.bay_server_turn.specs.declared.turn_report.CloseReason.TheVariants as closing
@@ -56,7 +56,7 @@ accept_events_at now (Some place) (Some (Some from)) s =
     surely (Open (place + 1)) ∷ events_closing_full now (after_opening now place s)
 
 abbrev pub accept_events : ℕ → Option (Option SocketAddrV4) → TurnState → List ChosenEvent
-accept_events now taken s = accept_events_at now (free_place s.server) taken s
+accept_events now taken s = accept_events_at now (lowest_free_association s.server) taken s
 
 -- octets of a client arrive, or its association is closed
 abbrev pub heard_events : ℕ → ℕ → Option ℕ → ReadOutcome → TurnState → List ChosenEvent

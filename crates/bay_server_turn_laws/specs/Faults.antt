@@ -11,6 +11,6 @@ is_link_failed QueueFull = false
 is_link_failed LinkFailed = true
 
 -- the report that the connection of an association failed
-abbrev pub tells_failure : List (ℕ × CloseReason) → Bool
-tells_failure [] = false
-tells_failure (entry ∷ entries) = is_link_failed entry.1 || tells_failure entries
+abbrev pub reports_failure : List (ℕ × CloseReason) → Bool
+reports_failure [] = false
+reports_failure (entry ∷ entries) = is_link_failed entry.1 || reports_failure entries

@@ -9,7 +9,7 @@ use Rattle.bay_device.specs.declared.fault.StepFault.{StepFault}
 use Rattle.bay_server_turn.specs.Calls.{Call, Accepts, Reads, Writes, Closes, ReadOutcome, Octets, Silence, Over, Broken}
 use Rattle.bay_server_turn.specs.Turns.{ServerData, Script, is_up_in, queue_at, turn_calls, after_turn}
 use Rattle.bay_server_turn.specs.declared.process_input.ProcessReport.{ProcessReport}
-use Rattle.bay_server_turn_laws.specs.Causes.{is_queue_full, tells}
+use Rattle.bay_server_turn_laws.specs.Causes.{is_queue_full, reports_close}
 use Rattle.bay_server_turn_laws.specs.Events.{ChosenEvent, done_at, turn_events}
 
 -- ---- what the link takes
@@ -122,6 +122,6 @@ pub record LosesNothing (now : ℕ) (given : ProcessReport) (script : Script) (h
     : Type 0 where
   pub flows : (place : ℕ) → place < associations → FlowsAt now given script h place
   pub full : (place : ℕ) (low : place < associations)
-      → tells is_queue_full (place + 1) (after_turn now given script h).noted.closed ≡ true
+      → reports_close is_queue_full (place + 1) (after_turn now given script h).noted.closed ≡ true
       → 262144 < length (flows place low).rest
   pub tidy : IsTidy (after_turn now given script h).server

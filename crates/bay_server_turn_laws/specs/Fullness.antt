@@ -2,9 +2,9 @@
 use Rattle.std.specs.Prelude.{◌≡◌, ℕ, ◌+◌, ◌<◌, ◌↔◌, ◌⊎◌, Bool, true, false, List, [], length, Some}
 use Rattle.std.specs.declared.net.socket_addr.SocketAddrV4.{SocketAddrV4}
 use Rattle.bay_device.specs.declared.event.Why.{Why}
-use Rattle.bay_server_turn.specs.Turns.{ServerData, Script, free_place, is_up_in, queue_at, turn_calls, after_turn}
+use Rattle.bay_server_turn.specs.Turns.{ServerData, Script, lowest_free_association, is_up_in, queue_at, turn_calls, after_turn}
 use Rattle.bay_server_turn.specs.declared.process_input.ProcessReport.{ProcessReport}
-use Rattle.bay_server_turn_laws.specs.Causes.{ends_for, fails_for, has_some, is_queue_full, reasons_of, tells}
+use Rattle.bay_server_turn_laws.specs.Causes.{ends_for, fails_for, has_some, is_queue_full, reasons_of, reports_close}
 use Rattle.bay_server_turn_laws.specs.Events.{done_at, turn_events}
 use Rattle.bay_server_turn_laws.specs.Flows.{sent_to, written_by_calls}
 
@@ -21,13 +21,13 @@ pub record HasNoRoom (taken held sent : List ℕ) (failed over : Bool) (reasons 
 abbrev pub IsOpenIn : ℕ → Script → ServerData → Type 0
 IsOpenIn place script h =
     (is_up_in place h ≡ true)
-    ⊎ ((free_place h ≡ Some place)
+    ⊎ ((lowest_free_association h ≡ Some place)
     × (from : SocketAddrV4) × (script.accepted ≡ Some (Some from)))
 
 -- A turn reports a full queue of an association exactly if this holds for it.
-abbrev pub IsToldWhereFull : ℕ → ProcessReport → Script → ServerData → ℕ → Type 0
-IsToldWhereFull now given script h place =
-    (tells is_queue_full (place + 1) (after_turn now given script h).noted.closed ≡ true)
+abbrev pub IsReportedIfFull : ℕ → ProcessReport → Script → ServerData → ℕ → Type 0
+IsReportedIfFull now given script h place =
+    (reports_close is_queue_full (place + 1) (after_turn now given script h).noted.closed ≡ true)
     ↔ HasNoRoom (written_by_calls (place + 1) (turn_calls now given script h)) (queue_at place h)
     (sent_to (place + 1) (done_at now (turn_events now given script h) h.device).answers)
     (has_some (fails_for (place + 1)) (turn_calls now given script h))

@@ -11,7 +11,7 @@ use Rattle.bay_server_turn.specs.Turns.{ServerData, Reading, Script, after_turn,
 use Rattle.bay_server_turn.specs.declared.process_input.ProcessEvent.{ProcessEvent}
 use Rattle.bay_server_turn.specs.declared.process_input.ProcessReport.{ProcessReport}
 use Rattle.bay_server_turn.specs.declared.turn_report.CloseReason.{CloseReason}
-use Rattle.bay_server_turn_laws.specs.Causes.{fails_for, has_some, is_queue_full, tells}
+use Rattle.bay_server_turn_laws.specs.Causes.{fails_for, has_some, is_queue_full, reports_close}
 use Rattle.bay_server_turn_laws.specs.Events.{ChosenEvent, done_at, surely, turn_events}
 
 -- ---- what each part of a turn does
@@ -63,7 +63,7 @@ module _ (now : ℕ) (told : List (ℕ × CloseReason)) where
     pub cut : List ChosenEvent
     pub rest : List ChosenEvent
     pub is : events ≡ first ++ cut ++ rest
-    pub closings : AreClosings (λ a. tells is_queue_full a told) cut
+    pub closings : AreClosings (λ a. reports_close is_queue_full a told) cut
     pub goes_on : Rest (done_at now (first ++ cut) d).after rest
 
   -- Each association is read, one after the other.
@@ -92,6 +92,7 @@ abbrev pub IsInOrder : ℕ → ProcessReport → Script → ServerData → Type 
 IsInOrder now given script h =
     let told = (after_turn now given script h).noted.closed in
     AreInOrder now told
-    (λ a. tells is_queue_full a told || has_some (fails_for a) (turn_calls now given script h))
+    (λ a. reports_close is_queue_full a told
+    || has_some (fails_for a) (turn_calls now given script h))
     given
     script h.device (turn_events now given script h)

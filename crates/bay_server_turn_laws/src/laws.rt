@@ -9,12 +9,12 @@ ghost use Rattle.bay_server_turn.specs.declared.process_input.ProcessReport.{Pro
 ghost use Rattle.bay_server_turn.specs.declared.turn_report.Turn.{Turn};
 ghost use Rattle.bay_server_turn_laws.specs.Causes.{HasItsCause};
 ghost use Rattle.bay_server_turn_laws.specs.Events.{IsItsEvents, turn_events};
-ghost use Rattle.bay_server_turn_laws.specs.Faults.{tells_failure};
+ghost use Rattle.bay_server_turn_laws.specs.Faults.{reports_failure};
 ghost use Rattle.bay_server_turn_laws.specs.Flows.{IsInTime, IsTidy, LosesNothing, read_by_calls, received_of};
-ghost use Rattle.bay_server_turn_laws.specs.Fullness.{IsOpenIn, IsToldWhereFull};
+ghost use Rattle.bay_server_turn_laws.specs.Fullness.{IsOpenIn, IsReportedIfFull};
 ghost use Rattle.bay_server_turn_laws.specs.Order.{IsInOrder};
 ghost use Rattle.bay_server_turn_laws.specs.Room.{AreInRoom};
-ghost use Rattle.bay_server_turn_laws.specs.CloseReports.{times_told};
+ghost use Rattle.bay_server_turn_laws.specs.CloseReports.{times_reported};
 
 use bay_server_turn::link::Link;
 
@@ -25,7 +25,7 @@ pub fn a_reported_failure_is_counted<L: Link>(_link: &L)
         (turn : Turn)
         →
         Serves (Called L.does L.failures) old new now given before after turn
-        → tells_failure turn.closed ≡ true →
+        → reports_failure turn.closed ≡ true →
         L.failures old < 2 ^ 64 - 1 → L.failures old < L.failures new }
 {}
 
@@ -35,7 +35,7 @@ pub fn an_association_is_reported_once<L: Link>(_link: &L)
         (turn : Turn)
         (place : ℕ) →
         Serves (Called L.does L.failures) old new now given before after turn
-        → times_told (place + 1) turn.closed turn.memory ≤ 1 }
+        → times_reported (place + 1) turn.closed turn.memory ≤ 1 }
 {}
 
 /// The reason for which an association was closed in a turn follows from the calls on its link and
@@ -109,5 +109,5 @@ pub fn a_full_queue_is_reported()
         → IsInTime now h → AreInRoom h → length script.readings ≡ associations
         → length script.offers ≡ associations → (place : ℕ) → place < associations
         → IsOpenIn place script h
-        → IsToldWhereFull now given script h place }
+        → IsReportedIfFull now given script h place }
 {}

@@ -7,5 +7,6 @@ pub record DescriptorData (W : Type 0) : Type 0 where
   pub waits : Bool
 
 -- the octets that a descriptor accepted: those that its writer accepted
-abbrev pub taken_by : {W : Type 0} → (W → Option (List ℕ)) → DescriptorData W → Option (List ℕ)
-taken_by contents descriptor = contents descriptor.writer
+abbrev pub accepted_octets : {W : Type 0} → (W → Option (List ℕ)) → DescriptorData W
+    → Option (List ℕ)
+accepted_octets contents descriptor = contents descriptor.writer

@@ -1,6 +1,6 @@
 // A file descriptor as a sink.
 ghost use Rattle.std.specs.Prelude.{◌≡◌, false, true};
-ghost use Rattle.bay_stdio.specs.Descriptor.{taken_by};
+ghost use Rattle.bay_stdio.specs.Descriptor.{accepted_octets};
 
 use bay_io::calls::{LinePart, Sink};
 use mio::unix::SourceFd;
@@ -141,7 +141,7 @@ fn would_wait(error: &io::Error) -> bool {
 }
 
 impl<R: Net + AllocGlobal, W: Write + AsRawFd> Sink for Descriptor<'_, R, W> {
-    ghost contents = { taken_by W.contents };
+    ghost contents = { accepted_octets W.contents };
 
     fn write_octets(&mut self, octets: &[u8]) -> io::Result<usize> {
         if self.waits {

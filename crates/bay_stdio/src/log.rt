@@ -103,7 +103,7 @@ impl Log {
         ensures lost { self.new.lost ≡ self.old.lost }
     {
         let WriteProgress { taken, failed } = write_available(sink, self.waiting.as_slice());
-        self.waiting.drop_front(taken);
+        self.waiting.remove_first(taken);
         match failed {
             Some(error) => Err(error),
             None => Ok(()),

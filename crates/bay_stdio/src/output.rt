@@ -2,7 +2,7 @@
 ghost use Rattle.std.specs.Prelude.{◌≡◌, ◌==◌, [], is_ok, length};
 ghost use Rattle.std.specs.Result.{result_ok};
 ghost use Rattle.bay_io.specs.Sent.{Sends};
-ghost use Rattle.bay_stdio.specs.Descriptor.{taken_by};
+ghost use Rattle.bay_stdio.specs.Descriptor.{accepted_octets};
 ghost use Rattle.bay_stdio.specs.Output.{Does, Drains, PutsIn, written};
 
 use crate::descriptor::Descriptor;
@@ -108,7 +108,8 @@ fn drain_queue<R: Net + AllocGlobal, O: Write + AsRawFd>(
     queue: &mut OutputQueue,
     out: &mut Descriptor<'_, R, O>,
 ) -> io::Result<()>
-    ensures sends { Sends (taken_by O.contents out.old) (taken_by O.contents out.new) queue.old
+    ensures sends { Sends (accepted_octets O.contents out.old) (accepted_octets O.contents out.new)
+        queue.old
         queue.new }
     ensures all { is_ok result ≡ (length queue.new == 0) }
 {
@@ -126,7 +127,7 @@ impl<R: Net + AllocGlobal, O: Write + AsRawFd, E: Sink> Output<Descriptor<'_, R,
     /// Writes the queue, for at most about a second, and as much of the log as its sink accepts.
     /// Fails if some of the queue is left.
     pub fn drain(&mut self) -> io::Result<()>
-        ensures { Drains (taken_by O.contents) E.contents E.does self.old self.new
+        ensures { Drains (accepted_octets O.contents) E.contents E.does self.old self.new
             (is_ok result) }
     {
         // If lines were lost, this logs how many.

@@ -20,7 +20,7 @@ pub fn send_waiting<S: Sink>(queue: &mut OutputQueue, sink: &mut S) -> io::Resul
         (is_ok result) }
 {
     let WriteProgress { taken, failed } = write_available(sink, queue.as_slice());
-    queue.drop_front(taken);
+    queue.remove_first(taken);
     match failed {
         Some(error) => Err(error),
         None => Ok(()),

@@ -17,7 +17,7 @@ use Rattle.bay_device.specs.Device.{State}
 use Rattle.bay_device.specs.declared.event.Event.{Event}
 use Rattle.bay_device.specs.declared.event.Event.TheVariants.{Open, Recv, Close, Contact, Input, Measure, BadMeasure, Lost, Scan}
 use Rattle.bay_trace.specs.Digits.{octets_of}
-use Rattle.bay_trace.specs.Recording.{IsReadAs, IsRecordable, Tells, text_after_moment, event_line}
+use Rattle.bay_trace.specs.Recording.{IsReadAs, IsRecordable, SpellsEvent, text_after_moment, event_line}
 use Rattle.bay_trace.specs.Trace.{NamedData, association_of, at_moment, connects, disconnects, event_of, is_space, lost, receives, scan, trace_line_of, words_line}
 use Rattle.bay_trace.proofs.VerbLemmas.{alone-octets}
 use Rattle.bay_trace.proofs.WordLemmas.{no-space, not-space}
@@ -163,7 +163,7 @@ received-told a octets less bytes some =
       octets-read octets bytes some,
     ) refl
 
-said-read : (s : State) (now : ℕ) (said : List ℕ) (event : Event) (tells : Tells s said event)
+said-read : (s : State) (now : ℕ) (said : List ℕ) (event : Event) (tells : SpellsEvent s said event)
     → now < 2 ^ 64
     → trace_line_of (decimal now ++ codes " " ++ text_after_moment said)
     ≡ Some (at_moment now tells.named)

@@ -32,7 +32,7 @@ event_line now said Scan = decimal now ++ codes " scan"
 -- ---- how a line is read
 
 -- a line that this device reads as this event, at some moment
-pub record Tells (s : State) (said : List ℕ) (event : Event) : Type 0 where
+pub record SpellsEvent (s : State) (said : List ℕ) (event : Event) : Type 0 where
   pub moment : ℕ
   pub named : NamedData
   pub read : trace_line_of said ≡ Some (at_moment moment named)
@@ -45,10 +45,10 @@ IsRecordable s said (Open a) = a < 2 ^ 16
 IsRecordable s said (Recv a octets) =
     (a < 2 ^ 16) × IsBytes octets.now × (0 < length octets.now)
 IsRecordable s said (Close a) = a < 2 ^ 16
-IsRecordable s said (Contact k position) = Tells s said (Contact k position)
-IsRecordable s said (Input k value) = Tells s said (Input k value)
-IsRecordable s said (Measure k field value) = Tells s said (Measure k field value)
-IsRecordable s said (BadMeasure k field) = Tells s said (BadMeasure k field)
+IsRecordable s said (Contact k position) = SpellsEvent s said (Contact k position)
+IsRecordable s said (Input k value) = SpellsEvent s said (Input k value)
+IsRecordable s said (Measure k field value) = SpellsEvent s said (Measure k field value)
+IsRecordable s said (BadMeasure k field) = SpellsEvent s said (BadMeasure k field)
 IsRecordable s said Lost = Unit {0}
 IsRecordable s said Scan = Unit {0}
 

@@ -3,7 +3,7 @@
 use Rattle.std.specs.Prelude.{◌≡◌, ℕ, ◌<◌, max, List, length, unwrap_or, Result, Ok, Err}
 use Rattle.std.specs.Borrow.{Bor}
 use Rattle.bay_device.specs.Device.{State}
-use Rattle.bay_device.specs.LookUps.{switch_place, input_place, meter_place}
+use Rattle.bay_device.specs.LookUps.{switch_index, input_index, meter_index}
 use Rattle.bay_device.specs.declared.event.Event.{Event}
 use Rattle.bay_device.specs.declared.event.Event.TheVariants.{Open, Recv, Close, Contact, Input, Measure, BadMeasure, Lost, Scan}
 use Rattle.bay_trace.specs.Trace.{NamedData, connects, receives, disconnects, contact, input, measure, bad_measure, lost, scan}
@@ -19,13 +19,13 @@ placed_event s (connects a) = Open a
 placed_event s (receives a octets) = Recv a (borrowed octets)
 placed_event s (disconnects a) = Close a
 placed_event s (contact id position) =
-    Contact (unwrap_or (switch_place s id) (length s.switches)) position
+    Contact (unwrap_or (switch_index s id) (length s.switches)) position
 placed_event s (input name value) =
-    Input (unwrap_or (input_place s name) (length s.input_values)) value
+    Input (unwrap_or (input_index s name) (length s.input_values)) value
 placed_event s (measure id field value) =
-    Measure (unwrap_or (meter_place s id) (length s.meters)) field value
+    Measure (unwrap_or (meter_index s id) (length s.meters)) field value
 placed_event s (bad_measure id field) =
-    BadMeasure (unwrap_or (meter_place s id) (length s.meters)) field
+    BadMeasure (unwrap_or (meter_index s id) (length s.meters)) field
 placed_event s lost = Lost
 placed_event s scan = Scan
 

@@ -1,7 +1,7 @@
 // Resolves the names of a line of the trace: its event becomes an event of a device, with indices
 // and octets.
 ghost use Rattle.std.specs.Prelude.{◌≡◌, length, unwrap_or};
-ghost use Rattle.bay_device.specs.LookUps.{switch_place};
+ghost use Rattle.bay_device.specs.LookUps.{switch_index};
 ghost use Rattle.bay_trace.specs.Resolving.{AreOctets, Takes, anywhere};
 ghost use Rattle.bay_trace.specs.Resolving as spec;
 ghost use Rattle.bay_trace.specs.TraceView.{named_view};
@@ -27,7 +27,7 @@ pub fn decode_octets(octets: &mut LineOctets, event: &NamedEvent<'_>) -> Result<
 /// number of switches, which is no index of any.
 pub fn resolve_switch(device: &Device, id: &str) -> usize
     ensures { result
-        ≡ unwrap_or (switch_place device.now id.now) (length device.now.switches) }
+        ≡ unwrap_or (switch_index device.now id.now) (length device.now.switches) }
 {
     device.switch(id).unwrap_or(device.switch_count())
 }

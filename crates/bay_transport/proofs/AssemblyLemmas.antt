@@ -304,7 +304,8 @@ quiet-more old middle new piece at used number quiet t =
     rw (take-add at used piece)
     (run-quiet old.number (stream_state_of old) (stream_state_of middle) (take at piece)
     (take used (drop at piece)) quiet
-    ∙ ap (λ (n : ℕ). run_of n (stream_state_of middle) (take used (drop at piece))) (sym number) ∙ t.does)
+    ∙ ap (λ (n : ℕ). run_of n (stream_state_of middle) (take used (drop at piece))) (sym number)
+    ∙ t.does)
 
 pub reaches-kind : (old middle new : Assembly) (piece : List ℕ) (at used : ℕ) (kind : Got)
     → at < length piece → middle.number ≡ old.number
@@ -324,14 +325,16 @@ reaches-kind old middle new piece at used kind within number quiet t done =
       does = rw (take-add at used piece)
           (run-quiet old.number (stream_state_of old) (stream_state_of middle) (take at piece)
           (take used (drop at piece)) quiet
-          ∙ ap (λ (n : ℕ). run_of n (stream_state_of middle) (take used (drop at piece))) (sym number)
+          ∙ ap (λ (n : ℕ). run_of n (stream_state_of middle) (take used (drop at piece)))
+          (sym number)
           ∙ t.does);
       quiet =
           λ _. rw (e, take-add at (used - 1) piece)
           (ap (λ (d : Run). d.doings)
           (run-quiet old.number (stream_state_of old) (stream_state_of middle) (take at piece)
           (take (used - 1) (drop at piece)) quiet)
-          ∙ ap (λ (n : ℕ). (run_of n (stream_state_of middle) (take (used - 1) (drop at piece))).doings)
+          ∙ ap (λ (n : ℕ). (run_of n (stream_state_of middle)
+          (take (used - 1) (drop at piece))).doings)
           (sym number) ∙ t.quiet);
     }
 
@@ -355,8 +358,11 @@ pub refuses-later : (old middle : Assembly) (piece : List ℕ) (at : ℕ) (fault
     ≡ Fails fault ∷ []) → FailsWhere fault
     ((run_of old.number (stream_state_of old) piece).doings ≡ Fails fault ∷ [])
 refuses-later old middle piece at fault number quiet refused =
-    fails-weaker fault (λ r. ap (λ (ys : List ℕ). (run_of old.number (stream_state_of old) ys).doings)
+    fails-weaker fault (λ r. ap
+    (λ (ys : List ℕ). (run_of old.number (stream_state_of old) ys).doings)
     (sym (take-append-drop at piece))
     ∙ ap (λ (d : Run). d.doings)
-    (run-quiet old.number (stream_state_of old) (stream_state_of middle) (take at piece) (drop at piece) quiet)
-    ∙ ap (λ (n : ℕ). (run_of n (stream_state_of middle) (drop at piece)).doings) (sym number) ∙ r) refused
+    (run-quiet old.number (stream_state_of old) (stream_state_of middle) (take at piece)
+    (drop at piece) quiet)
+    ∙ ap (λ (n : ℕ). (run_of n (stream_state_of middle) (drop at piece)).doings) (sym number) ∙ r)
+    refused

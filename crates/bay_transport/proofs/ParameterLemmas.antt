@@ -6,7 +6,7 @@ use Rattle.std.specs.Option.{option_map}
 use Rattle.std.proofs.lemmas.Bool.{cases_eq, cases_lt, ne_eqb, lt-ltb, le-ltb}
 use Rattle.std.proofs.lemmas.List.{length-append, length-take-le, take-append-drop, take_at, drop_at}
 use Rattle.bay_transport.specs.declared.fault.TransportFault.TheVariants.{BadCotp}
-use Rattle.bay_transport.specs.Connect.{Parameter, parameter_octets, length_octet, with_parameter, parameters_after, parameters_of, or_else, last_value, size_of, where_there, size_value, answer_parameters, frame_header, confirm_front, confirm, with_parameters}
+use Rattle.bay_transport.specs.Connect.{Parameter, parameter_octets, length_octet, with_parameter, parameters_after, parameters_of, or_else, last_value, size_of, where_there, size_value, answer_parameters, frame_header, confirm_head, confirm, with_parameters}
 use Rattle.bay_transport.proofs.RequestLemmas.{parameters_behind-is}
 
 -- ---- in one way
@@ -174,7 +174,7 @@ without-size number high low (Some ps) size s w = rw (read-value 192 ps size s, 
 
 -- the frame of the confirmation, up to its parameters
 pub confirm-parts : (number high low n : ℕ) (ps : List ℕ) → n ≡ length ps
-    → confirm number high low ps ≡ frame_header (n + 7) ++ confirm_front number high low n ++ ps
+    → confirm number high low ps ≡ frame_header (n + 7) ++ confirm_head number high low n ++ ps
 confirm-parts number high low n ps is =
-    let e : length (confirm_front number high low (length ps) ++ ps) ≡ n + 7 = omega arith in
+    let e : length (confirm_head number high low (length ps) ++ ps) ≡ n + 7 = omega arith in
     rw (e, ← is) refl

@@ -95,14 +95,14 @@ answer_parameters power called calling =
 
 -- a confirmation up to its parameters, which take `count` octets: its length indicator, D0, the
 -- reference of the calling side, the reference of the association, and class 0 (X.224 13.4)
-abbrev pub confirm_front : ℕ → ℕ → ℕ → ℕ → List ℕ
-confirm_front number high low count =
+abbrev pub confirm_head : ℕ → ℕ → ℕ → ℕ → List ℕ
+confirm_head number high low count =
     (count + 6) ∷ 0xD0 ∷ high ∷ low ∷ (number / 256) ∷ (number % 256) ∷ 0 ∷ []
 
 -- the confirmation in its frame
 abbrev pub confirm : ℕ → ℕ → ℕ → List ℕ → List ℕ
 confirm number high low parameters =
-    frame_of (confirm_front number high low (length parameters) ++ parameters)
+    frame_of (confirm_head number high low (length parameters) ++ parameters)
 
 -- the confirmation of a connection: the agreed size of its TPDUs in octets, and the frame to send
 pub record Confirmation : Type 0 where

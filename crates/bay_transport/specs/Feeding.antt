@@ -124,6 +124,6 @@ ReleasedUnlessOpen Closed a = HasNoRoom a
 ReleasedUnlessOpen Refused a = HasNoRoom a
 
 -- The invariant of a transport.
-pub record IsKept (state : TransportState) (a : Assembly) : Type 0 where
+pub record IsConsistent (state : TransportState) (a : Assembly) : Type 0 where
   pub sound : IsSound a
   pub room : ReleasedUnlessOpen state a

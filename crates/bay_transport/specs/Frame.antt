@@ -87,17 +87,17 @@ length_of_rest NoFrame = 0
 length_of_rest (Whole frame) = frame - 1
 
 -- the complete frame that octets begin with, if any, followed by the later cut
-abbrev pub with_front : FramePrefix → List ℕ → Cut → Cut
-with_front Begun octets later = record { frames = []; rest = octets }
-with_front NoFrame octets later = record { frames = []; rest = octets }
-with_front (Whole frame) octets later =
+abbrev pub with_frame_first : FramePrefix → List ℕ → Cut → Cut
+with_frame_first Begun octets later = record { frames = []; rest = octets }
+with_frame_first NoFrame octets later = record { frames = []; rest = octets }
+with_frame_first (Whole frame) octets later =
     record { frames = take frame octets ∷ later.frames; rest = later.rest }
 
 -- the cut of the octets after the first n
 abbrev pub cut_after : ℕ → List ℕ → Cut
 cut_after skipped [] = record { frames = []; rest = [] }
 cut_after zero (x ∷ xs) =
-    with_front (frame_prefix (x ∷ xs)) (x ∷ xs)
+    with_frame_first (frame_prefix (x ∷ xs)) (x ∷ xs)
     (cut_after (length_of_rest (frame_prefix (x ∷ xs))) xs)
 cut_after (suc skipped) (x ∷ xs) = cut_after skipped xs
 

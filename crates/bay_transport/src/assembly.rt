@@ -193,7 +193,8 @@ impl Assembly {
             (λ taken. KeepsShown taken.1 self.old.shown.items self.new.shown.items) }
         ensures err { IfErr result
             (λ fault. FailsWhere fault
-            ((run_of self.old.number (stream_state_of self.old) piece.now).doings ≡ Fails fault ∷ [])) }
+            ((run_of self.old.number (stream_state_of self.old) piece.now).doings
+            ≡ Fails fault ∷ [])) }
     {
         let taken = self.extend(piece)?;
         match frame_prefix(&self.buffer[self.group..]) {
@@ -217,7 +218,8 @@ impl Assembly {
             (λ taken. KeepsShown taken.1 self.old.shown.items self.new.shown.items) }
         ensures err { IfErr result
             (λ fault. FailsWhere fault
-            ((run_of self.old.number (stream_state_of self.old) piece.now).doings ≡ Fails fault ∷ [])) }
+            ((run_of self.old.number (stream_state_of self.old) piece.now).doings
+            ≡ Fails fault ∷ [])) }
         ensures some { OnErr result (0 < length piece.now) }
     {
         let mut used = 0;

@@ -1,7 +1,7 @@
 // The request for a connection, and its answer (X.224 13.3 and 13.4).
 ghost use Rattle.std.specs.Prelude.{◌≡◌, ◌+◌, ◌/◌, ◌%◌, ◌≤◌, ◌<◌, [], ◌∷◌, ◌++◌, Ok, Err, Some, None, length, IfOk, IfErr, IfSome, OnOk};
 ghost use Rattle.std.specs.Option.{option_copied, option_map};
-ghost use Rattle.bay_transport.specs.Connect.{parameters_of, where_there, size_value, confirm_front, with_parameters, connect};
+ghost use Rattle.bay_transport.specs.Connect.{parameters_of, where_there, size_value, confirm_head, with_parameters, connect};
 ghost use Rattle.bay_transport.specs.Connect as spec;
 ghost use Rattle.bay_transport.specs.Found.{HaveValues, answered_to};
 ghost use Rattle.bay_transport.specs.Found as spec_found;
@@ -136,7 +136,7 @@ fn begin(
 ) -> Result<(), AllocError>
     requires { parameters ≤ 249 }
     ensures { OnOk result (reply.new.items
-        ≡ spec.frame_header (parameters + 7) ++ confirm_front number high low parameters) }
+        ≡ spec.frame_header (parameters + 7) ++ confirm_head number high low parameters) }
 {
     let [number_high, number_low] = number.to_be_bytes();
     reply.clear();

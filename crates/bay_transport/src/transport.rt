@@ -32,13 +32,13 @@ pub struct Transport {
 }
 
 impl Model for Transport {
-    ghost use Rattle.bay_transport.specs.Feeding.{Received, IsKept, received_of};
+    ghost use Rattle.bay_transport.specs.Feeding.{Received, IsConsistent, received_of};
 
     ghost Value = { Received };
 
     ghost view = { λ t. received_of t.state t.assembly };
 
-    ghost invariant = { λ t. IsKept t.state t.assembly };
+    ghost invariant = { λ t. IsConsistent t.state t.assembly };
 }
 
 impl Transport {

@@ -15,7 +15,7 @@ use Rattle.bay_tree.specs.Names.{IsWordAt, parent_of, is_below}
 use Rattle.bay_tree.specs.declared.page.Names.{Names}
 use Rattle.bay_tree.specs.Page.{page_after, rows_after}
 use Rattle.bay_tree.proofs.RowLemmas.{IsTree-set}
-use Rattle.bay_tree.specs.Rows.{leaf_at, with_leaf, name_at, names_of, place_of, first_below, first_below_from, next_below, next_beside}
+use Rattle.bay_tree.specs.Rows.{leaf_at, with_leaf, name_at, names_of, row_index, first_below, first_below_from, next_below, next_beside}
 
 -- a search by name among the rows is a search among their names
 position_from-names : (test : List ℕ → Bool) (start : ℕ) (rows : List Row)
@@ -68,7 +68,7 @@ next_beside-same a b k same =
     ∙ next_below-same a b k (parent_of (name_at b k)) same
 
 pub place_of-same : (a b : List Row) (name : List ℕ) → names_of a ≡ names_of b
-    → place_of a name ≡ place_of b name
+    → row_index a name ≡ row_index b name
 place_of-same a b name same =
     position_from-zero (λ (row : Row). bytes_eq row.name name) a
     ∙ search-same (λ own. bytes_eq own name) 0 a b same

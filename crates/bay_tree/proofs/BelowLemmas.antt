@@ -7,7 +7,7 @@ use Rattle.std.specs.List.{position_from}
 use Rattle.std.specs.Str.{bytes_eq}
 use Rattle.bay_tree.specs.declared.row.Row.{Row}
 use Rattle.bay_tree.specs.Names.{parent_of, is_parent, is_below}
-use Rattle.bay_tree.specs.Rows.{row_at, name_at, IsTree, IsStructureNamed, first_below, first_below_from, next_below, next_beside, places_below_from, places_below, places_after, places_since}
+use Rattle.bay_tree.specs.Rows.{row_at, name_at, IsTree, IsStructureNamed, first_below, first_below_from, next_below, next_beside, indices_below_from, indices_below, indices_after, indices_since}
 
 -- a search that passes over rows which fail the test goes on behind them
 position_from-skip : (test : Row → Bool) (rows : List Row) (n start past : ℕ) → past ≡ start + n
@@ -64,7 +64,7 @@ position_from-start test (row ∷ rows) start k found =
 abbrev since : ℕ → List Row → List ℕ → Option ℕ → List ℕ
 since start rows parent None = []
 since start rows parent (Some k) =
-    k ∷ places_below_from (k + 1) (drop ((k + 1) - start) rows) parent
+    k ∷ indices_below_from (k + 1) (drop ((k + 1) - start) rows) parent
 
 since-shift : (start : ℕ) (row : Row) (rows : List Row) (parent : List ℕ) (o : Option ℕ)
     → IfSome o (λ k. start + 1 ≤ k)
@@ -81,10 +81,10 @@ found-behind start rows parent (Some k) h =
     position_from-start (λ (row : Row). is_below parent row.name) rows start k h
 
 since-either : (start : ℕ) (row : Row) (rows : List Row) (parent : List ℕ) (here : Bool)
-    → places_below_from (start + 1) rows parent
+    → indices_below_from (start + 1) rows parent
     ≡ since (start + 1) rows parent (first_below_from (start + 1) rows parent)
-    → cond here (start ∷ places_below_from (start + 1) rows parent)
-    (places_below_from (start + 1) rows parent)
+    → cond here (start ∷ indices_below_from (start + 1) rows parent)
+    (indices_below_from (start + 1) rows parent)
     ≡ since start (row ∷ rows) parent
     (cond here (Some start) (first_below_from (start + 1) rows parent))
 since-either start row rows parent true later =
@@ -95,7 +95,7 @@ since-either start row rows parent false later =
     (found-behind (start + 1) rows parent (first_below_from (start + 1) rows parent) refl)
 
 places_below_from-first : (start : ℕ) (rows : List Row) (parent : List ℕ)
-    → places_below_from start rows parent
+    → indices_below_from start rows parent
     ≡ since start rows parent (first_below_from start rows parent)
 places_below_from-first start [] parent = refl
 places_below_from-first start (row ∷ rows) parent =
@@ -104,7 +104,7 @@ places_below_from-first start (row ∷ rows) parent =
 
 since-drop : (rows : List Row) (parent : List ℕ) (start : ℕ) (o : Option ℕ)
     → IfSome o (λ k. start ≤ k)
-    → since start (drop start rows) parent o ≡ places_since rows parent o
+    → since start (drop start rows) parent o ≡ indices_since rows parent o
 since-drop rows parent start None h = refl
 since-drop rows parent start (Some k) h =
     let same : start + ((k + 1) - start) ≡ k + 1 = omega arith in
@@ -112,8 +112,8 @@ since-drop rows parent start (Some k) h =
 
 -- the places from a start on are the first that is found and those behind it
 pub places_since-first : (rows : List Row) (parent : List ℕ) (start : ℕ)
-    → places_below_from start (drop start rows) parent
-    ≡ places_since rows parent (first_below_from start (drop start rows) parent)
+    → indices_below_from start (drop start rows) parent
+    ≡ indices_since rows parent (first_below_from start (drop start rows) parent)
 places_since-first rows parent start =
     places_below_from-first start (drop start rows) parent
     ∙ since-drop rows parent start (first_below_from start (drop start rows) parent)
@@ -123,12 +123,12 @@ places_since-first rows parent start =
 -- a structure's places are the first that is found below it and those behind that
 pub places_below-first : (rows : List Row) (place : ℕ) (found : Option ℕ)
     → found ≡ first_below rows place
-    → places_below rows (name_at rows place) ≡ places_since rows (name_at rows place) found
+    → indices_below rows (name_at rows place) ≡ indices_since rows (name_at rows place) found
 places_below-first rows place found is = rw is (places_since-first rows (name_at rows place) 0)
 
 next-since : (rows : List Row) (place : ℕ) (parent : Option (List ℕ))
-    → IfSome parent (λ name. places_after rows name place
-    ≡ places_since rows name (next_below rows place parent))
+    → IfSome parent (λ name. indices_after rows name place
+    ≡ indices_since rows name (next_below rows place parent))
 next-since rows place None = tt
 next-since rows place (Some name) = places_since-first rows name (place + 1)
 
@@ -136,7 +136,7 @@ next-since rows place (Some name) = places_since-first rows name (place + 1)
 pub places_behind-next : (rows : List Row) (place : ℕ) (found : Option ℕ)
     → found ≡ next_beside rows place
     → IfSome (parent_of (name_at rows place))
-    (λ parent. places_after rows parent place ≡ places_since rows parent found)
+    (λ parent. indices_after rows parent place ≡ indices_since rows parent found)
 places_behind-next rows place found is =
     rw is (next-since rows place (parent_of (name_at rows place)))
 

@@ -13,7 +13,7 @@ use Rattle.std.specs.Str.{bytes_eq}
 use Rattle.bay_tree.specs.declared.index.Index.{Index}
 use Rattle.bay_tree.specs.declared.row.Row.{Row}
 use Rattle.bay_tree.specs.Arena.{IsIndex, bucket_of, is_in_bucket}
-use Rattle.bay_tree.specs.Rows.{row_at, name_at, place_of}
+use Rattle.bay_tree.specs.Rows.{row_at, name_at, row_index}
 use Rattle.bay_tree.proofs.BelowLemmas.{position_from-start, position_from-end}
 use Rattle.bay_tree.proofs.NamedLemmas.{other-text}
 
@@ -106,7 +106,7 @@ named name row = bytes_eq row.name name
 
 -- the name is yet to be sought from a place on, which stands in its bucket
 pub record IsSought (rows : List Row) (index : Index) (name : List ℕ) (at : Option ℕ) : Type 0 where
-  pub left : place_of rows name ≡ since (named name) rows at
+  pub left : row_index rows name ≡ since (named name) rows at
   pub there : IfSome at (λ place. (place < length rows)
       × (bucket_of (length index.first.items) (name_at rows place)
       ≡ bucket_of (length index.first.items) name))
@@ -128,7 +128,7 @@ weaker (Some k) P Q f h = f k h
 sought : (rows : List Row) (index : Index) (name : List ℕ) (bucket start : ℕ) (at : Option ℕ)
     → start ≤ length rows → bucket ≡ bucket_of (length index.first.items) name
     → at ≡ position_from (is_in_bucket (length index.first.items) bucket) start (drop start rows)
-    → place_of rows name ≡ position_from (named name) start (drop start rows)
+    → row_index rows name ≡ position_from (named name) start (drop start rows)
     → IsSought rows index name at
 sought rows index name bucket start at within own is left = record {
   left = left
@@ -174,7 +174,7 @@ sought-next rows index name place indexed at other =
 
 pub sought-here : (rows : List Row) (index : Index) (name : List ℕ) (place : ℕ)
     → IsSought rows index name (Some place) → name_at rows place ≡ name
-    → place_of rows name ≡ Some place
+    → row_index rows name ≡ Some place
 sought-here rows index name place at own =
     at.left ∙ search-here (named name) rows place at.there.0
     ∙ ap (λ b. cond b (Some place)

@@ -9,7 +9,7 @@ use Rattle.bay_tree.specs.declared.row.Row.{Row}
 use Rattle.bay_tree.specs.declared.link.RowLink.{RowLink}
 use Rattle.bay_tree.specs.Arena.{IsLinked, link_at}
 use Rattle.bay_tree.specs.Names.{IsWordAt, parent_of, is_parent, is_below}
-use Rattle.bay_tree.specs.Rows.{IsTree, IsStructureNamed, row_at, name_at, place_of, first_below_from, next_below, next_beside}
+use Rattle.bay_tree.specs.Rows.{IsTree, IsStructureNamed, row_at, name_at, row_index, first_below_from, next_below, next_beside}
 use Rattle.bay_tree.proofs.IndexLemmas.{search-here}
 use Rattle.bay_tree.proofs.NamedLemmas.{same-text, other-text}
 use Rattle.bay_tree.proofs.SearchLemmas.{place_of-found, place_of-none}
@@ -108,20 +108,20 @@ beside-here rows i links k le lt here later =
 
 -- the row that a row stands below is there
 above-of : (rows : List Row) (o : Option (List ℕ)) (a : ℕ)
-    → option_and_then (place_of rows) o ≡ Some a
-    → (parent : List ℕ) × (o ≡ Some parent) × (place_of rows parent ≡ Some a)
+    → option_and_then (row_index rows) o ≡ Some a
+    → (parent : List ℕ) × (o ≡ Some parent) × (row_index rows parent ≡ Some a)
 above-of rows None a h = absurd cc
 above-of rows (Some parent) a h = (parent, refl, h)
 
 pub above-within : (rows : List Row) (o : Option (List ℕ)) (a : ℕ)
-    → option_and_then (place_of rows) o ≡ Some a → a < length rows
+    → option_and_then (row_index rows) o ≡ Some a → a < length rows
 above-within rows o a h =
     let above = above-of rows o a h in
     (place_of-found rows above.0 a above.2).0
 
 no-above : (rows : List Row) (k : ℕ) (o : Option (List ℕ)) → k < length rows
     → IfSome o (λ parent. (j : ℕ) × (j < k) × IsStructureNamed parent (row_at rows j))
-    → option_and_then (place_of rows) o ≡ None → o ≡ None
+    → option_and_then (row_index rows) o ≡ None → o ≡ None
 no-above rows k None lt above h = refl
 no-above rows k (Some parent) lt above h =
     absurd (place_of-none rows parent h above.0 (record { name = []; leaf = None })
@@ -182,7 +182,7 @@ linked-word rows links i link lt below beside word linked =
 
 -- a row of one word leaves the links as they are
 pub linked-skip : (rows : List Row) (links : List RowLink) (i : ℕ) → IsTree rows → i < length rows
-    → option_and_then (place_of rows) (parent_of (name_at rows i)) ≡ None
+    → option_and_then (row_index rows) (parent_of (name_at rows i)) ≡ None
     → IsWorded i rows links → IsLinkedFrom i rows links
 linked-skip rows links i tree lt h worded =
     let linked = worded.linked in
@@ -203,7 +203,7 @@ linked-skip rows links i tree lt h worded =
 pub linked-put : (rows : List Row) (links new : List RowLink) (i a : ℕ) → IsTree rows
     → i < length rows
     → length new ≡ length rows
-    → option_and_then (place_of rows) (parent_of (name_at rows i)) ≡ Some a
+    → option_and_then (row_index rows) (parent_of (name_at rows i)) ≡ Some a
     → ((k : ℕ) → k < length links → (link_at new k).word ≡ (link_at links k).word)
     → ((k : ℕ) → k < length links
     → (link_at new k).below ≡ cond (a == k) (Some i) (link_at links k).below)

@@ -6,11 +6,12 @@ use Rattle.std.proofs.lemmas.Slice.Eq.{bytes_eq-Decides}
 use Rattle.std.specs.List.{position_from}
 use Rattle.std.specs.Str.{bytes_eq}
 use Rattle.bay_tree.specs.declared.row.Row.{Row}
-use Rattle.bay_tree.specs.Rows.{name_at, names_of, place_of, IsHandle}
+use Rattle.bay_tree.specs.Rows.{name_at, names_of, row_index, IsHandle}
 use Rattle.bay_tree.proofs.ArenaLemmas.{place_of-same}
 
 -- the place found is a row's, and that row has the name
-pub place_of-found : (rows : List Row) (name : List ℕ) (place : ℕ) → place_of rows name ≡ Some place
+pub place_of-found : (rows : List Row) (name : List ℕ) (place : ℕ)
+    → row_index rows name ≡ Some place
     → IsHandle rows place × (name_at rows place ≡ name)
 place_of-found rows name place h =
     let found =
@@ -37,7 +38,7 @@ position_from-none test (row ∷ rows) start none k d lt =
     k d lt
 
 -- where no place is found, no row has the name
-pub place_of-none : (rows : List Row) (name : List ℕ) → place_of rows name ≡ None
+pub place_of-none : (rows : List Row) (name : List ℕ) → row_index rows name ≡ None
     → All (λ (row : Row). row.name ≢ name) rows
 place_of-none rows name none = λ k d lt same.
     let missed =
@@ -47,7 +48,7 @@ place_of-none rows name none = λ k d lt same.
     cc
 
 -- where a place is found, some row has the name
-pub place_of-some : (rows : List Row) (name : List ℕ) (place : ℕ) → place_of rows name ≡ Some place
+pub place_of-some : (rows : List Row) (name : List ℕ) (place : ℕ) → row_index rows name ≡ Some place
     → All (λ (row : Row). row.name ≢ name) rows → ⊥
 place_of-some rows name place h lacking =
     let found = place_of-found rows name place h in
@@ -55,5 +56,5 @@ place_of-some rows name place h lacking =
 
 -- where a name is follows from the names
 pub place_of-stays : (before after : List Row) (name : List ℕ) → names_of before ≡ names_of after
-    → place_of before name ≡ place_of after name
+    → row_index before name ≡ row_index after name
 place_of-stays = place_of-same

@@ -5,16 +5,17 @@ use Rattle.std.proofs.lemmas.Bool.Decides.{eqb_tells}
 use Rattle.std.specs.Option.{IsSomeAnd}
 use Rattle.bay_tree.specs.declared.row.Row.{Row}
 use Rattle.bay_tree.specs.Names.{parent_of}
-use Rattle.bay_tree.specs.Rows.{row_at, name_at, leaf_at, place_of, IsBelowStructure, IsStructureNamed, IsTree}
+use Rattle.bay_tree.specs.Rows.{row_at, name_at, leaf_at, row_index, IsBelowStructure, IsStructureNamed, IsTree}
 use Rattle.bay_tree.proofs.RowLemmas.{IfSome-weaken}
 use Rattle.bay_tree.proofs.SearchLemmas.{place_of-found, place_of-none}
 
 -- a row can stand at its place among rows
 pub record IsInPlace (rows : List Row) (place : ℕ) : Type 0 where
-  pub first : place_of rows (name_at rows place) ≡ Some place
+  pub first : row_index rows (name_at rows place) ≡ Some place
   pub below : IsBelowStructure rows place
 
-above-stands : (rows : List Row) (k : ℕ) (parent : List ℕ) (o : Option ℕ) → place_of rows parent ≡ o
+above-stands : (rows : List Row) (k : ℕ) (parent : List ℕ) (o : Option ℕ)
+    → row_index rows parent ≡ o
     → IsSomeAnd o (λ above. (above < k) × (leaf_at rows above ≡ None))
     → (j : ℕ) × (j < k) × IsStructureNamed parent (row_at rows j)
 above-stands rows k parent None is h = absurd h
@@ -26,16 +27,16 @@ pub IsTree-in_place : (rows : List Row) → ((k : ℕ) → k < length rows → I
 IsTree-in_place rows in_place = record {
   distinct = λ i j lt within same.
       let first : Some i ≡ Some j =
-      sym (in_place i (omega arith)).first ∙ ap (place_of rows) same
+      sym (in_place i (omega arith)).first ∙ ap (row_index rows) same
       ∙ (in_place j within).first in
       let one : i ≡ j = cc in
       omega arith;
   parents =
       λ k within. IfSome-weaken (parent_of (name_at rows k))
-      (λ parent. IsSomeAnd (place_of rows parent)
+      (λ parent. IsSomeAnd (row_index rows parent)
       (λ above. (above < k) × (leaf_at rows above ≡ None)))
       (λ parent. (j : ℕ) × (j < k) × IsStructureNamed parent (row_at rows j))
-      (λ parent found. above-stands rows k parent (place_of rows parent) refl found)
+      (λ parent found. above-stands rows k parent (row_index rows parent) refl found)
       (in_place k within).below;
 }
 
@@ -47,7 +48,7 @@ one-place rows i j tree in_i in_j same =
     (λ (ge : i ≤ j). let e : i ≡ j = omega arith in e) (cases_lt j i)) (cases_lt i j)
 
 first-with : (rows : List Row) (k : ℕ) (o : Option ℕ) → IsTree rows → k < length rows
-    → place_of rows (name_at rows k) ≡ o → o ≡ Some k
+    → row_index rows (name_at rows k) ≡ o → o ≡ Some k
 first-with rows k None tree within is =
     absurd (place_of-none rows (name_at rows k) is k (record { name = []; leaf = None }) within
     refl)
@@ -57,17 +58,17 @@ first-with rows k (Some place) tree within is =
 
 -- in a tree the first row with a row's name is that row
 pub place_of-own : (rows : List Row) (k : ℕ) → IsTree rows → k < length rows
-    → place_of rows (name_at rows k) ≡ Some k
+    → row_index rows (name_at rows k) ≡ Some k
 place_of-own rows k tree within =
-    first-with rows k (place_of rows (name_at rows k)) tree within refl
+    first-with rows k (row_index rows (name_at rows k)) tree within refl
 
 above-is : (rows : List Row) (k : ℕ) (parent : List ℕ) → IsTree rows → k < length rows
     → (j : ℕ) × (j < k) × IsStructureNamed parent (row_at rows j)
-    → IsSomeAnd (place_of rows parent) (λ above. (above < k) × (leaf_at rows above ≡ None))
+    → IsSomeAnd (row_index rows parent) (λ above. (above < k) × (leaf_at rows above ≡ None))
 above-is rows k parent tree within w =
     let named : name_at rows w.0 ≡ parent = w.2.named in
-    let own : place_of rows parent ≡ Some w.0 =
-    sym (ap (place_of rows) named) ∙ place_of-own rows w.0 tree (omega (arith, w.1)) in
+    let own : row_index rows parent ≡ Some w.0 =
+    sym (ap (row_index rows) named) ∙ place_of-own rows w.0 tree (omega (arith, w.1)) in
     rw own (w.1, w.2.structure)
 
 pub IsInPlace-tree : (rows : List Row) (k : ℕ) → k < length rows → IsTree rows → IsInPlace rows k
@@ -75,7 +76,7 @@ IsInPlace-tree rows k within tree = record {
   first = place_of-own rows k tree within;
   below = IfSome-weaken (parent_of (name_at rows k))
       (λ parent. (j : ℕ) × (j < k) × IsStructureNamed parent (row_at rows j))
-      (λ parent. IsSomeAnd (place_of rows parent)
+      (λ parent. IsSomeAnd (row_index rows parent)
       (λ above. (above < k) × (leaf_at rows above ≡ None)))
       (λ parent w. above-is rows k parent tree within w) (tree.parents k within);
 }

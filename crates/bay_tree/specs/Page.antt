@@ -4,7 +4,7 @@ use Rattle.std.specs.List.{after_first}
 use Rattle.std.specs.Str.{bytes_eq}
 use Rattle.bay_tree.specs.declared.row.Row.{Row}
 use Rattle.bay_tree.specs.declared.page.Names.{Names}
-use Rattle.bay_tree.specs.Rows.{names_of, place_of}
+use Rattle.bay_tree.specs.Rows.{names_of, row_index}
 
 -- the rows after the row with a name; without a name, all rows
 abbrev pub rows_after : List Row → Option (List ℕ) → List Row

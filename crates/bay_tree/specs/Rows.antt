@@ -38,8 +38,8 @@ abbrev pub IsHandle : List Row → ℕ → Type 0
 IsHandle rows handle = handle < length rows
 
 -- the index of the first row with a name
-abbrev pub place_of : List Row → List ℕ → Option ℕ
-place_of rows name = position (λ row. bytes_eq row.name name) rows
+abbrev pub row_index : List Row → List ℕ → Option ℕ
+row_index rows name = position (λ row. bytes_eq row.name name) rows
 
 -- the values at handles, in their order
 abbrev pub leaves_at : List Row → List ℕ → List (Option Leaf)
@@ -49,7 +49,7 @@ leaves_at rows handles = map (leaf_at rows) handles
 abbrev pub IsBelowStructure : List Row → ℕ → Type 0
 IsBelowStructure rows place =
     IfSome (parent_of (name_at rows place))
-    (λ parent. IsSomeAnd (place_of rows parent)
+    (λ parent. IsSomeAnd (row_index rows parent)
     (λ above. (above < place) × (leaf_at rows above ≡ None)))
 
 -- the type of a row's value; a structure has none
@@ -101,21 +101,21 @@ abbrev pub next_beside : List Row → ℕ → Option ℕ
 next_beside rows place = next_below rows place (parent_of (name_at rows place))
 
 -- the indices of the rows below a structure, if the indices of the list begin at `start`
-abbrev pub places_below_from : ℕ → List Row → List ℕ → List ℕ
-places_below_from start [] parent = []
-places_below_from start (row ∷ rows) parent =
-    if is_below parent row.name then start ∷ places_below_from (start + 1) rows parent
-    else places_below_from (start + 1) rows parent
+abbrev pub indices_below_from : ℕ → List Row → List ℕ → List ℕ
+indices_below_from start [] parent = []
+indices_below_from start (row ∷ rows) parent =
+    if is_below parent row.name then start ∷ indices_below_from (start + 1) rows parent
+    else indices_below_from (start + 1) rows parent
 
 -- the indices of the rows below a structure, in order
-abbrev pub places_below : List Row → List ℕ → List ℕ
-places_below rows parent = places_below_from 0 rows parent
+abbrev pub indices_below : List Row → List ℕ → List ℕ
+indices_below rows parent = indices_below_from 0 rows parent
 
 -- the indices of the rows below a structure that come after an index
-abbrev pub places_after : List Row → List ℕ → ℕ → List ℕ
-places_after rows parent place = places_below_from (place + 1) (drop (place + 1) rows) parent
+abbrev pub indices_after : List Row → List ℕ → ℕ → List ℕ
+indices_after rows parent place = indices_below_from (place + 1) (drop (place + 1) rows) parent
 
 -- an index, and those of the later rows below a structure
-abbrev pub places_since : List Row → List ℕ → Option ℕ → List ℕ
-places_since rows parent None = []
-places_since rows parent (Some place) = place ∷ places_after rows parent place
+abbrev pub indices_since : List Row → List ℕ → Option ℕ → List ℕ
+indices_since rows parent None = []
+indices_since rows parent (Some place) = place ∷ indices_after rows parent place

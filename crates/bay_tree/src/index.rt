@@ -2,7 +2,7 @@
 ghost use Rattle.std.specs.Prelude.{◌≡◌, ◌<◌, IfOk};
 ghost use Rattle.bay_tree.specs.Arena.{IsIndex};
 ghost use Rattle.bay_tree.specs.Arena as spec;
-ghost use Rattle.bay_tree.specs.Rows.{place_of};
+ghost use Rattle.bay_tree.specs.Rows.{row_index};
 
 use crate::row::Row;
 use std::alloc::{AllocError, Global};
@@ -50,7 +50,7 @@ impl Index {
     /// Returns the index of the first row with this name, given as octets; `None` if no row has it.
     pub fn find(&self, rows: &[Row], name: &[u8]) -> Option<usize>
         requires { IsIndex rows.now self.now }
-        ensures { result ≡ place_of rows.now name.now }
+        ensures { result ≡ row_index rows.now name.now }
     {
         let mut at = self.first[bucket_of(self.first.len(), name)];
         while let Some(place) = at {

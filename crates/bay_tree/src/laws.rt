@@ -2,7 +2,7 @@
 ghost use Rattle.std.specs.Prelude.{◌≡◌, ◌≢◌, ◌↔◌, ℕ, Some, List, All};
 ghost use Rattle.bay_tree.specs.declared.leaf.Leaf.{Leaf};
 ghost use Rattle.bay_tree.specs.declared.row.Row.{Row};
-ghost use Rattle.bay_tree.specs.Rows.{IsTree, IsHandle, leaf_at, leaves_at, name_at, names_of, place_of, with_leaf};
+ghost use Rattle.bay_tree.specs.Rows.{IsTree, IsHandle, leaf_at, leaves_at, name_at, names_of, row_index, with_leaf};
 
 /// Writing a value to a row gives that row the value and leaves all other rows as they were. So all
 /// other rows keep their values. No name changes.
@@ -20,9 +20,9 @@ pub fn a_write_is_to_one_row()
 
 /// The handle of a name is a row exactly if the row has that name. The handle of a name depends
 /// only on the names of the rows, so it stays the same when values change.
-pub fn a_row_stands_at_its_name()
+pub fn a_row_is_found_by_its_name()
     ensures named { (rows : List Row) (row : ℕ) (name : List ℕ) → IsTree rows → IsHandle rows row
-        → (place_of rows name ≡ Some row) ↔ (name_at rows row ≡ name) }
+        → (row_index rows name ≡ Some row) ↔ (name_at rows row ≡ name) }
     ensures stays { (before after : List Row) (name : List ℕ) → names_of before ≡ names_of after
-        → place_of before name ≡ place_of after name }
+        → row_index before name ≡ row_index after name }
 {}

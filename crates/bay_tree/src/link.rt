@@ -2,7 +2,7 @@
 ghost use Rattle.std.specs.Prelude.{◌≡◌, ◌<◌, IfOk, length, option_and_then, if◌then◌else◌, ◌==◌, Some, ℕ};
 ghost use Rattle.std.specs.Option.{option_copied};
 ghost use Rattle.bay_tree.specs.Arena.{IsIndex, IsLinked, link_at};
-ghost use Rattle.bay_tree.specs.Rows.{IsTree, place_of};
+ghost use Rattle.bay_tree.specs.Rows.{IsTree, row_index};
 
 use crate::index::Index;
 use crate::name::split_name;
@@ -21,11 +21,11 @@ pub struct RowLink {
 
 // Returns the index of the first row with a name, if one is given. Tries `last` first, since rows
 // with the same parent are close together.
-fn place_near(rows: &[Row], index: &Index, name: Option<&str>, last: usize) -> Option<usize>
+fn index_near(rows: &[Row], index: &Index, name: Option<&str>, last: usize) -> Option<usize>
     requires tree { IsTree rows.now }
     requires indexed { IsIndex rows.now index.now }
     requires within { last < length rows.now }
-    ensures { result ≡ option_and_then (place_of rows.now) (option_copied name.entry) }
+    ensures { result ≡ option_and_then (row_index rows.now) (option_copied name.entry) }
 {
     let name = name?;
     if rows[last].name.as_str() == name {
@@ -69,7 +69,7 @@ pub fn links_of(alloc: Global, rows: &[Row], index: &Index) -> Result<Vec<RowLin
     for place in (0..rows.len()).rev() {
         let parts = split_name(rows[place].name.as_str());
         links[place].word = parts.word;
-        if let Some(above) = place_near(rows, index, parts.parent, last) {
+        if let Some(above) = index_near(rows, index, parts.parent, last) {
             put_below(&mut links, place, above);
             last = above;
         }

@@ -1,7 +1,7 @@
 // The check that rows make a tree.
 ghost use Rattle.std.specs.Prelude.{◌≡◌, ◌<◌, ◌↔◌, Some, length, IfOk, IsTrue};
 ghost use Rattle.bay_tree.specs.Arena.{IsIndex};
-ghost use Rattle.bay_tree.specs.Rows.{IsTree, IsBelowStructure, name_at, place_of};
+ghost use Rattle.bay_tree.specs.Rows.{IsTree, IsBelowStructure, name_at, row_index};
 
 use crate::index::{Index, index_of};
 use crate::name::split_name;
@@ -12,7 +12,7 @@ use std::alloc::{AllocError, Global};
 fn is_first(rows: &[Row], index: &Index, place: usize) -> bool
     requires within { place < length rows.now }
     requires indexed { IsIndex rows.now index.now }
-    ensures { IsTrue result ↔ (place_of rows.now (name_at rows.now place) ≡ Some place) }
+    ensures { IsTrue result ↔ (row_index rows.now (name_at rows.now place) ≡ Some place) }
 {
     match index.find(rows, rows[place].name.as_str().as_bytes()) {
         Some(first) => first == place,

@@ -2,9 +2,9 @@
 ghost use Rattle.std.specs.Prelude.{ℕ, ◌+◌, ◌≡◌, ◌≢◌, ◌<◌, All, ◌≤◌, ◌↔◌, length, drop, map, Some, Ok, Err, IfOk, IsOk, OnOk, OnErr, IfErr, IfSome, IsTrue};
 ghost use Rattle.std.specs.Option.{ok_or, option_copied};
 ghost use Rattle.bay_tree.specs.Names.{IsNamed, parent_of, word_of};
-ghost use Rattle.bay_tree.specs.Rows.{IsTree, IsHandle, place_of, name_at, leaf_at, leaf_of, leaf_type_at, names_of, leaf_types_of, with_leaf, with_leaf_of, first_below_from, first_below, next_beside, places_below, places_after, places_since};
+ghost use Rattle.bay_tree.specs.Rows.{IsTree, IsHandle, row_index, name_at, leaf_at, leaf_of, leaf_type_at, names_of, leaf_types_of, with_leaf, with_leaf_of, first_below_from, first_below, next_beside, indices_below, indices_after, indices_since};
 ghost use Rattle.bay_tree.specs.LeafTypes.{leaf_type_of};
-ghost use Rattle.bay_tree.specs.Order.{place_if};
+ghost use Rattle.bay_tree.specs.Order.{index_if};
 ghost use Rattle.bay_tree.specs.Page.{page_after, rows_after, IsUnknown};
 
 use crate::fault::{NamesFault, TreeFault};
@@ -115,7 +115,7 @@ impl Tree {
 
     /// Returns the handle of the row with this name; `NoSuchName` if no row has it.
     pub fn find(&self, name: &str) -> Result<Handle, TreeFault>
-        ensures place { result ≡ ok_or (place_of self.now name.now) TreeFault.NoSuchName }
+        ensures place { result ≡ ok_or (row_index self.now name.now) TreeFault.NoSuchName }
         ensures found { IfOk result
             (λ handle. IsHandle self.now handle × (name_at self.now handle ≡ name.now)) }
         ensures value { IfOk result
@@ -129,7 +129,7 @@ impl Tree {
     /// Returns the handle of the row with this name, given as octets; `NoSuchName` if no row has
     /// it. Octets that are not valid UTF-8 name no row.
     pub fn find_octets(&self, name: &[u8]) -> Result<Handle, TreeFault>
-        ensures place { result ≡ ok_or (place_of self.now name.now) TreeFault.NoSuchName }
+        ensures place { result ≡ ok_or (row_index self.now name.now) TreeFault.NoSuchName }
         ensures found { IfOk result
             (λ handle. IsHandle self.now handle × (name_at self.now handle ≡ name.now)) }
         ensures value { IfOk result
@@ -195,8 +195,8 @@ impl Tree {
     pub fn below(&self, handle: Handle) -> Option<Handle>
         requires { IsHandle self.now handle }
         ensures first { result ≡ first_below self.now handle }
-        ensures rows { places_below self.now (name_at self.now handle)
-            ≡ places_since self.now (name_at self.now handle) result }
+        ensures rows { indices_below self.now (name_at self.now handle)
+            ≡ indices_since self.now (name_at self.now handle) result }
         ensures after { IfSome result (λ row. (handle < row) × IsHandle self.now row) }
     {
         let index = self.links[handle.index].below?;
@@ -209,7 +209,7 @@ impl Tree {
         requires { IsHandle self.now handle }
         ensures next { result ≡ next_beside self.now handle }
         ensures rows { IfSome (parent_of (name_at self.now handle))
-            (λ parent. places_after self.now parent handle ≡ places_since self.now parent result) }
+            (λ parent. indices_after self.now parent handle ≡ indices_since self.now parent result) }
         ensures after { IfSome result (λ row. (handle < row) × IsHandle self.now row) }
     {
         let index = self.links[handle.index].beside?;
@@ -218,7 +218,7 @@ impl Tree {
 
     /// Returns the first row of the tree; `None` if there is none.
     pub fn first(&self) -> Option<Handle>
-        ensures place { result ≡ place_if self.now 0 }
+        ensures place { result ≡ index_if self.now 0 }
         ensures there { IfSome result (IsHandle self.now) }
     {
         if self.rows.is_empty() {
@@ -231,7 +231,7 @@ impl Tree {
     /// Returns the next row in the order of all rows; `None` after the last.
     pub fn next(&self, handle: Handle) -> Option<Handle>
         requires { IsHandle self.now handle }
-        ensures place { result ≡ place_if self.now (handle + 1) }
+        ensures place { result ≡ index_if self.now (handle + 1) }
         ensures there { IfSome result (IsHandle self.now) }
     {
         if self.rows.len() - handle.index > 1 {
@@ -275,7 +275,7 @@ impl Tree {
         ensures unknown { (result ≡ Err NamesFault.NoSuchName)
             ↔ IsUnknown self.now (option_copied after.entry) }
     {
-        let start = self.place_after(octets_of(after))?;
+        let start = self.index_after(octets_of(after))?;
         let rest = &self.rows.as_slice()[start..];
         let names = first_names(alloc, rest, count)?;
         Ok(Names {
@@ -286,7 +286,7 @@ impl Tree {
 
     /// Returns the index of the first row after the row with a name, given as octets; without a
     /// name, 0. `NoSuchName` if no row has the name.
-    pub fn place_after(&self, after: Option<&[u8]>) -> Result<usize, NamesFault>
+    pub fn index_after(&self, after: Option<&[u8]>) -> Result<usize, NamesFault>
         ensures rows { IfOk result
             (λ start. drop start self.now ≡ rows_after self.now (option_copied after.entry)) }
         ensures within { IfOk result (λ start. start ≤ length self.now) }

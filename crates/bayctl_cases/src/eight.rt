@@ -13,7 +13,12 @@ use cases::words::first_word;
 use std::alloc::{AllocError, Global};
 
 // Appends a line to the expected report, at a time.
-fn tell(talk: &mut Talk, moment: u64, association: u16, told: &str) -> Result<(), AllocError> {
+fn push_expected(
+    talk: &mut Talk,
+    moment: u64,
+    association: u16,
+    told: &str,
+) -> Result<(), AllocError> {
     match first_word(told) {
         ("send", octets) => match octets.split_once("#") {
             Some((front, back)) => writeln!(
@@ -44,7 +49,7 @@ fn put_block(
         let (after, what) = first_word(line);
         moment = begin.saturating_add(after.parse::<u64>().context("no moment")?);
         match first_word(what) {
-            _ if is_told => tell(talk, moment, association, what),
+            _ if is_told => push_expected(talk, moment, association, what),
             ("recv", digits) => talk.hear(moment, association, digits, whole),
             _ => writeln!(talk.trace, "{moment} {what}"),
         }?;

@@ -9,7 +9,7 @@ use anyhow::Result;
 use std::alloc::{AllocError, Global};
 
 // Appends the effect of a message at a time. Returns whether the association ends.
-fn tell(talk: &mut Talk, moment: u64, words: &str) -> Result<bool, AllocError> {
+fn push_effect(talk: &mut Talk, moment: u64, words: &str) -> Result<bool, AllocError> {
     let mut ends = false;
     for word in words.split(" ") {
         if let Some((kind, what)) = word.split_once(":") {
@@ -36,7 +36,7 @@ fn put_report(
         if end > count {
             return Ok(());
         }
-        if tell(talk, moment, words)? {
+        if push_effect(talk, moment, words)? {
             let behind = if whole { 0 } else { count - end };
             for _ in 0..=behind {
                 writeln!(talk.report, "{moment} refused 111")?;

@@ -46,7 +46,7 @@ use std::io::Read;
 use texts::Texts;
 
 // Checks the cases of a section in which each line is a case.
-fn tell_lines(
+fn check_case_lines(
     alloc: Global,
     told: &mut CaseReport,
     texts: &Texts,
@@ -61,7 +61,7 @@ fn tell_lines(
             "jobs" => check_job(alloc, line),
             _ => hostile.check(alloc, texts, line),
         };
-        told.tell(line, outcome)?;
+        told.record_case(line, outcome)?;
     }
     Ok(())
 }
@@ -87,11 +87,11 @@ fn run(rt: &HostRuntime, text: &str) -> Result<String> {
             "logic" => texts.logic = body,
             "trace" => texts.trace = body,
             "bays" | "jobs" | "hostile" => {
-                tell_lines(alloc, &mut told, &texts, &commands, kind, body)?
+                check_case_lines(alloc, &mut told, &texts, &commands, kind, body)?
             }
-            "eight" => told.tell(head, check_eight(alloc, &texts, body))?,
-            "fronts" => told.tell(head, check_fronts(alloc, &texts, body))?,
-            _ => told.tell(head, commands.check(&texts, kind, rest, body))?,
+            "eight" => told.record_case(head, check_eight(alloc, &texts, body))?,
+            "fronts" => told.record_case(head, check_fronts(alloc, &texts, body))?,
+            _ => told.record_case(head, commands.check(&texts, kind, rest, body))?,
         }
     }
     told.finish()

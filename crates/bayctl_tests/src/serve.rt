@@ -116,8 +116,8 @@ impl Sink for Recorder<'_> {
 }
 
 // A host with a port for clients and port 9 for a process, each of which can be opened once. Its
-// clocks advance by `step` milliseconds each time they are read. The clock of the system is ahead by `jump` at
-// the third to the fifth reading.
+// clocks advance by `step` milliseconds each time they are read. The clock of the system is ahead
+// by `jump` at the third to the fifth reading.
 #[derive(Drop)]
 struct Ports<'a> {
     clients: Option<MemoryLink<'a>>,

@@ -112,8 +112,8 @@ fn clients_are_answered_and_closed(rt: HostRuntime) -> Result<(), Fail> {
     Ok(())
 }
 
-// Runs a session in which call number `fails_at` of the link fails, or none if it is 0. Asserts that
-// the client received everything, or a prefix and the turn reports that its connection failed.
+// Runs a session in which call number `fails_at` of the link fails, or none if it is 0. Asserts
+// that the client received everything, or a prefix and the turn reports that its connection failed.
 // Returns the number of calls.
 fn check_session_with_failing_call(
     rt: &impl Abort,

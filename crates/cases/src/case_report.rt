@@ -51,7 +51,7 @@ impl CaseReport {
 
     /// Records the outcome of a case; `line` spells the case. An outcome that is an error means
     /// that the case does not hold. Fails only if the report can't be extended.
-    pub fn tell(&mut self, line: &str, outcome: Result<()>) -> Result<()> {
+    pub fn record_case(&mut self, line: &str, outcome: Result<()>) -> Result<()> {
         self.cases = self.cases.saturating_add(1);
         if let Err(error) = outcome {
             self.differing = self.differing.saturating_add(1);

@@ -9,7 +9,7 @@ use Rattle.bay_io.specs.Watched.{Writing}
 use Rattle.bay_io.proofs.SentLemmas.{Puts-nil, Puts-then}
 use Rattle.bay_load.specs.Loads.{LoadData}
 use Rattle.bay_report.specs.LogLines.{IsReported}
-use Rattle.cmd_audit.specs.Auditing.{Answers, SaysFor, log_in}
+use Rattle.cmd_audit.specs.Auditing.{Answers, IsTextFor, log_in}
 use Rattle.cmd_audit.specs.Text.{refusal_text}
 use Rattle.cmd_audit.specs.Written.{PutsRest, PutsSaid, PutsStopped, PutsText}
 
@@ -70,8 +70,8 @@ module _ {W : Type 0} {contents : W → Option (List ℕ)} {does : W → WriteCa
     says = by-case p.says;
   }
     where
-      by-case : SaysFor loaded rules None (p.text ++ codes "fault memory\n") 3 ⊎ (p.text ≡ [])
-          → SaysFor loaded rules None (p.text ++ codes "fault memory\n") 3
+      by-case : IsTextFor loaded rules None (p.text ++ codes "fault memory\n") 3 ⊎ (p.text ≡ [])
+          → IsTextFor loaded rules None (p.text ++ codes "fault memory\n") 3
           ⊎ IsReported None (codes "fault memory\n") 3 None (p.text ++ codes "fault memory\n") 3
       by-case (inl says) = inl says
       by-case (inr none) =

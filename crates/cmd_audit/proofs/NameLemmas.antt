@@ -221,7 +221,8 @@ pieces-named (p ∷ ps) all = (piece-named p all.0, pieces-named ps all.1)
 
 -- ---- lines
 
-onto-named : (p : LexemeData) (ls : List (List LexemeData)) → IsPieceNamed p → Each (Each IsPieceNamed) ls
+onto-named : (p : LexemeData) (ls : List (List LexemeData)) → IsPieceNamed p
+    → Each (Each IsPieceNamed) ls
     → Each (Each IsPieceNamed) (prepend_lexeme p ls)
 onto-named p [] is all = ((is, tt), tt)
 onto-named p (l ∷ ls) is all = ((is, all.0), all.1)

@@ -263,7 +263,8 @@ module _ {W : Type 0} {contents : W → Option (List ℕ)} {does : W → WriteCa
 
   module _ (loaded : LoadData) (rules : List Rule) where
     pub cut-answers : {old new : Writing W}
-        → PutsFirst contents does loaded.bay (known_of loaded) (program_of loaded.bay loaded.image) rules old new
+        → PutsFirst contents does loaded.bay (known_of loaded) (program_of loaded.bay loaded.image)
+        rules old new
         → PutsText contents does loaded rules (codes "fault memory\n") 3 old new
     cut-answers {old} {new} p =
         let many = map too_many p.others in
@@ -272,9 +273,11 @@ module _ {W : Type 0} {contents : W → Option (List ℕ)} {does : W → WriteCa
           put = p.put.put;
           says = record {
             answers = p.put.answers ++ many;
-            right = subst (λ rs. AreRight (program_of loaded.bay loaded.image) rs (p.put.answers ++ many))
+            right = subst (λ rs. AreRight (program_of loaded.bay loaded.image) rs
+                (p.put.answers ++ many))
                 (sym p.parts)
-                (right-append (program_of loaded.bay loaded.image) p.answered p.others p.put.answers many
+                (right-append (program_of loaded.bay loaded.image) p.answered p.others p.put.answers
+                many
                 p.put.right
                 (many-right (program_of loaded.bay loaded.image) p.others));
             releases = [];
@@ -283,7 +286,8 @@ module _ {W : Type 0} {contents : W → Option (List ℕ)} {does : W → WriteCa
               shown = zip p.answered p.put.answers;
               hidden = zip p.others many;
               parts = ap (λ rs. zip rs (p.put.answers ++ many)) p.parts
-                  ∙ zip-parts (program_of loaded.bay loaded.image) p.answered p.others p.put.answers many
+                  ∙ zip-parts (program_of loaded.bay loaded.image) p.answered p.others p.put.answers
+                  many
                   p.put.right;
               later = ways (length loaded.bay.switches);
               first = refl;
@@ -296,12 +300,16 @@ module _ {W : Type 0} {contents : W → Option (List ℕ)} {does : W → WriteCa
 
     pub cut-none : (w : Writing W)
         → PutsText contents does loaded rules (codes "fault memory\n") 3 w w
-    cut-none w = cut-answers (first-of loaded.bay (known_of loaded) (program_of loaded.bay loaded.image) rules [] rules true refl
+    cut-none w =
+        cut-answers (first-of loaded.bay (known_of loaded) (program_of loaded.bay loaded.image)
+        rules [] rules true refl
         (no-answers loaded.bay (known_of loaded) (program_of loaded.bay loaded.image) w))
 
     pub cut-releases : (passed : Bool) {old mid new : Writing W}
-        → PutsAnswers contents does loaded.bay (known_of loaded) (program_of loaded.bay loaded.image) rules passed old mid
-        → PutsSome contents does loaded.bay (known_of loaded) (program_of loaded.bay loaded.image) (ways (length loaded.bay.switches)) mid
+        → PutsAnswers contents does loaded.bay (known_of loaded)
+        (program_of loaded.bay loaded.image) rules passed old mid
+        → PutsSome contents does loaded.bay (known_of loaded) (program_of loaded.bay loaded.image)
+        (ways (length loaded.bay.switches)) mid
         new
         → PutsText contents does loaded rules (codes "fault memory\n") 3 old new
     cut-releases passed {old} {mid} {new} a s =
@@ -331,8 +339,10 @@ module _ {W : Type 0} {contents : W → Option (List ℕ)} {does : W → WriteCa
 
     pub whole-text : (passed : Bool) (releases : List Release) (status : ℕ)
         {old mid last new : Writing W}
-        → PutsAnswers contents does loaded.bay (known_of loaded) (program_of loaded.bay loaded.image) rules passed old mid
-        → PutsReleases contents does loaded.bay (known_of loaded) (program_of loaded.bay loaded.image) (ways (length loaded.bay.switches))
+        → PutsAnswers contents does loaded.bay (known_of loaded)
+        (program_of loaded.bay loaded.image) rules passed old mid
+        → PutsReleases contents does loaded.bay (known_of loaded)
+        (program_of loaded.bay loaded.image) (ways (length loaded.bay.switches))
         releases mid last
         → Puts contents does last (states_text loaded.bay (known_of loaded) releases) new
         → status ≡ cond passed 0 4
@@ -359,15 +369,19 @@ module _ {W : Type 0} {contents : W → Option (List ℕ)} {does : W → WriteCa
 
     -- ---- the same, by the names and the program that were made
 
-    module _ (these : Known) (g : BoundProgram) (e : these ≡ (known_of loaded)) (f : g ≡ program_of loaded.bay loaded.image)
+    module _ (these : Known) (g : BoundProgram) (e : these ≡ (known_of loaded))
+        (f : g ≡ program_of loaded.bay loaded.image)
       where
         pub stopped-answers : {old new : Writing W}
             → PutsFirst contents does loaded.bay these g rules old new
             → PutsText contents does loaded rules (codes "fault memory\n") 3 old new
         stopped-answers {old} {new} p =
-            cut-answers (subst (λ (n : Known). PutsFirst contents does loaded.bay n (program_of loaded.bay loaded.image)
+            cut-answers
+            (subst (λ (n : Known). PutsFirst contents does loaded.bay n
+            (program_of loaded.bay loaded.image)
             rules old new) e
-            (subst (λ (h : BoundProgram). PutsFirst contents does loaded.bay these h rules old new) f p))
+            (subst (λ (h : BoundProgram). PutsFirst contents does loaded.bay these h rules old new)
+            f p))
 
         pub stopped-releases : (passed : Bool) {old mid new : Writing W}
             → PutsAnswers contents does loaded.bay these g rules passed old mid
@@ -375,12 +389,15 @@ module _ {W : Type 0} {contents : W → Option (List ℕ)} {does : W → WriteCa
             → PutsText contents does loaded rules (codes "fault memory\n") 3 old new
         stopped-releases passed {old} {mid} {new} a s =
             cut-releases passed
-            (subst (λ (n : Known). PutsAnswers contents does loaded.bay n (program_of loaded.bay loaded.image)
+            (subst (λ (n : Known). PutsAnswers contents does loaded.bay n
+            (program_of loaded.bay loaded.image)
             rules passed old mid) e
-            (subst (λ (h : BoundProgram). PutsAnswers contents does loaded.bay these h rules passed old
+            (subst (λ (h : BoundProgram). PutsAnswers contents does loaded.bay these h rules passed
+            old
             mid)
             f a))
-            (subst (λ (n : Known). PutsSome contents does loaded.bay n (program_of loaded.bay loaded.image)
+            (subst (λ (n : Known). PutsSome contents does loaded.bay n
+            (program_of loaded.bay loaded.image)
             (ways (length loaded.bay.switches)) mid new) e
             (subst (λ (h : BoundProgram). PutsSome contents does loaded.bay these h
             (ways (length loaded.bay.switches)) mid new) f s))
@@ -388,19 +405,23 @@ module _ {W : Type 0} {contents : W → Option (List ℕ)} {does : W → WriteCa
         pub whole : (passed : Bool) (releases : List Release) (status : ℕ) (text : List ℕ)
             {old mid last new : Writing W}
             → PutsAnswers contents does loaded.bay these g rules passed old mid
-            → PutsReleases contents does loaded.bay these g (ways (length loaded.bay.switches)) releases mid last
+            → PutsReleases contents does loaded.bay these g (ways (length loaded.bay.switches))
+            releases mid last
             → text ≡ states_text loaded.bay these releases
             → Puts contents does last text new
             → status ≡ cond passed 0 4
             → PutsText contents does loaded rules [] status old new
         whole passed releases status text {old} {mid} {last} {new} a r is put ends =
             whole-text passed releases status
-            (subst (λ (n : Known). PutsAnswers contents does loaded.bay n (program_of loaded.bay loaded.image)
+            (subst (λ (n : Known). PutsAnswers contents does loaded.bay n
+            (program_of loaded.bay loaded.image)
             rules passed old mid) e
-            (subst (λ (h : BoundProgram). PutsAnswers contents does loaded.bay these h rules passed old
+            (subst (λ (h : BoundProgram). PutsAnswers contents does loaded.bay these h rules passed
+            old
             mid)
             f a))
-            (subst (λ (n : Known). PutsReleases contents does loaded.bay n (program_of loaded.bay loaded.image)
+            (subst (λ (n : Known). PutsReleases contents does loaded.bay n
+            (program_of loaded.bay loaded.image)
             (ways (length loaded.bay.switches)) releases mid last) e
             (subst (λ (h : BoundProgram). PutsReleases contents does loaded.bay these h
             (ways (length loaded.bay.switches)) releases mid last) f r))

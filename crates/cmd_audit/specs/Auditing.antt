@@ -63,18 +63,18 @@ abbrev pub log_in : Option RuleFault → Option (List ℕ)
 log_in refused = option_and_then refused_log refused
 
 -- the text for rules; or for a text that has a fault, with the line that is logged then
-abbrev pub SaysOf : LoadData → Result (List Rule) RuleFault → Option (List ℕ) → List ℕ → ℕ
+abbrev pub IsTextOf : LoadData → Result (List Rule) RuleFault → Option (List ℕ) → List ℕ → ℕ
     → Type 0
-SaysOf loaded (Ok rules) log text status = (log ≡ None) × Answers loaded rules text status
-SaysOf loaded (Err fault) log text status =
+IsTextOf loaded (Ok rules) log text status = (log ≡ None) × Answers loaded rules text status
+IsTextOf loaded (Err fault) log text status =
     IsReported (refused_log fault) (refusal_text fault) 1 log text status
 
 -- the same for what was loaded and a text of rules
-pub record SaysFor (loaded : LoadData) (rules : List ℕ) (log : Option (List ℕ)) (text : List ℕ)
+pub record IsTextFor (loaded : LoadData) (rules : List ℕ) (log : Option (List ℕ)) (text : List ℕ)
     (status : ℕ) : Type 0 where
   pub meant : Result (List Rule) RuleFault
   pub means : TextRead loaded.bay rules meant
-  pub says : SaysOf loaded meant log text status
+  pub says : IsTextOf loaded meant log text status
 
 -- the line of a load, and the text for rules, unless memory runs out before they are read
 pub record LoadedReport (loaded : LoadData) (rules : List ℕ) (log : Option (List ℕ))
@@ -83,7 +83,7 @@ pub record LoadedReport (loaded : LoadData) (rules : List ℕ) (log : Option (Li
   pub is : IsReport loaded.image report
   pub rest : List ℕ
   pub whole : text ≡ report_text report ++ rest
-  pub says : SaysFor loaded rules log rest status
+  pub says : IsTextFor loaded rules log rest status
       ⊎ IsReported None (codes "fault memory\n") 3 log rest status
 
 -- the bay file and the program are loaded

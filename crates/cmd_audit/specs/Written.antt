@@ -14,7 +14,7 @@ use Rattle.bay_load.specs.Loads.{LoadData}
 use Rattle.bay_report.specs.LogLines.{IsReported}
 use Rattle.bay_report.specs.Report.{code_of}
 use Rattle.bay_report.specs.declared.output.Status.{Status}
-use Rattle.cmd_audit.specs.Auditing.{Answers, SaysFor}
+use Rattle.cmd_audit.specs.Auditing.{Answers, IsTextFor}
 use Rattle.cmd_audit.specs.Names.{Known}
 use Rattle.cmd_audit.specs.Text.{answers_text, is_passed, release_text}
 
@@ -78,19 +78,19 @@ module _ {W : Type 0} (contents : W → Option (List ℕ)) (does : W → WriteCa
       (old new : Writing W) : Type 0 where
     pub text : List ℕ
     pub put : Puts contents does old text new
-    pub says : SaysFor loaded rules log text status
+    pub says : IsTextFor loaded rules log text status
 
   -- the same without the line of a fault, before which it stopped; or nothing
   pub record PutsStopped (loaded : LoadData) (rules : List ℕ) (old new : Writing W)
       : Type 0 where
     pub text : List ℕ
     pub put : Puts contents does old text new
-    pub says : SaysFor loaded rules None (text ++ codes "fault memory\n") 3 ⊎ (text ≡ [])
+    pub says : IsTextFor loaded rules None (text ++ codes "fault memory\n") 3 ⊎ (text ≡ [])
 
   -- the text after the line of a load, also if it stopped
   pub record PutsRest (loaded : LoadData) (rules : List ℕ) (log : Option (List ℕ)) (status : ℕ)
       (old new : Writing W) : Type 0 where
     pub rest : List ℕ
     pub put : Puts contents does old rest new
-    pub says : SaysFor loaded rules log rest status
+    pub says : IsTextFor loaded rules log rest status
         ⊎ IsReported None (codes "fault memory\n") 3 log rest status

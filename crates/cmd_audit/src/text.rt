@@ -230,7 +230,7 @@ fn put_timer(text: &mut Vec<u8>, names: &StateNames<'_>, timer: usize) -> Result
 
 // Adds what an answer depends on, if anything is known: a word, and the names of points, variables
 // and timers.
-fn put_kept(
+fn put_dependencies(
     text: &mut Vec<u8>,
     word: &[u8],
     names: &StateNames<'_>,
@@ -283,7 +283,7 @@ fn put_rule_way(text: &mut Vec<u8>, bay: &Bay, rule: &Rule) -> Result<(), AllocE
 }
 
 // Adds the beginning of the line of a rule's answer: the rule's line, its switch and its operation.
-fn put_front(text: &mut Vec<u8>, bay: &Bay, rule: &Rule) -> Result<(), AllocError>
+fn put_rule_head(text: &mut Vec<u8>, bay: &Bay, rule: &Rule) -> Result<(), AllocError>
     ensures { OnOk result
         (text.new.items ≡ text.old.items ++ spec.rule_start_text bay.now rule.now) }
 {
@@ -301,7 +301,7 @@ fn put_held(text: &mut Vec<u8>, cases: u32) -> Result<(), AllocError>
 }
 
 // Adds a rule's answer.
-fn put_said(
+fn put_rule_answer(
     text: &mut Vec<u8>,
     bay: &Bay,
     names: &StateNames<'_>,
@@ -319,7 +319,7 @@ fn put_said(
         RuleAnswer::Open { case, kept } => {
             text.extend_from_slice(b" open")?;
             put_case(text, bay, case)?;
-            put_kept(text, b" by", names, kept)
+            put_dependencies(text, b" by", names, kept)
         }
         RuleAnswer::Since { timer, cases } => {
             put_held(text, *cases)?;
@@ -341,8 +341,8 @@ pub fn put_answer(
     ensures { OnOk result (text.new.items ≡ text.old.items
         ++ spec.answer_text bay.now names.now (rule.now, answer.now)) }
 {
-    put_front(text, bay, rule)?;
-    put_said(text, bay, names, answer)?;
+    put_rule_head(text, bay, rule)?;
+    put_rule_answer(text, bay, names, answer)?;
     text.extend_from_slice(b"\n")
 }
 
@@ -356,7 +356,7 @@ fn put_word(text: &mut Vec<u8>, bay: &Bay, word: &[u8], case: &Case) -> Result<(
 }
 
 // Adds a case of a release, and whether the switch is released in it.
-fn put_told(
+fn put_case_of_release(
     text: &mut Vec<u8>,
     bay: &Bay,
     names: &StateNames<'_>,
@@ -370,13 +370,13 @@ fn put_told(
         CaseRelease::Refused => put_word(text, bay, b"blocked", &told.case),
         CaseRelease::Hangs(kept) => {
             put_word(text, bay, b"depends", &told.case)?;
-            put_kept(text, b" on", names, kept)
+            put_dependencies(text, b" on", names, kept)
         }
     }
 }
 
 // Adds the line of a case of a release.
-fn put_told_line(
+fn put_case_line(
     text: &mut Vec<u8>,
     bay: &Bay,
     names: &StateNames<'_>,
@@ -385,7 +385,7 @@ fn put_told_line(
     ensures { OnOk result
         (text.new.items ≡ text.old.items ++ spec.reported_case_text bay.now names.now told.now) }
 {
-    put_told(text, bay, names, told)?;
+    put_case_of_release(text, bay, names, told)?;
     text.extend_from_slice(b"\n")
 }
 
@@ -403,7 +403,7 @@ fn put_cases(
     put_number(text, cases.len() as u64)?;
     text.extend_from_slice(b"\n")?;
     for told in cases {
-        put_told_line(text, bay, names, told)?;
+        put_case_line(text, bay, names, told)?;
     }
     Ok(())
 }
@@ -462,7 +462,7 @@ fn put_state(
         CaseRelease::Refused => text.extend_from_slice(b" blocked\n"),
         CaseRelease::Hangs(kept) => {
             text.extend_from_slice(b" depends")?;
-            put_kept(text, b" on", names, kept)?;
+            put_dependencies(text, b" on", names, kept)?;
             text.extend_from_slice(b"\n")
         }
     }

@@ -4,7 +4,7 @@ use Rattle.std.specs.Prelude.{MatchOption, slice_get}
 use Rattle.bay_audit.specs.Rules.{AreRight, BoundProgram, IsAnswer, IsByTimer, IsRight, IsRule, IsTimely, IsUntil, plain_demand, program_of}
 use Rattle.bay_audit.specs.declared.answer.RuleAnswer.{RuleAnswer}
 use Rattle.bay_audit.specs.declared.answer.RuleAnswer.TheVariants.{Broken, Holds, Open, Since, TooMany}
-use Rattle.cmd_audit.specs.Auditing.{AuditReport, SaysFor, SaysOf}
+use Rattle.cmd_audit.specs.Auditing.{AuditReport, IsTextFor, IsTextOf}
 use Rattle.bay_config.specs.Laws.{IsBay}
 use Rattle.bay_config.specs.declared.bay.Bay.{Bay}
 use Rattle.bay_config.specs.declared.fault.BayFault.{BayFault}
@@ -30,7 +30,7 @@ use Rattle.il_image.specs.Octets.{AreOctets}
 use Rattle.il_verify.specs.Verdicts.{IsVerified}
 use Rattle.il_text.specs.Listing.{PlainProgram}
 use Rattle.il_text.specs.declared.fault.TextFault.{TextFault}
-use Rattle.cmd_audit_laws.specs.Audited.{AuditSays, ByTimer, IsAudited, Plainly, SaysBehind, SaysOfRule}
+use Rattle.cmd_audit_laws.specs.Audited.{AuditAnswers, ByTimer, IsAudited, Plainly, AnswersAfterLoad, AnswersRule}
 use Rattle.cmd_audit_laws.specs.Served.{IsFile}
 use Rattle.cmd_audit_laws.proofs.RuleLemmas.{rule-there}
 use Rattle.cmd_audit_laws.proofs.SoundLemmas.{Steady, image-sound}
@@ -118,8 +118,8 @@ module _ (So : RuleAnswer → Type 0) (bay : List ℕ) (f : Form) (program : Lis
   of-rules : (l : LoadData) → LoadsTo bay f program (Ok l)
       → (rules : List ℕ) (meant : Result (List Rule) RuleFault) → TextRead l.bay rules meant
       → (log : Option (List ℕ)) (text : List ℕ) (status : ℕ)
-      (says : SaysOf l meant log text status)
-      → SaysOfRule So l meant log text status says rule
+      (says : IsTextOf l meant log text status)
+      → AnswersRule So l meant log text status says rule
       → OfOctets So bay f program rule
   of-rules l loads rules (Ok rs) means log text status says h =
       let made = load-made bay f program l loads in
@@ -138,15 +138,16 @@ module _ (So : RuleAnswer → Type 0) (bay : List ℕ) (f : Form) (program : Lis
 
   of-load : (l : LoadData) → LoadsTo bay f program (Ok l)
       → (Memory : Type 0) (rules : List ℕ) (log : Option (List ℕ)) (text : List ℕ) (status : ℕ)
-      (says : SaysFor l rules log text status ⊎ Memory)
-      → SaysBehind So Memory l rules log text status says rule → OfOctets So bay f program rule
+      (says : IsTextFor l rules log text status ⊎ Memory)
+      → AnswersAfterLoad So Memory l rules log text status says rule
+      → OfOctets So bay f program rule
   of-load l loads Memory rules log text status (inr memory) h = absurd h
   of-load l loads Memory rules log text status (inl says) h =
       of-rules l loads rules says.meant says.means log text status says.says h
 
   of-audit : (rules : List ℕ) (log : Option (List ℕ)) (text : List ℕ) (status : ℕ)
       (audit : AuditReport bay f program rules log text status)
-      → AuditSays So bay f program rules log text status audit rule
+      → AuditAnswers So bay f program rules log text status audit rule
       → OfOctets So bay f program rule
   of-audit rules log text status (inr refused) h = absurd h
   of-audit rules log text status (inl load) h =

@@ -35,7 +35,7 @@ use Rattle.cmd_audit.specs.declared.judging.RulesVerdict.{RulesVerdict}
 use Rattle.cmd_audit.specs.declared.judging.RulesVerdict.TheVariants as judged
 use Rattle.cmd_serve.specs.Orders.{IsOrdered}
 use Rattle.cmd_serve.specs.Serve.{EndsUnserved, FileNames, LoadsFiles, ReadsRules, ServesLoaded, ServesRules, ServesVerdict, data_of, made_of, rules_of}
-use Rattle.cmd_serve.specs.Service.{AreTurns, DoneTurn, held_behind, past_behind}
+use Rattle.cmd_serve.specs.Service.{AreTurns, DoneTurn, server_after, past_after}
 use Rattle.cmd_serve.specs.declared.serve.LoadedFiles.{LoadedFiles}
 use Rattle.cmd_serve.specs.declared.serve.Numbers.{Numbers}
 use Rattle.cmd_serve.specs.declared.serve.ServeStartFault.{ServeStartFault}
@@ -89,10 +89,10 @@ waits-so rule timing never first h scans past [] obeys = tt
 waits-so rule timing never first h scans past (t ∷ ts) obeys = (
   λ command o switch operation so.
       let both : false ≡ true = sym (obeys.0 command o never switch operation) ∙ so in absurd cc,
-  waits-so rule timing never first (held_behind t h)
+  waits-so rule timing never first (server_after t h)
       (scans_after_events timing.condition t.now (turn_events t.now t.given t.script h) h.device
       scans)
-      (past_behind t.now (turn_events t.now t.given t.script h) h.device past) ts obeys.2,
+      (past_after t.now (turn_events t.now t.given t.script h) h.device past) ts obeys.2,
 )
 
 -- ---- a device that these octets load to

@@ -7,7 +7,7 @@ use Rattle.std.specs.List.{Contains}
 use Rattle.std.specs.Str.{bytes_eq}
 use Rattle.bay_audit.specs.declared.answer.RuleAnswer.{RuleAnswer}
 use Rattle.bay_audit.specs.declared.answer.RuleAnswer.TheVariants.{Broken, Holds, Open, Since, TooMany}
-use Rattle.cmd_audit.specs.Auditing.{AuditReport, SaysFor, SaysOf}
+use Rattle.cmd_audit.specs.Auditing.{AuditReport, IsTextFor, IsTextOf}
 use Rattle.cmd_audit.specs.Names.{AreWords, known_of}
 use Rattle.cmd_audit.specs.Text.{is_passed, numbered_text}
 use Rattle.cmd_audit.specs.Verdicts.{PrintedHold, hold_in, printed_hold}
@@ -40,7 +40,7 @@ use Rattle.il_compile.proofs.CompiledLemmas.{is-image}
 use Rattle.il_check.specs.Program.{Checked}
 use Rattle.il_image.specs.Images.{Image, IsImage}
 use Rattle.il_image.proofs.ImageLemmas.{spelled-image}
-use Rattle.cmd_audit_laws.specs.Audited.{ByTimer, IsAudited, Plainly, SaysBehind, SaysOfRule}
+use Rattle.cmd_audit_laws.specs.Audited.{ByTimer, IsAudited, Plainly, AnswersAfterLoad, AnswersRule}
 use Rattle.cmd_audit_laws.specs.Served.{IsFile}
 use Rattle.cmd_audit_laws.specs.Told.{HoldsAreAudited, IsOfRule}
 
@@ -158,10 +158,10 @@ module _ (bay : List ℕ) (f : Form) (program rules : List ℕ) (log : Option (L
     (e : printed_hold line ≡ Some hold) where
   of-rules : (l : LoadData) → LoadsTo bay f program (Ok l)
       → (meant : Result (List Rule) RuleFault) (text : List ℕ)
-      (says : SaysOf l meant log text status)
+      (says : IsTextOf l meant log text status)
       → Contains (lines_in text) line
       → ((So : RuleAnswer → Type 0) (rule : Rule)
-      → SaysOfRule So l meant log text status says rule → IsAudited So bay f program rules rule)
+      → AnswersRule So l meant log text status says rule → IsAudited So bay f program rules rule)
       → IsOfRule bay f program rules hold
   of-rules l loads (Err fault) text says at more =
       absurd (no-line text line hold
@@ -171,7 +171,8 @@ module _ (bay : List ℕ) (f : Form) (program rules : List ℕ) (log : Option (L
       let kept : IsImage l.image = image-kept f program l.bay l.image file made.made in
       let known : AreWords (known_of l) = names-are-words bay f program l loads kept in
       let h =
-      holds-are-read l rs text status (bays-have-words bay l.bay made.read) known says.1 line hold at
+      holds-are-read l rs text status (bays-have-words bay l.bay made.read) known says.1 line hold
+      at
       e in
       let place = zip-at rs says.1.answers h.pair h.among in
       record {
@@ -239,11 +240,11 @@ module _ (bay : List ℕ) (f : Form) (program rules : List ℕ) (log : Option (L
         says = says;
       })
     where
-      of-says : (says : SaysFor load.loaded rules log load.tells.rest status
+      of-says : (says : IsTextFor load.loaded rules log load.tells.rest status
           ⊎ IsReported None (codes "fault memory\n") 3 log load.tells.rest status)
           → Contains (lines_in load.tells.rest) line
           → ((So : RuleAnswer → Type 0) (rule : Rule)
-          → SaysBehind So _ load.loaded rules log load.tells.rest status says rule
+          → AnswersAfterLoad So _ load.loaded rules log load.tells.rest status says rule
           → IsAudited So bay f program rules rule)
           → IsOfRule bay f program rules hold
       of-says (inr memory) there more =

@@ -35,7 +35,7 @@ use Rattle.bay_server_turn_laws.specs.Order.{AreClosings, Then, received_events,
 use Rattle.bay_server_turn_laws.proofs.OrderLemmas.{in-order}
 use Rattle.bay_server_turn_laws.proofs.PartLemmas.{Part-turn}
 use Rattle.cmd_serve.specs.Orders.{IsOrdered}
-use Rattle.cmd_serve.specs.Service.{AreTurns, DoneTurn, held_behind, past_behind, past_of}
+use Rattle.cmd_serve.specs.Service.{AreTurns, DoneTurn, server_after, past_after, past_of}
 use Rattle.cmd_serve.proofs.FrontLemmas.{Begins, Behind, Reads, closings-all, reads-all, then-all, why_closed}
 use Rattle.cmd_audit_laws.specs.Served.{OrdersObey}
 use Rattle.cmd_audit_laws.proofs.IdLemmas.{ids-apart}
@@ -131,7 +131,7 @@ AreTypedPast first past = EachPast (λ now event old answer new. IsOfType event)
 
 -- so are those of turns
 events-behind : (now : ℕ) (es : List ChosenEvent) (first s : State) (past : List Past)
-    → AreTyped es → AreTypedPast first past → AreTypedPast first (past_behind now es s past)
+    → AreTyped es → AreTypedPast first past → AreTypedPast first (past_after now es s past)
 events-behind now [] first s past typed before = before
 events-behind now (e ∷ es) first s past typed before =
     let o = outcome e.0 now e.1 s in
@@ -145,7 +145,7 @@ pub turns-typed : (first : State) (ts : List DoneTurn) (h : ServerData) (past : 
 turns-typed first [] h past are given before = before
 turns-typed first (t ∷ ts) h past are given before =
     let events = turn_events t.now t.given t.script h in
-    turns-typed first ts (held_behind t h) (past_behind t.now events h.device past) are.1 given.1
+    turns-typed first ts (server_after t h) (past_after t.now events h.device past) are.1 given.1
     (events-behind t.now events first h.device past
     (events-typed t.now t.given t.script h are.0.all_read are.0.all_offered given.0) before)
 
@@ -226,8 +226,8 @@ module _ (bay : Bay) (image : Image) (rule : Rule) (is_bay : IsBay bay)
               (ap (λ ss. slice_get ss p.command.switch) (sym of_bay) ∙ p.here)
               (ap (λ ss. slice_get ss rule.switch) (sym of_bay) ∙ here) (sym p.named ∙ named)
               (sym p.operation ∙ on),
-          turns-obey first of_bay never ts (held_behind t h)
-              (past_behind t.now events h.device past) are.1 given.1
+          turns-obey first of_bay never ts (server_after t h)
+              (past_after t.now events h.device past) are.1 given.1
               (subst Good (sym (Part-turn t.now t.given t.script h).device)
               (good-events t.now events h.device typed g)),
         )

@@ -6,7 +6,7 @@ use Rattle.std.proofs.lemmas.List.Elements.{All-append, All-cons, All-contains, 
 use Rattle.bay_mms_services.specs.declared.answer.Command.{Command}
 use Rattle.bay_device.specs.Device.{State}
 use Rattle.bay_device.specs.Fresh.{Past}
-use Rattle.bay_device.specs.Outcomes.{initial_connection, outcome, place_of}
+use Rattle.bay_device.specs.Outcomes.{initial_connection, outcome, slot_of}
 use Rattle.bay_device.specs.EntriesTold.{connection_state_at}
 use Rattle.bay_device.specs.declared.event.Event.{Event}
 use Rattle.bay_device.specs.declared.event.Event.TheVariants.{Open, Recv, Close, Contact, Input, Measure, BadMeasure, Lost, Scan}
@@ -17,7 +17,7 @@ use Rattle.bay_trace.specs.Resolving.{borrowed}
 use Rattle.bay_server_turn.specs.Calls.{Octets, Silence}
 use Rattle.bay_server_turn.specs.Offers.{Offer}
 use Rattle.bay_server_turn.specs.AssociationStates.{is_draining}
-use Rattle.bay_server_turn.specs.Turns.{ServerData, TurnState, after_event, after_first, after_line, after_scan, after_closing_full, close_at_once, first_full, free_place, is_up, offer_of, offer_one, read_one, state_at, after_octets, turn_begin}
+use Rattle.bay_server_turn.specs.Turns.{ServerData, TurnState, after_event, after_first, after_line, after_scan, after_closing_full, close_at_once, first_full, lowest_free_association, is_up, offer_of, offer_one, read_one, state_at, after_octets, turn_begin}
 use Rattle.bay_server_turn.specs.declared.turn_report.CloseReason.TheVariants as closing
 use Rattle.bay_server_turn.specs.declared.turn_report.Turn.{Turn}
 use Rattle.bay_server_turn_laws.specs.Events.{ChosenEvent, accept_events_at, done_at, events_of_each, failed_events, heard_events, offer_events, read_events, scan_events, events_closing_full, events_closing_some_full, events_closing_next_full, surely, turn_events}
@@ -136,13 +136,15 @@ pub silent-orders-none : (first : State) (h : ServerData) (told : Turn) (past : 
     (command : Command) → IsOrdered first h (turn_with no_octets told) past command → ⊥
 silent-orders-none first h told past command o =
     let t : DoneTurn = turn_with no_octets told in
-    let accepts : List ChosenEvent = accept_events_at 0 (free_place h) None (turn_begin h) in
+    let accepts : List ChosenEvent =
+    accept_events_at 0 (lowest_free_association h) None (turn_begin h) in
     let u : TurnState = after_first t.now t.given t.script h in
     let reads : List ChosenEvent =
     events_of_each (read_one 0) (read_events 0) 0 (replicate 8 no_octets) u in
     heard-nowhere h t (parts-free h t (accepts ++ [] ++ reads)
     (All-append IsFree (accepts ++ []) reads
-    (All-append IsFree accepts [] (accept-none 0 (free_place h) (turn_begin h)) (All-nil IsFree))
+    (All-append IsFree accepts [] (accept-none 0 (lowest_free_association h) (turn_begin h))
+    (All-nil IsFree))
     (silent-free 0 0 8 u))) o.heard
 
 -- ---- a turn in which octets come
@@ -287,11 +289,11 @@ part-orders-none first s told past command o =
     let i = o.heard in
     let only = only-heard s None (3 ∷ []) told i in
     let own = recv-same (ap (λ (e : ChosenEvent). e.1) only.1) in
-    let here : connection_state_at (place_of 1) (server_with_client s).device.connections
+    let here : connection_state_at (slot_of 1) (server_with_client s).device.connections
     ≡ Some o.talk =
-    subst (λ es. connection_state_at (place_of 1) (done_at 0 es d).after.connections ≡ Some o.talk)
+    subst (λ es. connection_state_at (slot_of 1) (done_at 0 es d).after.connections ≡ Some o.talk)
     only.0
-    (subst (λ a. connection_state_at (place_of a) (done_at 0 i.front d).after.connections
+    (subst (λ a. connection_state_at (slot_of a) (done_at 0 i.front d).after.connections
     ≡ Some o.talk) own.0
     o.is_open) in
     let talk : o.talk ≡ initial_connection 1 = some-same here in

@@ -164,7 +164,8 @@ sound-as : (s t : State) → t.machine ≡ s.machine → t.reads ≡ s.reads →
 sound-as s t machine reads sound = record {
   octets = subst (λ (h : MachineData). AreOctets h.image.code) (sym machine) sound.octets;
   safe = subst (λ (h : MachineData). IsSafe h.image) (sym machine) sound.safe;
-  typed = subst (λ (h : MachineData). Typed (slot_types h.image) (length h.image.timers) h.slots h.timers)
+  typed = subst (λ (h : MachineData). Typed (slot_types h.image) (length h.image.timers) h.slots
+      h.timers)
       (sym machine) sound.typed;
   reads = ap (map type_of_source) reads ∙ sound.reads
       ∙ sym (ap (λ (h : MachineData). map type_of_point (read_only h.image.points)) machine);

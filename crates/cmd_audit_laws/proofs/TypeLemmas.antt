@@ -10,7 +10,7 @@ use Rattle.bay_base.specs.declared.point.MeterField.{MeterField}
 use Rattle.bay_device.specs.Device.{State}
 use Rattle.bay_lines.specs.FirstLines.{LineSearchData, Waiting, Overlong, Whole, first_line_of}
 use Rattle.bay_audit_laws.specs.Laws.{Has32Bits, IsOfType}
-use Rattle.bay_process_port.specs.Ports.{PortData, judged_at, taken_as, taken_by}
+use Rattle.bay_process_port.specs.Ports.{PortData, judged_at, reading_as, reading_by}
 use Rattle.bay_process_port.specs.Supervised.{Watched, event_in, judge_introduction, is_timely, judge_line, judge_plain_line, judge_later_line, judge_moment, word_of}
 use Rattle.bay_process_port.specs.Introduction.{introduced_at}
 use Rattle.bay_process_port.specs.declared.connection_event.DisconnectReason.{DisconnectReason}
@@ -304,7 +304,7 @@ judged-fits (Some w) s now line =
     by-moment (Some moment) = timely-fits w.duties.limit now moment Introduces tt
 
 taken-fits : (presence : Presence) (s : State) (now jump : ℕ) (p : PortData)
-    → IfSome (taken_as presence s now jump p).event EventFits
+    → IfSome (reading_as presence s now jump p).event EventFits
 taken-fits Away s now jump p = tt
 taken-fits Leaving s now jump p = tt
 taken-fits (Dismissed why) s now jump p = tt
@@ -320,7 +320,7 @@ taken-fits Here s now jump p =
 
     by-judged : (r : Result (Option TimedMessage) DisconnectReason) (f : LineSearchData)
         → judged_at s now jump p ≡ r → first_line_of p.kept ≡ f
-        → IfSome (taken_by now r f p).event EventFits
+        → IfSome (reading_by now r f p).event EventFits
     by-judged (Err why) f is there = tt
     by-judged (Ok None) f is there = tt
     by-judged (Ok (Some said)) Waiting is there = tt

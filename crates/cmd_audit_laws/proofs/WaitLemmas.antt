@@ -23,7 +23,7 @@ use Rattle.bay_audit_rules.specs.declared.rule.Timing.{Timing}
 use Rattle.bay_server_turn.specs.Turns.{ServerData}
 use Rattle.bay_server_turn_laws.specs.Events.{ChosenEvent, done_at, turn_events}
 use Rattle.bay_server_turn_laws.proofs.PartLemmas.{Part-turn}
-use Rattle.cmd_serve.specs.Service.{AreTurns, DoneTurn, held_behind, past_behind}
+use Rattle.cmd_serve.specs.Service.{AreTurns, DoneTurn, server_after, past_after}
 use Rattle.il_image.specs.Images.{Image}
 use Rattle.cmd_audit_laws.specs.Waits.{OrdersWait, PastWaits, scans_after_events, scans_of}
 use Rattle.cmd_audit_laws.proofs.ObeyLemmas.{AreGiven, AreTyped, IsTyped, events-typed, of-typed}
@@ -85,8 +85,8 @@ module _ (bay : Bay) (image : Image) (rule : Rule) (timing : Timing) (n : ℕ) (
             (ready-events t.now o.heard.front h.device scans
             (All-weaker (λ (e : ChosenEvent). OfAssociation e.1) IsTyped (λ e of. of-typed e.1 of)
             o.heard.front o.heard.first) r).waiting o.allowed,
-        turns-wait first ts (held_behind t h) behind
-            (past_behind t.now events h.device past) are.1 given.1
+        turns-wait first ts (server_after t h) behind
+            (past_after t.now events h.device past) are.1 given.1
             (subst (Ready behind) (sym (Part-turn t.now t.given t.script h).device)
             (ready-events t.now events h.device scans typed r)),
       )

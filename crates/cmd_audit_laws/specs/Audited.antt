@@ -3,7 +3,7 @@ use Rattle.std.specs.Prelude.{ℕ, ◌≡◌, ◌⊎◌, List, slice_get, Option
 use mathlib.Core.Logic.{inl, inr}
 use Rattle.bay_audit.specs.declared.answer.RuleAnswer.{RuleAnswer}
 use Rattle.bay_audit.specs.declared.answer.RuleAnswer.TheVariants.{Holds, Since}
-use Rattle.cmd_audit.specs.Auditing.{AuditReport, SaysFor, SaysOf}
+use Rattle.cmd_audit.specs.Auditing.{AuditReport, IsTextFor, IsTextOf}
 use Rattle.bay_load.specs.Loads.{LoadData}
 use Rattle.bay_load.specs.declared.load.Form.{Form}
 use Rattle.bay_audit_rules.specs.declared.fault.RuleFault.{RuleFault}
@@ -28,28 +28,28 @@ pub record IsAnswered (So : RuleAnswer → Type 0) (rules : List Rule) (answers 
   pub so : So answer
 
 -- The rule has such an answer in the text for the rules that were read, if they were.
-abbrev pub SaysOfRule : (So : RuleAnswer → Type 0) (loaded : LoadData)
+abbrev pub AnswersRule : (So : RuleAnswer → Type 0) (loaded : LoadData)
     (meant : Result (List Rule) RuleFault) (log : Option (List ℕ)) (text : List ℕ) (status : ℕ)
-    → SaysOf loaded meant log text status → Rule → Type 0
-SaysOfRule So loaded (Ok rules) log text status says rule =
+    → IsTextOf loaded meant log text status → Rule → Type 0
+AnswersRule So loaded (Ok rules) log text status says rule =
     IsAnswered So rules says.1.answers rule
-SaysOfRule So loaded (Err fault) log text status says rule = ⊥
+AnswersRule So loaded (Err fault) log text status says rule = ⊥
 
 -- the same in the text after the line of a load, unless memory ran out for it
-abbrev pub SaysBehind : (So : RuleAnswer → Type 0) (Memory : Type 0) (loaded : LoadData)
+abbrev pub AnswersAfterLoad : (So : RuleAnswer → Type 0) (Memory : Type 0) (loaded : LoadData)
     (rules : List ℕ) (log : Option (List ℕ)) (text : List ℕ) (status : ℕ)
-    → SaysFor loaded rules log text status ⊎ Memory → Rule → Type 0
-SaysBehind So Memory loaded rules log text status (inl says) rule =
-    SaysOfRule So loaded says.meant log text status says.says rule
-SaysBehind So Memory loaded rules log text status (inr memory) rule = ⊥
+    → IsTextFor loaded rules log text status ⊎ Memory → Rule → Type 0
+AnswersAfterLoad So Memory loaded rules log text status (inl says) rule =
+    AnswersRule So loaded says.meant log text status says.says rule
+AnswersAfterLoad So Memory loaded rules log text status (inr memory) rule = ⊥
 
 -- An audit of files gives the rule such an answer.
-abbrev pub AuditSays : (So : RuleAnswer → Type 0) (bay : List ℕ) (form : Form)
+abbrev pub AuditAnswers : (So : RuleAnswer → Type 0) (bay : List ℕ) (form : Form)
     (program rules : List ℕ) (log : Option (List ℕ)) (text : List ℕ) (status : ℕ)
     → AuditReport bay form program rules log text status → Rule → Type 0
-AuditSays So bay form program rules log text status (inl load) rule =
-    SaysBehind So _ load.loaded rules log load.tells.rest status load.tells.says rule
-AuditSays So bay form program rules log text status (inr refused) rule = ⊥
+AuditAnswers So bay form program rules log text status (inl load) rule =
+    AnswersAfterLoad So _ load.loaded rules log load.tells.rest status load.tells.says rule
+AuditAnswers So bay form program rules log text status (inr refused) rule = ⊥
 
 -- An audit of these octets gives the rule such an answer.
 pub record IsAudited (So : RuleAnswer → Type 0) (bay : List ℕ) (form : Form)
@@ -59,4 +59,4 @@ pub record IsAudited (So : RuleAnswer → Type 0) (bay : List ℕ) (form : Form)
   pub text : List ℕ
   pub status : ℕ
   pub audit : AuditReport bay form program rules log text status
-  pub says : AuditSays So bay form program rules log text status audit rule
+  pub says : AuditAnswers So bay form program rules log text status audit rule

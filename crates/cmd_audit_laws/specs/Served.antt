@@ -26,7 +26,7 @@ use Rattle.cmd_serve.specs.Orders.{IsOrdered}
 use Rattle.cmd_audit.specs.declared.judging.RulesVerdict.{RulesVerdict}
 use Rattle.cmd_audit.specs.declared.judging.RulesVerdict.TheVariants.{Hold, Unproved, Refused, OutOfMemory}
 use Rattle.cmd_serve.specs.Serve.{AfterVerdict, EndsUnserved, FileNames, ServesBound, ServesFiles, ServesLoaded, ServesPorts, ServesRules, ServesVerdict, data_of, rules_of, served_of}
-use Rattle.cmd_serve.specs.Service.{DoneTurn, held_behind, past_behind, past_of}
+use Rattle.cmd_serve.specs.Service.{DoneTurn, server_after, past_after, past_of}
 use Rattle.cmd_serve.specs.Texts.{IsPrintedFor}
 use Rattle.cmd_serve.specs.declared.serve.Bound.{Bound}
 use Rattle.cmd_serve.specs.declared.serve.LoadedFiles.{LoadedFiles}
@@ -52,8 +52,8 @@ OrdersObey rule first h past (t ∷ ts) =
     → slice_get first.switches rule.switch ≡ Some switch → printed.id ≡ switch.id
     → printed.operation ≡ rule.operation
     → holds rule.when (process_of (done_at t.now p.ordered.heard.front h.device).after) ≡ false)
-    × OrdersObey rule first (held_behind t h)
-    (past_behind t.now (turn_events t.now t.given t.script h) h.device past) ts
+    × OrdersObey rule first (server_after t h)
+    (past_after t.now (turn_events t.now t.given t.script h) h.device past) ts
 
 -- the requirement on an image, whoever wrote it: it is a list of octets
 abbrev pub IsFile : Form → List ℕ → Type 0

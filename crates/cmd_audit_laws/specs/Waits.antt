@@ -12,7 +12,7 @@ use Rattle.bay_mms_services.specs.declared.answer.Command.{Command}
 use Rattle.bay_server_turn.specs.Turns.{ServerData}
 use Rattle.bay_server_turn_laws.specs.Events.{ChosenEvent, done_at, turn_events}
 use Rattle.cmd_serve.specs.Orders.{IsOrdered}
-use Rattle.cmd_serve.specs.Service.{DoneTurn, held_behind, past_behind}
+use Rattle.cmd_serve.specs.Service.{DoneTurn, server_after, past_after}
 
 -- ---- turns
 
@@ -34,10 +34,10 @@ OrdersWait rule timing first h scans past (t ∷ ts) =
     ((command : Command) (o : IsOrdered first h t past command)
     → HasWaited rule timing (scans_after_events timing.condition t.now o.heard.front h.device scans)
     (done_at t.now o.heard.front h.device).after command)
-    × OrdersWait rule timing first (held_behind t h)
+    × OrdersWait rule timing first (server_after t h)
     (scans_after_events timing.condition t.now (turn_events t.now t.given t.script h) h.device
     scans)
-    (past_behind t.now (turn_events t.now t.given t.script h) h.device past) ts
+    (past_after t.now (turn_events t.now t.given t.script h) h.device past) ts
 
 -- ---- a history
 

@@ -12,7 +12,7 @@ use Rattle.bay_process.proofs.ToldLemmas.{Keeps, field-away, keeps-contact, keep
 use Rattle.bay_tree.specs.Rows.{leaf_of}
 use Rattle.bay_base.specs.declared.position.Dbpos.{Dbpos}
 use Rattle.bay_device.specs.Device.{State, device_at}
-use Rattle.bay_device.specs.Outcomes.{Outcome, close_outcome, connection_at, contact_outcome, doubt_outcome, event_outcome, input_outcome, last_moment, lost_outcome, measure_outcome, open_outcome, outcome, place_of, recv_outcome, refusal_of, scan_outcome}
+use Rattle.bay_device.specs.Outcomes.{Outcome, close_outcome, connection_at, contact_outcome, doubt_outcome, event_outcome, input_outcome, last_moment, lost_outcome, measure_outcome, open_outcome, outcome, slot_of, recv_outcome, refusal_of, scan_outcome}
 use Rattle.bay_device.specs.Steps.{Steps}
 use Rattle.bay_device.specs.declared.event.Event.{Event}
 use Rattle.bay_device.specs.declared.event.Event.TheVariants.{Open, Recv, Close, Contact, Input, Measure, BadMeasure, Lost, Scan}
@@ -169,15 +169,15 @@ turned-event : (choice : Option ℕ) (now : ℕ) (event : Event) (s : State)
     (event_outcome choice now event s).after
 turned-event choice now (Open a) s =
     inl (quiet-same s (event_outcome choice now (Open a) s)
-    (told-open now s a (place_of a) (connection_at (place_of a) s))
+    (told-open now s a (slot_of a) (connection_at (slot_of a) s))
     (same-event now s choice (Open a) tt))
 turned-event choice now (Recv a octets) s =
     inl (quiet-same s (event_outcome choice now (Recv a octets) s)
-    (told-recv now s choice a octets.now (connection_at (place_of a) s))
+    (told-recv now s choice a octets.now (connection_at (slot_of a) s))
     (same-event now s choice (Recv a octets) tt))
 turned-event choice now (Close a) s =
     inl (quiet-same s (event_outcome choice now (Close a) s)
-    (told-close now s a (connection_at (place_of a) s))
+    (told-close now s a (connection_at (slot_of a) s))
     (same-event now s choice (Close a) tt))
 turned-event choice now (Contact k position) s =
     inl (quiet-contact now s k position (slice_get s.switches k))

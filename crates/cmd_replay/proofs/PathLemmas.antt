@@ -12,7 +12,7 @@ use Rattle.il_compile.proofs.CompiledLemmas.{is-image}
 use Rattle.il_image.specs.Arithmetic.{computation_of, comparison_holds, wider_value}
 use Rattle.il_image.specs.Images.{Image}
 use Rattle.il_image.specs.Machine.{State as Machine, StepResult, Goes, Halts as Stops, Traps, MissingSlot, MissingTimer, WrongKind, ZeroDivisor, Halted, act, as_number, as_span, as_truth, divides, ending_of, continues_at, is_comparable, pushes, run_from, stores, step_of_read, value_of_width, with_slot, with_timer, with_top, with_truths, with_two}
-use Rattle.il_image.specs.Places.{begun_at, is_place}
+use Rattle.il_image.specs.Offsets.{begun_at, is_instruction_offset}
 use Rattle.il_image.specs.Reading.{instr_at}
 use Rattle.il_image.specs.Tables.{Ends, LeadsTo, Path}
 use Rattle.il_image.specs.Values.{number_of, type_of}
@@ -192,7 +192,8 @@ module _ (code : List ℕ) (now most k : ℕ) (slots : List Value) (timers : Lis
   by-read None here e = absurd cc
   by-read (Some r) here e =
       by-turn r.0 r.1 (act now r.0 r.1 s)
-      (begun-is (is_place code s.place) (instr_at code s.place) r here) (lands now r.0 r.1 s) e
+      (begun-is (is_instruction_offset code s.place) (instr_at code s.place) r here)
+      (lands now r.0 r.1 s) e
 
 -- A run that halts is a path to a HALT.
 pub run-ends : (code : List ℕ) (now most k : ℕ) (s : Machine) (slots : List Value)

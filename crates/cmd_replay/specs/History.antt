@@ -25,8 +25,8 @@ abbrev pub AllFresh : ℕ → List Past → Type 0
 AllFresh age [] = Unit {0}
 AllFresh age (p ∷ past) = IsFresh p.now age past p.answer × AllFresh age past
 
--- Each command is to a switch whose key, if it has one, was last reported to be at remote, among the
--- events before the command.
+-- Each command is to a switch whose key, if it has one, was last reported to be at remote, among
+-- the events before the command.
 abbrev pub AllRemote : State → List Past → Type 0
 AllRemote first [] = Unit {0}
 AllRemote first (p ∷ past) = AreAtRemote first past p.answer × AllRemote first past

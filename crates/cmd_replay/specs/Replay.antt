@@ -1,5 +1,5 @@
 -- What is printed for a scenario, with which status, and which line is logged then, if any.
-use Rattle.bay_io.specs.Calls.{AskedFew, ReadCall, WriteCall, read_failed, some_call, write_failed}
+use Rattle.bay_io.specs.Calls.{MakesFewCalls, ReadCall, WriteCall, read_failed, some_call, write_failed}
 use Rattle.std.specs.Prelude.{◌≡◌, ℕ, ◌+◌, ◌≤◌, ◌<◌, Bool, false, List, ◌∷◌, ◌++◌, length, codes, Option, None, Some, is_none, IfSome, Result, Ok, Err, is_err, ◌⊎◌, MatchBool, if◌then◌else◌, []}
 use Rattle.bay_device.specs.Device.{State}
 use Rattle.bay_device.specs.Load.{device_of}
@@ -100,7 +100,7 @@ IsReplay input has_failed log text status =
 pub record ReplaysReads {R W : Type 0} (does : R → ReadCall → R → Type 0)
     (contents : W → Option (List ℕ)) (asks : W → WriteCall → W → Type 0) (old new : Reading R)
     (before after : Writing W) (result : Result ℕ WriteFault) : Type 0 where
-  pub reads : AskedFew does read_failed (scenario_limit + 1) old.inner old.has_failed new.inner
+  pub reads : MakesFewCalls does read_failed (scenario_limit + 1) old.inner old.has_failed new.inner
       new.has_failed
   pub ended : new.has_failed ≡ false → IsEnded reads.asked.calls
       ⊎ (scenario_limit < length (octets_of reads.asked.calls))

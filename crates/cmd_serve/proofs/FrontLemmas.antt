@@ -18,7 +18,7 @@ use Rattle.bay_server_turn.specs.declared.process_input.ProcessEvent.{ProcessEve
 use Rattle.bay_server_turn.specs.declared.process_input.ProcessEvent.TheVariants as process
 use Rattle.bay_server_turn.specs.declared.process_input.ProcessReport.{ProcessReport}
 use Rattle.bay_server_turn.specs.declared.turn_report.CloseReason.{CloseReason}
-use Rattle.bay_server_turn_laws.specs.Causes.{fails_for, has_some, is_queue_full, tells}
+use Rattle.bay_server_turn_laws.specs.Causes.{fails_for, has_some, is_queue_full, reports_close}
 use Rattle.bay_server_turn_laws.specs.Events.{ChosenEvent, done_at, surely, turn_events}
 use Rattle.bay_server_turn_laws.specs.Flows.{IsInTime}
 use Rattle.bay_server_turn_laws.specs.Order.{AreClosings, IsClosing, Then, ThenReads, received_events, open_events, open_events_at, read_at, process_events}
@@ -141,7 +141,8 @@ module _ (now : ℕ) (told : List (ℕ × CloseReason)) where
       → Then now told first Rest d events → Halves events
   then-front first Rest d events of more t =
       let h : Halves t.rest = more (done_at now (first ++ t.cut) d).after t.rest t.goes_on in
-      let cut : AreEarly t.cut = closing-of (λ a. tells is_queue_full a told) t.cut t.closings
+      let cut : AreEarly t.cut =
+      closing-of (λ a. reports_close is_queue_full a told) t.cut t.closings
       in
       record {
         reads = first ++ (t.cut ++ h.reads);
@@ -178,7 +179,7 @@ module _ (now : ℕ) (told : List (ℕ × CloseReason)) where
         let rest : All P t.rest = more (done_at now (first ++ t.cut) d).after t.rest t.goes_on in
         subst (All P) (sym (t.is ∙ grouped first t.cut t.rest))
         (All-append P first (t.cut ++ t.rest) all (All-append P t.cut t.rest
-        (closings-all (λ a. tells is_queue_full a told) t.cut t.closings) rest))
+        (closings-all (λ a. reports_close is_queue_full a told) t.cut t.closings) rest))
       where
         grouped : (w x y : List ChosenEvent) → w ++ x ++ y ≡ w ++ (x ++ y)
         grouped w x y = simp append_assoc
@@ -216,7 +217,7 @@ behind-without now told why line d rest t =
 -- why an association may be closed at the end of a turn
 abbrev pub why_closed : ℕ → ProcessReport → Script → ServerData → ℕ → Bool
 why_closed now given script h a =
-    tells is_queue_full a (after_turn now given script h).noted.closed
+    reports_close is_queue_full a (after_turn now given script h).noted.closed
     || has_some (fails_for a) (turn_calls now given script h)
 
 -- the reads of a turn, and what comes behind them
@@ -413,7 +414,7 @@ not-told now given script h front choice a octets back readings offers split of 
     by-lost true e =
         let free : AreWithout (first ++ t.cut) = All-append IsFree first t.cut
         (opened-free (position is_none h.device.connections) script.accepted)
-        (closing-without (λ b. tells is_queue_full b told) t.cut t.closings) in
+        (closing-without (λ b. reports_close is_queue_full b told) t.cut t.closings) in
         let l = behind-front (first ++ t.cut) t.rest front (choice, Recv a octets) back
         (sym t.is ∙ split) free (λ none. none) in
         let told_is : process_events (first_of given) ≡ surely Lost ∷ [] =
@@ -483,8 +484,8 @@ TellsLoss [] = ⊥
 TellsLoss (e ∷ es) = (e.1 ≡ Lost) ⊎ TellsLoss es
 
 loss-behind : (xs ys : List ChosenEvent) → TellsLoss ys → TellsLoss (xs ++ ys)
-loss-behind [] ys tells = tells
-loss-behind (x ∷ xs) ys tells = inr (loss-behind xs ys tells)
+loss-behind [] ys reports_close = reports_close
+loss-behind (x ∷ xs) ys reports_close = inr (loss-behind xs ys reports_close)
 
 turn-loss : (now : ℕ) (given : ProcessReport) (script : Script) (h : ServerData)
     → length script.readings ≡ 8 → length script.offers ≡ 8 → given.is_lost ≡ true
@@ -518,7 +519,7 @@ module _ (now : ℕ) (soon : now ≤ last_moment) where
   ends-lost : (es : List ChosenEvent) (s : State) → s.moment ≤ now → AreMute es
       → (s.is_lost ≡ true) ⊎ TellsLoss es → (done_at now es s).after.is_lost ≡ true
   ends-lost [] s time mute (inl lost) = lost
-  ends-lost [] s time mute (inr tells) = absurd tells
+  ends-lost [] s time mute (inr reports_close) = absurd reports_close
   ends-lost (e ∷ es) s time mute told =
       ends-lost es (outcome e.0 now e.1 s).after (outcome-moment e.0 now e.1 s time)
       (All-tail IsMute e es mute) (one told)

@@ -17,7 +17,7 @@ use Rattle.cmd_replay.proofs.HistoryLemmas.{past-fixed}
 use Rattle.bay_server_turn_laws.specs.Events.{ChosenEvent, done_at}
 use Rattle.cmd_replay.specs.Runs.{IsOneRun}
 use Rattle.cmd_replay.proofs.RunLemmas.{one-run as past-run}
-use Rattle.cmd_serve.specs.Service.{past_behind}
+use Rattle.cmd_serve.specs.Service.{past_after}
 
 -- ---- a device, and all that has happened to it since it was the first
 
@@ -56,7 +56,7 @@ aged first past s at =
 module _ (first : State) (now : ℕ) where
   -- one event more
   stands-event : (e : ChosenEvent) (s : State) (past : List Past) → Stands first past s
-      → Stands first (past_behind now (e ∷ []) s past) (outcome e.0 now e.1 s).after
+      → Stands first (past_after now (e ∷ []) s past) (outcome e.0 now e.1 s).after
   stands-event e s past at =
       let o = outcome e.0 now e.1 s in
       let steps : Steps now e.1 s o.answer o.after =
@@ -81,10 +81,10 @@ module _ (first : State) (now : ℕ) where
 
   -- those of a turn
   pub stands-events : (es : List ChosenEvent) (s : State) (past : List Past) → Stands first past s
-      → Stands first (past_behind now es s past) (done_at now es s).after
+      → Stands first (past_after now es s past) (done_at now es s).after
   stands-events [] s past at = at
   stands-events (e ∷ es) s past at =
-      stands-events es (outcome e.0 now e.1 s).after (past_behind now (e ∷ []) s past)
+      stands-events es (outcome e.0 now e.1 s).after (past_after now (e ∷ []) s past)
       (stands-event e s past at)
 
 -- ---- one run

@@ -7,7 +7,7 @@ use Rattle.bay_device.proofs.SameLemmas.{Parts}
 use Rattle.bay_io.specs.Calls.{WriteCall}
 use Rattle.bay_io.specs.Watched.{Writing}
 use Rattle.bay_io.specs.declared.outbox.WriteFault.{WriteFault}
-use Rattle.bay_process_port.specs.Ports.{PortData, Taken, lost_of, nothing_of, taken_as, taken_line}
+use Rattle.bay_process_port.specs.Ports.{PortData, PortReading, lost_of, empty_reading, reading_as, reading_at}
 use Rattle.bay_process_port.specs.Polling.{Script, attendance}
 use Rattle.bay_process_port.specs.Supervision.{IsLive}
 use Rattle.bay_process_port.specs.ProcessOutput.{ReportedTurn, reported_turn}
@@ -28,7 +28,7 @@ use Rattle.bay_server.specs.ServeReport.{AfterTurn, Chosen, ProcessData, PollsPr
 use Rattle.bay_server.specs.declared.clock.Clocks.{Clocks}
 use Rattle.cmd_serve.specs.Live.{CommandsLive, InLater, IsSupervised, Lived}
 use Rattle.cmd_serve.specs.Orders.{IsOrdered}
-use Rattle.cmd_serve.specs.Service.{DoneTurn, IsBegun, IsTurn, held_behind, past_behind, turn_in}
+use Rattle.cmd_serve.specs.Service.{DoneTurn, IsBegun, IsTurn, server_after, past_after, turn_in}
 use Rattle.cmd_serve.proofs.BeginLemmas.{begun-tidy}
 use Rattle.cmd_serve.proofs.FrontLemmas.{not-told, same-events, turn-ends-lost}
 use Rattle.cmd_serve.proofs.HistoryLemmas.{Stands, stands-events, stands-first}
@@ -89,19 +89,19 @@ watch-of duties None owes = absurd cc
 watch-of duties (Some w) owes = (w, refl, cc)
 
 -- what a turn is given, from a port
-record Gives (given : DoneTurn) (taken : Taken) : Type 0 where
+record Gives (given : DoneTurn) (taken : PortReading) : Type 0 where
   lost : given.given.is_lost ≡ taken.is_lost
   event : given.given.event ≡ taken.event
 
 module _ (duties : SupervisionSettings) (h : ServerData) (t : DoneTurn) (is : IsTurn h t)
     (jump : ℕ) (p : PortData)
     (before : Stands-by duties h.device p)
-    (gives : Gives t (taken_line h.device t.now jump p)) where
+    (gives : Gives t (reading_at h.device t.now jump p)) where
   abbrev last : State
-  last = (held_behind t h).device
+  last = (server_after t h).device
 
   abbrev left : PortData
-  left = (taken_line h.device t.now jump p).port
+  left = (reading_at h.device t.now jump p).port
 
   owes-left : settings_in left.watch ≡ Some duties
   owes-left = took-owes h.device t.now jump p ∙ before.owes
@@ -129,7 +129,7 @@ module _ (duties : SupervisionSettings) (h : ServerData) (t : DoneTurn) (is : Is
 
     -- a connected process that is still believed
     by-took : (w : Watched) → p.presence ≡ Here → p.watch ≡ Some w
-        → Took t.now jump w (taken_line h.device t.now jump p) → Stands-by duties last behind
+        → Took t.now jump w (reading_at h.device t.now jump p) → Stands-by duties last behind
     by-took w here watched k = by-known k.known
       where
         live : left.watch ≡ Some k.later → k.later.introduced ≡ true → Stands-by duties last behind
@@ -151,34 +151,34 @@ module _ (duties : SupervisionSettings) (h : ServerData) (t : DoneTurn) (is : Is
         ]
 
         by-known : (k.later.introduced ≡ true)
-            ⊎ ((w.introduced ≡ false) × ((taken_line h.device t.now jump p).event ≡ None))
+            ⊎ ((w.introduced ≡ false) × ((reading_at h.device t.now jump p).event ≡ None))
             → Stands-by duties last behind
         by-known (inl known) = live k.watched known
         by-known (inr new) = unknown new.0 (gives.event ∙ new.1)
 
     -- a turn that took no event, of a process that was lost or is not connected
     by-nothing : (presence : Presence) → p.presence ≡ presence
-        → taken_line h.device t.now jump p ≡ nothing_of p
+        → reading_at h.device t.now jump p ≡ empty_reading p
         → (Leaving ≡ presence → ⊥) → (Here ≡ presence → ⊥) → Stands-by duties last behind
     by-nothing presence at taken no-leaving no-here = elim before.state [
       | inl gone ↦ absurd (no-leaving (sym gone ∙ at))
       | inr (inl lost) ↦
-          by-lost (ends-lost (gives.event ∙ ap (λ (x : Taken). x.event) taken) (inl lost))
+          by-lost (ends-lost (gives.event ∙ ap (λ (x : PortReading). x.event) taken) (inl lost))
       | inr (inr alive) ↦ absurd (no-here (sym alive.here ∙ at))
     ]
 
     by-standing : (presence : Presence) → p.presence ≡ presence → Stands-by duties last behind
     by-standing Away at =
-        by-nothing Away at (ap (λ presence. taken_as presence h.device t.now jump p) at)
+        by-nothing Away at (ap (λ presence. reading_as presence h.device t.now jump p) at)
         (λ no. let e : Leaving ≡ Away = no in cc) (λ no. let e : Here ≡ Away = no in cc)
     by-standing Leaving at =
-        let taken : taken_line h.device t.now jump p ≡ lost_of p =
-        ap (λ presence. taken_as presence h.device t.now jump p) at in
-        by-lost (ends-lost (gives.event ∙ ap (λ (x : Taken). x.event) taken)
-        (inr (gives.lost ∙ ap (λ (x : Taken). x.is_lost) taken)))
+        let taken : reading_at h.device t.now jump p ≡ lost_of p =
+        ap (λ presence. reading_as presence h.device t.now jump p) at in
+        by-lost (ends-lost (gives.event ∙ ap (λ (x : PortReading). x.event) taken)
+        (inr (gives.lost ∙ ap (λ (x : PortReading). x.is_lost) taken)))
     by-standing (Dismissed why) at =
         by-nothing (Dismissed why) at
-        (ap (λ presence. taken_as presence h.device t.now jump p) at)
+        (ap (λ presence. reading_as presence h.device t.now jump p) at)
         (λ no. let e : Leaving ≡ Dismissed why = no in cc)
         (λ no. let e : Here ≡ Dismissed why = no in cc)
     by-standing Here at =
@@ -200,17 +200,17 @@ module _ (duties : SupervisionSettings) (h : ServerData) (t : DoneTurn) (is : Is
   lives-now : Heeds h t → LivesNow
   lives-now k = elim before.state [
     | inl gone ↦
-        absurd (let taken : taken_line h.device t.now jump p ≡ lost_of p =
-        ap (λ presence. taken_as presence h.device t.now jump p) gone in
+        absurd (let taken : reading_at h.device t.now jump p ≡ lost_of p =
+        ap (λ presence. reading_as presence h.device t.now jump p) gone in
         let no : true ≡ false =
-        sym (ap (λ (x : Taken). x.is_lost) taken) ∙ sym gives.lost ∙ k.not_told in cc)
+        sym (ap (λ (x : PortReading). x.is_lost) taken) ∙ sym gives.lost ∙ k.not_told in cc)
     | inr (inl lost) ↦ absurd (let no : true ≡ false = sym lost ∙ k.heard in cc)
     | inr (inr alive) ↦ by-took-now alive
         (took h.device t.now jump p alive.watch alive.here alive.watched)
   ]
     where
-      by-took-now : (alive : IsKnown p) → TookLoss (taken_line h.device t.now jump p)
-          ⊎ Took t.now jump alive.watch (taken_line h.device t.now jump p) → LivesNow
+      by-took-now : (alive : IsKnown p) → TookLoss (reading_at h.device t.now jump p)
+          ⊎ Took t.now jump alive.watch (reading_at h.device t.now jump p) → LivesNow
       by-took-now alive (inl loss) =
           absurd (let no : true ≡ false = sym loss.lost ∙ sym gives.lost ∙ k.not_told in cc)
       by-took-now alive (inr m) =
@@ -232,7 +232,7 @@ module _ (duties : SupervisionSettings) (h : ServerData) (t : DoneTurn) (is : Is
         where
           by-known : (m.later.introduced ≡ true)
               ⊎ ((alive.watch.introduced ≡ false)
-              × ((taken_line h.device t.now jump p).event ≡ None))
+              × ((reading_at h.device t.now jump p).event ≡ None))
               → m.later.introduced ≡ true
           by-known (inl known) = known
           by-known (inr new) =
@@ -270,8 +270,8 @@ module _ {L H W : Type 0} (step : L → Call → L → Type 0) (acts : H → Hos
     abbrev jump : ℕ
     jump = jump_of goes.clocks before.clock
 
-    abbrev taken : Taken
-    taken = taken_line before.held.device t.now jump k.process.port
+    abbrev taken : PortReading
+    taken = reading_at before.held.device t.now jump k.process.port
 
     gives-port : Gives t taken
     gives-port = record {
@@ -334,7 +334,8 @@ module _ {L H W : Type 0} (step : L → Call → L → Type 0) (acts : H → Hos
             sym ok ∙ told in cc)
         by-outcome (Ok told) hears =
             by-process after.process refl
-            (subst (λ (c : Chosen L). PollsProcess step contents asks t.now goes.turn after.held.device
+            (subst (λ (c : Chosen L). PollsProcess step contents asks t.now goes.turn
+            after.held.device
             c.process after.process goes.reports.between goes.told answer)
             (port-chosen before k goes.clocks)
             hears)
@@ -361,16 +362,16 @@ module _ {L H W : Type 0} (step : L → Call → L → Type 0) (acts : H → Hos
         (heeds first before.held t past c.0 is
         (ordered first before.held t past c.0 is tidy at c.1)),
     later-live _ _ did.2 did.4 _ (λ status ok rest.
-        let held : rest.0.held ≡ held_behind t before.held =
+        let held : rest.0.held ≡ server_after t before.held =
         paused-held step acts contents asks did.0 rest.0 rest.1 ∙ did.3.serves.server in
         live-turns first turns rest.0 _ host new answer rest.2
-        (past_behind t.now events before.held.device past)
+        (past_after t.now events before.held.device past)
         (paused-keeps did.0 rest.0 rest.1
         (keeps-after before old did.0 did.1 did.2 did.3 k status ok))
         (subst IsTidy (sym held) (stays-tidy before.held t is tidy))
-        (subst (λ (h : ServerData). Stands first (past_behind t.now events before.held.device past)
+        (subst (λ (h : ServerData). Stands first (past_after t.now events before.held.device past)
         h.device) (sym held)
-        (subst (Stands first (past_behind t.now events before.held.device past))
+        (subst (Stands first (past_after t.now events before.held.device past))
         (sym (Part-turn t.now t.given t.script before.held).device)
         (stands-events first t.now events before.held.device past at)))),
   )

@@ -13,7 +13,7 @@ use Rattle.bay_server_turn.specs.Calls.{ReadOutcome, Octets, Silence, Over, Brok
 use Rattle.bay_server_turn.specs.Turns.{ServerData, Reading, Script, after_turn, first_of}
 use Rattle.bay_server_turn.specs.declared.process_input.ProcessReport.{ProcessReport}
 use Rattle.bay_server_turn.specs.declared.turn_report.CloseReason.{CloseReason}
-use Rattle.bay_server_turn_laws.specs.Causes.{is_queue_full, tells}
+use Rattle.bay_server_turn_laws.specs.Causes.{is_queue_full, reports_close}
 use Rattle.bay_server_turn_laws.specs.Events.{ChosenEvent, done_at, surely, turn_events}
 use Rattle.bay_server_turn_laws.specs.Flows.{brought_by, received_of}
 use Rattle.bay_server_turn_laws.specs.Order.{Then, ThenReads, received_events, open_events, read_at, process_events}
@@ -118,7 +118,8 @@ module _ (now : ℕ) (told : List (ℕ × CloseReason)) (a : ℕ) where
       ∙ ap (λ l. l ++ received_of a t.rest)
       (received-append a first t.cut
       ∙ ap (λ l. received_of a first ++ l)
-      (without-none a t.cut (closing-without (λ b. tells is_queue_full b told) t.cut t.closings))
+      (without-none a t.cut (closing-without (λ b. reports_close is_queue_full b told) t.cut
+      t.closings))
       ∙ append-nil (received_of a first))
 
   then-has : (first : List ChosenEvent) (Rest : State → List ChosenEvent → Type 0) (d : State)
@@ -137,7 +138,7 @@ module _ (now : ℕ) (told : List (ℕ × CloseReason)) (a : ℕ) where
       before (inl own) = inl own
       before (inr cut) =
           absurd (All-contains IsFree t.cut (c, Recv a octets)
-          (closing-without (λ b. tells is_queue_full b told) t.cut t.closings) cut)
+          (closing-without (λ b. reports_close is_queue_full b told) t.cut t.closings) cut)
 
   module _ (Rest : State → List ChosenEvent → Type 0)
       (without : (d : State) (rest : List ChosenEvent) → Rest d rest → AreWithout rest) where

@@ -10,7 +10,7 @@ use Rattle.bay_device.specs.Commands.{AreCommanded, IsReleasedAt}
 use Rattle.bay_device.specs.Device.{State, bay_of}
 use Rattle.bay_device.specs.Fresh.{Past}
 use Rattle.bay_device.specs.Operates.{AreOperates, AreReplied, AreRepliedForEvent, IsReplied}
-use Rattle.bay_device.specs.Outcomes.{Outcome, last_moment, outcome, place_of, refusal_of}
+use Rattle.bay_device.specs.Outcomes.{Outcome, last_moment, outcome, slot_of, refusal_of}
 use Rattle.bay_device.specs.Steps.{Steps}
 use Rattle.bay_device.specs.EntriesTold.{pdu_in, pdus_in, connection_state_at}
 use Rattle.bay_device.specs.declared.event.Event.{Event}
@@ -33,7 +33,7 @@ use Rattle.bay_server_turn_laws.proofs.UpLemmas.{number-of}
 use Rattle.std.proofs.lemmas.Bool.{and_parts}
 use Rattle.std.proofs.lemmas.Bool.Decides.{nat_tests}
 use Rattle.cmd_serve.specs.Orders.{AreOrdered, IsHeard, IsOrdered, StandIn}
-use Rattle.cmd_serve.specs.Service.{AreTurns, DoneTurn, IsTurn, held_behind, past_behind}
+use Rattle.cmd_serve.specs.Service.{AreTurns, DoneTurn, IsTurn, server_after, past_after}
 use Rattle.cmd_serve.proofs.FrontLemmas.{OfAssociations, before-octets, same-events}
 use Rattle.cmd_serve.proofs.HistoryLemmas.{Stands, aged, stands-events}
 use Rattle.cmd_serve.proofs.OnceLemmas.{received-once}
@@ -52,7 +52,7 @@ record Found (first : State) (now : ℕ) (es : List ChosenEvent) (s : State) (pa
   pub event : ChosenEvent
   pub back : List ChosenEvent
   pub split : es ≡ front ++ event ∷ back
-  pub stands : Stands first (past_behind now front s past) (done_at now front s).after
+  pub stands : Stands first (past_after now front s past) (done_at now front s).after
   pub step : Step
   pub answered : (outcome event.0 now event.1 (done_at now front s).after).answer ≡ Ok step
   pub has : Contains step.commands command
@@ -77,7 +77,7 @@ module _ (first : State) (now : ℕ) (command : Command) where
       (commands_of (done_at now es (outcome e.0 now e.1 s).after).answers) command has) [
         | inl now_has ↦ at-once (here (outcome e.0 now e.1 s).answer command now_has)
         | inr later_has ↦
-            later (found es (outcome e.0 now e.1 s).after (past_behind now (e ∷ []) s past)
+            later (found es (outcome e.0 now e.1 s).after (past_after now (e ∷ []) s past)
             (stands-events first now (e ∷ []) s past at) later_has)
       ]
     where
@@ -95,7 +95,7 @@ module _ (first : State) (now : ℕ) (command : Command) where
       }
 
       later : Found first now es (outcome e.0 now e.1 s).after
-          (past_behind now (e ∷ []) s past) command → Found first now (e ∷ es) s past command
+          (past_after now (e ∷ []) s past) command → Found first now (e ∷ es) s past command
       later f = record {
         front = e ∷ f.front;
         event = f.event;
@@ -159,13 +159,13 @@ below-if false a place low e = absurd cc
 low-test : (a : ℕ) → nat_lt a 9 ≡ true → a < 9
 low-test a e = grind (arith, nat_tests)
 
-below : (a place : ℕ) → place_of a ≡ Some place → a < 9
+below : (a place : ℕ) → slot_of a ≡ Some place → a < 9
 below a place e =
     below-if (nat_lt 0 a && nat_lt a 9) a place
     (λ both. low-test a (and_parts (nat_lt 0 a) (nat_lt a 9) both).1) e
 
 placed : (o : Option ℕ) (a : ℕ) (talk : ConnectionState) (talks : List (Option ConnectionState))
-    → place_of a ≡ o
+    → slot_of a ≡ o
     → connection_state_at o talks ≡ Some talk → (place : ℕ) × (a ≡ place + 1) × (place < 8)
 placed None a talk talks is spoken = absurd cc
 placed (Some place) a talk talks is spoken =
@@ -179,7 +179,7 @@ on-time : (late : Bool) (now : ℕ) (rest : Outcome) (s : State) (step : Step)
 on-time true now rest s step is e = absurd cc
 on-time false now rest s step is e = grind (arith, nat_tests)
 
-pub stays-tidy : (h : ServerData) (t : DoneTurn) → IsTurn h t → IsTidy h → IsTidy (held_behind t h)
+pub stays-tidy : (h : ServerData) (t : DoneTurn) → IsTurn h t → IsTidy h → IsTidy (server_after t h)
 stays-tidy h t is tidy =
     (loses-nothing t.now t.given t.script h tidy is.in_time is.all_offered).tidy
 
@@ -189,7 +189,7 @@ module _ (first : State) (h : ServerData) (t : DoneTurn) (past : List Past) (com
     (is : IsTurn h t) (tidy : IsTidy h) (at : Stands first past h.device) (front : List ChosenEvent)
     (choice : Option ℕ)
     (back : List ChosenEvent)
-    (stands : Stands first (past_behind t.now front h.device past)
+    (stands : Stands first (past_after t.now front h.device past)
     (done_at t.now front h.device).after) (step : Step)
     (has : Contains step.commands command) where
   abbrev mid : State
@@ -204,7 +204,7 @@ module _ (first : State) (h : ServerData) (t : DoneTurn) (past : List Past) (com
       → IsOrdered first h t past command
   asked (Open a) split answered replied allowed = absurd (none-among _ command replied has)
   asked (Recv a octets) split answered replied allowed =
-      by-talk (connection_state_at (place_of a) mid.connections) refl replied
+      by-talk (connection_state_at (slot_of a) mid.connections) refl replied
     where
       before : OfAssociations front
       before =
@@ -229,7 +229,7 @@ module _ (first : State) (h : ServerData) (t : DoneTurn) (past : List Past) (com
         answered = answered;
       }
 
-      by-talk : (o : Option ConnectionState) → connection_state_at (place_of a) mid.connections ≡ o
+      by-talk : (o : Option ConnectionState) → connection_state_at (slot_of a) mid.connections ≡ o
           → AreReplied t.now a (bay_of first) octets.now o step
           → IsOrdered first h t past command
       by-talk None spoken replied = absurd (none-among _ command replied has)
@@ -238,7 +238,7 @@ module _ (first : State) (h : ServerData) (t : DoneTurn) (past : List Past) (com
           (pdus_in step.sent) command = replied command has in
           let m : Mapped (λ (s : Sent). pdu_in s.octets) step.sent r.response =
           mapped (λ (s : Sent). pdu_in s.octets) step.sent r.response r.replied in
-          let there = placed (place_of a) a talk mid.connections refl spoken in
+          let there = placed (slot_of a) a talk mid.connections refl spoken in
           let to = sent-to t.now a choice mid octets step m.item answered m.among in
           record {
             heard = heard;
@@ -264,7 +264,7 @@ module _ (first : State) (h : ServerData) (t : DoneTurn) (past : List Past) (com
             allowed = allowed;
             released = released-by first past h.device mid t.now first.scan_max_age_ms command at
                 (same-events t.now front h.device before)
-                (aged first (past_behind t.now front h.device past) mid stands) allowed;
+                (aged first (past_after t.now front h.device past) mid stands) allowed;
             remote = remote-behind first past h.device mid t.now command at
                 (same-events t.now front h.device before) allowed;
           }
@@ -311,9 +311,9 @@ all-ordered first h past [] are tidy at = tt
 all-ordered first h past (t ∷ ts) are tidy at =
     let events : List ChosenEvent = turn_events t.now t.given t.script h in
     let whole = Part-turn t.now t.given t.script h in
-    let behind : List Past = past_behind t.now events h.device past in (
+    let behind : List Past = past_after t.now events h.device past in (
       λ command has. ordered first h t past command are.0 tidy at has,
-      all-ordered first (held_behind t h) behind ts are.1 (stays-tidy h t are.0 tidy)
+      all-ordered first (server_after t h) behind ts are.1 (stays-tidy h t are.0 tidy)
           (subst (Stands first behind) (sym whole.device)
           (stands-events first t.now events h.device past at)),
     )

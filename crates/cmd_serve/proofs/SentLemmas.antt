@@ -8,7 +8,7 @@ use Rattle.bay_mms_services.specs.Answers.{Answered, pdu_answer}
 use Rattle.bay_mms_services.proofs.ReleaseLemmas.{all-of}
 use Rattle.bay_device.specs.Device.{State, bay_of, device_at}
 use Rattle.bay_device.specs.Receiving.{ReceiveResult, Done, after_indications, after_pdu, client_at, on_indication, sent_on, with_sent}
-use Rattle.bay_device.specs.Outcomes.{Outcome, connection_at, event_outcome, last_moment, nothing_done, octets_outcome, outcome, place_of, recv_outcome, refusal_of}
+use Rattle.bay_device.specs.Outcomes.{Outcome, connection_at, event_outcome, last_moment, nothing_done, octets_outcome, outcome, slot_of, recv_outcome, refusal_of}
 use Rattle.bay_device.specs.declared.event.Event.TheVariants.{Recv}
 use Rattle.bay_device.specs.declared.event.Sent.{Sent}
 use Rattle.bay_device.specs.declared.event.Step.{Step}
@@ -119,7 +119,7 @@ module _ (now a : ℕ) where
       let all : AreTo (outcome choice now (Recv a octets) s).answer =
       to-if (nat_lt last_moment now) (nat_lt now s.moment) s
       (event_outcome choice now (Recv a octets) s)
-      (recv-to choice s octets.now (connection_at (place_of a) s)) in
+      (recv-to choice s octets.now (connection_at (slot_of a) s)) in
       let to : AllByRecursion (IsTo a) step.sent = subst AreTo answered all in
       All-contains (IsTo a) step.sent sent (all-of (IsTo a) step.sent to) has
 

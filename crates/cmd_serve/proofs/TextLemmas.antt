@@ -34,7 +34,7 @@ use Rattle.bay_server_turn_laws.proofs.PartLemmas.{Part-turn}
 use Rattle.bay_server.specs.TurnLines.{closings_text, memory_closings_text, turn_text}
 use Rattle.cmd_serve.specs.Orders.{AreOrdered, IsOrdered}
 use Rattle.cmd_serve.specs.Texts.{ArePrinted, IsPrintedFor, IsTurnLine}
-use Rattle.cmd_serve.specs.Service.{AreTurns, DoneTurn, IsBegun, held_behind, past_behind}
+use Rattle.cmd_serve.specs.Service.{AreTurns, DoneTurn, IsBegun, server_after, past_after}
 use Rattle.cmd_serve.proofs.BeginLemmas.{ordered-from}
 use Rattle.cmd_serve.proofs.HistoryLemmas.{Stands, stands-events, stands-first}
 use Rattle.cmd_serve.proofs.OrderLemmas.{ordered-on-time}
@@ -150,14 +150,14 @@ module _ (first : State) (ids : HaveIds first.switches) where
       ap (λ (d : State). d.switches) (sym at.last) ∙ (past-fixed first past at.steps).switches
 
   printed-for : (h : ServerData) (t : DoneTurn) (past : List Past)
-      → (held_behind t h).device.switches ≡ first.switches
+      → (server_after t h).device.switches ≡ first.switches
       → ((command : Command) → Contains t.told.commands command
       → IsOrdered first h t past command)
       → (line : List ℕ) (printed : PrintedCommand)
-      → IsTurnLine t (held_behind t h).device line → printed_command line ≡ Some printed
+      → IsTurnLine t (server_after t h).device line → printed_command line ≡ Some printed
       → IsPrintedFor first h t past printed
   printed-for h t past same orders line printed has reads =
-      let s : State = (held_behind t h).device in
+      let s : State = (server_after t h).device in
       let named : HaveIds s.switches = subst HaveIds (sym same) ids in
       let c : IsCommandLine t.now t.told.commands s line =
       read-line t s named line printed has reads in
@@ -191,12 +191,12 @@ module _ (first : State) (ids : HaveIds first.switches) where
   all-printed h past (t ∷ ts) at orders =
       let events : List ChosenEvent = turn_events t.now t.given t.script h in
       let whole = Part-turn t.now t.given t.script h in
-      let behind : List Past = past_behind t.now events h.device past in
-      let next : Stands first behind (held_behind t h).device =
+      let behind : List Past = past_after t.now events h.device past in
+      let next : Stands first behind (server_after t h).device =
       subst (Stands first behind) (sym whole.device)
       (stands-events first t.now events h.device past at) in (
-        printed-for h t past (switches-stay behind (held_behind t h).device next) orders.0,
-        all-printed (held_behind t h) behind ts next orders.1,
+        printed-for h t past (switches-stay behind (server_after t h).device next) orders.0,
+        all-printed (server_after t h) behind ts next orders.1,
       )
 
 pub printed-from : (begun : ServerData) (turns : List DoneTurn) → IsBegun begun

@@ -17,7 +17,7 @@ use Rattle.bay_server_turn_laws.proofs.PartLemmas.{Part-turn}
 use Rattle.bay_server.specs.Clock.{moment_read}
 use Rattle.bay_server.specs.Host.{HostCall}
 use Rattle.bay_server.specs.ServeReport.{AfterTurn, MayPause, Serving, ServesTurns, TurnGoes, choice_of}
-use Rattle.cmd_serve.specs.Service.{AreTurns, DoneTurn, IsService, IsTurn, held_after, held_behind, later_turns, past_behind, past_of, turn_in, turns_in}
+use Rattle.cmd_serve.specs.Service.{AreTurns, DoneTurn, IsService, IsTurn, held_after, server_after, later_turns, past_after, past_of, turn_in, turns_in}
 use Rattle.cmd_serve.proofs.HistoryLemmas.{Stands, one-run, stands-events, stands-first}
 
 -- ---- all turns
@@ -28,8 +28,8 @@ stands-turns first [] h past at = at
 stands-turns first (t ∷ ts) h past at =
     let events = turn_events t.now t.given t.script h in
     let whole = Part-turn t.now t.given t.script h in
-    stands-turns first ts (held_behind t h) (past_behind t.now events h.device past)
-    (subst (Stands first (past_behind t.now events h.device past)) (sym whole.device)
+    stands-turns first ts (server_after t h) (past_after t.now events h.device past)
+    (subst (Stands first (past_after t.now events h.device past)) (sym whole.device)
     (stands-events first t.now events h.device past at))
 
 -- ---- those that were served

@@ -13,7 +13,7 @@ use Rattle.bay_tree.specs.Rows.{leaf_of}
 use Rattle.bay_device.specs.Commands.{IsReleasedAt}
 use Rattle.bay_device.specs.Device.{State, bay_of}
 use Rattle.bay_device.specs.Fresh.{HasScan, IsSameProcess, Past}
-use Rattle.bay_device.specs.Outcomes.{outcome, place_of}
+use Rattle.bay_device.specs.Outcomes.{outcome, slot_of}
 use Rattle.bay_device.specs.Remote.{IsAtRemote}
 use Rattle.bay_device.specs.Steps.{OfAssociation}
 use Rattle.bay_device.specs.EntriesTold.{pdu_in, connection_state_at}
@@ -23,7 +23,7 @@ use Rattle.bay_device.specs.declared.event.Step.{Step}
 use Rattle.bay_server_turn.specs.Turns.{ServerData, turn_calls}
 use Rattle.bay_server_turn_laws.specs.Events.{ChosenEvent, done_at, turn_events}
 use Rattle.bay_server_turn_laws.specs.Flows.{FlowsAt, read_by_calls, sent_to}
-use Rattle.cmd_serve.specs.Service.{DoneTurn, held_behind, past_behind}
+use Rattle.cmd_serve.specs.Service.{DoneTurn, server_after, past_after}
 
 -- There is such a scan among these events, and none of those since is a scan that was accepted. It
 -- left the interlocking value of the command TRUE (EnaCls for on, EnaOpn for off), and the process
@@ -72,7 +72,7 @@ pub record IsOrdered (first : State) (h : ServerData) (t : DoneTurn) (past : Lis
     (command : Command) : Type 0 where
   pub heard : IsHeard h t
   pub talk : ConnectionState
-  pub is_open : connection_state_at (place_of heard.association)
+  pub is_open : connection_state_at (slot_of heard.association)
       (done_at t.now heard.front h.device).after.connections ≡ Some talk
   pub terms : Terms
   pub pdu : List ℕ
@@ -96,5 +96,5 @@ abbrev pub AreOrdered : State → ServerData → List Past → List DoneTurn →
 AreOrdered first h past [] = Unit {0}
 AreOrdered first h past (t ∷ ts) =
     ((command : Command) → Contains t.told.commands command → IsOrdered first h t past command)
-    × AreOrdered first (held_behind t h)
-    (past_behind t.now (turn_events t.now t.given t.script h) h.device past) ts
+    × AreOrdered first (server_after t h)
+    (past_after t.now (turn_events t.now t.given t.script h) h.device past) ts

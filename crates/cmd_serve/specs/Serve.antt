@@ -33,7 +33,7 @@ use Rattle.bay_server.specs.Host.{HostCall, Binds, Tells}
 use Rattle.bay_server.specs.LogLines.{ports_log, unbound_log}
 use Rattle.bay_server.specs.Logging.{LogsAll}
 use Rattle.bay_server.specs.RecordLine.{room_log}
-use Rattle.bay_server.specs.ServeReport.{AfterTurn, ProcessData, Serving, ServesTurns, told_lines}
+use Rattle.bay_server.specs.ServeReport.{AfterTurn, ProcessData, Serving, ServesTurns, numbered_lines}
 use Rattle.bay_server.specs.declared.clock.Clocks.{Clocks}
 use Rattle.bay_server.specs.declared.host.BindFault.{BindFault}
 use Rattle.cmd_audit.specs.Judging.{IsVerdictOn, VerdictReport}
@@ -184,8 +184,8 @@ abbrev pub key_of : Option (List ℕ) → List ℕ
 key_of key = unwrap_or key (codes "-")
 
 -- the supervision settings, if the process is supervised: the longest silence, and the key
-abbrev pub duties_of : Option ℕ → List ℕ → Option SupervisionSettings
-duties_of limit key = option_map (λ ms. record { limit = ms; key = key }) limit
+abbrev pub settings_of : Option ℕ → List ℕ → Option SupervisionSettings
+settings_of limit key = option_map (λ ms. record { limit = ms; key = key }) limit
 
 -- a server as it is created of a device: its queues are empty
 abbrev pub made_of : State → ServerData
@@ -290,7 +290,7 @@ module _ {L H W : Type 0} (step : L → Call → L → Type 0) (acts : H → Hos
         count = no_lines;
         host = began;
         process = bound.process;
-        lines = told_lines 1 (lines_of trace);
+        lines = numbered_lines 1 (lines_of trace);
       }) mid new after answer
 
   -- the ports are opened, and the device is served, with this number of rules; or it is reported
@@ -300,7 +300,7 @@ module _ {L H W : Type 0} (step : L → Call → L → Type 0) (acts : H → Hos
     pub bound : Result (Bound L) ServeStartFault
     pub host : H
     pub binds : BindsPorts acts numbers
-        (duties_of numbers.limit_ms (key_of (option_map (λ digits. digits.items) loaded.key)))
+        (settings_of numbers.limit_ms (key_of (option_map (λ digits. digits.items) loaded.key)))
         (state_of loaded) before host bound
     pub goes_on : MatchResult bound
         (λ ports. ServesBound numbers (served_of loaded count) ports loaded.trace.items host after

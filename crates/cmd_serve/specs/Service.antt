@@ -36,13 +36,13 @@ pub record DoneTurn : Type 0 where
   pub told : Turn
 
 -- the server after a turn
-abbrev pub held_behind : DoneTurn → ServerData → ServerData
-held_behind t h = (after_turn t.now t.given t.script h).server
+abbrev pub server_after : DoneTurn → ServerData → ServerData
+server_after t h = (after_turn t.now t.given t.script h).server
 
 -- the server after all of them
 abbrev pub held_after : List DoneTurn → ServerData → ServerData
 held_after [] h = h
-held_after (t ∷ ts) h = held_after ts (held_behind t h)
+held_after (t ∷ ts) h = held_after ts (server_after t h)
 
 -- A turn was done on a server: the script has the results of eight reads and eight offers, the
 -- moment is not before the last nor too large, and the turn reported the commands that it
@@ -56,7 +56,7 @@ pub record IsTurn (h : ServerData) (t : DoneTurn) : Type 0 where
 -- Each turn was done so, on the server after the turns before it.
 abbrev pub AreTurns : ServerData → List DoneTurn → Type 0
 AreTurns h [] = Unit {0}
-AreTurns h (t ∷ ts) = IsTurn h t × AreTurns (held_behind t h) ts
+AreTurns h (t ∷ ts) = IsTurn h t × AreTurns (server_after t h) ts
 
 -- ---- the turns that were served
 
@@ -92,19 +92,19 @@ module _ {L H W : Type 0} (step : L → Call → L → Type 0) (acts : H → Hos
 -- ---- the history
 
 -- the history after these events, at this moment
-abbrev pub past_behind : ℕ → List ChosenEvent → State → List Past → List Past
-past_behind now [] s past = past
-past_behind now (e ∷ es) s past =
+abbrev pub past_after : ℕ → List ChosenEvent → State → List Past → List Past
+past_after now [] s past = past
+past_after now (e ∷ es) s past =
     let o = outcome e.0 now e.1 s in
-    past_behind now es o.after
+    past_after now es o.after
     (record { now = now; event = e.1; answer = o.answer; after = o.after } ∷ past)
 
 -- the history after these turns
 abbrev pub past_of : List DoneTurn → ServerData → List Past → List Past
 past_of [] h past = past
 past_of (t ∷ ts) h past =
-    past_of ts (held_behind t h)
-    (past_behind t.now (turn_events t.now t.given t.script h) h.device past)
+    past_of ts (server_after t h)
+    (past_after t.now (turn_events t.now t.given t.script h) h.device past)
 
 -- ---- one run
 

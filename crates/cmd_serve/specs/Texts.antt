@@ -11,7 +11,7 @@ use Rattle.bay_server_turn.specs.Turns.{ServerData}
 use Rattle.bay_server_turn_laws.specs.Events.{turn_events}
 use Rattle.bay_server.specs.TurnLines.{turn_text}
 use Rattle.cmd_serve.specs.Orders.{IsOrdered}
-use Rattle.cmd_serve.specs.Service.{DoneTurn, held_behind, past_behind}
+use Rattle.cmd_serve.specs.Service.{DoneTurn, server_after, past_after}
 
 -- A line that reads as a command is that of a command that the turn reported, at the turn's moment,
 -- to the switch with this id; and this command was ordered.
@@ -37,7 +37,7 @@ abbrev pub ArePrinted : State → ServerData → List Past → List DoneTurn →
 ArePrinted first h past [] = Unit {0}
 ArePrinted first h past (t ∷ ts) =
     ((line : List ℕ) (printed : PrintedCommand)
-    → IsTurnLine t (held_behind t h).device line → printed_command line ≡ Some printed
+    → IsTurnLine t (server_after t h).device line → printed_command line ≡ Some printed
     → IsPrintedFor first h t past printed)
-    × ArePrinted first (held_behind t h)
-    (past_behind t.now (turn_events t.now t.given t.script h) h.device past) ts
+    × ArePrinted first (server_after t h)
+    (past_after t.now (turn_events t.now t.given t.script h) h.device past) ts

@@ -58,9 +58,9 @@ pub fn all_turns_are_one_run<L: Link, H: Host<L>, W: Sink>(_link: &L, _host: &H,
 ///
 /// The last scan before the command is of an earlier turn and not too old. It left the switch's
 /// interlocking value TRUE, and since then the process has not changed: in the turn itself only
-/// events of associations come before the octets. If the switch has a key, the process last reported
-/// before this turn that the key is at remote, and it was not lost since.
-pub fn each_command_is_asked_for<L: Link, H: Host<L>, W: Sink>(_link: &L, _host: &H, _sink: &W)
+/// events of associations come before the octets. If the switch has a key, the process last
+/// reported before this turn that the key is at remote, and it was not lost since.
+pub fn each_command_is_requested<L: Link, H: Host<L>, W: Sink>(_link: &L, _host: &H, _sink: &W)
     ensures { (turns : ℕ) (before : Serving L H) (old new : Writing W) (host : H)
         (answer : Result ℕ WriteFault)
         (serves : ServesTurns (Called L.does L.failures) H.does W.contents W.does turns before old
@@ -73,7 +73,7 @@ pub fn each_command_is_asked_for<L: Link, H: Host<L>, W: Sink>(_link: &L, _host:
 /// command, `ms command id on` (or `off`), is that of a command of this turn, at the turn's moment,
 /// to the switch with this id. This command has the client's octets, the success sent to the client
 /// and the last scan of the earlier turns that the law above requires.
-pub fn printed_commands_are_asked_for<L: Link, H: Host<L>, W: Sink>(_link: &L, _host: &H, _sink: &W)
+pub fn printed_commands_are_requested<L: Link, H: Host<L>, W: Sink>(_link: &L, _host: &H, _sink: &W)
     ensures lines { (turns : ℕ) (before : Serving L H) (old new : Writing W) (host : H)
         (answer : Result ℕ WriteFault)
         (serves : ServesTurns (Called L.does L.failures) H.does W.contents W.does turns before old

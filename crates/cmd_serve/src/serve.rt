@@ -4,7 +4,7 @@ ghost use Rattle.bay_device.specs.Load.{device_of};
 ghost use Rattle.bay_files.specs.Files.{unread_view};
 ghost use Rattle.bay_device.specs.Outcomes.{associations};
 ghost use Rattle.bay_report.specs.LogLines.{PrintsLogs};
-ghost use Rattle.cmd_serve.specs.Serve.{BindsPorts, BindsProcess, EndsUnserved, IsBound, IsRecordFault, KeylessReport, LoadsFiles, ReadsRules, ServesBound, ServesFiles, ServesLoaded, ServesPorts, ServesVerdict, Unrecorded, UnservedReport, duties_of, key_of, made_of, names_of, state_of};
+ghost use Rattle.cmd_serve.specs.Serve.{BindsPorts, BindsProcess, EndsUnserved, IsBound, IsRecordFault, KeylessReport, LoadsFiles, ReadsRules, ServesBound, ServesFiles, ServesLoaded, ServesPorts, ServesVerdict, Unrecorded, UnservedReport, settings_of, key_of, made_of, names_of, state_of};
 ghost use Rattle.cmd_serve.specs.declared.serve.ServeStartFault.TheVariants as unserved;
 ghost use Rattle.bay_replay_laws.specs.ReadBack.{HaveIds};
 ghost use Rattle.bay_server_turn.specs.Calls.{Called};
@@ -137,7 +137,7 @@ impl From<AllocError> for ServeStartFault<'_> {
 }
 
 // Writes the fault of a port that can't be opened, and then logs why.
-fn tell_unbound<W: Sink>(
+fn report_unbound<W: Sink>(
     writer: &mut WatchedWriter<W>,
     port: u16,
     fault: BindFault,
@@ -151,7 +151,7 @@ fn tell_unbound<W: Sink>(
 }
 
 // Writes the fault of a file without a key, and then logs why.
-fn tell_keyless<W: Sink>(
+fn report_keyless<W: Sink>(
     writer: &mut WatchedWriter<W>,
     name: &str,
     fault: KeyFault,
@@ -175,7 +175,7 @@ fn tell_keyless<W: Sink>(
 }
 
 // Logs that the file of the record can't be created, and fails.
-fn tell_unrecorded<W: Sink>(
+fn report_unrecorded<W: Sink>(
     writer: &mut WatchedWriter<W>,
     name: &str,
     kind: ErrorKind,
@@ -187,7 +187,7 @@ fn tell_unrecorded<W: Sink>(
 }
 
 // Writes why no turn is served, and then logs it.
-fn tell_unserved<W: Sink>(
+fn report_unserved<W: Sink>(
     writer: &mut WatchedWriter<W>,
     why: ServeStartFault<'_>,
 ) -> Result<u8, WriteFault>
@@ -195,12 +195,12 @@ fn tell_unserved<W: Sink>(
 {
     match why {
         ServeStartFault::Unread(UnreadFile { name, fault }) => report_unread(writer, name, fault),
-        ServeStartFault::KeyFileFault(KeyFileFault { name, fault }) => tell_keyless(
+        ServeStartFault::KeyFileFault(KeyFileFault { name, fault }) => report_keyless(
             writer, name, fault,
         ),
         ServeStartFault::Refused(fault) => report_load_refusal(writer, fault),
-        ServeStartFault::Unbound(port, fault) => tell_unbound(writer, port, fault),
-        ServeStartFault::Unrecorded(name, kind) => tell_unrecorded(writer, name, kind),
+        ServeStartFault::Unbound(port, fault) => report_unbound(writer, port, fault),
+        ServeStartFault::Unrecorded(name, kind) => report_unrecorded(writer, name, kind),
         ServeStartFault::OutOfMemory => write_out_of_memory(writer),
     }
 }
@@ -271,9 +271,9 @@ fn key_octets(key: &Option<Vec<u8>>) -> &[u8]
 }
 
 // Returns the supervision settings, if the process is supervised.
-fn duties_by(limit_ms: Option<u32>, key: &[u8]) -> Option<SupervisionSettings>
+fn settings_by(limit_ms: Option<u32>, key: &[u8]) -> Option<SupervisionSettings>
     requires { length key.now ≤ 64 }
-    ensures { result ≡ duties_of limit_ms key.now }
+    ensures { result ≡ settings_of limit_ms key.now }
 {
     match limit_ms {
         Some(limit_ms) => Some(SupervisionSettings::new(limit_ms, key)),
@@ -480,10 +480,10 @@ fn serve_ports<F: FileSystem, L: Link + Drop, H: Host<L>, W: Sink>(
         rules,
         count,
     };
-    let duties = duties_by(numbers.limit_ms, key_octets(&key));
+    let duties = settings_by(numbers.limit_ms, key_octets(&key));
     match bind_ports(alloc, load, host, numbers, duties, record_file, files) {
         Ok(bound) => serve_bound(bound, served, trace.as_slice(), host, numbers, writer),
-        Err(why) => tell_unserved(writer, why),
+        Err(why) => report_unserved(writer, why),
     }
 }
 
@@ -595,6 +595,6 @@ pub fn serve<F: FileSystem, L: Link + Drop, H: Host<L>, W: Sink>(
 {
     match read_and_load(alloc, named, files) {
         Ok(loaded) => serve_loaded(alloc, loaded, record_file, files, host, numbers, writer),
-        Err(why) => tell_unserved(writer, why),
+        Err(why) => report_unserved(writer, why),
     }
 }

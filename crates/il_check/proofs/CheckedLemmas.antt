@@ -14,10 +14,10 @@ use Rattle.il_check.specs.Checking.{faults_of, checked_program, checked_of}
 use Rattle.il_check.specs.Declaring.{names_in, labels_from, looked_up, meanings_of, variables_of, timers_of, declarations_faults}
 use Rattle.il_check.specs.Faults.{first_fault_of, least_fault}
 use Rattle.il_check.specs.SourceOperands.{ProgramNames}
-use Rattle.il_check.specs.LabelsView.{StandsAs}
+use Rattle.il_check.specs.LabelsView.{AreLabels}
 use Rattle.il_check.specs.NamesView.{names_of}
 use Rattle.il_check.specs.Program.{Checked, ProgramItem}
-use Rattle.il_check.specs.DeclarationsView.{StandsFor}
+use Rattle.il_check.specs.DeclarationsView.{AreDeclarations}
 use Rattle.il_check.specs.WellTyped.{Progress, start_progress, no_reach, items_faults, progress_after_items}
 use Rattle.il_check.specs.declared.declare.Declarations.{Declarations}
 use Rattle.il_check.specs.declared.labels.Labels.{Labels}
@@ -35,9 +35,9 @@ use Rattle.il_check.proofs.NotedLemmas.{noted-append, least_fault-none, append-n
 pub record IsRead (points : List Point) (program : text.PlainProgram) (d : Declarations)
     (l : Labels) (names : code.ProgramNames) (items : List ProgramItem) (answer : Option CheckFault)
     : Type 0 where
-  pub stands : StandsFor points program.declarations d
+  pub stands : AreDeclarations points program.declarations d
   pub declared : d.found ≡ least_fault (declarations_faults points [] program.declarations)
-  pub labels : StandsAs (labels_from 0 program.items) l
+  pub labels : AreLabels (labels_from 0 program.items) l
   pub meanings : names.meanings ≡ d.meanings
   pub numbers : names.labels ≡ l.numbers
   pub items_read : answer ≡ None
@@ -156,9 +156,9 @@ pub is_read : (points : List Point) (p : program.Program) (declarations : List D
     (first_items items : List source.Item) (d : Declarations) (l : Labels) (left : List ProgramItem)
     (answer : Option CheckFault)
     → declarations ≡ p.declarations.items → first_items ≡ p.items.items → items ≡ p.items.items
-    → StandsFor points (map declared_of declarations) d
+    → AreDeclarations points (map declared_of declarations) d
     → d.found ≡ least_fault (declarations_faults points [] (map declared_of declarations))
-    → StandsAs (labels_from 0 (map entry_of first_items)) l
+    → AreLabels (labels_from 0 (map entry_of first_items)) l
     → (answer ≡ None → left ≡ progress_after_items
     (names_of (record { meanings = d.meanings; labels = l.numbers })) (map entry_of items)
     (start_progress l.arrivals.items))
@@ -170,12 +170,13 @@ pub is_read : (points : List Point) (p : program.Program) (declarations : List D
 is_read points p declarations first_items items d l left answer these those them stands declared
     labels read found = record {
       stands =
-          subst (λ (ds : List Declaration). StandsFor points (map declared_of ds) d) these stands;
+          subst (λ (ds : List Declaration). AreDeclarations points (map declared_of ds) d) these
+          stands;
       declared =
           declared ∙ ap (λ (ds : List Declaration). least_fault
           (declarations_faults points [] (map declared_of ds))) these;
       labels =
-          subst (λ (is : List source.Item). StandsAs (labels_from 0 (map entry_of is)) l) those
+          subst (λ (is : List source.Item). AreLabels (labels_from 0 (map entry_of is)) l) those
           labels;
       meanings = refl;
       numbers = refl;

@@ -13,7 +13,7 @@ use Rattle.il_text.specs.declared.program.Declaration.{Declaration}
 use Rattle.il_check.specs.Faults.{first_fault_of, least_fault}
 use Rattle.il_check.specs.NamesView.{with_value}
 use Rattle.il_check.specs.Declaring.{Counts, externals_of, variables_of, external_in, variable_in, timer_in, counts_of, meaning_at, point_of, meanings_from, meanings_of, looked_up, name_faults, is_full, declaration_faults, declarations_faults}
-use Rattle.il_check.specs.DeclarationsView.{counts_in, Takes, StandsFor}
+use Rattle.il_check.specs.DeclarationsView.{counts_in, Takes, AreDeclarations}
 use Rattle.il_check.specs.declared.declare.Declarations.{Declarations}
 use Rattle.il_check.specs.declared.source_operand.Meaning.{Meaning}
 use Rattle.il_check.specs.declared.fault.CheckFault.{CheckFault}
@@ -71,7 +71,7 @@ meanings-more points before (x ∷ xs) d =
     (append_assoc before (x ∷ []) xs))
 
 counts-same : (points : List Point) (before : List text.Declared) (d : Declarations)
-    → StandsFor points before d → counts_in d ≡ counts_of points before
+    → AreDeclarations points before d → counts_in d ≡ counts_of points before
 counts-same points before d known =
     let with_all : ℕ → ℕ → ℕ → Counts =
     λ a b c. record { externals = a; variables = b; timers = c } in
@@ -90,7 +90,8 @@ grown {X} {Y} f before x old new was e =
 
 pub stands-more : (points : List Point) (before : List text.Declared) (x : text.Declared)
     (old new : Declarations)
-    → StandsFor points before old → Takes points x old new → StandsFor points (before ++ x ∷ []) new
+    → AreDeclarations points before old → Takes points x old new
+    → AreDeclarations points (before ++ x ∷ []) new
 stands-more points before x old new known taken = record {
   externals =
       grown (λ (d : text.Declared). external_in points d d.scope d.kind) before x _ _
@@ -115,7 +116,7 @@ stands-more points before x old new known taken = record {
 -- the faults so far and those to come are all that there are
 found-more : (points : List Point) (before after : List text.Declared) (x : text.Declared)
     (old new : Declarations) (all : Option CheckFault)
-    → StandsFor points before old → Takes points x old new
+    → AreDeclarations points before old → Takes points x old new
     → first_fault_of old.found (declarations_faults points before (x ∷ after)) ≡ all
     → first_fault_of new.found (declarations_faults points (before ++ x ∷ []) after) ≡ all
 found-more points before after x old new all known taken total =
@@ -144,7 +145,7 @@ take-all xs i h = grind (arith, common_steps)
 -- what is known after so many declarations
 pub record SoFar (points : List Point) (all : List Declaration) (i : ℕ) (d : Declarations)
     : Type 0 where
-  pub stands : StandsFor points (map declared_of (take i all)) d
+  pub stands : AreDeclarations points (map declared_of (take i all)) d
   pub found : first_fault_of d.found
       (declarations_faults points (map declared_of (take i all)) (map declared_of (drop i all)))
       ≡ least_fault (declarations_faults points [] (map declared_of all))
@@ -168,7 +169,7 @@ so_far-more points all i other old new within so_far taken =
     (sym left) ∙ so_far.found in
     record {
       stands =
-          subst (λ (ds : List text.Declared). StandsFor points ds new) longer
+          subst (λ (ds : List text.Declared). AreDeclarations points ds new) longer
           (stands-more points before (declared_of x) old new so_far.stands taken);
       found = subst (λ (ds : List text.Declared). first_fault_of new.found
           (declarations_faults points ds after)
@@ -177,7 +178,7 @@ so_far-more points all i other old new within so_far taken =
     }
 
 pub so_far-none : (points : List Point) (all : List Declaration) (d : Declarations)
-    → StandsFor points [] d → d.found ≡ None → SoFar points all 0 d
+    → AreDeclarations points [] d → d.found ≡ None → SoFar points all 0 d
 so_far-none points all d known none = record {
   stands = known;
   found = ap (λ (o : Option CheckFault). first_fault_of o
@@ -186,9 +187,9 @@ so_far-none points all d known none = record {
 
 -- after all declarations
 pub so_far-stands : (points : List Point) (all : List Declaration) (i : ℕ) (d : Declarations)
-    → length all ≤ i → SoFar points all i d → StandsFor points (map declared_of all) d
+    → length all ≤ i → SoFar points all i d → AreDeclarations points (map declared_of all) d
 so_far-stands points all i d within so_far =
-    subst (λ (ds : List Declaration). StandsFor points (map declared_of ds) d)
+    subst (λ (ds : List Declaration). AreDeclarations points (map declared_of ds) d)
     (take-all all i within) so_far.stands
 
 pub so_far-found : (points : List Point) (all : List Declaration) (i : ℕ) (d : Declarations)

@@ -28,7 +28,7 @@ use Rattle.il_image.specs.declared.value.Value.TheVariants as value
 use Rattle.il_image.proofs.KindLemmas.{same-is}
 use Rattle.il_image.proofs.ValueLemmas.{default-typed, value_is}
 use Rattle.il_image.specs.Machine.{most_slots, most_timers}
-use Rattle.il_check.specs.Declaring.{may_stand, is_name, point_of, of_type, literal_value, initial_in, is_typed, is_external, is_writable, external_at, external_in, variable_at, variable_in, timer_in, externals_of, variables_of, timers_of, counts_of, meaning_at, meanings_of, looked_up, is_full, declaration_faults, declarations_faults}
+use Rattle.il_check.specs.Declaring.{may_be_in_name, is_name, point_of, of_type, literal_value, initial_in, is_typed, is_external, is_writable, external_at, external_in, variable_at, variable_in, timer_in, externals_of, variables_of, timers_of, counts_of, meaning_at, meanings_of, looked_up, is_full, declaration_faults, declarations_faults}
 use Rattle.il_check.specs.SourceOperands.{typed_value}
 use Rattle.il_check.specs.Rules.{number_in}
 use Rattle.il_check.specs.TypedProgram.{HasName, BeginsRight}
@@ -110,7 +110,8 @@ few-octets n h = grind (arith, nat_tests)
 
 name-is : (name : List ℕ) → is_name name ≡ true → IsName (upper name)
 name-is name e =
-    let a = and_parts (nat_lt 0 (length name) && nat_le (length name) 64) (list_all may_stand name)
+    let a = and_parts (nat_lt 0 (length name) && nat_le (length name) 64)
+    (list_all may_be_in_name name)
     e in
     let b = and_parts (nat_lt 0 (length name)) (nat_le (length name) 64) a.0 in
     let same : length (upper name) ≡ length name = length-map name to_ascii_uppercase in

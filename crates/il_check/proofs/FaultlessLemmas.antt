@@ -11,7 +11,7 @@ use Rattle.il_text.specs.declared.program.Condition.TheVariants.{Always, IfTrue,
 use Rattle.il_check.specs.Faults.{fault_if}
 use Rattle.il_check.specs.SourceOperands.{ProgramNames, resolution_of}
 use Rattle.il_check.specs.Labelling.{Becomes, IsRight, IsCombined, IsRightEntry, AreRightEntries}
-use Rattle.il_check.specs.Rules.{is_wrong, is_unset, type_after, allows, uses_result, any_type, combines_unset, gives}
+use Rattle.il_check.specs.Rules.{is_wrong, is_unset, type_after, allows, uses_result, any_type, combines_unset, type_of_result}
 use Rattle.il_check.specs.WellTyped.{type_after_entry, type_after_entries, instruction_faults, entry_faults, entries_faults}
 use Rattle.il_check.specs.declared.source_operand.Resolved.{Resolved}
 use Rattle.il_check.specs.declared.source_operand.Resolved.TheVariants.{Load, Store, Combine, Not, Convert, Jump, Return, Call}
@@ -239,7 +239,8 @@ pub after-under : (r : Resolved) (t u : Option ElementaryType) → Becomes t u
     → Becomes (type_after r t) (type_after r u)
 after-under (Load negated given) t u b = inl refl
 after-under (Store how target) t u b = b
-after-under (Combine operator negated given is_nonzero) t u b = becomes-under (gives operator) t u b
+after-under (Combine operator negated given is_nonzero) t u b =
+    becomes-under (type_of_result operator) t u b
 after-under Not t u b = b
 after-under (Convert conversion) t u b = inl refl
 after-under (Jump condition label) t u b = b

@@ -20,11 +20,11 @@ use Rattle.il_image.specs.declared.value.Value.{Value}
 use Rattle.il_image.specs.declared.value.Value.TheVariants as value
 use Rattle.il_image.proofs.KindLemmas.{same-is, same-self}
 use Rattle.il_image.proofs.ValueLemmas.{value_is}
-use Rattle.il_check.specs.SourceOperands.{ProgramNames, source_operand, literal_operand, resolve_variable, resolve_output, resolve_place, resolve_operand, is_zero, is_nonzero_literal, is_nonzero, called_of, resolve_arguments, resolution_of}
+use Rattle.il_check.specs.SourceOperands.{ProgramNames, source_operand, literal_operand, resolve_variable, resolve_output, resolve_variable_or_output, resolve_operand, is_zero, is_nonzero_literal, is_nonzero, called_of, resolve_arguments, resolution_of}
 use Rattle.il_check.specs.Labelling.{Becomes, IsRight}
 use Rattle.il_check.specs.Program.{Checked}
 use Rattle.il_check.specs.Rules as rules
-use Rattle.il_check.specs.Rules.{operand_in, number_in, own_type, load_type, fits, works, may_negate, is_plain, divides, gives, converted_from, allows, uses_result, is_wrong, type_after, falls_through}
+use Rattle.il_check.specs.Rules.{operand_in, number_in, own_type, load_type, fits, works, may_negate, is_plain, divides, type_of_result, converted_from, allows, uses_result, is_wrong, type_after, falls_through}
 use Rattle.il_check.specs.TypedProgram.{slot_type, may_write, is_writable, IsOperand, is_divisor, IsOperation}
 use Rattle.il_check.specs.Typing.{load_operation, load_in, slot_in, target_slot, store_operation, combine_operation, operation_in}
 use Rattle.il_check.specs.declared.source_operand.Meaning.{Meaning}
@@ -219,7 +219,7 @@ abbrev pub AreNamed : Checked → ProgramNames → Type 0
 AreNamed c names = (name : List ℕ) (m : Meaning) → names.meaning name ≡ Some m → IsNamed c m
 
 place-is : (c : Checked) (names : ProgramNames) → AreNamed c names → (p : text.Place)
-    → IsGiven c (resolve_place names p)
+    → IsGiven c (resolve_variable_or_output names p)
 place-is c names meant (text.named name) = variable-is c (names.meaning name) (meant name)
 place-is c names meant (text.output timer what) =
     output-is c (names.meaning timer) what (meant timer)
@@ -343,11 +343,12 @@ combine-kind : (c : Checked) (operator : Operator) (negated : Bool) (g : SourceO
     → (nonzero ≡ true → IsNonzero g)
     → works operator negated kind ≡ true → divides operator && not nonzero ≡ false
     → operand_in kind g ≡ x → combine_operation operator kind negated x ≡ Some o
-    → IsOperation c o (Some kind) (Some (gives operator kind))
+    → IsOperation c o (Some kind) (Some (type_of_result operator kind))
 combine-kind c operator negated g nonzero kind None o given other works_on divisor is e =
     absurd (cc)
 combine-kind c operator negated g nonzero kind (Some x) o given other works_on divisor is e =
-    subst (λ (y : SimpleOperation). IsOperation c y (Some kind) (Some (gives operator kind)))
+    subst (λ (y : SimpleOperation). IsOperation c y (Some kind)
+    (Some (type_of_result operator kind)))
     (same_Some (op.Combine operator kind negated x) o e) (
       operand-typed c kind g x given is,
       works_on,

@@ -26,7 +26,7 @@ use Rattle.il_image.proofs.ValueLemmas.{value_is}
 use Rattle.il_check.specs.Checking.{initial_progress, faults_of, checked_program, checked_of}
 use Rattle.il_check.specs.Declaring.{names_in, declarations_faults}
 use Rattle.il_check.specs.Faults.{least_fault}
-use Rattle.il_check.specs.SourceOperands.{ProgramNames, source_operand, literal_operand, resolve_variable, resolve_output, resolve_place, resolve_operand, called_of, resolve_arguments, resolve_argument, resolution_of}
+use Rattle.il_check.specs.SourceOperands.{ProgramNames, source_operand, literal_operand, resolve_variable, resolve_output, resolve_variable_or_output, resolve_operand, called_of, resolve_arguments, resolve_argument, resolution_of}
 use Rattle.il_check.specs.Keeping.{slot_name, timer_name, label_names, IsValueOf, IsOperandOf, IsTargetOf, IsOperationOf, IsArgumentOf, AreArgumentsOf, IsEntryOf, AreEntriesOf, IsItemOf, AreItemsOf, Keeps}
 use Rattle.il_check.specs.Labelling.{IsRight, IsRightEntry, AreRightEntries}
 use Rattle.il_check.specs.OwnPlaces.{MeanOwnPlaces}
@@ -172,7 +172,8 @@ module _ (c : Checked) (names : ProgramNames) (items : List text.Entry)
   no-target what (Some (meaning.Variable r k w)) s e = absurd (cc)
   no-target what (Some (meaning.Timer n)) s e = absurd (cc)
 
-  target-kept : (place : text.Place) (s : Slot) → target_slot (resolve_place names place) ≡ Some s
+  target-kept : (place : text.Place) (s : Slot)
+      → target_slot (resolve_variable_or_output names place) ≡ Some s
       → IsTargetOf c place s
   target-kept (text.named name) s e = named-target name (names.meaning name) s refl e
   target-kept (text.output timer what) s e = no-target what (names.meaning timer) s e
@@ -196,7 +197,7 @@ module _ (c : Checked) (names : ProgramNames) (items : List text.Entry)
       load-kept negated source kind (operand_in kind (resolve_operand names source)) o refl e
 
   store-kept : (how : StoreKind) (place : text.Place) (s : Option Slot) (o : SimpleOperation)
-      → target_slot (resolve_place names place) ≡ s → store_operation how s ≡ Some o
+      → target_slot (resolve_variable_or_output names place) ≡ s → store_operation how s ≡ Some o
       → IsOperationOf c (text.store how place) o
   store-kept how place None o is e = absurd (cc)
   store-kept how place (Some s) o is e =
@@ -219,7 +220,7 @@ module _ (c : Checked) (names : ProgramNames) (items : List text.Entry)
   operation-kept (text.load negated source) t o e =
       load-typed negated source (load_type (resolve_operand names source)) o e
   operation-kept (text.store how place) t o e =
-      store-kept how place (target_slot (resolve_place names place)) o refl e
+      store-kept how place (target_slot (resolve_variable_or_output names place)) o refl e
   operation-kept (text.combine operator negated source) (Some kind) o e =
       combine-kept operator negated source kind (operand_in kind (resolve_operand names source)) o
       refl
@@ -247,8 +248,8 @@ module _ (c : Checked) (names : ProgramNames) (items : List text.Entry)
   output-some how what (Some (meaning.Timer n)) passed kind ok = absurd (let k = ok.writable in cc)
 
   store-some : (how : StoreKind) (place : text.Place) (passed : ℕ) (kind : ElementaryType)
-      → IsRight passed (Store how (resolve_place names place)) (Some kind)
-      → is_some (store_operation how (target_slot (resolve_place names place))) ≡ true
+      → IsRight passed (Store how (resolve_variable_or_output names place)) (Some kind)
+      → is_some (store_operation how (target_slot (resolve_variable_or_output names place))) ≡ true
   store-some how (text.named name) passed kind ok =
       named-some how (names.meaning name) passed kind ok
   store-some how (text.output timer what) passed kind ok =

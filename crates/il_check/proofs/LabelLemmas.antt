@@ -10,7 +10,7 @@ use Rattle.il_text.specs.Views.{entry_of}
 use Rattle.il_text.specs.declared.program.Item.{Item}
 use Rattle.il_text.proofs.ListingLemmas.{front-item}
 use Rattle.il_check.specs.Declaring.{labels_from, looked_up}
-use Rattle.il_check.specs.LabelsView.{label_in, with_labels, AddsLabels, StandsAs}
+use Rattle.il_check.specs.LabelsView.{label_in, with_labels, AddsLabels, AreLabels}
 use Rattle.il_check.specs.WellTyped.{no_reach}
 use Rattle.il_check.specs.declared.labels.Labels.{Labels}
 use Rattle.il_check.specs.declared.reach.Reach.{Reach}
@@ -131,7 +131,7 @@ or-none (Some x) = refl
 
 -- after all items
 pub labels-all : (all : List Item) (i : ℕ) (l : Labels) → length all ≤ i → LabelsSoFar all i l
-    → StandsAs (labels_from 0 (map entry_of all)) l
+    → AreLabels (labels_from 0 (map entry_of all)) l
 labels-all all i l within known =
     let nothing : drop i all ≡ [] = nothing-left all i within in
     record {

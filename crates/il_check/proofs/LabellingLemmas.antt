@@ -13,7 +13,7 @@ use Rattle.il_check.specs.Checking.{initial_progress}
 use Rattle.il_check.specs.Declaring.{labels_from, names_in, looked_up}
 use Rattle.il_check.specs.SourceOperands.{ProgramNames, resolution_of}
 use Rattle.il_check.specs.Labelling.{Labelling, Becomes, IsRight, Coming, Falls, Jumps, is_named, with_target, carry_of, initial_carried, type_after_label, coming_after_action, with_result, Flows, IsWellTyped, progress_after_entries, type_after_items}
-use Rattle.il_check.specs.Rules.{type_after, gives, falls_through, target_of}
+use Rattle.il_check.specs.Rules.{type_after, type_of_result, falls_through, target_of}
 use Rattle.il_check.specs.WellTyped.{Progress, is_first, items_faults, join, arrival, arrival_at, progress_after_action, progress_after_entry}
 use Rattle.il_check.specs.declared.reach.Reach.{Reach}
 use Rattle.il_check.specs.declared.source_operand.Resolved.{Resolved}
@@ -92,14 +92,14 @@ stands-behind-block : (labels : Labelling) (count : ℕ) (names : ProgramNames) 
     → Stands labels count named s now
     → Stands labels count named
     (progress_after_entry names (text.block line operator negated items end) s)
-    (Some (option_map (gives operator) t))
+    (Some (option_map (type_of_result operator) t))
 stands-behind-block labels count names line operator negated items end t named s now is st =
     record {
       reached = st.reached ∙ ap is_some is;
       typed = λ u e. subst (λ (v : Option ElementaryType). Becomes
-          (option_map (gives operator) s.now.kind) v)
-          (same_Some (option_map (gives operator) t) u e)
-          (becomes-under (gives operator) s.now.kind t (st.typed t is));
+          (option_map (type_of_result operator) s.now.kind) v)
+          (same_Some (option_map (type_of_result operator) t) u e)
+          (becomes-under (type_of_result operator) s.now.kind t (st.typed t is));
       brought = st.brought;
       under = st.under;
     }
@@ -135,7 +135,7 @@ flows-to names labels count range (text.block line operator negated items end �
     (entry-to names most_nested s.now.is_reached s.passed b s.now.kind reached
     (entry-under names most_nested s.passed b s.now.kind f.0 (st.typed f.0 f.1.0) f.1.1))
     (flows-to names labels count range es (progress_after_entry names b s) named
-    (Some (option_map (gives operator) f.0)) f.2
+    (Some (option_map (type_of_result operator) f.0)) f.2
     (stands-behind-block labels count names line operator negated items end f.0 named s now
     f.1.0 st))
 
@@ -165,11 +165,11 @@ stands-behind-all names labels count range (text.block line operator negated ite
     now t f st is =
     stands-behind-all names labels count range es
     (progress_after_entry names (text.block line operator negated items end) s) named
-    (Some (option_map (gives operator) f.0)) t f.2
+    (Some (option_map (type_of_result operator) f.0)) t f.2
     (stands-behind-block labels count names line operator negated items end f.0 named s now f.1.0
     st)
     (subst (λ (c : Coming). type_after_items names labels es
-    (carry_of s.passed named (with_result (λ u. Some (option_map (gives operator) u)) c))
+    (carry_of s.passed named (with_result (λ u. Some (option_map (type_of_result operator) u)) c))
     ≡ Some t) f.1.0 is)
 
 -- ---- without a fault there is a labelling
@@ -360,9 +360,10 @@ pub exact-behind-block : (names : ProgramNames) (count line : ℕ) (operator : O
     (items : text.Entries) (end : ℕ) (s : Progress) (named : List ℕ) (now : Coming)
     → s.now.is_reached ≡ true → Exact count named s now
     → Exact count named (progress_after_entry names (text.block line operator negated items end) s)
-    (Some (option_map (gives operator) s.now.kind))
+    (Some (option_map (type_of_result operator) s.now.kind))
 exact-behind-block names count line operator negated items end s named now reached x = record {
-  is = ap (λ (b : Bool). cond b (Some (option_map (gives operator) s.now.kind)) None) (sym reached);
+  is = ap (λ (b : Bool). cond b (Some (option_map (type_of_result operator) s.now.kind)) None)
+      (sym reached);
   brought = x.brought;
 }
 
@@ -423,7 +424,7 @@ flows-from names labels count range (text.block line operator negated items end 
         entry-from names most_nested s.now.is_reached s.passed b s.now.kind h.0,
       ),
       flows-from names labels count range es (progress_after_entry names b s) named
-          (Some (option_map (gives operator) s.now.kind)) same h.1
+          (Some (option_map (type_of_result operator) s.now.kind)) same h.1
           (exact-behind-block names count line operator negated items end s named now reached x),
     )
 

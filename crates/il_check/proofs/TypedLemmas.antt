@@ -18,7 +18,7 @@ use Rattle.il_check.specs.SourceOperands.{ProgramNames, resolution_of}
 use Rattle.il_check.specs.Labelling.{Labelling, IsRight, IsCombined, IsRightEntry, AreRightEntries, Coming, Jumps, with_target, carry_of, type_after_label, coming_after_action}
 use Rattle.il_check.specs.Program.{Entry, operation, block, Entries, no_entries, entry, ProgramItem, label, transfer, plain, Checked, entry_before}
 use Rattle.il_check.specs.Rules as rules
-use Rattle.il_check.specs.Rules.{gives, works, type_after}
+use Rattle.il_check.specs.Rules.{type_of_result, works, type_after}
 use Rattle.il_check.specs.TypedProgram.{IsEntry, AreEntries, entry_depth, entries_depth, has_label, coming_after_transfer, AreItems, IsTyped}
 use Rattle.il_check.specs.Typing.{operation_in, transfer_in, or_entry, block_in}
 use Rattle.il_check.specs.WellTyped.{Progress, type_after_entry, type_after_entries, items_faults, entry_left, entries_left, progress_after_item, progress_after_items, progress_after_entry, progress_after_action}
@@ -76,7 +76,7 @@ record IsBlock (c : Checked) (o : Option Entry) (t u : Option ElementaryType) : 
 block-typed : (c : Checked) (operator : Operator) (negated : Bool) (inner t : Option ElementaryType)
     (es : Entries) → IsCombined operator negated inner t
     → ((k : ElementaryType) → inner ≡ Some k → AreEntries c es None (Some k))
-    → IsBlock c (block_in operator negated es t) t (option_map (gives operator) t)
+    → IsBlock c (block_in operator negated es t) t (option_map (type_of_result operator) t)
 block-typed c operator negated None t es ok are = absurd (let e = ok.set in cc)
 block-typed c operator negated (Some k) None es ok are = absurd (let e = ok.set in cc)
 block-typed c operator negated (Some k) (Some kind) es ok are =
@@ -113,7 +113,7 @@ module _ (c : Checked) (names : ProgramNames) (meant : AreNamed c names) where
       (operation_in (resolution_of names a) t) (found c names meant a) ok.0
       (entries-typed room passed es (type_after (resolution_of names a) t) k ok.1 e) refl
   entries-typed room passed (text.entry (text.block line operator negated items end) es) t k ok e =
-      let u = option_map (gives operator) t in
+      let u = option_map (type_of_result operator) t in
       let inner =
       λ (x : ElementaryType) (is : type_after_entries names items None ≡ Some x). entries-typed
       (room - 1) passed items None x ok.0.1 is in
@@ -130,7 +130,7 @@ module _ (c : Checked) (names : ProgramNames) (meant : AreNamed c names) where
       (end : ℕ) (t : Option ElementaryType)
       → IsRightEntry names room passed (text.block line operator negated items end) t
       → IsBlock c (entry_left names room (text.block line operator negated items end) t) t
-      (option_map (gives operator) t)
+      (option_map (type_of_result operator) t)
   block-left room passed line operator negated items end t ok =
       let inner =
       λ (x : ElementaryType) (is : type_after_entries names items None ≡ Some x). entries-typed
@@ -138,7 +138,7 @@ module _ (c : Checked) (names : ProgramNames) (meant : AreNamed c names) where
       let b = block-typed c operator negated (type_after_entries names items None) t
       (entries_left names (room - 1) items None) ok.2 inner in
       subst (λ (x : Entries). IsBlock c (block_in operator negated x t) t
-      (option_map (gives operator) t))
+      (option_map (type_of_result operator) t))
       (with-room room no_entries (entries_left names (room - 1) items None) ok.0) b
 
 -- ---- how deep parentheses are
@@ -322,7 +322,8 @@ module _ (c : Checked) (names : ProgramNames) (meant : AreNamed c names) (labels
       entry-reached names most_nested s.now.is_reached s.passed line operator negated items end
       s.now.kind h.0 in
       let right = entry-from names most_nested s.now.is_reached s.passed b s.now.kind h.0 in
-      block-case c labels s.passed named now s.now.kind (option_map (gives operator) s.now.kind)
+      block-case c labels s.passed named now s.now.kind
+      (option_map (type_of_result operator) s.now.kind)
       (progress_after_items names es (progress_after_entry names b s))
       (entry_left names most_nested b s.now.kind)
       (exact-now count named s now x reached)
@@ -330,7 +331,7 @@ module _ (c : Checked) (names : ProgramNames) (meant : AreNamed c names) (labels
       (block-left c names meant most_nested s.passed line operator negated items end s.now.kind
       right)
       (items-typed es (progress_after_entry names b s) named
-      (Some (option_map (gives operator) s.now.kind)) same
+      (Some (option_map (type_of_result operator) s.now.kind)) same
       h.1 (exact-behind-block names count line operator negated items end s named now reached x)
       size)
 

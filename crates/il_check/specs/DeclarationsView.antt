@@ -105,7 +105,7 @@ pub record Takes (points : List Point) (d : text.Declared) (old new : Declaratio
       (is_some (get_by_text old.meanings (upper d.name))) (is_full (counts_in old) d.kind) d)
 
 -- These are the declarations `declared`, in order.
-pub record StandsFor (points : List Point) (declared : List text.Declared) (d : Declarations)
+pub record AreDeclarations (points : List Point) (declared : List text.Declared) (d : Declarations)
     : Type 0 where
   pub externals : d.externals.items ≡ externals_of points declared
   pub variables : d.variables.items ≡ variables_of declared

@@ -38,12 +38,12 @@ is_external Local = false
 is_external External = true
 
 -- whether an octet may be in a name, letters in either case (IEC 61131-3, 2.1.2)
-abbrev pub may_stand : ℕ → Bool
-may_stand octet = is_name_octet (to_ascii_uppercase octet)
+abbrev pub may_be_in_name : ℕ → Bool
+may_be_in_name octet = is_name_octet (to_ascii_uppercase octet)
 
 -- whether a name is 1 to 64 letters, digits and underscores (IEC 61131-3, 2.1.2)
 abbrev pub is_name : List ℕ → Bool
-is_name name = (nat_lt 0 (length name) && nat_le (length name) 64) && list_all may_stand name
+is_name name = (nat_lt 0 (length name) && nat_le (length name) 64) && list_all may_be_in_name name
 
 -- ---- own: points of the bay
 

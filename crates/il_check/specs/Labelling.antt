@@ -5,7 +5,7 @@ use Rattle.bay_base.specs.declared.types.ElementaryType.{ElementaryType}
 use Rattle.il_text.specs.Listing as text
 use Rattle.il_text.specs.declared.program.Operator.{Operator}
 use Rattle.il_check.specs.SourceOperands.{ProgramNames, resolution_of}
-use Rattle.il_check.specs.Rules.{is_wrong, is_unset, type_after, combines_wrong, combines_unset, misses_name, jumps_back, misses_label, writes_fixed, may_divide_by_zero, divides, gives, falls_through, target_of}
+use Rattle.il_check.specs.Rules.{is_wrong, is_unset, type_after, combines_wrong, combines_unset, misses_name, jumps_back, misses_label, writes_fixed, may_divide_by_zero, divides, type_of_result, falls_through, target_of}
 use Rattle.il_check.specs.WellTyped.{Progress, progress_after_entry, is_first, type_after_entry, type_after_entries}
 use Rattle.il_check.specs.declared.source_operand.Resolved.{Resolved}
 use Rattle.il_check.specs.Limits.{most_labels, most_nested}
@@ -118,7 +118,8 @@ carried_after_action r t c =
 
 -- the state after a parenthesis whose operator works on a result of this type
 abbrev pub carried_after_block : Operator → Option ElementaryType → Carried → Carried
-carried_after_block operator t c = carry_of c.passed c.named (Some (option_map (gives operator) t))
+carried_after_block operator t c =
+    carry_of c.passed c.named (Some (option_map (type_of_result operator) t))
 
 -- The label is the first of its name and not too many, and the path from above brings its type.
 abbrev pub LabelFlows : ProgramNames → Labelling → List ℕ → Carried → Type 0
@@ -170,7 +171,8 @@ type_after_items names labels (text.action line a ∷ es) c =
     (with_result (coming_after_action (resolution_of names a)) c.now))
 type_after_items names labels (text.block line operator negated items end ∷ es) c =
     type_after_items names labels es
-    (carry_of c.passed c.named (with_result (λ t. Some (option_map (gives operator) t)) c.now))
+    (carry_of c.passed c.named
+    (with_result (λ t. Some (option_map (type_of_result operator) t)) c.now))
 
 -- the state of the checks after items
 abbrev pub progress_after_entries : ProgramNames → List text.Entry → Progress → Progress

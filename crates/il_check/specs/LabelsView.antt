@@ -28,6 +28,6 @@ pub record AddsLabels (labels : List (List ℕ × ℕ)) (old new : Labels) : Typ
       → get_by_text new.numbers other ≡ with_labels (λ q. get_by_text old.numbers q) labels other
 
 -- These are all labels.
-pub record StandsAs (labels : List (List ℕ × ℕ)) (l : Labels) : Type 0 where
+pub record AreLabels (labels : List (List ℕ × ℕ)) (l : Labels) : Type 0 where
   pub numbers : (name : List ℕ) → get_by_text l.numbers name ≡ looked_up labels name
   pub arrivals : l.arrivals.items ≡ map (λ l. no_reach) labels

@@ -83,12 +83,12 @@ or_same kind (Some given) = given
 -- ---- IEC 61131-3 3.2.2, table 52: operands and results of operators
 
 -- whether an operator works with this type on both sides: its table has a row
-abbrev pub takes : Operator → ElementaryType → Bool
-takes operator kind = is_some (result_type operator kind kind)
+abbrev pub accepts_type : Operator → ElementaryType → Bool
+accepts_type operator kind = is_some (result_type operator kind kind)
 
 -- the type of an operator's result, if the operator works with the type
-abbrev pub gives : Operator → ElementaryType → ElementaryType
-gives operator kind = or_same kind (result_type operator kind kind)
+abbrev pub type_of_result : Operator → ElementaryType → ElementaryType
+type_of_result operator kind = or_same kind (result_type operator kind kind)
 
 -- whether the operator divides by its operand (own)
 abbrev pub divides : Operator → Bool
@@ -102,7 +102,7 @@ may_negate negated kind = not negated || is_boolean kind
 
 -- whether an operator, which may negate its operand, works on a type
 abbrev pub works : Operator → Bool → ElementaryType → Bool
-works operator negated kind = takes operator kind && may_negate negated kind
+works operator negated kind = accepts_type operator kind && may_negate negated kind
 
 -- whether a store writes the result as it is
 abbrev pub is_plain : StoreKind → Bool
@@ -205,7 +205,8 @@ is_unset r result = uses_result r && is_none result
 abbrev pub type_after : Resolved → Option ElementaryType → Option ElementaryType
 type_after (Load negated given) result = load_type given
 type_after (Store how target) result = result
-type_after (Combine operator negated given is_nonzero) result = option_map (gives operator) result
+type_after (Combine operator negated given is_nonzero) result =
+    option_map (type_of_result operator) result
 type_after Not result = result
 type_after (Convert conversion) result = Some (converted_to conversion)
 type_after (Jump condition label) result = result

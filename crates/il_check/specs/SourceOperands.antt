@@ -85,14 +85,15 @@ resolve_output (Some (meaning.Timer timer)) gives =
     })
 
 -- a variable, or an output of a timer, by its name
-abbrev pub resolve_place : ProgramNames → text.Place → SourceOperand
-resolve_place names (text.named name) = resolve_variable (names.meaning name)
-resolve_place names (text.output timer gives) = resolve_output (names.meaning timer) gives
+abbrev pub resolve_variable_or_output : ProgramNames → text.Place → SourceOperand
+resolve_variable_or_output names (text.named name) = resolve_variable (names.meaning name)
+resolve_variable_or_output names (text.output timer gives) =
+    resolve_output (names.meaning timer) gives
 
 -- an operand
 abbrev pub resolve_operand : ProgramNames → text.OperandData → SourceOperand
 resolve_operand names (text.constant value) = literal_operand value
-resolve_operand names (text.variable place) = resolve_place names place
+resolve_operand names (text.variable place) = resolve_variable_or_output names place
 
 -- whether the number is 0
 abbrev pub is_zero : ℤ → Bool
@@ -133,7 +134,7 @@ resolve_arguments names (a ∷ b ∷ more) =
 -- an instruction with its names resolved
 abbrev pub resolution_of : ProgramNames → text.Action → Resolved
 resolution_of names (text.load negated source) = Load negated (resolve_operand names source)
-resolution_of names (text.store kind place) = Store kind (resolve_place names place)
+resolution_of names (text.store kind place) = Store kind (resolve_variable_or_output names place)
 resolution_of names (text.combine operator negated source) =
     Combine operator negated (resolve_operand names source) (is_nonzero source)
 resolution_of names text.invert = Not

@@ -12,7 +12,7 @@ use Rattle.il_image.specs.Machine.{most_slots, most_timers}
 use Rattle.il_check.specs.SourceOperands.{output_type}
 use Rattle.il_check.specs.Labelling.{Labelling, Coming, Carried, carry_of, initial_carried, Falls, Jumps, with_target, carried_after_label}
 use Rattle.il_check.specs.Program.{Entry, operation, block, Entries, no_entries, entry, ProgramItem, label, transfer, plain, Checked}
-use Rattle.il_check.specs.Rules.{may_negate, is_plain, works, gives, divides, input_type, converted_from, converted_to}
+use Rattle.il_check.specs.Rules.{may_negate, is_plain, works, type_of_result, divides, input_type, converted_from, converted_to}
 use Rattle.il_check.specs.declared.typed.External.{External}
 use Rattle.il_check.specs.declared.typed.Variable.{Variable}
 use Rattle.il_check.specs.declared.typed.Slot.{Slot}
@@ -72,7 +72,7 @@ IsOperation c (op.Store how s) t u =
 IsOperation c (op.Combine operator kind negated x) t u =
     IsOperand c x kind × (works operator negated kind ≡ true)
     × (divides operator && not (is_divisor x) ≡ false) × (t ≡ Some kind)
-    × (u ≡ Some (gives operator kind))
+    × (u ≡ Some (type_of_result operator kind))
 IsOperation c op.Not t u = (t ≡ Some elementary.Bool) × (u ≡ t)
 IsOperation c (op.Convert conversion) t u =
     (t ≡ Some (converted_from conversion)) × (u ≡ Some (converted_to conversion))
@@ -83,7 +83,7 @@ abbrev mutual
   IsEntry c (operation o) t u = IsOperation c o t u
   IsEntry c (block operator kind negated es) t u =
       AreEntries c es None (Some kind) × (works operator negated kind ≡ true)
-      × (divides operator ≡ false) × (t ≡ Some kind) × (u ≡ Some (gives operator kind))
+      × (divides operator ≡ false) × (t ≡ Some kind) × (u ≡ Some (type_of_result operator kind))
 
   pub AreEntries : Checked → Entries → Option ElementaryType → Option ElementaryType → Type 0
   AreEntries c no_entries t u = u ≡ t

@@ -9,7 +9,7 @@ use Rattle.il_text.specs.declared.program.Operator.{Operator}
 use Rattle.il_check.specs.Faults.{fault_if}
 use Rattle.il_check.specs.SourceOperands.{ProgramNames, resolution_of}
 use Rattle.il_check.specs.Program as plain
-use Rattle.il_check.specs.Rules.{is_wrong, is_unset, type_after, combines_wrong, combines_unset, misses_name, jumps_back, misses_label, writes_fixed, may_divide_by_zero, divides, gives, falls_through, target_of}
+use Rattle.il_check.specs.Rules.{is_wrong, is_unset, type_after, combines_wrong, combines_unset, misses_name, jumps_back, misses_label, writes_fixed, may_divide_by_zero, divides, type_of_result, falls_through, target_of}
 use Rattle.il_check.specs.Typing.{entry_in, item_in, block_in}
 use Rattle.il_check.specs.declared.reach.Reach.{Reach}
 use Rattle.il_check.specs.declared.source_operand.Resolved.{Resolved}
@@ -61,7 +61,7 @@ abbrev pub type_after_entry : ProgramNames → text.Entry → Option ElementaryT
 type_after_entry names (text.label line name) result = result
 type_after_entry names (text.action line a) result = type_after (resolution_of names a) result
 type_after_entry names (text.block line operator negated items end) result =
-    option_map (gives operator) result
+    option_map (type_of_result operator) result
 
 -- the type of the result after entries
 abbrev pub type_after_entries : ProgramNames → text.Entries → Option ElementaryType
@@ -164,7 +164,10 @@ progress_after_label s = record {
 -- the state after a parenthesis
 abbrev pub progress_after_block : Operator → Progress → Progress
 progress_after_block operator s = record {
-  now = record { is_reached = s.now.is_reached; kind = option_map (gives operator) s.now.kind };
+  now = record {
+    is_reached = s.now.is_reached;
+    kind = option_map (type_of_result operator) s.now.kind;
+  };
   arrivals = s.arrivals;
   passed = s.passed;
 }

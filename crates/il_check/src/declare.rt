@@ -7,7 +7,7 @@ ghost use Rattle.bay_base.specs.Names as names;
 ghost use Rattle.il_text.specs.Views.{declared_of};
 ghost use Rattle.il_check.specs.Faults.{first_fault_of, least_fault};
 ghost use Rattle.il_check.specs.NamesView.{with_value};
-ghost use Rattle.il_check.specs.DeclarationsView.{StandsFor, Takes, Adds, SameButExternals, SameButVariables, SameButTimers, external_named, variable_named, counts_in};
+ghost use Rattle.il_check.specs.DeclarationsView.{AreDeclarations, Takes, Adds, SameButExternals, SameButVariables, SameButTimers, external_named, variable_named, counts_in};
 ghost use Rattle.il_check.specs.Declaring as spec;
 
 use crate::fault::CheckFault;
@@ -48,14 +48,14 @@ const MAX_NAME: usize = 64;
 
 // Returns whether a name may have this octet, case-insensitively.
 fn is_allowed_here(octet: u8) -> bool
-    ensures { result ≡ spec.may_stand octet }
+    ensures { result ≡ spec.may_be_in_name octet }
 {
     matches!(octet.to_ascii_uppercase(), b'A'..=b'Z' | b'0'..=b'9' | b'_')
 }
 
 // Returns whether a name may have each of the octets.
-fn all_may_stand(octets: &[u8]) -> bool
-    ensures { result ≡ list_all spec.may_stand octets.now }
+fn are_name_octets(octets: &[u8]) -> bool
+    ensures { result ≡ list_all spec.may_be_in_name octets.now }
 {
     octets.iter().all(|octet| is_allowed_here(*octet))
 }
@@ -65,7 +65,7 @@ fn is_name(name: &str) -> bool
     ensures { result ≡ spec.is_name name.now }
 {
     let octets = name.as_bytes();
-    0 < octets.len() && octets.len() <= MAX_NAME && all_may_stand(octets)
+    0 < octets.len() && octets.len() <= MAX_NAME && are_name_octets(octets)
 }
 
 // Returns the first point with this name, case-insensitively.
@@ -189,7 +189,7 @@ fn declaration_fault(
 impl Declarations {
     // Creates an empty set of declarations.
     fn new(alloc: Global) -> Self
-        ensures nothing { (points : List Point) → StandsFor points [] result }
+        ensures nothing { (points : List Point) → AreDeclarations points [] result }
         ensures no_fault { result.found ≡ None }
     {
         Declarations {
@@ -331,7 +331,8 @@ pub(crate) fn declare_all(
     points: &[Point],
     declarations: &[Declaration<'_>],
 ) -> Result<Declarations, AllocError>
-    ensures stands { IfOk result (λ d. StandsFor points.now (map declared_of declarations.now) d) }
+    ensures stands { IfOk result
+        (λ d. AreDeclarations points.now (map declared_of declarations.now) d) }
     ensures found { IfOk result
         (λ d. d.found ≡ least_fault
         (spec.declarations_faults points.now [] (map declared_of declarations.now))) }

@@ -3,7 +3,7 @@ ghost use Rattle.std.specs.Prelude.{[], ◌∷◌, length, map, vec_len, ◌<◌
 ghost use Rattle.bay_base.specs.Names as names;
 ghost use Rattle.il_text.specs.Views.{entry_of};
 ghost use Rattle.il_check.specs.Declaring.{labels_from};
-ghost use Rattle.il_check.specs.LabelsView.{label_in, StandsAs, AddsLabels};
+ghost use Rattle.il_check.specs.LabelsView.{label_in, AreLabels, AddsLabels};
 
 use crate::names::{add_label, upper_case};
 use crate::reach::{Reach, unreached};
@@ -48,7 +48,7 @@ impl Labels {
 /// Collects all labels of a program. Fails only if an allocation fails, and never if there are no
 /// items.
 pub(crate) fn all_labels(alloc: Global, items: &[Item<'_>]) -> Result<Labels, AllocError>
-    ensures stands { IfOk result (λ l. StandsAs (labels_from 0 (map entry_of items.now)) l) }
+    ensures stands { IfOk result (λ l. AreLabels (labels_from 0 (map entry_of items.now)) l) }
     ensures memory { IfErr result (λ e. 0 < length items.now) }
 {
     let mut labels = Labels {

@@ -55,7 +55,7 @@ pub fn answered_fault_is_least()
 /// A name means its own declaration: the name of the n-th external means the n-th external, and
 /// likewise for variables and timers; what a name means is declared under that name; and as a
 /// label, a name means the number of the label with that name.
-pub fn a_name_means_its_own_place()
+pub fn a_name_means_its_own_declaration()
     ensures { (points : List Point) (program : text.PlainProgram) (c : Checked)
         → checked_of points program ≡ Ok c
         → MeanOwnPlaces (names_in points program) c program.items }
@@ -64,7 +64,7 @@ pub fn a_name_means_its_own_place()
 /// A check preserves a program of the grammar: with names in place of slots, timers and label
 /// numbers again, the checked program has the program's declarations and items, each in its order,
 /// with the same operators, modifiers, operands and nesting. An external is the point of its name.
-pub fn a_right_program_keeps_all_that_it_says()
+pub fn a_check_changes_no_right_program()
     ensures { (points : List Point) (program : text.PlainProgram) (c : Checked)
         → checked_of points program ≡ Ok c → list_all is_outer program.items ≡ true
         → Keeps points program c }

@@ -157,7 +157,7 @@ impl ProgramNames {
         variable: SymbolicVariable<'_>,
     ) -> Result<SourceOperand, AllocError>
         ensures { IfOk result (λ given. given
-            ≡ spec.resolve_place (names_of self.now) (place_of variable.entry)) }
+            ≡ spec.resolve_variable_or_output (names_of self.now) (place_of variable.entry)) }
     {
         match variable {
             SymbolicVariable::Name(name) => Ok(resolve_variable(self.meaning(buffer, name)?)),

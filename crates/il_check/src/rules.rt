@@ -92,8 +92,8 @@ fn is_number(kind: ElementaryType) -> bool
 }
 
 // Returns whether an operator accepts a type on both sides.
-fn takes(operator: Operator, kind: ElementaryType) -> bool
-    ensures { result ≡ spec.takes operator kind }
+fn accepts_type(operator: Operator, kind: ElementaryType) -> bool
+    ensures { result ≡ spec.accepts_type operator kind }
 {
     match operator {
         Operator::And | Operator::Or | Operator::Xor => is_boolean(kind),
@@ -106,8 +106,8 @@ fn takes(operator: Operator, kind: ElementaryType) -> bool
 }
 
 // Returns the type of an operator's result.
-fn gives(operator: Operator, kind: ElementaryType) -> ElementaryType
-    ensures { result ≡ spec.gives operator kind }
+fn type_of_result(operator: Operator, kind: ElementaryType) -> ElementaryType
+    ensures { result ≡ spec.type_of_result operator kind }
 {
     match operator {
         Operator::And
@@ -124,14 +124,14 @@ fn gives(operator: Operator, kind: ElementaryType) -> ElementaryType
 }
 
 /// Returns the type of the current result after an operator.
-pub(crate) fn given_type(
+pub(crate) fn type_after_operator(
     operator: Operator,
     result_type: Option<ElementaryType>,
 ) -> Option<ElementaryType>
-    ensures { result ≡ option_map (spec.gives operator) result_type }
+    ensures { result ≡ option_map (spec.type_of_result operator) result_type }
 {
     match result_type {
-        Some(kind) => Some(gives(operator, kind)),
+        Some(kind) => Some(type_of_result(operator, kind)),
         None => None,
     }
 }
@@ -157,7 +157,7 @@ fn may_negate(negated: bool, kind: ElementaryType) -> bool
 fn works(operator: Operator, negated: bool, kind: ElementaryType) -> bool
     ensures { result ≡ spec.works operator negated kind }
 {
-    takes(operator, kind) && may_negate(negated, kind)
+    accepts_type(operator, kind) && may_negate(negated, kind)
 }
 
 // Returns whether a store writes the result unchanged.
@@ -313,7 +313,7 @@ pub(crate) fn type_after(resolved: Resolved, kind: Option<ElementaryType>) -> Op
 {
     match resolved {
         Resolved::Load { given, .. } => load_type(given),
-        Resolved::Combine { operator, .. } => given_type(operator, kind),
+        Resolved::Combine { operator, .. } => type_after_operator(operator, kind),
         Resolved::Convert(conversion) => Some(converted_to(conversion)),
         Resolved::Store { .. } | Resolved::Not | Resolved::Jump { .. } | Resolved::Return(_) =>
             kind,

@@ -20,7 +20,7 @@ use crate::judge::{
 use crate::names::ProgramNames;
 use crate::note::note_if;
 use crate::reach::{Reach, join, unreached};
-use crate::rules::{falls_through, given_type, target_of, type_after};
+use crate::rules::{falls_through, target_of, type_after, type_after_operator};
 use crate::source_operand::Resolved;
 use crate::typed::{TypedEntry, TypedItem};
 use crate::typing::{operation_in, transfer_in};
@@ -186,7 +186,7 @@ impl Judge {
                 let entry = self.block(names, context, parenthesis, items.as_slice(), kind)?;
                 Ok(EntryLeft {
                     entry,
-                    kind: given_type(*operator, kind),
+                    kind: type_after_operator(*operator, kind),
                 })
             }
         }

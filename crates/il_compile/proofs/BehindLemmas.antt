@@ -8,7 +8,7 @@ use Rattle.il_image.specs.Images.{Each, all_spelled}
 use Rattle.il_image.specs.Spelling.{spelling}
 use Rattle.il_image.specs.declared.instr.Instr.{Instr}
 use Rattle.il_check.specs.Program.{ProgramItem, label}
-use Rattle.il_compile.specs.Behind.{IsBehind, IsSettled, octets_bound}
+use Rattle.il_compile.specs.Continuation.{IsContinuation, IsSettled, octets_bound}
 use Rattle.il_compile.specs.declared.continuation.Continuation.{Continuation}
 use Rattle.il_compile.specs.Code.{octets, octets_before, items_code}
 use Rattle.il_compile.proofs.Placing.{octets-both, octets_more, spelled-both}
@@ -37,11 +37,11 @@ nothing-left line behind first e f = ap (λ l. l ++ behind) (sym e) ∙ f
 -- an item whose code has no jump
 pub item-behind : (n : ℕ) (i : ProgramItem) (is : List ProgramItem) (a instrs more : List Instr)
     (size all : ℕ)
-    (places : ℕ → Option ℕ) → IsBehind n is instrs size places
+    (places : ℕ → Option ℕ) → IsContinuation n is instrs size places
     → items_code n (i ∷ is) ≡ a ++ items_code n is
     → ((l : ℕ) → octets_before n l (i ∷ is) ≡ octets a + octets_before n l is)
     → reverse more ≡ a ++ reverse instrs → all ≡ min (size + octets a) octets_bound
-    → IsBehind n (i ∷ is) more all places
+    → IsContinuation n (i ∷ is) more all places
 item-behind n i is a instrs more size all places b same before rev counted =
     let whole : octets (items_code n (i ∷ is)) ≡ octets a + octets (items_code n is) =
     ap octets same ∙ octets-both a (items_code n is) in
@@ -53,9 +53,9 @@ item-behind n i is a instrs more size all places b same before rev counted =
 
 -- a label stands where the items behind it begin
 pub label-behind : (n l : ℕ) (is : List ProgramItem) (instrs : List Instr) (size : ℕ)
-    (places new : ℕ → Option ℕ) → IsBehind n is instrs size places
+    (places new : ℕ → Option ℕ) → IsContinuation n is instrs size places
     → ((m : ℕ) → new m ≡ (if l == m then Some size else places m))
-    → IsBehind n (label l ∷ is) instrs size new
+    → IsContinuation n (label l ∷ is) instrs size new
 label-behind n l is instrs size places new b e = record {
   counted = b.counted;
   code = b.code;
@@ -72,12 +72,12 @@ label-behind n l is instrs size places new b e = record {
 -- a jump over so many octets
 pub jump-behind : (n : ℕ) (i : ProgramItem) (is : List ProgramItem) (jump right : Instr)
     (instrs more : List Instr) (size all : ℕ) (places : ℕ → Option ℕ)
-    → IsBehind n is instrs size places
+    → IsContinuation n is instrs size places
     → length (spelling jump) ≡ 3 → length (spelling right) ≡ 3
     → items_code n (i ∷ is) ≡ right ∷ items_code n is
     → ((l : ℕ) → octets_before n l (i ∷ is) ≡ 3 + octets_before n l is)
     → (octets (items_code n is) ≤ most_octets → jump ≡ right) → reverse more ≡ jump ∷ reverse instrs
-    → all ≡ min (size + octets (jump ∷ [])) octets_bound → IsBehind n (i ∷ is) more all places
+    → all ≡ min (size + octets (jump ∷ [])) octets_bound → IsContinuation n (i ∷ is) more all places
 jump-behind n i is jump right instrs more size all places b three also same before fits rev
     counted =
     let whole : octets (items_code n (i ∷ is)) ≡ 3 + octets (items_code n is) =
@@ -111,7 +111,8 @@ put-settled n i is a old line new s same before put rev counted empty places =
     let just : line ≡ a = put ∙ ap (λ l. l ++ a) s.settled in
     record {
       behind =
-          subst (λ p. IsBehind n (i ∷ is) new.instrs.items new.octets (get nat_eq p)) (sym places)
+          subst (λ p. IsContinuation n (i ∷ is) new.instrs.items new.octets (get nat_eq p))
+          (sym places)
           (item-behind n i is a old.instrs.items new.instrs.items old.octets new.octets
           (get nat_eq old.places) s.behind same before
           (rev ∙ ap (λ l. l ++ reverse old.instrs.items) just)
@@ -135,7 +136,8 @@ put-leap n i is jump right old line new s three also same before fits put rev co
     let just : line ≡ jump ∷ [] = put ∙ ap (λ l. l ++ jump ∷ []) s.settled in
     record {
       behind =
-          subst (λ p. IsBehind n (i ∷ is) new.instrs.items new.octets (get nat_eq p)) (sym places)
+          subst (λ p. IsContinuation n (i ∷ is) new.instrs.items new.octets (get nat_eq p))
+          (sym places)
           (jump-behind n i is jump right old.instrs.items new.instrs.items old.octets new.octets
           (get nat_eq old.places) s.behind three also same before fits
           (rev ∙ ap (λ l. l ++ reverse old.instrs.items) just)
@@ -145,13 +147,13 @@ put-leap n i is jump right old line new s three also same before fits put rev co
 
 -- the distance to a label, and to the end
 pub to-label : (n l size : ℕ) (is : List ProgramItem) (instrs : List Instr) (places : ℕ → Option ℕ)
-    → IsBehind n is instrs size places → octets (items_code n is) ≤ most_octets
+    → IsContinuation n is instrs size places → octets (items_code n is) ≤ most_octets
     → min (size - unwrap_or (places l) 0) 0xFFFF ≡ octets_before n l is
 to-label n l size is instrs places b short = let c = b.counted in let k =
     b.known short l in omega arith
 
 pub to-end : (n size : ℕ) (is : List ProgramItem) (instrs : List Instr) (places : ℕ → Option ℕ)
-    → IsBehind n is instrs size places → octets (items_code n is) ≤ most_octets
+    → IsContinuation n is instrs size places → octets (items_code n is) ≤ most_octets
     → min size 0xFFFF ≡ octets (items_code n is)
 to-end n size is instrs places b short = let c = b.counted in omega arith
 

@@ -15,7 +15,7 @@ use Rattle.il_check.specs.TypedProgram as typed
 use Rattle.il_check.specs.TypedProgram.{IsTyped}
 use Rattle.il_check.specs.declared.typed.External.{External}
 use Rattle.il_check.specs.declared.typed.Variable.{Variable}
-use Rattle.il_compile.specs.Behind.{IsSettled}
+use Rattle.il_compile.specs.Continuation.{IsSettled}
 use Rattle.il_compile.specs.Code.{items_code, octets, program_code, push_unset}
 use Rattle.il_compile.specs.Compiled.{compiled_of, image_of, image_size, point_of, points_octets, most_octets}
 use Rattle.il_compile.specs.declared.continuation.Continuation.{Continuation}

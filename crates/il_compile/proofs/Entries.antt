@@ -129,11 +129,11 @@ module _ (c : Checked) (now : ℕ) where
   stays o false kind v w h z e = let same : v ≡ w =
       cc in subst (λ x. rules.divides o && int_eq (number_of x) (pos 0) ≡ false) same z
   stays o true kind v w h z e =
-      let both = and_parts (rules.takes o kind) (rules.may_negate true kind) h in
+      let both = and_parts (rules.accepts_type o kind) (rules.may_negate true kind) h in
       let same = same-sense o in
       and_left (rules.divides o) _
       (same.divides ∙ numbers-alone (sense_of o)
-      (sym (same.takes elementary.Bool) ∙ ap (rules.takes o) (sym (boolean-is kind both.1))
+      (sym (same.takes elementary.Bool) ∙ ap (rules.accepts_type o) (sym (boolean-is kind both.1))
       ∙ both.0))
 
   record Joined (o : Operator) (negated : Bool) (kind : ElementaryType) (a v : Value) (m : Memory)
@@ -142,7 +142,7 @@ module _ (c : Checked) (now : ℕ) where
     turns : inverse_if negated v ≡ Some second
     value : Value
     is : combination_of (sense_of o) a second ≡ Some value
-    type : type_of value ≡ rules.gives o kind
+    type : type_of value ≡ rules.type_of_result o kind
     does : DoesAll now (operator_code o kind negated) (holding (v ∷ a ∷ cells) m)
         (holding (value ∷ cells) m)
 
@@ -151,7 +151,7 @@ module _ (c : Checked) (now : ℕ) where
       → rules.works o negated kind ≡ true → rules.divides o && int_eq (number_of v) (pos 0) ≡ false
       → Joined o negated kind a v m cells
   operator-does o negated kind a v m cells ta tv h z =
-      let both_are = and_parts (rules.takes o kind) (rules.may_negate negated kind) h in
+      let both_are = and_parts (rules.accepts_type o kind) (rules.may_negate negated kind) h in
       let same = same-sense o in
       let t = turned negated v kind m (a ∷ cells) tv both_are.1 in
       let zero = stays o negated kind v t.value h z t.is in

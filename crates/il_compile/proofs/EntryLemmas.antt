@@ -12,7 +12,7 @@ use Rattle.il_check.specs.ProgramViews.{entry_view}
 use Rattle.il_check.specs.declared.typed.SimpleOperation as typed
 use Rattle.il_check.specs.declared.typed.TypedEntry.{TypedEntry, Operation, Block}
 use Rattle.il_check.proofs.ViewLemmas.{view-operation, view-block}
-use Rattle.il_compile.specs.Behind.{IsSpellableEntry, AreSpellableEntries}
+use Rattle.il_compile.specs.Continuation.{IsSpellableEntry, AreSpellableEntries}
 use Rattle.il_compile.specs.Code.{push_unset, operator_code, operation_code, entry_code, entries_code}
 
 none-after : {X : Type 0} → (xs : List X) (i : ℕ) → length xs ≤ i → drop i xs ≡ []

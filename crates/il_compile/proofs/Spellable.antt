@@ -27,7 +27,7 @@ use Rattle.il_check.specs.declared.typed.TypedArguments.{TypedArguments}
 use Rattle.il_check.specs.declared.typed.TypedArguments.TheVariants as arguments
 use Rattle.il_check.specs.declared.typed.TypedOperand.{TypedOperand}
 use Rattle.il_check.specs.declared.typed.TypedOperand.TheVariants as operand
-use Rattle.il_compile.specs.Behind.{AreSpellable, IsSpellableEntry, AreSpellableEntries}
+use Rattle.il_compile.specs.Continuation.{AreSpellable, IsSpellableEntry, AreSpellableEntries}
 use Rattle.il_compile.specs.Code.{slot_number, fetch, negation_code, sense_instr, operator_code, store_code, operation_code, push_unset, entry_code, entries_code, input_use, argument_code, arguments_code, transfer_code, octets, octets_before, distance, items_code, program_code}
 use Rattle.il_compile.specs.Senses.{Sense, connects, computes, compares, sense_of, when_of}
 use Rattle.il_compile.proofs.Placing.{octets-both}

@@ -46,7 +46,7 @@ numbers-divide : (o : Operator) (negated : Bool) (kind : ElementaryType)
     → rules.works o negated kind ≡ true → rules.divides o ≡ true → rules.is_number kind ≡ true
 numbers-divide o negated kind h d =
     let same = same-sense o in
-    let both = and_parts (rules.takes o kind) (rules.may_negate negated kind) h in
+    let both = and_parts (rules.accepts_type o kind) (rules.may_negate negated kind) h in
     numbers-alone (sense_of o) kind (sym (same.takes kind) ∙ both.0) (sym same.divides ∙ d)
 
 divisor-there : (d b : Bool) → d && not b ≡ false → d ≡ true → b ≡ true
@@ -81,10 +81,11 @@ module _ (c : Checked) where
       → rules.works o negated kind ≡ true
       → (rules.divides o ≡ true → is_within v (NotZero (width_of kind)) ≡ true)
       → length below + 2 ≤ most_cells
-      → Leaves (operator_code o kind negated) (v ∷ a ∷ below) below (Some (rules.gives o kind))
+      → Leaves (operator_code o kind negated) (v ∷ a ∷ below) below
+      (Some (rules.type_of_result o kind))
   operator-flows o false kind v a below h g works d room =
       let same = same-sense o in
-      let both = and_parts (rules.takes o kind) (rules.may_negate false kind) works in
+      let both = and_parts (rules.accepts_type o kind) (rules.may_negate false kind) works in
       let j = joined c (sense_of o) kind v a below (sym (same.takes kind) ∙ both.0) h g
       (λ e. d (same.divides ∙ e)) room in
       record {
@@ -94,7 +95,7 @@ module _ (c : Checked) where
       }
   operator-flows o true kind v a below h g works d room =
       let same = same-sense o in
-      let both = and_parts (rules.takes o kind) (rules.may_negate true kind) works in
+      let both = and_parts (rules.accepts_type o kind) (rules.may_negate true kind) works in
       let bool = boolean-is kind both.1 in
       let turned : is_within (Plain elementary.Bool) (Plain kind) ≡ true =
       subst (λ k. is_within (Plain elementary.Bool) (Plain k) ≡ true) (sym bool) refl in

@@ -3,7 +3,7 @@ use Rattle.std.proofs.Common.{◌≡◌, ℕ, zero, suc, ◌+◌, ◌-◌, ◌�
 use Rattle.std.proofs.lemmas.Bool.{le-ltb, ltb-false}
 use Rattle.il_image.specs.Reading.{instr_at}
 use Rattle.il_image.specs.Spelling.{operand_of, spelling}
-use Rattle.il_image.specs.Tables.{IsPlace, LeadsTo, Table, place_after, place_of}
+use Rattle.il_image.specs.Tables.{IsPlace, LeadsTo, Table, offset_after, offset_of}
 use Rattle.il_image.specs.declared.instr.Instr.{Instr}
 use Rattle.il_image.specs.declared.instr.Instr.TheVariants.{Halt, Push, Drop, Slot, Not, Combine, Compute, Compare, Widen, Jump, Timer}
 use Rattle.il_image.specs.declared.kind.CellKind.{CellKind}
@@ -185,9 +185,9 @@ module _ (code : List ℕ) (is : List Instr) (whole : Stands code 0 is)
         place = omega (arith, octets-both a.before (a.instr ∷ []), octets_more a.instr []);
       })
 
-  pub place-at : (n x : ℕ) → place_of code n ≡ Some x → At is x ⊎ (x ≡ length code)
+  pub place-at : (n x : ℕ) → offset_of code n ≡ Some x → At is x ⊎ (x ≡ length code)
   place-at zero x e = first-place is refl x (let z : 0 ≡ x = cc in z)
-  place-at (suc n) x e = by-place (λ y p. place-at n y p) (place_of code n) refl e
+  place-at (suc n) x e = by-place (λ y p. place-at n y p) (offset_of code n) refl e
     where
       behind : (y : ℕ) → At is y ⊎ (y ≡ length code)
           → option_map (λ r. r.1) (instr_at code y) ≡ Some x → At is x ⊎ (x ≡ length code)
@@ -201,13 +201,14 @@ module _ (code : List ℕ) (is : List Instr) (whole : Stands code 0 is)
           let bad : ◌≡◌ {A = Option ℕ} None (Some x) = ap (option_map (λ r. r.1)) (sym none) ∙ g in
           absurd cc
 
-      by-place : ((y : ℕ) → place_of code n ≡ Some y → At is y ⊎ (y ≡ length code)) → (o : Option ℕ)
-          → place_of code n ≡ o → place_after code o ≡ Some x → At is x ⊎ (x ≡ length code)
+      by-place : ((y : ℕ) → offset_of code n ≡ Some y → At is y ⊎ (y ≡ length code))
+          → (o : Option ℕ)
+          → offset_of code n ≡ o → offset_after code o ≡ Some x → At is x ⊎ (x ≡ length code)
       by-place f None p g = absurd cc
       by-place f (Some y) p g = behind y (f y p) g
 
   steps : (a b : List Instr) (i : Instr) (p n : ℕ) → Stands code p (a ++ i ∷ b)
-      → place_of code n ≡ Some p → (m : ℕ) × (place_of code m ≡ Some (p + octets a))
+      → offset_of code n ≡ Some p → (m : ℕ) × (offset_of code m ≡ Some (p + octets a))
   steps [] b i p n h e = (n, (let z : p ≡ p + 0 = omega arith in e ∙ ap Some z))
   steps (j ∷ a) b i p n h e =
       let next = p + length (spelling j) in
@@ -215,8 +216,8 @@ module _ (code : List ℕ) (is : List Instr) (whole : Stands code 0 is)
       subst (λ q. Stands code q (a ++ i ∷ b))
       (let z : p + octets (j ∷ []) ≡ next = omega (arith, octets_more j []) in z)
       (back code p (j ∷ []) (a ++ i ∷ b) h) in
-      let one : place_of code (suc n) ≡ Some next =
-      ap (place_after code) e ∙ ap (option_map (λ r. r.1)) (found code p j (a ++ i ∷ b) h) in
+      let one : offset_of code (suc n) ≡ Some next =
+      ap (offset_after code) e ∙ ap (option_map (λ r. r.1)) (found code p j (a ++ i ∷ b) h) in
       let far = steps a b i next (suc n) rest one in
       let z : next + octets a ≡ p + octets (j ∷ a) = omega (arith, octets_more j a) in
       (far.0, far.1 ∙ ap Some z)

@@ -14,7 +14,7 @@ use Rattle.il_text.specs.declared.program.TimerOutput.TheVariants.{Q, Et}
 use Rattle.il_image.specs.Arithmetic.{type_of_width}
 use Rattle.il_image.specs.Effects.{are_compared, below, compares as compares_kinds, kinds_after, kind_of, looks_at, second_kind, two, type_of_kind, widens, with_timer, with_truth}
 use Rattle.il_image.specs.Kinds.{is_within}
-use Rattle.il_image.specs.Machine.{divides, tells_equality, most_cells}
+use Rattle.il_image.specs.Machine.{divides, is_equality_test, most_cells}
 use Rattle.il_image.specs.Tables.{LeadsTo, slot_types}
 use Rattle.il_image.specs.Values.{number_of, type_of}
 use Rattle.il_image.specs.declared.arithmetic.Comparison.{Comparison}
@@ -156,9 +156,9 @@ two-tops first second gives v a rest h g =
 
 -- what comparing makes
 compared : (c : Comparison) (kind : ElementaryType)
-    → tells_equality c || not (rules.is_boolean kind) ≡ true → are_compared c kind kind ≡ true
+    → is_equality_test c || not (rules.is_boolean kind) ≡ true → are_compared c kind kind ≡ true
 compared c elementary.Bool h =
-    elim (tells_equality c) as
+    elim (is_equality_test c) as
     (λ b. b || false ≡ true → true && (false || b) ≡ true)
     [ true ↦ (λ g. refl) | false ↦ (λ g. absurd cc) ] h
 compared c elementary.Int h = refl

@@ -9,7 +9,7 @@ use Rattle.il_text.specs.declared.program.Conversion.{Conversion}
 use Rattle.il_text.specs.declared.program.Conversion.TheVariants.{IntToDint, DintToLint}
 use Rattle.il_text.specs.declared.program.Operator.{Operator}
 use Rattle.il_image.specs.Arithmetic.{comparison_holds, computation_of, logic_of, wider_value}
-use Rattle.il_image.specs.Machine.{divides, tells_equality, value_of_width}
+use Rattle.il_image.specs.Machine.{divides, is_equality_test, value_of_width}
 use Rattle.il_image.specs.Values.{number_of, type_of}
 use Rattle.il_image.specs.declared.arithmetic.Comparison.{Comparison}
 use Rattle.il_image.specs.declared.arithmetic.ArithmeticOperation.{ArithmeticOperation}
@@ -26,7 +26,7 @@ use Rattle.il_compile.specs.Senses.{Sense, connects, computes, compares, sense_o
 abbrev pub sense_takes : Sense → ElementaryType → Bool
 sense_takes (connects c) kind = rules.is_boolean kind
 sense_takes (computes o) kind = rules.is_number kind
-sense_takes (compares c) kind = tells_equality c || not (rules.is_boolean kind)
+sense_takes (compares c) kind = is_equality_test c || not (rules.is_boolean kind)
 
 abbrev pub sense_gives : Sense → ElementaryType → ElementaryType
 sense_gives (connects c) kind = kind
@@ -39,8 +39,8 @@ sense_divides (computes o) = divides o
 sense_divides (compares c) = false
 
 pub record Same (o : Operator) : Type 0 where
-  pub takes : (kind : ElementaryType) → rules.takes o kind ≡ sense_takes (sense_of o) kind
-  pub gives : (kind : ElementaryType) → rules.gives o kind ≡ sense_gives (sense_of o) kind
+  pub takes : (kind : ElementaryType) → rules.accepts_type o kind ≡ sense_takes (sense_of o) kind
+  pub gives : (kind : ElementaryType) → rules.type_of_result o kind ≡ sense_gives (sense_of o) kind
   pub divides : rules.divides o ≡ sense_divides (sense_of o)
 
 pub same-sense : (o : Operator) → Same o
@@ -106,10 +106,10 @@ compared-made c a b true h =
 compared-made c a b false h = absurd cc
 
 comparable : (c : Comparison) (k l : ElementaryType) → k ≡ l
-    → tells_equality c || not (rules.is_boolean k) ≡ true
-    → same_type k l && (not (same_type k elementary.Bool) || tells_equality c) ≡ true
+    → is_equality_test c || not (rules.is_boolean k) ≡ true
+    → same_type k l && (not (same_type k elementary.Bool) || is_equality_test c) ≡ true
 comparable c elementary.Bool l e h =
-    elim (tells_equality c) as
+    elim (is_equality_test c) as
     (λ x. x || false ≡ true → same_type elementary.Bool l && (false || x) ≡ true)
     [ true ↦ (λ g. rw (sym e) refl) | false ↦ (λ g. absurd cc) ] h
 comparable c elementary.Int l e h = rw (sym e) refl

@@ -28,4 +28,4 @@ pub mod Laws
 pub mod Meaning
 pub mod Senses
 -- Inner ones: private functions, invariants and proofs cite them, public clauses don't.
-pub mod Behind
+pub mod Continuation

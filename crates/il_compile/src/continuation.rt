@@ -4,7 +4,7 @@ ghost use Rattle.std.specs.Prelude.{◌≡◌, ℕ, List, ◌+◌, ◌≤◌, �
 ghost use Rattle.il_image.specs.Spelling.{spelling};
 ghost use Rattle.il_check.specs.Program.{ProgramItem, label, plain, transfer};
 ghost use Rattle.il_check.specs.ProgramViews.{entry_view, item_view};
-ghost use Rattle.il_compile.specs.Behind.{AreSpellable, IsBehind, IsSettled, IsSpellable, IsSpellableEntry, octets_bound};
+ghost use Rattle.il_compile.specs.Continuation.{AreSpellable, IsContinuation, IsSettled, IsSpellable, IsSpellableEntry, octets_bound};
 ghost use Rattle.il_compile.specs.Code as spec;
 
 use crate::emit::{put, put_call, put_entry, when_of};

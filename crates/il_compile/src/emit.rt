@@ -3,7 +3,7 @@ ghost use Rattle.std.specs.Prelude.{◌≡◌, ◌<◌, ◌^◌, [], ◌∷◌, 
 ghost use Rattle.il_image.specs.Images.{Each};
 ghost use Rattle.il_image.specs.Spelling.{IsInstr};
 ghost use Rattle.il_check.specs.ProgramViews.{entry_view};
-ghost use Rattle.il_compile.specs.Behind.{IsSpellableEntry};
+ghost use Rattle.il_compile.specs.Continuation.{IsSpellableEntry};
 ghost use Rattle.il_compile.specs.Code as spec;
 ghost use Rattle.il_compile.specs.Senses as senses;
 

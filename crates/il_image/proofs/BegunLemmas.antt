@@ -17,7 +17,7 @@ use Rattle.bay_base.specs.Types.{same_type}
 use Rattle.il_image.specs.Arithmetic.{comparison_holds, computation_of, wider_value}
 use Rattle.il_image.specs.Values.{number_of, type_of}
 use Rattle.il_image.specs.Images.{Image}
-use Rattle.il_image.specs.Places.{IsPlace, place_after, begun_at, is_among, is_place, is_there, place_of}
+use Rattle.il_image.specs.Offsets.{IsPlace, offset_after, begun_at, is_among, is_instruction_offset, is_there, offset_of}
 use Rattle.il_image.specs.Reading.{instr_at}
 use Rattle.il_image.specs.Tables.{Agrees, IsSuccessor, LeadsTo, Table}
 use Rattle.il_image.proofs.PlaceLemmas.{goes-forward}
@@ -33,17 +33,17 @@ read-grows code n start place (Some r) here le f =
     let same : r.1 ≡ place = cc in
     omega arith
 
-behind-grows : (code : List ℕ) (n place : ℕ) (o : Option ℕ) → place_of code n ≡ o
-    → ((start : ℕ) → place_of code n ≡ Some start → n ≤ start) → place_after code o ≡ Some place
+behind-grows : (code : List ℕ) (n place : ℕ) (o : Option ℕ) → offset_of code n ≡ o
+    → ((start : ℕ) → offset_of code n ≡ Some start → n ≤ start) → offset_after code o ≡ Some place
     → suc n ≤ place
 behind-grows code n place None is before f = absurd cc
 behind-grows code n place (Some start) is before f =
     read-grows code n start place (instr_at code start) refl (before start is) f
 
-place-grows : (code : List ℕ) (n place : ℕ) → place_of code n ≡ Some place → n ≤ place
+place-grows : (code : List ℕ) (n place : ℕ) → offset_of code n ≡ Some place → n ≤ place
 place-grows code zero place e = omega arith
 place-grows code (suc n) place e =
-    behind-grows code n place (place_of code n) refl (λ start is. place-grows code n start is) e
+    behind-grows code n place (offset_of code n) refl (λ start is. place-grows code n start is) e
 
 there-is : (o : Option ℕ) (place : ℕ) → is_there o place ≡ true → o ≡ Some place
 there-is None place e = absurd cc
@@ -52,43 +52,47 @@ there-is (Some start) place e = ap (λ (p : ℕ). Some p) (eqb-true start place 
 is-there-so : (o : Option ℕ) (place : ℕ) → o ≡ Some place → is_there o place ≡ true
 is-there-so o place e = ap (λ (x : Option ℕ). is_there x place) e ∙ eq-eqb place place refl
 
-among-either : (code : List ℕ) (n place : ℕ) (b : Bool) → is_there (place_of code n) place ≡ b
-    → (is_among code n place ≡ true → (k : ℕ) × (place_of code k ≡ Some place))
+among-either : (code : List ℕ) (n place : ℕ) (b : Bool) → is_there (offset_of code n) place ≡ b
+    → (is_among code n place ≡ true → (k : ℕ) × (offset_of code k ≡ Some place))
     → b || is_among code n place ≡ true
-    → (k : ℕ) × (place_of code k ≡ Some place)
-among-either code n place true h before f = (n, there-is (place_of code n) place h)
+    → (k : ℕ) × (offset_of code k ≡ Some place)
+among-either code n place true h before f = (n, there-is (offset_of code n) place h)
 among-either code n place false h before f = before f
 
 among-is : (code : List ℕ) (n place : ℕ) → is_among code n place ≡ true
-    → (k : ℕ) × (place_of code k ≡ Some place)
+    → (k : ℕ) × (offset_of code k ≡ Some place)
 among-is code zero place e = absurd cc
 among-is code (suc n) place e =
-    among-either code n place (is_there (place_of code n) place) refl (λ f. among-is code n place f)
+    among-either code n place (is_there (offset_of code n) place) refl
+    (λ f. among-is code n place f)
     e
 
-is-among-so : (code : List ℕ) (n k place : ℕ) → k < n → place_of code k ≡ Some place
+is-among-so : (code : List ℕ) (n k place : ℕ) → k < n → offset_of code k ≡ Some place
     → is_among code n place ≡ true
 is-among-so code zero k place h e = absurd (omega arith)
 is-among-so code (suc n) k place h e = elim (cases_eq k n) [
   | inl same ↦ ap (λ (b : Bool). b || is_among code n place)
-      (is-there-so (place_of code n) place (subst (λ (j : ℕ). place_of code j ≡ Some place) same e))
-  | inr ne ↦ later (is_there (place_of code n) place) (is-among-so code n k place (omega arith) e)
+      (is-there-so (offset_of code n) place
+      (subst (λ (j : ℕ). offset_of code j ≡ Some place) same e))
+  | inr ne ↦ later (is_there (offset_of code n) place) (is-among-so code n k place (omega arith) e)
 ]
   where
     later : (b : Bool) → is_among code n place ≡ true → b || is_among code n place ≡ true
     later true h = refl
     later false h = h
 
-pub told : (code : List ℕ) (place : ℕ) → IsPlace code place → is_place code place ≡ true
-unfolding is_place
+pub told : (code : List ℕ) (place : ℕ) → IsPlace code place
+    → is_instruction_offset code place ≡ true
+unfolding is_instruction_offset
 told code place p =
     let grows = place-grows code p.1.0 place p.1.1 in
     let within = p.0 in
     rw (lt-ltb place (length code) p.0)
     (is-among-so code (length code) p.1.0 place (omega arith) p.1.1)
 
-pub tells : (code : List ℕ) (place : ℕ) → is_place code place ≡ true → IsPlace code place
-unfolding is_place
+pub tells : (code : List ℕ) (place : ℕ) → is_instruction_offset code place ≡ true
+    → IsPlace code place
+unfolding is_instruction_offset
 tells code place e = both (ltb place (length code)) refl e
   where
     both : (b : Bool) → ltb place (length code) ≡ b → b && is_among code (length code) place ≡ true
@@ -96,7 +100,7 @@ tells code place e = both (ltb place (length code)) refl e
     both true h f = (ltb-true place (length code) h, among-is code (length code) place f)
     both false h f = absurd cc
 
-pub a_place_is_told : (code : List ℕ) (place : ℕ) → IsTrue (is_place code place)
+pub a_place_is_told : (code : List ℕ) (place : ℕ) → IsTrue (is_instruction_offset code place)
     ↔ IsPlace code place
 a_place_is_told code place = (tells code place, told code place)
 

@@ -9,7 +9,7 @@ use Rattle.il_image.specs.declared.instr.Instr.{Instr}
 use Rattle.il_image.specs.declared.opcode.Version.{Version}
 use Rattle.il_image.specs.declared.opcode.Version.TheVariants.{One, Two}
 use Rattle.il_image.specs.Octets.{AreOctets}
-use Rattle.il_image.specs.Reading.{Read, instr_from, instr_at, with_next_place, StandsAt}
+use Rattle.il_image.specs.Reading.{Read, instr_from, instr_at, with_next_offset, HasInstructionAt}
 use Rattle.il_image.specs.Spelling.{spelling, IsInstr}
 use Rattle.il_image.proofs.ReadLemmas.{drop-octets}
 use Rattle.il_image.proofs.InstrLemmas.{back-instr, instr-sound, less}
@@ -22,7 +22,7 @@ pub record Placed (code : List ℕ) (place : ℕ) (i : Instr) (next : ℕ) : Typ
   pub is : next ≡ length code - length rest
 
 placed-is : (size : ℕ) (r : Read Instr) (i : Instr) (next : ℕ)
-    → with_next_place size r ≡ Some (i, next)
+    → with_next_offset size r ≡ Some (i, next)
     → (rest : List ℕ) × (r ≡ Ok (i, rest)) × (next ≡ size - length rest)
 placed-is size (Err e) i next h = absurd cc
 placed-is size (Ok r) i next h =
@@ -46,7 +46,7 @@ spelled-so version = spelled-first (instr-sound version)
 
 -- an instruction that is read at a place is spelled there
 pub stands : (code : List ℕ) (place : ℕ) (i : Instr) (next : ℕ) → AreOctets code
-    → instr_at code place ≡ Some (i, next) → StandsAt code place i next
+    → instr_at code place ≡ Some (i, next) → HasInstructionAt code place i next
 stands code place i next fits e =
     let p = read-at code place i next e in
     let s = spelled-so Two (drop place code) i p.rest (drop-octets place code fits) p.read in
@@ -65,7 +65,7 @@ stands code place i next fits e =
     }
 
 -- an instruction that is spelled at a place is read there
-pub stood : (code : List ℕ) (place : ℕ) (i : Instr) (next : ℕ) → StandsAt code place i next
+pub stood : (code : List ℕ) (place : ℕ) (i : Instr) (next : ℕ) → HasInstructionAt code place i next
     → instr_at code place ≡ Some (i, next)
 unfolding instr_at
 stood code place i next s =
@@ -96,12 +96,12 @@ whole code place =
     ∙ take-length (drop place code)
 
 pub from-place : (code : List ℕ) (place : ℕ) (found : Option (Instr × ℕ))
-    → found ≡ with_next_place (length code)
+    → found ≡ with_next_offset (length code)
     (instr_from Two (take (length code - place) (drop place code)))
     → found ≡ instr_at code place
 unfolding instr_at
 from-place code place found e =
-    e ∙ ap (λ (xs : List ℕ). with_next_place (length code) (instr_from Two xs)) (whole code place)
+    e ∙ ap (λ (xs : List ℕ). with_next_offset (length code) (instr_from Two xs)) (whole code place)
 
 pub found-forward : (code : List ℕ) (place : ℕ) (found : Option (Instr × ℕ))
     → found ≡ instr_at code place → IfSome found (λ r. (place < r.1) × (r.1 ≤ length code))
@@ -109,7 +109,7 @@ found-forward code place None e = tt
 found-forward code place (Some r) e = goes-forward code place r.0 r.1 (sym e)
 
 pub stands-or-none : (code : List ℕ) (place : ℕ) (i : Instr) (next : ℕ) → AreOctets code
-    → (instr_at code place ≡ Some (i, next)) ↔ StandsAt code place i next
+    → (instr_at code place ≡ Some (i, next)) ↔ HasInstructionAt code place i next
 stands-or-none code place i next fits = (stands code place i next fits, stood code place i next)
 
 -- what version 1 reads version 2 reads

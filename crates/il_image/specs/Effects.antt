@@ -22,7 +22,7 @@ use Rattle.il_image.specs.declared.value.Value.{Value}
 use Rattle.il_image.specs.declared.value.Value.TheVariants.{Truth, Short, Long, Wide, Span}
 use Rattle.il_image.specs.Arithmetic.{type_of_width}
 use Rattle.il_image.specs.Kinds.{is_within}
-use Rattle.il_image.specs.Machine.{divides, tells_equality}
+use Rattle.il_image.specs.Machine.{divides, is_equality_test}
 
 -- ---- own: what the verifier knows of cells
 
@@ -64,7 +64,7 @@ type_of_kind (NotZero w) = Some (type_of_width w)
 
 -- whether values of these types may be compared: both of one type, and BOOLs only for equality
 abbrev pub are_compared : Comparison → ElementaryType → ElementaryType → Bool
-are_compared c t u = same_type t u && (not (same_type t elementary.Bool) || tells_equality c)
+are_compared c t u = same_type t u && (not (same_type t elementary.Bool) || is_equality_test c)
 
 -- replaces two cells of one known type, which may be compared, by a BOOL
 abbrev pub compares : Comparison → List CellKind → Option (List CellKind)

@@ -17,8 +17,8 @@
 --
 -- The rest is for the verifier. `Kinds`: what is known of a cell (nothing, a type, or a nonzero
 -- number of a width), with order and join. `Effects`: the kinds after an instruction, if it is
--- allowed on those before. `Places`: where instructions begin. `Tables`: tables of kinds that agree
--- with an image's code, and paths through the code.
+-- allowed on those before. `Offsets`: where instructions begin. `Tables`: tables of kinds that
+-- agree with an image's code, and paths through the code.
 
 -- What public clauses cite of the crates below.
 pub use Rattle.bay_base.specs.Exact
@@ -34,7 +34,7 @@ pub mod Kinds
 pub mod Machine
 pub mod Octets
 pub mod Opcodes
-pub mod Places
+pub mod Offsets
 pub mod Reading
 pub mod Spelling
 pub mod Tables

@@ -21,7 +21,7 @@ use Rattle.il_image.specs.declared.value.Value.TheVariants.{Truth, Short, Long, 
 use Rattle.bay_base.specs.declared.types.ElementaryType.TheVariants as elementary
 use Rattle.bay_base.specs.Types.{same_type}
 use Rattle.il_image.specs.Arithmetic.{comparison_holds, computation_of, logic_of, wider_value}
-use Rattle.il_image.specs.Places.{begun_at}
+use Rattle.il_image.specs.Offsets.{begun_at}
 use Rattle.il_image.specs.Timers.{after_call}
 use Rattle.il_image.specs.Values.{number_of, type_of}
 
@@ -151,19 +151,19 @@ divides Sub = false
 divides Mul = false
 
 -- whether the comparison only tests for equality
-abbrev pub tells_equality : Comparison → Bool
-tells_equality Eq = true
-tells_equality Ne = true
-tells_equality Gt = false
-tells_equality Ge = false
-tells_equality Le = false
-tells_equality Lt = false
+abbrev pub is_equality_test : Comparison → Bool
+is_equality_test Eq = true
+is_equality_test Ne = true
+is_equality_test Gt = false
+is_equality_test Ge = false
+is_equality_test Le = false
+is_equality_test Lt = false
 
 -- whether two values may be compared: both of one type, and BOOLs only for equality
 abbrev pub is_comparable : Comparison → Value → Value → Bool
 is_comparable c a b =
     same_type (type_of a) (type_of b)
-    && (not (same_type (type_of a) elementary.Bool) || tells_equality c)
+    && (not (same_type (type_of a) elementary.Bool) || is_equality_test c)
 
 -- ---- own: what each instruction does; `next` is the offset after it
 
@@ -225,14 +225,14 @@ abbrev pub jumps_where : (Bool → ℕ) → State → StepResult
 jumps_where to s = with_top s.cells (λ top below. as_truth top (λ b. continues_at (to b) s.cells s))
 
 -- Pops the top as IN of the timer.
-abbrev pub takes_input : ℕ → ℕ → State → StepResult
-takes_input n next s =
+abbrev pub pops_input : ℕ → ℕ → State → StepResult
+pops_input n next s =
     with_timer n s (λ t. with_top s.cells
     (λ top below. as_truth top (λ b. changes n (record t { input = b }) next below s)))
 
 -- Pops the top as PT of the timer.
-abbrev pub takes_preset : ℕ → ℕ → State → StepResult
-takes_preset n next s =
+abbrev pub pops_preset : ℕ → ℕ → State → StepResult
+pops_preset n next s =
     with_timer n s (λ t. with_top s.cells
     (λ top below. as_span top (λ preset. changes n (record t { preset = preset }) next below s)))
 
@@ -265,8 +265,8 @@ act now (Widen w) next s = widens w next s
 act now (Jump Always distance) next s = continues_at (next + distance) s.cells s
 act now (Jump IfTrue distance) next s = jumps_where (λ b. if b then next + distance else next) s
 act now (Jump IfFalse distance) next s = jumps_where (λ b. if b then next else next + distance) s
-act now (Timer SetInput n) next s = takes_input n next s
-act now (Timer SetPreset n) next s = takes_preset n next s
+act now (Timer SetInput n) next s = pops_input n next s
+act now (Timer SetPreset n) next s = pops_preset n next s
 act now (Timer Run n) next s = runs_timer now n next s
 act now (Timer LoadOutput n) next s = loads_output n next s
 act now (Timer LoadElapsed n) next s = loads_elapsed n next s

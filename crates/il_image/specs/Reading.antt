@@ -101,16 +101,16 @@ instr_from version octets = do
   operand_from version opcode octet.1
 
 -- the instruction that was read, and the offset after it in code of this length
-abbrev pub with_next_place : ℕ → Read Instr → Option (Instr × ℕ)
-with_next_place size (Ok r) = Some (r.0, size - length r.1)
-with_next_place size (Err e) = None
+abbrev pub with_next_offset : ℕ → Read Instr → Option (Instr × ℕ)
+with_next_offset size (Ok r) = Some (r.0, size - length r.1)
+with_next_offset size (Err e) = None
 
 -- the instruction at an offset in the code, and the offset after it
 unfoldable pub instr_at : List ℕ → ℕ → Option (Instr × ℕ)
-instr_at code place = with_next_place (length code) (instr_from Two (drop place code))
+instr_at code place = with_next_offset (length code) (instr_from Two (drop place code))
 
 -- The code has the instruction at this offset, and the offset after it is `next`.
-pub record StandsAt (code : List ℕ) (place : ℕ) (i : Instr) (next : ℕ) : Type 0 where
+pub record HasInstructionAt (code : List ℕ) (place : ℕ) (i : Instr) (next : ℕ) : Type 0 where
   pub is_instr : IsInstr i
   pub spelled : drop place code ≡ spelling i ++ drop next code
   pub size : next ≡ place + length (spelling i)

@@ -9,7 +9,7 @@ use Rattle.il_image.specs.declared.opcode.When.TheVariants.{Always, IfTrue, IfFa
 use Rattle.il_image.specs.Effects.{kinds_after}
 use Rattle.il_image.specs.Images.{Image}
 use Rattle.il_image.specs.Kinds.{AreWithin}
-pub use Rattle.il_image.specs.Places.{place_after, place_of, IsPlace}
+pub use Rattle.il_image.specs.Offsets.{offset_after, offset_of, IsPlace}
 use Rattle.il_image.specs.Reading.{instr_at}
 use Rattle.il_image.specs.Values.{type_of}
 use Rattle.il_image.specs.Machine.{most_cells}

@@ -20,7 +20,7 @@ use bay_base::types::{ElementaryType, TimerKind};
 use std::alloc::Global;
 
 // Returns the octets after the mark.
-fn behind_mark(octets: &[u8]) -> Result<&[u8], ImageFault>
+fn octets_after_mark(octets: &[u8]) -> Result<&[u8], ImageFault>
     ensures { IsRead (λ r. r.now) result (octets_after_prefix mark octets.now) }
 {
     match octets {
@@ -285,7 +285,7 @@ pub fn decode(alloc: Global, octets: &[u8]) -> Result<Image, ImageFault>
     ensures image { Gives ImageFault.OutOfMemory (λ i. i) result (image_spelled octets.now) }
     ensures memory { IsErrOf result ImageFault.OutOfMemory → TakesMemory octets.now }
 {
-    let rest = behind_mark(octets)?;
+    let rest = octets_after_mark(octets)?;
     let (version, rest) = version_at(rest)?;
     let (points, rest) = points_at(alloc, version, rest)?;
     let (variables, rest) = items_at::<Value>(alloc, version, rest)?;

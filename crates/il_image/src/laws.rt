@@ -5,8 +5,8 @@ ghost use Rattle.il_image.specs.Decoding.{IsFirstBad, image_spelled};
 ghost use Rattle.il_image.specs.Images.{Image, IsImage, image_octets, mark};
 ghost use Rattle.il_image.specs.Kinds.{HasKind, is_within, join};
 ghost use Rattle.il_image.specs.Octets.{AreOctets};
-ghost use Rattle.il_image.specs.Places.{IsPlace, is_place};
-ghost use Rattle.il_image.specs.Reading.{StandsAt, instr_at, instr_from};
+ghost use Rattle.il_image.specs.Offsets.{IsPlace, is_instruction_offset};
+ghost use Rattle.il_image.specs.Reading.{HasInstructionAt, instr_at, instr_from};
 ghost use Rattle.il_image.specs.Spelling.{IsInstr, spelling};
 ghost use Rattle.il_image.specs.declared.fault.ImageFault.TheVariants.{BadMagic, BadOpcode, BadVersion, Truncated};
 ghost use Rattle.il_image.specs.declared.instr.Instr.{Instr};
@@ -46,13 +46,14 @@ pub fn one_spelling_of_instructions()
     ensures newer { (octets : List ℕ) (i : Instr) (rest : List ℕ) → AreOctets octets
         → instr_from One octets ≡ Ok (i, rest) → instr_from Two octets ≡ Ok (i, rest) }
     ensures places { (code : List ℕ) (place : ℕ) (i : Instr) (next : ℕ) → AreOctets code
-        → (instr_at code place ≡ Some (i, next)) ↔ StandsAt code place i next }
+        → (instr_at code place ≡ Some (i, next)) ↔ HasInstructionAt code place i next }
 {}
 
-/// `is_place` accepts an offset exactly if one of the code's instructions begins there. The
-/// instructions follow one another without gaps.
-pub fn places_are_of_instructions()
-    ensures { (code : List ℕ) (place : ℕ) → IsTrue (is_place code place) ↔ IsPlace code place }
+/// `is_instruction_offset` accepts an offset exactly if one of the code's instructions begins
+/// there. The instructions follow one another without gaps.
+pub fn offsets_are_of_instructions()
+    ensures { (code : List ℕ) (place : ℕ) → IsTrue (is_instruction_offset code place)
+        ↔ IsPlace code place }
 {}
 
 /// Encoding an image in version 2 and decoding it yields the same image. A decoded image is one

@@ -2,7 +2,7 @@
 // first fault from the left, and does not allocate. An offset counts octets of the code from 0.
 ghost use Rattle.std.specs.Prelude.{◌≡◌, ◌+◌, ◌<◌, ◌≤◌, IfOk, IfSome, length};
 ghost use Rattle.bay_base.specs.Results.{IsRead};
-ghost use Rattle.il_image.specs.Reading.{with_next_place};
+ghost use Rattle.il_image.specs.Reading.{with_next_offset};
 ghost use Rattle.il_image.specs.Reading as spec;
 
 use crate::arithmetic::Width;
@@ -130,7 +130,7 @@ pub(crate) fn instr_from(version: Version, octets: &[u8]) -> Result<(Instr, &[u8
 // the offset after it, or `None` if the octets spell none.
 fn first_of(size: usize, octets: &[u8]) -> Option<(Instr, usize)>
     requires { length octets.now ≤ size }
-    ensures { result ≡ with_next_place size (spec.instr_from Version.Two octets.now) }
+    ensures { result ≡ with_next_offset size (spec.instr_from Version.Two octets.now) }
 {
     match instr_from(Version::Two, octets) {
         Ok((instr, rest)) => Some((instr, size - rest.len())),

@@ -15,7 +15,7 @@ use Rattle.il_image.specs.declared.value.Value.{Value}
 use Rattle.il_image.specs.declared.value.Value.TheVariants.{Truth, Short, Long, Wide, Span}
 use Rattle.il_image.specs.Arithmetic.{comparison_holds, computation_of, wider_value}
 use Rattle.il_image.specs.Machine.{Halted, State, Trap, StepResult, Goes, Halts, Traps, FullStack, WrongKind, MissingSlot, MissingTimer, ZeroDivisor, act, as_number, as_span, as_truth, divides, ending_of, continues_at, is_comparable, run_from, stores, step_of_read, value_of_width, with_slot, with_timer, with_top, with_two, most_cells}
-use Rattle.il_image.specs.Places.{begun_at}
+use Rattle.il_image.specs.Offsets.{begun_at}
 use Rattle.il_image.specs.declared.timer.TimerPhase.{TimerPhase}
 use Rattle.il_image.specs.declared.timer.TimerPhase.TheVariants.{Idle, Held, Since}
 use Rattle.bay_base.specs.declared.types.TimerKind.{TimerKind}

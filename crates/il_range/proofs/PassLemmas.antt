@@ -10,7 +10,7 @@ use Rattle.il_image.specs.declared.instr.Instr.TheVariants.{Halt}
 use Rattle.il_image.specs.declared.timer.TimerState.{TimerState}
 use Rattle.il_image.specs.declared.value.Value.{Value}
 use Rattle.il_image.specs.Machine.{Halted, State, StepResult, Goes, Halts, Traps, act, ending_of, initial_state, run_from, step_of_read}
-use Rattle.il_image.specs.Places.{begun_at, is_place}
+use Rattle.il_image.specs.Offsets.{begun_at, is_instruction_offset}
 use Rattle.il_image.specs.Reading.{instr_at}
 use Rattle.il_range.specs.declared.known.Known.{Known}
 use Rattle.il_range.specs.Effects.{Plain}
@@ -113,13 +113,14 @@ Follows code w now after timers place pending =
 read-at : (code : List ℕ) (place : ℕ) → (begun_at code place ≡ None)
     ⊎ ((i : Instr) × (next : ℕ) × (begun_at code place ≡ Some (i, next))
     × (instr_at code place ≡ Some (i, next)) × (place < length code))
-unfolding is_place
-read-at code place = go (is_place code place) refl (instr_at code place) refl
+unfolding is_instruction_offset
+read-at code place = go (is_instruction_offset code place) refl (instr_at code place) refl
   where
-    within : is_place code place ≡ true → place < length code
+    within : is_instruction_offset code place ≡ true → place < length code
     within e = grind (arith, common_steps)
 
-    go : (b : Bool) → is_place code place ≡ b → (o : Option (Instr × ℕ)) → instr_at code place ≡ o
+    go : (b : Bool) → is_instruction_offset code place ≡ b → (o : Option (Instr × ℕ))
+        → instr_at code place ≡ o
         → (cond b o None ≡ None)
         ⊎ ((i : Instr) × (next : ℕ) × (cond b o None ≡ Some (i, next))
         × (instr_at code place ≡ Some (i, next)) × (place < length code))

@@ -15,7 +15,7 @@ use Rattle.il_range.specs.declared.timer.KnownTimer.{KnownTimer}
 use Rattle.il_range.specs.Effects.{are_within, value_range, join_lists, widen_range}
 use Rattle.il_range.specs.Foretold.{Foretells, IsMemory, IsReached, First, Next, Leaves, with_memory}
 use Rattle.il_range.specs.Laws.{DelaysContinue, ReachesByScan}
-use Rattle.il_range.specs.Outcomes.{Carries, Predicts, Tells}
+use Rattle.il_range.specs.Outcomes.{Carries, Predicts, PredictsScan}
 use Rattle.il_range.specs.Ranges.{AreDelays, AreIn, AreTimersIn, IsDelay, IsIn, Setting, kind_of}
 use Rattle.il_range.specs.Starts.{first_delay, known_of_kinds, range_of_point}
 use Rattle.il_range.proofs.KeepLemmas.{Keeps, run-keeps}
@@ -202,7 +202,7 @@ any-memory image w machine is r =
 
 pub any-tells : (image : Image) (start : List Range) (delays last : List KnownDelay)
     (result : List Range) → last ≡ [] → result ≡ replicate (slot_count image) Any
-    → Tells image start delays last result
+    → PredictsScan image start delays last result
 any-tells image start delays last result none all w machine inputs now slots timers is r h y l = (
   subst (AreIn w slots) (sym all)
       (any-memory image w (with_memory slots timers machine) is
@@ -214,7 +214,7 @@ any-tells image start delays last result none all w machine inputs now slots tim
 pub pass-tells : (image : Image) (start : List Range) (delays : List KnownDelay)
     (last : List KnownTimer) (result : List Range)
     → Predicts image.code (known_of_kinds image.timers delays) start last result
-    → Tells image start delays (map (λ u. u.delay) last) result
+    → PredictsScan image start delays (map (λ u. u.delay) last) result
 pass-tells image start delays last result p w machine inputs now slots timers is r h y l =
     let q : Predicts machine.image.code (known_of_kinds machine.image.timers delays) start last
     result =
@@ -237,7 +237,7 @@ pass-tells image start delays last result p w machine inputs now slots timers is
 -- From given inputs.
 pub tells-given : (image : Image) (start memory : List Range) (delays : List KnownDelay)
     (given : List Range) (last : List KnownDelay) (result : List Range)
-    → start ≡ with_inputs image.points given memory → Tells image start delays last result
+    → start ≡ with_inputs image.points given memory → PredictsScan image start delays last result
     → Foretells image memory delays given last result
 tells-given image start memory delays given last result at t w machine inputs now slots timers is r
     k
@@ -250,7 +250,7 @@ tells-given image start memory delays given last result at t w machine inputs no
 pub tells-any : (image : Image) (start memory : List Range) (last : List KnownDelay)
     (result : List Range)
     → start ≡ with_inputs image.points (replicate (length image.points) Any) memory
-    → Tells image start [] last result → Carries image memory result
+    → PredictsScan image start [] last result → Carries image memory result
 tells-any image start memory last result at t w machine inputs now slots timers is r k l =
     (t w machine inputs now slots timers is r
     (rw (at, ← is) (free-in w machine.image.points inputs (length machine.image.points)

@@ -31,8 +31,9 @@ Predicts code timers slots timers_after result =
 
 -- Take any reached machine with the image that starts a scan with slots in the ranges `start`, and
 -- with delays as `delays` says. The scan leaves slots in `result`, and delays as `last` says.
-abbrev pub Tells : Image → List Range → List KnownDelay → List KnownDelay → List Range → Type 0
-Tells image start delays last result =
+abbrev pub PredictsScan : Image → List Range → List KnownDelay → List KnownDelay → List Range
+    → Type 0
+PredictsScan image start delays last result =
     (w : Setting) (machine : MachineData) (inputs : List Value) (now : ℕ) (slots : List Value)
     (timers : List TimerState) → machine.image ≡ image → IsReached machine
     → AreIn w (scan_start machine inputs).slots start

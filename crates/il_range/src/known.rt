@@ -27,7 +27,7 @@ pub(crate) struct Known {
 }
 
 // Returns the index of a slot or a timer, or `Undecided` if it is not below `count`.
-fn place_of(number: u16, count: usize) -> Result<usize, PassStop>
+fn checked_index(number: u16, count: usize) -> Result<usize, PassStop>
     ensures is { IfOk result (λ place. place ≡ number) }
     ensures there { IfOk result (λ place. place < count) }
 {
@@ -80,7 +80,7 @@ fn load(known: &mut Known, n: u16) -> Result<(), PassStop>
     ensures { OnOk result (known_after (Instr.Slot SlotUse.Load n) (known_view known.old)
         ≡ Some (known_view known.new)) }
 {
-    let n = place_of(n, known.slots.len())?;
+    let n = checked_index(n, known.slots.len())?;
     let range = known.slots[n];
     push(known, range)
 }
@@ -90,7 +90,7 @@ fn store(known: &mut Known, n: u16) -> Result<(), PassStop>
     ensures { OnOk result (known_after (Instr.Slot SlotUse.Store n) (known_view known.old)
         ≡ Some (known_view known.new)) }
 {
-    let n = place_of(n, known.slots.len())?;
+    let n = checked_index(n, known.slots.len())?;
     let top = pop(known)?;
     known.slots[n] = top;
     push(known, top)
@@ -101,7 +101,7 @@ fn set_if(known: &mut Known, n: u16) -> Result<(), PassStop>
     ensures { OnOk result (known_after (Instr.Slot SlotUse.SetIf n) (known_view known.old)
         ≡ Some (known_view known.new)) }
 {
-    let n = place_of(n, known.slots.len())?;
+    let n = checked_index(n, known.slots.len())?;
     let top = pop(known)?;
     let changed = or_ranges(top, known.slots[n]);
     known.slots[n] = changed;
@@ -113,7 +113,7 @@ fn reset_if(known: &mut Known, n: u16) -> Result<(), PassStop>
     ensures { OnOk result (known_after (Instr.Slot SlotUse.ResetIf n) (known_view known.old)
         ≡ Some (known_view known.new)) }
 {
-    let n = place_of(n, known.slots.len())?;
+    let n = checked_index(n, known.slots.len())?;
     let top = pop(known)?;
     let changed = and_ranges(not_range(top), known.slots[n]);
     known.slots[n] = changed;
@@ -186,7 +186,7 @@ fn set_input(known: &mut Known, n: u16) -> Result<(), PassStop>
     ensures { OnOk result (known_after (Instr.Timer TimerUse.SetInput n) (known_view known.old)
         ≡ Some (known_view known.new)) }
 {
-    let n = place_of(n, known.timers.len())?;
+    let n = checked_index(n, known.timers.len())?;
     let top = pop(known)?;
     let timer = known.timers[n];
     known.timers[n] = KnownTimer {
@@ -201,7 +201,7 @@ fn set_preset(known: &mut Known, n: u16) -> Result<(), PassStop>
     ensures { OnOk result (known_after (Instr.Timer TimerUse.SetPreset n) (known_view known.old)
         ≡ Some (known_view known.new)) }
 {
-    let n = place_of(n, known.timers.len())?;
+    let n = checked_index(n, known.timers.len())?;
     let top = pop(known)?;
     let timer = known.timers[n];
     known.timers[n] = KnownTimer {
@@ -216,7 +216,7 @@ fn call(known: &mut Known, n: u16) -> Result<(), PassStop>
     ensures { OnOk result (known_after (Instr.Timer TimerUse.Run n) (known_view known.old)
         ≡ Some (known_view known.new)) }
 {
-    let n = place_of(n, known.timers.len())?;
+    let n = checked_index(n, known.timers.len())?;
     let timer = timer_after_call(known.timers[n]);
     known.timers[n] = timer;
     Ok(())
@@ -227,7 +227,7 @@ fn load_output(known: &mut Known, n: u16) -> Result<(), PassStop>
     ensures { OnOk result (known_after (Instr.Timer TimerUse.LoadOutput n) (known_view known.old)
         ≡ Some (known_view known.new)) }
 {
-    let n = place_of(n, known.timers.len())?;
+    let n = checked_index(n, known.timers.len())?;
     let output = known.timers[n].output;
     push(known, output)
 }
@@ -237,7 +237,7 @@ fn load_elapsed(known: &mut Known, n: u16) -> Result<(), PassStop>
     ensures { OnOk result (known_after (Instr.Timer TimerUse.LoadElapsed n) (known_view known.old)
         ≡ Some (known_view known.new)) }
 {
-    let n = place_of(n, known.timers.len())?;
+    let n = checked_index(n, known.timers.len())?;
     let elapsed = known.timers[n].elapsed;
     push(known, elapsed)
 }

@@ -100,7 +100,7 @@ fn jump(
 }
 
 // Removes what is pending at an offset, and returns it.
-fn taken(pending: &mut Vec<Option<Known>>, place: usize) -> Option<Known>
+fn take_pending(pending: &mut Vec<Option<Known>>, place: usize) -> Option<Known>
     requires { place < length pending.old.items }
     ensures value { slice_get pending.old.items place ≡ Some result }
     ensures after { pending.new.items ≡ slice_set pending.old.items place None }
@@ -121,7 +121,7 @@ fn visit(
     ensures size { length pending.new.items ≡ length pending.old.items }
     ensures ok { OnOk result (Visits code.now place pending.old.items pending.new.items) }
 {
-    let Some(here) = taken(pending, place) else {
+    let Some(here) = take_pending(pending, place) else {
         return Ok(());
     };
     let Some((instr, next)) = instr_at(code, place) else {
@@ -159,7 +159,7 @@ pub(crate) fn outcome(alloc: Global, code: &[u8], first: Known) -> Result<Known,
     for place in 0..code.len() {
         visit(alloc, code, place, &mut pending)?;
     }
-    match taken(&mut pending, code.len()) {
+    match take_pending(&mut pending, code.len()) {
         Some(end) => Ok(end),
         None => Err(PassStop::Undecided),
     }

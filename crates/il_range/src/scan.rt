@@ -2,7 +2,7 @@
 ghost use Rattle.std.specs.Prelude.{◌≡◌, ◌+◌, IfOk, List, [], length, map};
 ghost use Rattle.il_range.specs.declared.delay.KnownDelay.{KnownDelay};
 ghost use Rattle.il_range.specs.Foretold.{Foretells};
-ghost use Rattle.il_range.specs.Outcomes.{Tells};
+ghost use Rattle.il_range.specs.Outcomes.{PredictsScan};
 ghost use Rattle.il_range.specs.Starts as spec;
 
 use crate::delay::KnownDelay;
@@ -56,7 +56,7 @@ fn unknown(alloc: Global, image: &Image) -> Result<ScanPrediction, AllocError>
     ensures size { IfOk result
         (λ f. length f.ranges.items ≡ length image.now.points + length image.now.variables) }
     ensures tells { (start : List Range) (delays : List KnownDelay)
-        → IfOk result (λ f. Tells image.now start delays f.delays.items f.ranges.items) }
+        → IfOk result (λ f. PredictsScan image.now start delays f.delays.items f.ranges.items) }
 {
     let ranges = free_ranges(alloc, image.points().len() + image.variables().len())?;
     Ok(ScanPrediction {
@@ -107,7 +107,7 @@ pub(crate) fn predict(
     ensures size { IfOk result
         (λ f. length f.ranges.items ≡ length image.now.points + length image.now.variables) }
     ensures tells { IfOk result
-        (λ f. Tells image.now start.items delays.now f.delays.items f.ranges.items) }
+        (λ f. PredictsScan image.now start.items delays.now f.delays.items f.ranges.items) }
 {
     let first = first_known(alloc, image, delays, start)?;
     match outcome(alloc, image.code(), first) {

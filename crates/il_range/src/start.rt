@@ -33,7 +33,7 @@ fn range_at(point: &ImagePoint, given: &[Range], known: Range) -> Range
 }
 
 // Returns the given ranges after that of a point.
-fn behind<'a>(point: &ImagePoint, given: &'a [Range]) -> &'a [Range]
+fn ranges_after<'a>(point: &ImagePoint, given: &'a [Range]) -> &'a [Range]
     ensures { result.now ≡ if point.now.writable then given.now else drop 1 given.now }
 {
     match given {
@@ -62,7 +62,7 @@ pub(crate) fn start_ranges(
             return Ok(ranges);
         };
         ranges.push(range_at(point, left, *range))?;
-        left = behind(point, left);
+        left = ranges_after(point, left);
         rest = others;
         known = later;
     }
@@ -95,7 +95,7 @@ fn first_delay(delays: &[KnownDelay]) -> KnownDelay
 }
 
 // Returns the delays after the first.
-fn behind_first(delays: &[KnownDelay]) -> &[KnownDelay]
+fn delays_after_first(delays: &[KnownDelay]) -> &[KnownDelay]
     ensures { result.now ≡ drop 1 delays.now }
 {
     match delays {
@@ -119,7 +119,7 @@ pub(crate) fn timers_of(
     let mut left = delays;
     while let [kind, others @ ..] = rest {
         timers.push(known_of_kind(*kind, first_delay(left)))?;
-        left = behind_first(left);
+        left = delays_after_first(left);
         rest = others;
     }
     Ok(timers)

@@ -12,7 +12,7 @@ use Rattle.il_image.specs.Images.{Image, IsValue}
 use Rattle.il_image.specs.Tables.{slot_types}
 use Rattle.il_image.specs.Values.{number_of, type_of}
 use Rattle.il_scan.specs.declared.span.Span.{Span}
-use Rattle.il_scan.specs.PointPlaces.{AllAbove, IsPut, IsRising, read_places, with_words}
+use Rattle.il_scan.specs.PointPlaces.{AllAbove, IsPut, IsRising, read_indices, with_words}
 use Rattle.il_scan.specs.Scans.{AreHeld, AreInputs, MachineData, IsOutside, Scans, first_input, inputs_in, read_only, type_of_point, with_inputs}
 use Rattle.il_scan.specs.MachineStates.{IsHeld}
 use Rattle.il_scan.specs.Words.{AreTyped, slot_at, values_of, words_of}
@@ -26,10 +26,10 @@ above-case true least n places l h = h
 above-case false least n places l h = (l, h)
 
 reads-above : (least n : ℕ) (points : List ImagePoint) → least < n
-    → AllAbove least (read_places n points)
+    → AllAbove least (read_indices n points)
 reads-above least n [] l = tt
 reads-above least n (p ∷ points) l =
-    above-case p.writable least n (read_places (n + 1) points) l
+    above-case p.writable least n (read_indices (n + 1) points) l
     (reads-above least (n + 1) points (omega (arith, l)))
 
 rising-case : (b : Bool) (n : ℕ) (places : List ℕ) → AllAbove n places → IsRising places
@@ -37,10 +37,10 @@ rising-case : (b : Bool) (n : ℕ) (places : List ℕ) → AllAbove n places →
 rising-case true n places a h = h
 rising-case false n places a h = (a, h)
 
-pub reads-rise : (n : ℕ) (points : List ImagePoint) → IsRising (read_places n points)
+pub reads-rise : (n : ℕ) (points : List ImagePoint) → IsRising (read_indices n points)
 reads-rise n [] = tt
 reads-rise n (p ∷ points) =
-    rising-case p.writable n (read_places (n + 1) points)
+    rising-case p.writable n (read_indices (n + 1) points)
     (reads-above n (n + 1) points (omega arith)) (reads-rise (n + 1) points)
 
 above-at : (least : ℕ) (places : List ℕ) (k : ℕ) → AllAbove least places → k < length places
@@ -216,7 +216,7 @@ record Found (n : ℕ) (place : ℕ) (slots : List Value) (v : Value) : Type 0 w
 
 held-at : (n : ℕ) (points : List ImagePoint) (slots : List Value) (k : ℕ) (v : Value)
     → slice_get (inputs_in points slots) k ≡ Some v
-    → Found n (slice_index_or (read_places n points) k 0) slots v
+    → Found n (slice_index_or (read_indices n points) k 0) slots v
 held-at n [] slots k v e = absurd cc
 held-at n (p ∷ points) [] k v e = absurd cc
 held-at n (p ∷ points) (s ∷ slots) k v e =
@@ -229,9 +229,9 @@ held-at n (p ∷ points) (s ∷ slots) k v e =
     by-case : (b : Bool) (k : ℕ)
         → slice_get (cond b (inputs_in points slots) (s ∷ inputs_in points slots)) k ≡ Some v
         → ((j : ℕ) → slice_get (inputs_in points slots) j ≡ Some v
-        → Found (n + 1) (slice_index_or (read_places (n + 1) points) j 0) slots v)
+        → Found (n + 1) (slice_index_or (read_indices (n + 1) points) j 0) slots v)
         → Found n (slice_index_or
-        (cond b (read_places (n + 1) points) (n ∷ read_places (n + 1) points)) k 0) (s ∷ slots) v
+        (cond b (read_indices (n + 1) points) (n ∷ read_indices (n + 1) points)) k 0) (s ∷ slots) v
     by-case true k e rest = later _ (rest k e)
     by-case false zero e rest = record { behind = 0; is = omega arith; there = e }
     by-case false (suc j) e rest = later _ (rest j e)
@@ -275,13 +275,13 @@ module _ (image : Image) (slots : List ℤ) (timers : List TimerState)
 
   -- what is held is put
   pub held-put : (reads : List ℕ) (types : List ElementaryType) (inputs : List Value) (span : Span)
-      → reads ≡ read_places 0 image.points
+      → reads ≡ read_indices 0 image.points
       → types ≡ map type_of_point (read_only image.points)
       → AreHeld span inputs (inputs_in image.points values)
       → (k : ℕ) → IsOutside span k → IsPut reads types inputs slots k
   held-put reads types inputs span read typed hold k out = record {
     word = λ v e.
-        let at : Found 0 (slice_index_or (read_places 0 image.points) k 0) values v =
+        let at : Found 0 (slice_index_or (read_indices 0 image.points) k 0) values v =
         held-at 0 image.points values k v (hold k v out e) in
         let place : slice_index_or reads k 0 ≡ at.behind =
         ap (λ (ns : List ℕ). slice_index_or ns k 0) read ∙ omega (arith, at.is) in
@@ -331,7 +331,8 @@ inputs-stay (p ∷ points) inputs (s ∷ slots) (w ∷ new) are few less keeps =
         ap (λ (x : Value). x ∷ inputs_in points new) (same_Some w i (own refl))
         ∙ ap (λ (xs : List Value). i ∷ xs) (rest is are.1 keeps)
 
-pub scan-keeps : (old new : MachineData) (inputs : List Value) (now steps : ℕ) (outputs : List Value)
+pub scan-keeps : (old new : MachineData) (inputs : List Value) (now steps : ℕ)
+    (outputs : List Value)
     → Scans old inputs now new steps outputs → AreInputs old.image.points inputs
     → length old.image.points ≤ length old.slots → length old.image.points ≤ length new.slots
     → inputs_in old.image.points new.slots ≡ inputs

@@ -7,10 +7,10 @@ use Rattle.il_image.specs.declared.image.ImagePoint.{ImagePoint}
 use Rattle.il_image.specs.declared.value.Value.{Value}
 use Rattle.il_image.specs.Values.{type_of, value_of}
 use Rattle.il_scan.specs.Places.{output_value, value_there}
-use Rattle.il_scan.specs.PointPlaces.{AllBelow, read_places, with_words, write_places}
+use Rattle.il_scan.specs.PointPlaces.{AllBelow, read_indices, with_words, write_indices}
 use Rattle.il_scan.specs.Scans.{first_input, read_only, type_of_point, with_inputs}
 use Rattle.il_scan.specs.PointPlaces.{AreValues, writable_count}
-use Rattle.il_scan.specs.MachineStates.{AreWords, given_by}
+use Rattle.il_scan.specs.MachineStates.{AreWords, outputs_by}
 use Rattle.il_scan.specs.Words.{AreTyped, slot_at, value_at}
 
 -- ---- one element moves from behind a seam to before it
@@ -38,17 +38,17 @@ below-case-not true most n places l h = (l, h)
 below-case-not false most n places l h = h
 
 pub reads_below : (most n : ℕ) (points : List ImagePoint) → n + length points ≤ most
-    → AllBelow most (read_places n points)
+    → AllBelow most (read_indices n points)
 reads_below most n [] h = tt
 reads_below most n (p ∷ points) h =
-    below-case p.writable most n (read_places (n + 1) points) (omega (arith, h))
+    below-case p.writable most n (read_indices (n + 1) points) (omega (arith, h))
     (reads_below most (n + 1) points (omega (arith, h)))
 
 pub writes-below : (most n : ℕ) (points : List ImagePoint) → n + length points ≤ most
-    → AllBelow most (write_places n points)
+    → AllBelow most (write_indices n points)
 writes-below most n [] h = tt
 writes-below most n (p ∷ points) h =
-    below-case-not p.writable most n (write_places (n + 1) points) (omega (arith, h))
+    below-case-not p.writable most n (write_indices (n + 1) points) (omega (arith, h))
     (writes-below most (n + 1) points (omega (arith, h)))
 
 count-case : (b : Bool) (n count : ℕ) (places : List ℕ) → count ≡ length places
@@ -57,21 +57,21 @@ count-case true n count places e = omega (arith, e)
 count-case false n count places e = omega (arith, e)
 
 pub so-many-writes : (n : ℕ) (points : List ImagePoint)
-    → writable_count points ≡ length (write_places n points)
+    → writable_count points ≡ length (write_indices n points)
 so-many-writes n [] = refl
 so-many-writes n (p ∷ points) =
-    count-case p.writable n (writable_count points) (write_places (n + 1) points)
+    count-case p.writable n (writable_count points) (write_indices (n + 1) points)
     (so-many-writes (n + 1) points)
 
 types-case : (b : Bool) (n : ℕ) (p : ImagePoint) (points : List ImagePoint)
-    → length (map type_of_point (read_only points)) ≡ length (read_places (n + 1) points)
+    → length (map type_of_point (read_only points)) ≡ length (read_indices (n + 1) points)
     → length (map type_of_point (cond (not b) (p ∷ read_only points) (read_only points)))
-    ≡ length (cond b (read_places (n + 1) points) (n ∷ read_places (n + 1) points))
+    ≡ length (cond b (read_indices (n + 1) points) (n ∷ read_indices (n + 1) points))
 types-case true n p points e = e
 types-case false n p points e = ap suc e
 
 pub so-many-types : (n : ℕ) (points : List ImagePoint)
-    → length (map type_of_point (read_only points)) ≡ length (read_places n points)
+    → length (map type_of_point (read_only points)) ≡ length (read_indices n points)
 so-many-types n [] = refl
 so-many-types n (p ∷ points) = types-case p.writable n p points (so-many-types (n + 1) points)
 
@@ -115,7 +115,7 @@ no-inputs (p ∷ points) (s ∷ slots) h =
 
 placed : (front : List ℤ) (points : List ImagePoint) (words slots : List ℤ)
     → length points ≤ length slots
-    → with_words (read_places (length front) points) words (front ++ slots)
+    → with_words (read_indices (length front) points) words (front ++ slots)
     ≡ front ++ with_inputs points words slots
 placed front [] words slots h = refl
 placed front (p ∷ points) words [] h = absurd (omega (arith, h))
@@ -126,36 +126,36 @@ placed front (p ∷ points) words (s ∷ slots) h =
   where
     Rest : Type 0
     Rest = (x : ℤ) (left : List ℤ)
-        → with_words (read_places (length (front ++ (x ∷ []))) points) left
+        → with_words (read_indices (length (front ++ (x ∷ []))) points) left
         ((front ++ (x ∷ [])) ++ slots) ≡ (front ++ (x ∷ [])) ++ with_inputs points left slots
 
     next : Rest → (x : ℤ) (left : List ℤ)
-        → with_words (read_places (length front + 1) points) left (front ++ (x ∷ slots))
+        → with_words (read_indices (length front + 1) points) left (front ++ (x ∷ slots))
         ≡ front ++ (x ∷ with_inputs points left slots)
     next rest x left =
-        ap (λ (n : ℕ). with_words (read_places n points) left (front ++ (x ∷ slots)))
+        ap (λ (n : ℕ). with_words (read_indices n points) left (front ++ (x ∷ slots)))
         (sym (longer front x))
-        ∙ ap (with_words (read_places (length (front ++ (x ∷ []))) points) left)
+        ∙ ap (with_words (read_indices (length (front ++ (x ∷ []))) points) left)
         (sym (moved front x slots))
         ∙ rest x left ∙ moved front x (with_inputs points left slots)
 
     by-case : (b : Bool) (ws : List ℤ) → Rest → with_inputs points [] slots ≡ slots
-        → with_words (cond b (read_places (length front + 1) points)
-        (length front ∷ read_places (length front + 1) points)) ws (front ++ (s ∷ slots))
+        → with_words (cond b (read_indices (length front + 1) points)
+        (length front ∷ read_indices (length front + 1) points)) ws (front ++ (s ∷ slots))
         ≡ front ++ (cond b s (first_input ws s) ∷ with_inputs points (cond b ws (drop 1 ws)) slots)
     by-case true ws rest none = next rest s ws
     by-case false [] rest none = ap (λ ss. front ++ (s ∷ ss)) (sym none)
     by-case false (w ∷ ws) rest none =
-        ap (with_words (read_places (length front + 1) points) ws) (set-behind front s w slots)
+        ap (with_words (read_indices (length front + 1) points) ws) (set-behind front s w slots)
         ∙ next rest w ws
 
 pub inputs-placed : (points : List ImagePoint) (words slots : List ℤ) → length points ≤ length slots
-    → with_words (read_places 0 points) words slots ≡ with_inputs points words slots
+    → with_words (read_indices 0 points) words slots ≡ with_inputs points words slots
 inputs-placed points words slots h = placed [] points words slots h
 
 -- what is at the places of the points that may only be read are their inputs
 pub inputs-taken : (points : List ImagePoint) (reads : List ℕ) (words slots taken : List ℤ)
-    → length points ≤ length slots → reads ≡ read_places 0 points
+    → length points ≤ length slots → reads ≡ read_indices 0 points
     → taken ≡ with_words reads words slots → taken ≡ with_inputs points words slots
 inputs-taken points reads words slots taken few read e =
     e ∙ ap (λ (ns : List ℕ). with_words ns words slots) read ∙ inputs-placed points words slots few
@@ -193,8 +193,8 @@ word-behind (x ∷ front) w words = word-behind front w words
 
 given : (before : List ImagePoint) (front : List ℤ) → length before ≡ length front
     → (points : List ImagePoint) (slots : List ℤ) → length points ≤ length slots
-    → map (output_value (before ++ points) (front ++ slots)) (write_places (length before) points)
-    ≡ given_by points slots
+    → map (output_value (before ++ points) (front ++ slots)) (write_indices (length before) points)
+    ≡ outputs_by points slots
 given before front same [] slots h = refl
 given before front same (p ∷ points) [] h = absurd (omega (arith, h))
 given before front same (p ∷ points) (w ∷ slots) h =
@@ -204,7 +204,7 @@ given before front same (p ∷ points) (w ∷ slots) h =
   where
     more : List Value
     more = map (output_value (before ++ (p ∷ points)) (front ++ (w ∷ slots)))
-        (write_places (length before + 1) points)
+        (write_indices (length before + 1) points)
 
     first : output_value (before ++ (p ∷ points)) (front ++ (w ∷ slots)) (length before)
         ≡ value_at p.elementary w
@@ -216,33 +216,33 @@ given before front same (p ∷ points) (w ∷ slots) h =
 
     by-case : (b : Bool) → map
         (output_value ((before ++ (p ∷ [])) ++ points) ((front ++ (w ∷ [])) ++ slots))
-        (write_places (length (before ++ (p ∷ []))) points) ≡ given_by points slots
+        (write_indices (length (before ++ (p ∷ []))) points) ≡ outputs_by points slots
         → map (output_value (before ++ (p ∷ points)) (front ++ (w ∷ slots)))
-        (cond b (length before ∷ write_places (length before + 1) points)
-        (write_places (length before + 1) points))
-        ≡ cond b (value_at p.elementary w ∷ given_by points slots) (given_by points slots)
+        (cond b (length before ∷ write_indices (length before + 1) points)
+        (write_indices (length before + 1) points))
+        ≡ cond b (value_at p.elementary w ∷ outputs_by points slots) (outputs_by points slots)
     by-case b e =
-        let rest : more ≡ given_by points slots =
+        let rest : more ≡ outputs_by points slots =
         ap (λ (n : ℕ). map (output_value (before ++ (p ∷ points)) (front ++ (w ∷ slots)))
-        (write_places n points)) (sym (longer before p))
+        (write_indices n points)) (sym (longer before p))
         ∙ ap (λ (ps : List ImagePoint). map (output_value ps (front ++ (w ∷ slots)))
-        (write_places (length (before ++ (p ∷ []))) points)) (sym (moved before p points))
+        (write_indices (length (before ++ (p ∷ []))) points)) (sym (moved before p points))
         ∙ ap (λ (ss : List ℤ). map (output_value ((before ++ (p ∷ [])) ++ points) ss)
-        (write_places (length (before ++ (p ∷ []))) points)) (sym (moved front w slots)) ∙ e in
+        (write_indices (length (before ++ (p ∷ []))) points)) (sym (moved front w slots)) ∙ e in
         by-bool b rest
       where
-        by-bool : (b : Bool) → more ≡ given_by points slots
+        by-bool : (b : Bool) → more ≡ outputs_by points slots
             → map (output_value (before ++ (p ∷ points)) (front ++ (w ∷ slots)))
-            (cond b (length before ∷ write_places (length before + 1) points)
-            (write_places (length before + 1) points))
-            ≡ cond b (value_at p.elementary w ∷ given_by points slots) (given_by points slots)
+            (cond b (length before ∷ write_indices (length before + 1) points)
+            (write_indices (length before + 1) points))
+            ≡ cond b (value_at p.elementary w ∷ outputs_by points slots) (outputs_by points slots)
         by-bool true rest =
             ap (λ (v : Value). v ∷ more) first
             ∙ ap (λ (vs : List Value). value_at p.elementary w ∷ vs) rest
         by-bool false rest = rest
 
 pub outputs-placed : (points : List ImagePoint) (slots : List ℤ) → length points ≤ length slots
-    → map (output_value points slots) (write_places 0 points) ≡ given_by points slots
+    → map (output_value points slots) (write_indices 0 points) ≡ outputs_by points slots
 outputs-placed points slots h = given [] [] refl points slots h
 
 -- what stands at a point's place

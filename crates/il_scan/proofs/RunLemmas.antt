@@ -14,7 +14,7 @@ use Rattle.il_image.specs.Tables.{IsHalt, IsSuccessor, Path, slot_types}
 use Rattle.il_verify.specs.Verdicts.{IsBudget, IsDepth, IsSafe}
 use Rattle.il_verify.proofs.TableLemmas.{leads-on}
 use Rattle.il_scan.specs.Scans.{IsWithin}
-use Rattle.il_scan.specs.MachineStates.{IsAt, IsHeld, KeepsSlots, RunsTo, StandsAs, StandsAt, Turns, first_state, words_at}
+use Rattle.il_scan.specs.MachineStates.{IsAt, IsHeld, KeepsSlots, RunsTo, IsAllowedAt, EncodesStateAt, Turns, first_state, words_at}
 use Rattle.il_scan.specs.Words.{values_of, words_of}
 use Rattle.il_scan.specs.Working.{IsReady, Step, Steps, Words, words, words_after, leads}
 use Rattle.il_scan.proofs.StandLemmas.{held-by, held-typed, stand-again}
@@ -79,13 +79,13 @@ goes-same : (a b : State) → Goes a ≡ Goes b → a ≡ b
 goes-same a b e = cc
 
 standing_of : (image : Image) (now : ℕ) (s next : State) → step_at image.code now s ≡ Goes next
-    → (to : Option ℕ) (w : Words) → Turns image now s to w → StandsAs image next
+    → (to : Option ℕ) (w : Words) → Turns image now s to w → IsAllowedAt image next
 standing_of image now s next e None w t = absurd (let no : Halts ≡ Goes next = sym t.0 ∙ e in cc)
 standing_of image now s next e (Some to) w t =
-    subst (StandsAs image) (goes-same t.1.0 next (sym t.1.1 ∙ e)) t.1.2.standing
+    subst (IsAllowedAt image) (goes-same t.1.0 next (sym t.1.1 ∙ e)) t.1.2.standing
 
 next-standing : (image : Image) (now : ℕ) → AreOctets image.code → (s next : State)
-    → StandsAs image s → step_at image.code now s ≡ Goes next → StandsAs image next
+    → IsAllowedAt image s → step_at image.code now s ≡ Goes next → IsAllowedAt image next
 next-standing image now octets s next h e =
     let a = h.agrees.allowed s.place h.kinds h.here in
     standing_of image now s next e (leads a.instr a.next (words_at s).stack)
@@ -94,7 +94,7 @@ next-standing image now octets s next h e =
     (words_after now a.instr (words_at s)) refl refl)
 
 pub never-deeper : (image : Image) (now : ℕ) → AreOctets image.code → (most : ℕ)
-    → IsDepth image most → (count : ℕ) (s : State) → StandsAs image s
+    → IsDepth image most → (count : ℕ) (s : State) → IsAllowedAt image s
     → IsWithin image.code now most count s
 never-deeper image now octets most d zero s h =
     let deep : length h.kinds ≤ most = (d.each h.table h.agrees).most s.place h.kinds h.here in
@@ -114,7 +114,7 @@ never-deeper image now octets most d (suc count) s h =
 pub record Comes (image : Image) (now : ℕ) (first : State) (place steps : ℕ) (w : Words)
     : Type 0 where
   pub state : State
-  pub stands : StandsAt image place w state
+  pub stands : EncodesStateAt image place w state
   pub same : run_from image.code now (length image.code) first 0
       ≡ run_from image.code now (length image.code - steps) state steps
   pub few : steps ≤ place
@@ -123,7 +123,7 @@ pub record Comes (image : Image) (now : ℕ) (first : State) (place steps : ℕ)
   pub octets : AreOctets image.code
 
 start-standing : (image : Image) (slots : List ℤ) (timers : List TimerState) → IsSafe image
-    → IsHeld image slots timers → StandsAs image (first_state image slots timers)
+    → IsHeld image slots timers → IsAllowedAt image (first_state image slots timers)
 start-standing image slots timers safe held =
     record {
       table = safe.table.0;

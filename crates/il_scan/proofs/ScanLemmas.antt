@@ -11,7 +11,7 @@ use Rattle.il_image.specs.Timers as time
 use Rattle.il_image.specs.Tables.{slot_types}
 use Rattle.il_image.specs.Values.{type_of}
 use Rattle.il_scan.specs.Scans.{AreInputs, MachineData, IsWithin, Scans, first_slots, first_machine, scan_start, with_inputs}
-use Rattle.il_scan.specs.MachineStates.{AreWords, IsHeld, RunsTo, first_state, given_by}
+use Rattle.il_scan.specs.MachineStates.{AreWords, IsHeld, RunsTo, first_state, outputs_by}
 use Rattle.il_scan.specs.Scans.{machine_data}
 use Rattle.il_scan.specs.Words.{StandFor, values_of, words_of}
 use Rattle.il_scan.proofs.SlotLemmas.{first-stand, held-words, only-read, outputs_are, same-slot, taken-stand, times-first}
@@ -53,8 +53,9 @@ module _ (image : Image) (points : List ImagePoint) (is : points ≡ image.point
 
     pub scanned : (new_slots : List ℤ) (new_timers : List TimerState) (steps : ℕ)
         (outputs : List Value) → RunsTo image now taken timers new_slots new_timers steps
-        → outputs ≡ given_by points new_slots
-        → Scans (machine_data image slots timers) inputs now (machine_data image new_slots new_timers) steps
+        → outputs ≡ outputs_by points new_slots
+        → Scans (machine_data image slots timers) inputs now
+        (machine_data image new_slots new_timers) steps
         outputs
     scanned new_slots new_timers steps outputs r given = record {
       image = refl;
@@ -67,7 +68,7 @@ module _ (image : Image) (points : List ImagePoint) (is : points ≡ image.point
       keeps = λ n p get only. same-slot (slot_types image) new_slots taken n
           (r.keeps n (only-read image n p get only))
           ∙ ap (λ (v : List Value). slice_get v n) values-taken;
-      given = given ∙ ap (λ (ps : List ImagePoint). given_by ps new_slots) is
+      given = given ∙ ap (λ (ps : List ImagePoint). outputs_by ps new_slots) is
           ∙ outputs_are image.points (map type_of image.variables) new_slots;
     }
 
@@ -87,7 +88,8 @@ module _ (image : Image) (kept : IsImage image) (slots : List ℤ) (timers : Lis
       let values =
       stand-again (slot_types image) slots (first_slots image.points image.variables)
       (first-stand image slots kept.values e) in
-      ap (λ (v : List Value). let h : MachineData = record { image = image; slots = v; timers = timers } in
+      ap (λ (v : List Value). let h : MachineData =
+      record { image = image; slots = v; timers = timers } in
       h) values
       ∙ ap (λ (ts : List TimerState). let h : MachineData =
       record { image = image; slots = first_slots image.points image.variables; timers = ts } in

@@ -23,7 +23,7 @@ use Rattle.std.proofs.lemmas.Bool.{and_parts}
 use Rattle.std.specs.Prelude.{is_some}
 use Rattle.il_scan.specs.Scans.{AreInputs, first_input, first_slots, outputs_of, read_only, type_of_point, with_inputs}
 use Rattle.il_scan.specs.PointPlaces.{are_inputs, begins_with, is_of}
-use Rattle.il_scan.specs.MachineStates.{AreWords, IsHeld, IsTimer, given_by}
+use Rattle.il_scan.specs.MachineStates.{AreWords, IsHeld, IsTimer, outputs_by}
 use Rattle.il_scan.specs.Words.{AreTyped, StandFor, value_at, values_of, words_of}
 
 -- ---- first words, variable by variable
@@ -103,7 +103,8 @@ few-points (p ∷ points) (w ∷ words) h = let more : length points ≤ length 
     few-points points words h.1 in omega arith
 
 pub outputs_are : (points : List ImagePoint) (more : List ElementaryType) (words : List ℤ)
-    → given_by points words ≡ outputs_of points (values_of (map type_of_point points ++ more) words)
+    → outputs_by points words
+    ≡ outputs_of points (values_of (map type_of_point points ++ more) words)
 outputs_are [] more words = refl
 outputs_are (p ∷ points) more [] = refl
 outputs_are (p ∷ points) more (w ∷ words) =

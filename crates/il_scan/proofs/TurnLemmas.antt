@@ -26,7 +26,7 @@ use Rattle.il_verify.proofs.TableLemmas.{same-instr, some-way}
 use Rattle.il_verify.proofs.WithinLemmas.{within-length}
 use Rattle.il_image.specs.declared.value.Value.{Value}
 use Rattle.il_image.proofs.SetLemmas.{set-elsewhere}
-use Rattle.il_scan.specs.MachineStates.{Fit, KeepsSlots, StandsAs, StandsAt, Turns, words_at}
+use Rattle.il_scan.specs.MachineStates.{Fit, KeepsSlots, IsAllowedAt, EncodesStateAt, Turns, words_at}
 use Rattle.il_scan.specs.Working.{IsReady, Words, leads, top, words_after}
 use Rattle.il_scan.proofs.CellLemmas.{fit-length}
 use Rattle.il_scan.proofs.DoesLemmas.{Does}
@@ -87,13 +87,13 @@ some-there (Some y) x e = refl
 -- ---- one turn
 
 -- what the table says of an instruction that stands at the state's place
-record Allows (image : Image) (s : State) (h : StandsAs image s) (i : Instr) (next : ℕ)
+record Allows (image : Image) (s : State) (h : IsAllowedAt image s) (i : Instr) (next : ℕ)
     : Type 0 where
   after : List CellKind
   effect_is : kinds_after (slot_types image) (length image.timers) i h.kinds ≡ Some after
   enters : (to : ℕ) → LeadsTo i next to → Enters h.table to after
 
-module _ (image : Image) (now : ℕ) (s : State) (h : StandsAs image s) where
+module _ (image : Image) (now : ℕ) (s : State) (h : IsAllowedAt image s) where
   is_place : IsPlace image.code s.place
   is_place = (h.agrees.places s.place).0 (some-there (h.table s.place) h.kinds h.here)
 
@@ -214,7 +214,8 @@ module _ (image : Image) (now : ℕ) (s : State) (h : StandsAs image s) where
 
 -- ---- the same at a place where words stand
 
-module _ (image : Image) (now place : ℕ) (w : Words) (s : State) (h : StandsAt image place w s)
+module _ (image : Image) (now place : ℕ) (w : Words) (s : State)
+    (h : EncodesStateAt image place w s)
   where
     at_place : (f : ℕ → Option (Instr × ℕ)) → f s.place ≡ f place
     at_place f = ap f h.there

@@ -16,7 +16,7 @@ use Rattle.il_image.specs.declared.image.ImagePoint.{ImagePoint}
 use Rattle.il_image.specs.Values.{value_of}
 use Rattle.il_scan.specs.Scans.{IsWithin}
 use Rattle.il_scan.specs.PointPlaces.{writable_count}
-use Rattle.il_scan.specs.PointPlaces.{read_places, write_places}
+use Rattle.il_scan.specs.PointPlaces.{read_indices, write_indices}
 use Rattle.il_scan.specs.Words.{AreTyped, StandFor, value_at, values_of, words_of}
 use Rattle.il_scan.specs.Working.{Words, words}
 
@@ -39,7 +39,7 @@ pub record Typed (types : List ElementaryType) (count : ℕ) (slots : List Value
   pub times : Each IsTimer timers
 
 -- An agreeing table allows the cells at the state's offset, and the code writes only what it may.
-pub record StandsAs (image : Image) (s : State) : Type 0 where
+pub record IsAllowedAt (image : Image) (s : State) : Type 0 where
   pub table : Table
   pub agrees : Agrees image table
   pub writes : KeepsReadOnly image
@@ -53,15 +53,15 @@ abbrev pub words_at : State → Words
 words_at s = words (words_of s.cells) (words_of s.slots) s.timers
 
 -- The words encode this state, which is at this offset in the code.
-pub record StandsAt (image : Image) (place : ℕ) (w : Words) (s : State) : Type 0 where
-  pub standing : StandsAs image s
+pub record EncodesStateAt (image : Image) (place : ℕ) (w : Words) (s : State) : Type 0 where
+  pub standing : IsAllowedAt image s
   pub there : s.place ≡ place
   pub are : words_at s ≡ w
 
 -- The words encode a state of some image with this code, at this offset.
 abbrev pub IsAt : List ℕ → ℕ → Words → Type 0
 IsAt code place w =
-    (image : Image) × (s : State) × (image.code ≡ code) × StandsAt image place w s
+    (image : Image) × (s : State) × (image.code ≡ code) × EncodesStateAt image place w s
 
 -- The slots of points that may only be read are unchanged.
 abbrev pub KeepsSlots : Image → Words → Words → Type 0
@@ -75,7 +75,7 @@ Turns image now s None after =
     (step_at image.code now s ≡ Halts) × (after ≡ words_at s) × IsHalt image.code s.place
 Turns image now s (Some to) after =
     IsSuccessor image.code s.place to
-    × ((t : State) × (step_at image.code now s ≡ Goes t) × StandsAt image to after t)
+    × ((t : State) × (step_at image.code now s ≡ Goes t) × EncodesStateAt image to after t)
     × KeepsSlots image (words_at s) after
 
 -- ---- between runs
@@ -109,11 +109,11 @@ pub record RunsTo (image : Image) (now : ℕ) (slots : List ℤ) (timers : List 
 
 -- The content of a machine: the words of its slots, its timers, the indices of the points that may
 -- only be read and of those that may be written, and room for an output for each of the latter.
-pub record IsKept (image : Image) (slots : List ℤ) (timers : List TimerState)
+pub record IsContentOf (image : Image) (slots : List ℤ) (timers : List TimerState)
     (reads writes : List ℕ) (outputs : List Value) : Type 0 where
   pub held : IsHeld image slots timers
-  pub read : reads ≡ read_places 0 image.points
-  pub written : writes ≡ write_places 0 image.points
+  pub read : reads ≡ read_indices 0 image.points
+  pub written : writes ≡ write_indices 0 image.points
   pub room : length outputs ≡ writable_count image.points
 
 -- There is a word for each point, and it encodes a value of the point's type.
@@ -123,8 +123,10 @@ AreWords (p ∷ points) [] = ⊥
 AreWords (p ∷ points) (w ∷ words) = IsSome (value_of p.elementary w) × AreWords points words
 
 -- the values of the points that may be written
-abbrev pub given_by : List ImagePoint → List ℤ → List Value
-given_by [] words = []
-given_by (p ∷ points) [] = []
-given_by (p ∷ points) (w ∷ words) =
-    if p.writable then value_at p.elementary w ∷ given_by points words else given_by points words
+abbrev pub outputs_by : List ImagePoint → List ℤ → List Value
+outputs_by [] words = []
+outputs_by (p ∷ points) [] = []
+outputs_by (p ∷ points) (w ∷ words) =
+    if p.writable
+    then value_at p.elementary w ∷ outputs_by points words
+    else outputs_by points words

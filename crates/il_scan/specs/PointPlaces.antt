@@ -11,16 +11,16 @@ use Rattle.il_scan.specs.Words.{slot_at}
 -- ---- indices
 
 -- the indices of the points that may only be read; the first point has the index n
-abbrev pub read_places : ℕ → List ImagePoint → List ℕ
-read_places n [] = []
-read_places n (p ∷ points) =
-    if p.writable then read_places (n + 1) points else n ∷ read_places (n + 1) points
+abbrev pub read_indices : ℕ → List ImagePoint → List ℕ
+read_indices n [] = []
+read_indices n (p ∷ points) =
+    if p.writable then read_indices (n + 1) points else n ∷ read_indices (n + 1) points
 
 -- the indices of the points that may be written; the first point has the index n
-abbrev pub write_places : ℕ → List ImagePoint → List ℕ
-write_places n [] = []
-write_places n (p ∷ points) =
-    if p.writable then n ∷ write_places (n + 1) points else write_places (n + 1) points
+abbrev pub write_indices : ℕ → List ImagePoint → List ℕ
+write_indices n [] = []
+write_indices n (p ∷ points) =
+    if p.writable then n ∷ write_indices (n + 1) points else write_indices (n + 1) points
 
 -- the slots with the words at these indices
 abbrev pub with_words : List ℕ → List ℤ → List ℤ → List ℤ

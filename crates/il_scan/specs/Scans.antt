@@ -102,7 +102,8 @@ AreHeld span inputs held =
 -- the state in which the run of a scan starts
 abbrev pub scan_start : MachineData → List Value → State
 scan_start machine_data inputs =
-    initial_state (with_inputs machine_data.image.points inputs machine_data.slots) machine_data.timers
+    initial_state (with_inputs machine_data.image.points inputs machine_data.slots)
+    machine_data.timers
 
 -- No state of a run of at most this number of steps has more cells than `depth` on its stack.
 abbrev pub IsWithin : List ℕ → ℕ → ℕ → ℕ → State → Type 0

@@ -1,9 +1,9 @@
 // The machine, which runs a verified image scan by scan.
 ghost use Rattle.std.specs.Prelude.{◌≡◌, ◌↔◌, IfErr, IfOk, IsTrue, map};
 ghost use Rattle.std.specs.Borrow.{sem};
-ghost use Rattle.il_scan.specs.PointPlaces.{read_places};
+ghost use Rattle.il_scan.specs.PointPlaces.{read_indices};
 ghost use Rattle.il_scan.specs.Scans.{AreHeld, AreInputs, Scans, TakesMemory, first_machine, inputs_in, outputs_of, read_only, type_of_point};
-ghost use Rattle.il_scan.specs.MachineStates.{IsHeld, IsKept};
+ghost use Rattle.il_scan.specs.MachineStates.{IsHeld, IsContentOf};
 ghost use Rattle.il_scan.specs.Scans.{machine_data};
 ghost use Rattle.il_scan.specs.Words.{values_of};
 ghost use Rattle.il_image.specs.Tables.{slot_types};
@@ -12,7 +12,7 @@ ghost use Rattle.il_verify.specs.Verdicts.{IsSafe};
 use crate::points::{Inputs, Listed, Outputs};
 use crate::run::run;
 use crate::slots::{
-    Places, are_inputs, first_slots, first_timers, give_outputs, places_of, read_inputs,
+    Places, are_inputs, first_slots, first_timers, give_outputs, point_indices, read_inputs,
     room_for_outputs,
 };
 use crate::span::Span;
@@ -36,14 +36,14 @@ pub struct Machine {
 
 impl Model for Machine {
     ghost use Rattle.il_scan.specs.Scans.{MachineData};
-    ghost use Rattle.il_scan.specs.MachineStates.{IsKept};
+    ghost use Rattle.il_scan.specs.MachineStates.{IsContentOf};
     ghost use Rattle.il_scan.specs.Scans.{machine_data};
 
     ghost Value = { MachineData };
 
     ghost view = { λ m. machine_data m.verified m.slots.items m.timers.items };
 
-    ghost invariant = { λ m. IsKept m.verified m.slots.items m.timers.items m.places.reads.items
+    ghost invariant = { λ m. IsContentOf m.verified m.slots.items m.timers.items m.places.reads.items
         m.places.writes.items m.outputs.items };
 }
 
@@ -71,13 +71,13 @@ fn memory_of(alloc: Global, image: &Image) -> Result<Memory, AllocError>
     ensures first { IfOk result
         (λ m. machine_data image.now m.slots.items m.timers.items ≡ first_machine image.now) }
     ensures kept { IfOk result
-        (λ m. IsKept image.now m.slots.items m.timers.items m.places.reads.items
+        (λ m. IsContentOf image.now m.slots.items m.timers.items m.places.reads.items
         m.places.writes.items m.outputs.items) }
     ensures memory { IfErr result (λ e. TakesMemory image.now) }
 {
     let slots = first_slots(alloc, image)?;
     let timers = first_timers(alloc, image.timers())?;
-    let places = places_of(alloc, image.points())?;
+    let places = point_indices(alloc, image.points())?;
     let outputs = room_for_outputs(alloc, image.points())?;
     Ok(Memory {
         slots,
@@ -101,7 +101,7 @@ fn run_points<I: Inputs>(
     requires safe { IsSafe image.now }
     requires types { I.types inputs.now ≡ map type_of_point (read_only image.now.points) }
     requires held { IsHeld image.now slots.old timers.old }
-    requires read { reads.now ≡ read_places 0 image.now.points }
+    requires read { reads.now ≡ read_indices 0 image.now.points }
     requires hold { AreHeld span (I.values inputs.now)
         (inputs_in image.now.points (values_of (slot_types image.now) slots.old)) }
     ensures scans { Scans (machine_data image.now slots.old timers.old) (I.values inputs.now) now
@@ -127,11 +127,11 @@ fn run_once(
 ) -> u32
     requires safe { IsSafe image.now }
     requires inputs { AreInputs image.now.points inputs.now }
-    requires kept { IsKept image.now slots.old timers.old places.now.reads.items
+    requires kept { IsContentOf image.now slots.old timers.old places.now.reads.items
         places.now.writes.items outputs.old }
     ensures scans { Scans (machine_data image.now slots.old timers.old) inputs.now now
         (machine_data image.now slots.new timers.new) result outputs.new }
-    ensures kept { IsKept image.now slots.new timers.new places.now.reads.items
+    ensures kept { IsContentOf image.now slots.new timers.new places.now.reads.items
         places.now.writes.items outputs.new }
 {
     let inputs = Listed { values: inputs };

@@ -7,7 +7,7 @@ ghost use Rattle.il_scan.specs.PointPlaces.{writable_count};
 ghost use Rattle.il_scan.specs.Scans.{IsOutside};
 ghost use Rattle.il_scan.specs.MachineStates.{AreWords};
 ghost use Rattle.il_scan.specs.Places as spec;
-ghost use Rattle.il_scan.specs.PointPlaces.{AllBelow, IsPut, IsRising, read_places, with_words, write_places};
+ghost use Rattle.il_scan.specs.PointPlaces.{AllBelow, IsPut, IsRising, read_indices, with_words, write_indices};
 ghost use Rattle.il_scan.specs.Words.{AreTyped, slot_at, value_at, words_of};
 
 use crate::points::Inputs;
@@ -36,7 +36,7 @@ fn begins_with(elementary: ElementaryType, inputs: &[Value]) -> bool
 }
 
 // Returns the inputs after the first.
-fn behind(inputs: &[Value]) -> &[Value]
+fn inputs_after_first(inputs: &[Value]) -> &[Value]
     ensures { result.now ≡ drop 1 inputs.now }
 {
     match inputs {
@@ -56,7 +56,7 @@ pub(crate) fn are_inputs(points: &[ImagePoint], inputs: &[Value]) -> bool
             if !begins_with(point.elementary, left) {
                 return false;
             }
-            left = behind(left);
+            left = inputs_after_first(left);
         }
         rest = others;
     }
@@ -73,9 +73,9 @@ pub(crate) struct Places {
 }
 
 /// Returns the indices of the read-only points and of the writable points.
-pub(crate) fn places_of(alloc: Global, points: &[ImagePoint]) -> Result<Places, AllocError>
-    ensures reads { IfOk result (λ places. places.reads.items ≡ read_places 0 points.now) }
-    ensures writes { IfOk result (λ places. places.writes.items ≡ write_places 0 points.now) }
+pub(crate) fn point_indices(alloc: Global, points: &[ImagePoint]) -> Result<Places, AllocError>
+    ensures reads { IfOk result (λ places. places.reads.items ≡ read_indices 0 points.now) }
+    ensures writes { IfOk result (λ places. places.writes.items ≡ write_indices 0 points.now) }
     ensures memory { IfErr result (λ e. 0 < length points.now) }
 {
     let mut reads = Vec::new(alloc);

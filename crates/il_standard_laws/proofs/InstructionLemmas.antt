@@ -22,9 +22,9 @@ use Rattle.il_image.specs.declared.value.Value.{Value}
 use Rattle.il_image.specs.declared.value.Value.TheVariants as value
 use Rattle.il_image.proofs.KindLemmas.{same-is, same-self}
 use Rattle.il_check.specs.Declaring.{literal_value, of_type}
-use Rattle.il_check.specs.SourceOperands.{ProgramNames, resolve_arguments, called_of, source_operand, is_nonzero, is_nonzero_literal, is_zero, resolve_output, resolve_place, resolution_of, resolve_operand, resolve_variable}
+use Rattle.il_check.specs.SourceOperands.{ProgramNames, resolve_arguments, called_of, source_operand, is_nonzero, is_nonzero_literal, is_zero, resolve_output, resolve_variable_or_output, resolution_of, resolve_operand, resolve_variable}
 use Rattle.il_check.specs.Labelling.{IsCombined, IsRight}
-use Rattle.il_check.specs.Rules.{allows, arguments_fit, converted_from, divides, fits, gives, input_type, is_fixed, is_missing, is_plain, is_timer, is_unset, is_wrong, jumps_back, load_type, may_divide_by_zero, may_load, may_negate, misses_argument, misses_label, misses_name, misses_timer, number_in, own_type, takes, type_after, works, writes_fixed}
+use Rattle.il_check.specs.Rules.{allows, arguments_fit, converted_from, divides, fits, type_of_result, input_type, is_fixed, is_missing, is_plain, is_timer, is_unset, is_wrong, jumps_back, load_type, may_divide_by_zero, may_load, may_negate, misses_argument, misses_label, misses_name, misses_timer, number_in, own_type, accepts_type, type_after, works, writes_fixed}
 use Rattle.il_check.specs.declared.source_operand.SourceOperand.{SourceOperand}
 use Rattle.il_check.specs.declared.source_operand.SourceOperand.TheVariants.{Missing, Misused, Known, Number}
 use Rattle.il_check.specs.declared.source_operand.Meaning.{Meaning}
@@ -32,7 +32,7 @@ use Rattle.il_check.specs.declared.source_operand.Meaning.TheVariants as meaning
 use Rattle.il_check.specs.declared.source_operand.Resolved.{Resolved}
 use Rattle.il_check.specs.declared.source_operand.Resolved.TheVariants as resolved
 use Rattle.il_check.proofs.GivenLemmas.{allows-any}
-use Rattle.il_standard_laws.specs.Instructions.{AreGiven, CanHave, Combines, DoesNotDivide, IsDivisor, IsLiteralOf, IsLoaded, IsNotZero, IsRightAction, IsRightBlock, IsTimer, IsWritable, MayDivide, MayWrite, place_kind, timer_output, variable_kind}
+use Rattle.il_standard_laws.specs.Instructions.{AreArguments, CanHave, Combines, DoesNotDivide, IsDivisor, IsLiteralOf, IsLoaded, IsNotZero, IsRightAction, IsRightBlock, IsTimer, IsWritable, MayDivide, MayWrite, operand_kind, timer_output, variable_kind}
 use Rattle.il_standard_laws.specs.Table.{IsFirstFit, MayNegate, Stores, Tests}
 use Rattle.il_standard_laws.proofs.NumberLemmas.{first-in-lint, first-own, has-value, in-lint, is-between, not-same, own-first}
 use Rattle.il_standard_laws.proofs.TableLemmas.{negation, row, table}
@@ -119,7 +119,8 @@ output-fits what (Some (meaning.Timer n)) kind =
     let g = some-same _ kind in (λ e. g.1 (f.0 e), λ e. f.1 (g.0 e))
 
 place-fits : (names : ProgramNames) (place : text.Place) (kind : ElementaryType)
-    → (fits kind (resolve_place names place) ≡ true) ↔ (place_kind names place ≡ Some kind)
+    → (fits kind (resolve_variable_or_output names place) ≡ true)
+    ↔ (operand_kind names place ≡ Some kind)
 place-fits names (text.named name) kind = variable-fits (names.meaning name) kind
 place-fits names (text.output timer what) kind = output-fits what (names.meaning timer) kind
 
@@ -211,8 +212,8 @@ initial-is kind (literal.Time n) =
 
 -- a target that has a type is a variable that may be written, or it is fixed
 may-write : (names : ProgramNames) (place : text.Place) (kind : ElementaryType)
-    → place_kind names place ≡ Some kind
-    → (is_fixed (resolve_place names place) ≡ false) ↔ MayWrite names place
+    → operand_kind names place ≡ Some kind
+    → (is_fixed (resolve_variable_or_output names place) ≡ false) ↔ MayWrite names place
 may-write names (text.named name) kind e = named (names.meaning name) e
   where
     named : (m : Option Meaning) → variable_kind m ≡ Some kind
@@ -341,7 +342,7 @@ given-is : (names : ProgramNames) (a : Input × text.OperandData)
 given-is names a = fits-is names a.1 (input_type a.0)
 
 are-given : (names : ProgramNames) (args : List (Input × text.OperandData))
-    → (arguments_fit (resolve_arguments names args) ≡ true) ↔ AreGiven names args
+    → (arguments_fit (resolve_arguments names args) ≡ true) ↔ AreArguments names args
 are-given names [] = (λ e. tt, λ h. refl)
 are-given names (a ∷ []) = given-is names a
 are-given names (a ∷ b ∷ more) =
@@ -356,7 +357,8 @@ none-of : (a b : Truth) → a ≡ false → b ≡ false → a || b ≡ false
 none-of true b e f = absurd (cc)
 none-of false b e f = f
 
-given-there : (names : ProgramNames) (args : List (Input × text.OperandData)) → AreGiven names args
+given-there : (names : ProgramNames) (args : List (Input × text.OperandData))
+    → AreArguments names args
     → misses_argument (resolve_arguments names args) ≡ false
 given-there names [] h = refl
 given-there names (a ∷ []) h =
@@ -369,12 +371,12 @@ given-there names (a ∷ b ∷ more) h =
 
 combined : (operator : Operator) (negated : Truth) (kind : ElementaryType)
     (u : Option ElementaryType) → works operator negated kind ≡ true
-    → Some (gives operator kind) ≡ u → Combines operator negated (Some kind) u kind
+    → Some (type_of_result operator kind) ≡ u → Combines operator negated (Some kind) u kind
 combined operator negated kind u w e =
-    let both = and_parts (takes operator kind) (may_negate negated kind) w in
+    let both = and_parts (accepts_type operator kind) (may_negate negated kind) w in
     record {
       first = kind;
-      new = gives operator kind;
+      new = type_of_result operator kind;
       on = refl;
       row = row operator kind both.0;
       negation = (negation negated kind).0 both.1;
@@ -386,7 +388,7 @@ record Working (operator : Operator) (negated : Truth) (kind second : Elementary
     (u : Option ElementaryType) : Type 0 where
   works : works operator negated kind ≡ true
   alike : second ≡ kind
-  leaves : Some (gives operator kind) ≡ u
+  leaves : Some (type_of_result operator kind) ≡ u
 
 working : (operator : Operator) (negated : Truth) (kind second : ElementaryType)
     (u : Option ElementaryType) → Combines operator negated (Some kind) u second
@@ -396,16 +398,16 @@ working operator negated kind second u h =
     let first : h.first ≡ kind = (let e = h.on in cc) in
     let alike : second ≡ kind = one.1 ∙ first in
     record {
-      works = both-are _ _ (ap (takes operator) (sym first) ∙ one.0)
+      works = both-are _ _ (ap (accepts_type operator) (sym first) ∙ one.0)
           ((negation negated kind).1
           (subst (λ (k : ElementaryType). MayNegate negated k) alike h.negation));
       alike = alike;
-      leaves = ap (λ (k : ElementaryType). Some (gives operator k)) (sym first)
+      leaves = ap (λ (k : ElementaryType). Some (type_of_result operator k)) (sym first)
           ∙ sym (ap Some one.2) ∙ sym h.leaves;
     }
 
 pub block-is : (operator : Operator) (negated : Truth) (inner t u : Option ElementaryType)
-    → (IsCombined operator negated inner t × (option_map (gives operator) t ≡ u))
+    → (IsCombined operator negated inner t × (option_map (type_of_result operator) t ≡ u))
     ↔ IsRightBlock operator negated inner t u
 block-is operator negated None t u =
     (λ h. absurd (let k = h.0.set in cc), λ h. absurd (let k = h.1 in cc))
@@ -468,7 +470,7 @@ acts names passed (text.load negated source) t u ok e =
     (l.0, (load-is names source l.0).0 l.1, l.2, sym e ∙ l.1)
 acts names passed (text.store how place) None u ok e = absurd (let k = ok.set in cc)
 acts names passed (text.store how place) (Some kind) u ok e =
-    let g = resolve_place names place in
+    let g = resolve_variable_or_output names place in
     let both = and_parts (fits kind g) (may_negate (not (is_plain how)) kind)
     (not-false _ ok.allowed) in
     let is = (place-fits names place kind).0 both.0 in (
@@ -531,10 +533,10 @@ right-by names passed (text.load negated source) t u h =
     )
 right-by names passed (text.store how place) None u h = absurd (let k = h.2 in cc)
 right-by names passed (text.store how place) (Some kind) u h =
-    let g = resolve_place names place in
+    let g = resolve_variable_or_output names place in
     let own : kind ≡ h.0 = (let e = h.2 in cc) in
     let alike : h.1 ≡ kind = stored-alike how h.0 h.1 h.4 ∙ sym own in
-    let is : place_kind names place ≡ Some kind = h.3 ∙ ap Some alike in
+    let is : operand_kind names place ≡ Some kind = h.3 ∙ ap Some alike in
     let fit = (place-fits names place kind).1 is in
     let stores : Stores how kind kind =
     subst (λ (x : ElementaryType). Stores how x kind) (sym own)

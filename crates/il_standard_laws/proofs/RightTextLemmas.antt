@@ -10,7 +10,7 @@ use Rattle.il_check.specs.SourceOperands.{ProgramNames, resolution_of}
 use Rattle.il_check.specs.Labelling.{AreRightEntries, Carried, Coming, Flows, IsCombined, IsRightEntry, Jumps, Labelling, initial_carried, carried_after_label, carry_of, coming_after_action, with_target}
 use Rattle.il_check.specs.Program.{Checked}
 use Rattle.il_check.specs.RightProgram.{IsRightProgram}
-use Rattle.il_check.specs.Rules.{gives, target_of, type_after}
+use Rattle.il_check.specs.Rules.{type_of_result, target_of, type_after}
 use Rattle.il_check.specs.WellTyped.{type_after_entry, type_after_entries}
 use Rattle.il_check.proofs.RightLemmas.{right_programs_pass}
 use Rattle.il_check.specs.Limits.{most_nested}
@@ -126,7 +126,7 @@ module _ (names : ProgramNames) (labels : Labelling) where
       )
   items-right (text.block line operator negated items end ∷ es) k h =
       let b = text.block line operator negated items end in
-      let u = option_map (gives operator) h.0 in (
+      let u = option_map (type_of_result operator) h.0 in (
         h.0,
         u,
         h.1.0,

@@ -5,7 +5,7 @@ use Rattle.bay_base.specs.declared.types.ElementaryType.{ElementaryType}
 use Rattle.bay_base.specs.declared.types.ElementaryType.TheVariants.{Bool}
 use Rattle.il_text.specs.declared.program.Operator.{Operator}
 use Rattle.il_image.proofs.KindLemmas.{same-is}
-use Rattle.il_check.specs.Rules.{gives, is_boolean, may_negate, or_same, takes}
+use Rattle.il_check.specs.Rules.{type_of_result, is_boolean, may_negate, or_same, accepts_type}
 use Rattle.il_check.specs.Operators.{result_type}
 use Rattle.il_standard_laws.specs.Table.{MayNegate}
 
@@ -21,13 +21,13 @@ there kind None e = absurd (cc)
 there kind (Some k) e = refl
 
 -- the row of an operator with two operands of one type
-pub row : (o : Operator) (t : ElementaryType) → takes o t ≡ true
-    → result_type o t t ≡ Some (gives o t)
+pub row : (o : Operator) (t : ElementaryType) → accepts_type o t ≡ true
+    → result_type o t t ≡ Some (type_of_result o t)
 row o t e = there t (result_type o t t) e
 
 -- the table has a row for the types that an operator takes, and no other
 pub table : (o : Operator) (t u v : ElementaryType) → (result_type o t u ≡ Some v)
-    ↔ ((takes o t ≡ true) × (u ≡ t) × (v ≡ gives o t))
+    ↔ ((accepts_type o t ≡ true) × (u ≡ t) × (v ≡ type_of_result o t))
 table o t u v = (
   λ e. let same = one-type o t u v e in
       let here : result_type o t t ≡ Some v =

@@ -27,7 +27,7 @@ use Rattle.il_check.specs.SourceOperands.{ProgramNames, resolution_of}
 use Rattle.il_check.specs.Keeping.{AreArgumentsOf, AreEntriesOf, AreItemsOf, IsArgumentOf, IsEntryOf, IsOperandOf, IsOperationOf, IsTransferOf, Keeps, label_names}
 use Rattle.il_check.specs.Labelling.{Carried, Labelling, initial_carried, carried_after_label}
 use Rattle.il_check.specs.Program.{Checked, Entries, Entry, ProgramItem, block, entry, entry_before, label, no_entries, operation, plain, transfer}
-use Rattle.il_check.specs.Rules.{converted_from, converted_to, gives, input_type, is_plain, load_type, may_negate, number_in, own_type, takes, works}
+use Rattle.il_check.specs.Rules.{converted_from, converted_to, type_of_result, input_type, is_plain, load_type, may_negate, number_in, own_type, accepts_type, works}
 use Rattle.il_check.specs.TypedProgram.{AreArguments, AreEntries, AreItems, Decides, IsArgument, IsEntry, IsOperand, IsOperation, IsTransfer, IsTyped, carried_after_entry, carried_after_transfer}
 use Rattle.il_check.specs.Typing.{block_in, load_in, load_operation, operation_in, or_entry, transfer_in}
 use Rattle.il_check.specs.WellTyped.{Progress, progress_after_entry, entries_left, entry_left, progress_after_item, progress_after_items, type_after_entry}
@@ -313,11 +313,11 @@ module _ (c : Checked) where
   -- an operator that works has its row, and may negate its operand
   working : (o operator : Operator) (n negated : Truth) (kind : ElementaryType) → o ≡ operator
       → n ≡ negated → works o n kind ≡ true
-      → MayNegate negated kind × (result_type operator kind kind ≡ Some (gives o kind))
+      → MayNegate negated kind × (result_type operator kind kind ≡ Some (type_of_result o kind))
   working o operator n negated kind same alike e =
-      let both = and_parts (takes o kind) (may_negate n kind) e in (
+      let both = and_parts (accepts_type o kind) (may_negate n kind) e in (
         subst (λ (m : Truth). MayNegate m kind) alike ((negation n kind).0 both.1),
-        subst (λ (p : Operator). result_type p kind kind ≡ Some (gives o kind)) same
+        subst (λ (p : Operator). result_type p kind kind ≡ Some (type_of_result o kind)) same
             (row o kind both.0),
       )
 
@@ -342,7 +342,7 @@ module _ (c : Checked) where
   operation-has (text.combine operator negated source) (op.Combine o kind n x) t u h k own =
       let typed = operand-typed x kind k.0 in
       let w = working o operator n negated kind h.0 h.1 k.1 in
-      (kind, gives o kind, k.3, (typed, may-have source x kind h.2 typed), w.0, w.1, k.4)
+      (kind, type_of_result o kind, k.3, (typed, may-have source x kind h.2 typed), w.0, w.1, k.4)
   operation-has text.invert op.Not t u h k own = (k.0, k.1 ∙ k.0)
   operation-has (text.convert conversion) (op.Convert w) t u h k own = (
     k.0 ∙ ap (λ (v : Conversion). Some (converted_from v)) h,
@@ -361,8 +361,15 @@ module _ (c : Checked) where
         → IsEntry c x t u → EntryLoads e x → EntryHasTypes c e x t u
     entry-has (text.action line a) (operation o) t u h k own = operation-has a o t u h k own
     entry-has (text.block line operator negated items end) (block o kind n es) t u h k own =
-        let w = working o operator n negated kind h.0 h.1 k.1 in
-        (kind, gives o kind, k.3, entries-have items es None (Some kind) h.2 k.0 own, w.0, w.1, k.4)
+        let w = working o operator n negated kind h.0 h.1 k.1 in (
+          kind,
+          type_of_result o kind,
+          k.3,
+          entries-have items es None (Some kind) h.2 k.0 own,
+          w.0,
+          w.1,
+          k.4,
+        )
     entry-has e x t u h k own = absurd h
 
     entries-have : (es : text.Entries) (xs : Entries) (t u : Option ElementaryType)

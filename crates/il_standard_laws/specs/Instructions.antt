@@ -40,14 +40,14 @@ timer_output what (Some (meaning.Timer timer)) = Some (output_type what)
 timer_output what other = None
 
 -- the type of a variable or of an output
-abbrev pub place_kind : ProgramNames → text.Place → Option ElementaryType
-place_kind names (text.named name) = variable_kind (names.meaning name)
-place_kind names (text.output timer what) = timer_output what (names.meaning timer)
+abbrev pub operand_kind : ProgramNames → text.Place → Option ElementaryType
+operand_kind names (text.named name) = variable_kind (names.meaning name)
+operand_kind names (text.output timer what) = timer_output what (names.meaning timer)
 
 -- The operand can have the type.
 abbrev pub CanHave : ProgramNames → text.OperandData → ElementaryType → Type 0
 CanHave names (text.constant l) kind = IsLiteralOf l kind
-CanHave names (text.variable place) kind = place_kind names place ≡ Some kind
+CanHave names (text.variable place) kind = operand_kind names place ≡ Some kind
 
 -- A load of the operand results in this type: an untyped number has the first of INT, DINT and LINT
 -- that it fits.
@@ -99,10 +99,10 @@ IsTimer (Some (meaning.Timer timer)) = Unit {0}
 IsTimer other = ⊥
 
 -- Each argument of a call, at most two, can have the type of its input.
-abbrev pub AreGiven : ProgramNames → List (Input × text.OperandData) → Type 0
-AreGiven names [] = Unit {0}
-AreGiven names (a ∷ []) = CanHave names a.1 (input_type a.0)
-AreGiven names (a ∷ b ∷ more) =
+abbrev pub AreArguments : ProgramNames → List (Input × text.OperandData) → Type 0
+AreArguments names [] = Unit {0}
+AreArguments names (a ∷ []) = CanHave names a.1 (input_type a.0)
+AreArguments names (a ∷ b ∷ more) =
     CanHave names a.1 (input_type a.0) × CanHave names b.1 (input_type b.0)
 
 -- ---- instructions and parentheses, on a result of type t, which leave one of type u; none is an
@@ -127,7 +127,7 @@ IsRightAction names passed (text.load negated source) t u =
     × (u ≡ Some kind)
 IsRightAction names passed (text.store how place) t u =
     (kind : ElementaryType) × (target : ElementaryType) × (t ≡ Some kind)
-    × (place_kind names place ≡ Some target) × Stores how kind target × MayWrite names place
+    × (operand_kind names place ≡ Some target) × Stores how kind target × MayWrite names place
     × (u ≡ t)
 IsRightAction names passed (text.combine operator negated source) t u =
     (second : ElementaryType) × CanHave names source second × Combines operator negated t u second
@@ -140,7 +140,7 @@ IsRightAction names passed (text.jump condition name) t u =
     × (u ≡ t)
 IsRightAction names passed (text.leave condition) t u = Tests condition t × (u ≡ t)
 IsRightAction names passed (text.call timer args) t u =
-    IsTimer (names.meaning timer) × AreGiven names args × (u ≡ None)
+    IsTimer (names.meaning timer) × AreArguments names args × (u ≡ None)
 
 -- The operator of a parenthesis, which has a result of the inner type, is valid. DIV and MOD have
 -- no parenthesis.

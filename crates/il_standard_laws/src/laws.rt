@@ -20,7 +20,7 @@ ghost use Rattle.il_image.specs.declared.value.Value.TheVariants.{Truth};
 ghost use Rattle.il_check.specs.Checking.{checked_of};
 ghost use Rattle.il_check.specs.Declaring.{literal_value, names_in};
 ghost use Rattle.il_check.specs.Program.{Checked};
-ghost use Rattle.il_check.specs.Rules.{gives, takes};
+ghost use Rattle.il_check.specs.Rules.{type_of_result, accepts_type};
 ghost use Rattle.il_check.specs.declared.typed.SimpleOperation.TheVariants as SimpleOperation;
 ghost use Rattle.il_check.specs.declared.typed.TypedOperand.{TypedOperand};
 ghost use Rattle.il_compile.specs.Meaning.{State, inverse, operand_value, state_after, state_after_close};
@@ -49,7 +49,8 @@ pub fn meaning_goes_by_names()
 pub fn rules_are_the_tables()
     ensures operators { (operator : Operator) (first second new : ElementaryType) →
         (result_type operator first second ≡ Some new)
-        ↔ ((takes operator first ≡ true) × (second ≡ first) × (new ≡ gives operator first)) }
+        ↔ ((accepts_type operator first ≡ true) × (second ≡ first)
+        × (new ≡ type_of_result operator first)) }
     ensures initial_values { (kind : ElementaryType) (l : Literal)
         → IsSome (literal_value kind l) ↔ IsLiteralOf l kind }
     ensures programs { (points : List Point) (program : text.PlainProgram)

@@ -3,7 +3,7 @@ use Rattle.std.proofs.Common.{arith}
 use Rattle.std.proofs.lemmas.Grind.{common_steps}
 use Rattle.std.proofs.Common.{◌≡◌, ℕ, Bool, true, false, cond, List, [], ◌∷◌, Option, Some, None, option_map, option_and_then, is_some, map, codes, refl, ap, ◌∙◌}
 use Rattle.il_text.specs.Forms as form
-use Rattle.il_text.specs.TokenForms.{Form, map_form, try_map_form, no_token, one, one_of, bind_form, after_mark, after_mark_of, either, or_of, choose_by, split_at_mark, onto_front, has_mark, split_form, split_form_of, name_of, is_mark, names_from}
+use Rattle.il_text.specs.TokenForms.{Form, map_form, try_map_form, no_token, one, one_of, bind_form, after_mark, after_mark_of, either, or_of, choose_by, split_at_mark, before_first, has_mark, split_form, split_form_of, name_of, is_mark, names_from}
 use Rattle.il_text.specs.LetterCase.{upper_place, upper_source, upper_argument, upper_action}
 use Rattle.il_text.specs.Listing.{OperandData, Action}
 use Rattle.il_text.specs.Parts.{LineContent, heading, opening, declaring, closing, labelling, acting, entering, leaving, ending}
@@ -142,8 +142,8 @@ split-up m (s ∷ ss) = rw (mark-up m s, split-up m ss) (by-test (is_mark m s) (
   where
     by-test : (b : Bool) (o : Option (List Symbol × List Symbol))
         → cond b (Some ([], upper_symbols ss))
-        (option_map (onto_front (upper_symbol s)) (option_map up_both o))
-        ≡ option_map up_both (cond b (Some ([], ss)) (option_map (onto_front s) o))
+        (option_map (before_first (upper_symbol s)) (option_map up_both o))
+        ≡ option_map up_both (cond b (Some ([], ss)) (option_map (before_first s) o))
     by-test true o = refl
     by-test false o = mapped _ _ _ _ (λ p. refl) o
 

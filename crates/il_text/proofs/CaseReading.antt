@@ -11,7 +11,7 @@ use Rattle.il_text.specs.Listing.{Action, Entry, label, action, block, entry, en
 use Rattle.il_text.specs.Parts.{LineContent, heading, opening, declaring, closing, labelling, acting, entering, leaving, ending}
 use Rattle.il_text.specs.Places.{last_line}
 use Rattle.il_text.specs.Reading.{prepend_lexeme, lines, tokens_of, Read, is_instruction, has_instruction, past_limit, with_instruction, within_bounds, within_limits, after_text_line, after_parts, after_line, whole_at, program_of_lines, none_yet, program_of, most_instructions, most_open}
-use Rattle.il_text.specs.Steps.{Opened, Reached, at_place, with_name, declared_in, with_declarations, with_item, with_opened, is_start, is_between_blocks, block_scope, is_outside, is_some, is_load, may_begin_with, declared_here, closed_block, left_here, may_stand, may_have_instruction, may_enter, may_leave, step, steps}
+use Rattle.il_text.specs.Steps.{Opened, Reached, at_stage, with_name, declared_in, with_declarations, with_item, with_opened, is_start, is_between_blocks, block_scope, is_outside, is_some, is_load, may_begin_with, declared_here, closed_block, left_here, may_follow, may_have_instruction, may_enter, may_leave, step, steps}
 use Rattle.il_text.specs.Symbols.{pieces_of}
 use Rattle.il_text.specs.Texts.{ReadsAs}
 use Rattle.il_text.specs.Tokens.{Symbol, LexemeData, blank, line_end, token, bad_token, bad_literal}
@@ -110,11 +110,12 @@ entries-up : (es : List Entry) → entries_of (map upper_entry es) ≡ upper_ent
 entries-up [] = refl
 entries-up (e ∷ es) = ap (entry (upper_entry e)) (entries-up es)
 
-stand-up : (r : Reached) → may_stand (upper_reached r) ≡ may_stand r
-unfolding may_stand
+stand-up : (r : Reached) → may_follow (upper_reached r) ≡ may_follow r
+unfolding may_follow
 stand-up r = rw (outside-up r.parentheses) refl
 
-act-up : (r : Reached) (a : Action) → may_have_instruction (upper_reached r) (upper_action a) ≡ may_have_instruction r a
+act-up : (r : Reached) (a : Action)
+    → may_have_instruction (upper_reached r) (upper_action a) ≡ may_have_instruction r a
 unfolding may_have_instruction
 act-up r a = rw (outside-up r.parentheses, plain-up a, some-up r.items, load-up a) refl
 
@@ -171,12 +172,12 @@ step-up : (n : ℕ) (r : Reached) (p : LineContent)
 unfolding step
 step-up n r (heading name) = reached-if (is_start r.place) (Some (with_name name r))
 step-up n r (opening scope) =
-    reached-if (is_between_blocks r.place) (Some (at_place (place.Block scope) r))
+    reached-if (is_between_blocks r.place) (Some (at_stage (place.Block scope) r))
 step-up n r (declaring ns kind initial) = declaring-up n ns kind initial r (block_scope r.place)
 step-up n r closing = closing-up r (block_scope r.place)
 step-up n r (labelling name) =
     rw (stand-up r, item-up r (label n name))
-    (reached-if (may_stand r) (Some (with_item (label n name) r)))
+    (reached-if (may_follow r) (Some (with_item (label n name) r)))
 step-up n r (acting a) =
     rw (act-up r a, item-up r (action n a))
     (reached-if (may_have_instruction r a) (Some (with_item (action n a) r)))
@@ -185,7 +186,7 @@ step-up n r (entering o g) =
 step-up n r leaving =
     rw (leave-up r, left-up n r r.parentheses)
     (reached-if (may_leave r) (left_here n r r.parentheses))
-step-up n r ending = rw (stand-up r) (reached-if (may_stand r) (Some (at_place place.Finished r)))
+step-up n r ending = rw (stand-up r) (reached-if (may_follow r) (Some (at_stage place.Finished r)))
 
 steps-up : (n : ℕ) (r : Reached) (ps : List LineContent)
     → steps n (upper_reached r) (upper_parts ps) ≡ option_map upper_reached (steps n r ps)

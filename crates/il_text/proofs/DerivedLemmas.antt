@@ -9,7 +9,7 @@ use Rattle.std.proofs.lemmas.Bool.{false≢true, or_left, and_parts}
 use Rattle.il_text.specs.Grammar.{Numbered, Declaration, Block, declaration_part, block_parts, names_declared, block_declared, may_declare, is_allowed, entry_parts, entries_parts, is_plain, is_first, is_inner, all_inner, is_parenthesis, is_outer, Derives}
 use Rattle.il_text.specs.Listing.{Action, Entry, label, action, block, Entries, no_entries, entry, entries_of, Declared, PlainProgram}
 use Rattle.il_text.specs.Parts.{LineContent, heading, opening, declaring, closing, labelling, acting, entering, leaving, ending}
-use Rattle.il_text.specs.Steps.{Opened, Reached, nothing_read, is_body, is_outside, is_some, is_load, may_begin_with, may_stand, may_have_instruction, may_enter, may_leave, step}
+use Rattle.il_text.specs.Steps.{Opened, Reached, nothing_read, is_body, is_outside, is_some, is_load, may_begin_with, may_follow, may_have_instruction, may_enter, may_leave, step}
 use Rattle.il_text.specs.declared.listing.Stage.{Stage}
 use Rattle.il_text.specs.declared.listing.Stage.TheVariants as place
 use Rattle.il_text.specs.declared.program.Literal.{Literal}
@@ -42,7 +42,7 @@ label-step : (n : ℕ) (l name : List ℕ) (p : Stage) (ds : List Declared) (is 
     → is_body p ≡ true
     → step n (state p name ds is []) (labelling l)
     ≡ Some (state place.Body name ds (is ++ label n l ∷ []) [])
-unfolding step may_stand
+unfolding step may_follow
 label-step n l name p ds is b = rw b refl
 
 act-step : (n : ℕ) (a : Action) (name : List ℕ) (p : Stage) (ds : List Declared) (is : List Entry)
@@ -270,7 +270,7 @@ heading-step n name = refl
 pub ending-step : (n : ℕ) (name : List ℕ) (p : Stage) (ds : List Declared) (is : List Entry)
     → is_body p ≡ true
     → step n (state p name ds is []) ending ≡ Some (state place.Finished name ds is [])
-unfolding step may_stand
+unfolding step may_follow
 ending-step n name p ds is b = rw b refl
 
 -- the parts of a program reach its end

@@ -5,7 +5,7 @@ use Rattle.std.proofs.lemmas.Grind.{common_steps}
 use Rattle.std.proofs.lemmas.Option.{same_Some}
 use Rattle.std.specs.List.{list_any}
 use Rattle.il_text.specs.Tokens.{Symbol, name, mark_symbol}
-use Rattle.il_text.specs.TokenForms.{Form, map_form, try_map_form, none, no_token, no_token_of, one, one_of, bind_form, after_mark, after_mark_of, either, or_of, choose_by, same_mark, split_at_mark, onto_front, split_form, split_form_of, name_of, is_mark, names, names_from, spelled_names}
+use Rattle.il_text.specs.TokenForms.{Form, map_form, try_map_form, none, no_token, no_token_of, one, one_of, bind_form, after_mark, after_mark_of, either, or_of, choose_by, same_mark, split_at_mark, before_first, split_form, split_form_of, name_of, is_mark, names, names_from, spelled_names}
 use Rattle.il_text.specs.declared.token.Mark.{Mark}
 use Rattle.il_text.specs.declared.token.Mark.TheVariants as mark
 
@@ -162,7 +162,7 @@ was-parted m [] p e = absurd cc
 was-parted m (s ∷ ss) p e = by-test (is_mark m s) refl e (was-parted m ss)
   where
     by-test : (b : Bool) → is_mark m s ≡ b
-        → cond b (Some ([], ss)) (option_map (onto_front s) (split_at_mark m ss)) ≡ Some p
+        → cond b (Some ([], ss)) (option_map (before_first s) (split_at_mark m ss)) ≡ Some p
         → ((q : List Symbol × List Symbol) → split_at_mark m ss ≡ Some q → IsParted m ss q)
         → IsParted m (s ∷ ss) p
     by-test true is e again =
@@ -170,7 +170,7 @@ was-parted m (s ∷ ss) p e = by-test (is_mark m s) refl e (was-parted m ss)
         subst (IsParted m (s ∷ ss)) (same_Some first p e)
         (ap (λ (t : Symbol). t ∷ ss) (only-mark m s is))
     by-test false is e again =
-        let q = map-some (onto_front s) (split_at_mark m ss) p e in
+        let q = map-some (before_first s) (split_at_mark m ss) p e in
         subst (IsParted m (s ∷ ss)) q.2 (ap (λ (ts : List Symbol). s ∷ ts) (again q.0 q.1))
 
 parted-back : {A B : Type 0} (m : Mark) (f : Form A) (g : Form B) → Exact f → Exact g

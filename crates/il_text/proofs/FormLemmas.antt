@@ -1,7 +1,7 @@
 -- Parts of a line's tokens.
 use Rattle.std.proofs.Common.{◌≡◌, ℕ, suc, ◌+◌, not, Bool, true, false, cond, List, [], ◌∷◌, Option, Some, None, option_map, take, drop, refl, ap, ◌∙◌, arith}
 use Rattle.std.specs.List.{position_or_len}
-use Rattle.il_text.specs.TokenForms.{is_mark, split_at_mark, onto_front}
+use Rattle.il_text.specs.TokenForms.{is_mark, split_at_mark, before_first}
 use Rattle.il_text.specs.Tokens.{Symbol}
 use Rattle.il_text.specs.TokenViews.{symbol_of, symbols_of}
 use Rattle.il_text.specs.declared.token.Mark.{Mark}
@@ -13,7 +13,7 @@ halved front [] = None
 halved front (t ∷ rest) = Some (symbols_of front, symbols_of rest)
 
 halved-more : (t : Token) (front back : List Token)
-    → option_map (onto_front (symbol_of t)) (halved front back) ≡ halved (t ∷ front) back
+    → option_map (before_first (symbol_of t)) (halved front back) ≡ halved (t ∷ front) back
 halved-more t front [] = refl
 halved-more t front (u ∷ back) = refl
 
@@ -29,7 +29,7 @@ split-at m (t ∷ ts) = rw (split-at m ts) (by-test (is_mark m (symbol_of t)))
   where
     by-test : (b : Bool)
         → cond b (Some ([], symbols_of ts))
-        (option_map (onto_front (symbol_of t))
+        (option_map (before_first (symbol_of t))
         (halved (take (mark_place m ts) ts) (drop (mark_place m ts) ts)))
         ≡ halved (take (cond (not b) (1 + mark_place m ts) 0) (t ∷ ts))
         (drop (cond (not b) (1 + mark_place m ts) 0) (t ∷ ts))

@@ -11,7 +11,7 @@ use Rattle.il_text.specs.Grammar.{Numbered, Declaration, Block, declaration_part
 use Rattle.il_text.specs.Listing.{Action, load, Entry, label, action, block, Entries, entries_of, Declared}
 use Rattle.il_text.specs.Parts.{LineContent, heading, opening, declaring, closing, labelling, acting, entering, leaving, ending}
 use Rattle.il_text.specs.Reading.{program_made}
-use Rattle.il_text.specs.Steps.{Opened, Reached, nothing_read, at_place, with_name, declared_in, with_declarations, with_item, with_opened, with_closed, is_start, is_between_blocks, block_scope, is_body, is_outside, is_some, is_load, may_begin_with, declared_here, closed_block, may_stand, may_have_instruction, may_enter, may_leave, left_here, step}
+use Rattle.il_text.specs.Steps.{Opened, Reached, nothing_read, at_stage, with_name, declared_in, with_declarations, with_item, with_opened, with_closed, is_start, is_between_blocks, block_scope, is_body, is_outside, is_some, is_load, may_begin_with, declared_here, closed_block, may_follow, may_have_instruction, may_enter, may_leave, left_here, step}
 use Rattle.il_text.specs.declared.listing.Stage.{Stage}
 use Rattle.il_text.specs.declared.listing.Stage.TheVariants as place
 use Rattle.il_text.specs.declared.program.DeclaredType.{DeclaredType}
@@ -181,7 +181,7 @@ heading-taken n name ps r a = record {
 }
 
 opening-taken : (n : ℕ) (scope : VariableScope) (ps : List Numbered) (r : Reached) → Between ps r
-    → InBlock scope (ps ++ (n, opening scope) ∷ []) (at_place (place.Block scope) r)
+    → InBlock scope (ps ++ (n, opening scope) ∷ []) (at_stage (place.Block scope) r)
 opening-taken n scope ps r a = record {
   first = a.body.first;
   blocks = a.body.blocks;
@@ -242,7 +242,7 @@ declaring-taken n ns kind initial scope ps r a h =
 
 closing-taken : (n : ℕ) (scope : VariableScope) (ps : List Numbered) (r : Reached)
     → InBlock scope ps r
-    → Between (ps ++ (n, closing) ∷ []) (at_place place.Declarations r)
+    → Between (ps ++ (n, closing) ∷ []) (at_stage place.Declarations r)
 closing-taken n scope ps r a =
     let b : Block =
     record { line = a.line; scope = scope; declarations = a.declarations; end = n } in
@@ -419,7 +419,7 @@ declared-some n ns kind initial r s (Some scope) e =
     (scope, refl, c.0, c.1)
 
 pub closed-some : (r s : Reached) (o : Option VariableScope) → closed_block r o ≡ Some s
-    → (scope : VariableScope) × (o ≡ Some scope) × (at_place place.Declarations r ≡ s)
+    → (scope : VariableScope) × (o ≡ Some scope) × (at_stage place.Declarations r ≡ s)
 closed-some r s None e = cc
 closed-some r s (Some scope) e = (scope, refl, cc)
 
@@ -442,13 +442,13 @@ block-back ps r i scope h x = cc
 -- a part that is taken is the next of the grammar's
 step-reaches : (n : ℕ) (ps : List Numbered) (r s : Reached) (p : LineContent) → Reaches ps r
     → step n r p ≡ Some s → Reaches (ps ++ (n, p) ∷ []) s
-unfolding step may_stand may_have_instruction may_enter may_leave
+unfolding step may_follow may_have_instruction may_enter may_leave
 step-reaches n ps r s (heading name) x e =
     let c = cond_some (is_start r.place) (with_name name r) s e in
     subst (λ (t : Reached). Reaches (ps ++ (n, heading name) ∷ []) t) c.1
     (heading-taken n name ps r (start-at ps r r.place c.0 x))
 step-reaches n ps r s (opening scope) x e =
-    let c = cond_some (is_between_blocks r.place) (at_place (place.Block scope) r) s e in
+    let c = cond_some (is_between_blocks r.place) (at_stage (place.Block scope) r) s e in
     subst (λ (t : Reached). Reaches (ps ++ (n, opening scope) ∷ []) t) c.1
     (opening-taken n scope ps r (between-at ps r r.place c.0 x))
 step-reaches n ps r s (declaring ns kind initial) x e =
@@ -490,7 +490,7 @@ step-reaches n ps r s leaving x e =
     subst (λ (t : Reached). Reaches (ps ++ (n, leaving) ∷ []) t) l.3
     (leaving-taken n l.0 l.1 ps r (body-at ps r r.place h.0 x) l.2 h.1)
 step-reaches n ps r s ending x e =
-    let c = cond_some (is_body r.place && is_outside r.parentheses) (at_place place.Finished r) s e
+    let c = cond_some (is_body r.place && is_outside r.parentheses) (at_stage place.Finished r) s e
     in
     let h = and_parts (is_body r.place) (is_outside r.parentheses) c.0 in
     subst (λ (t : Reached). Reaches (ps ++ (n, ending) ∷ []) t) c.1

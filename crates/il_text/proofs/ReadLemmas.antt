@@ -5,7 +5,7 @@ use Rattle.std.proofs.lemmas.List.{map-append}
 use Rattle.std.proofs.Math.Bool.{and-false}
 use Rattle.il_text.specs.Characters.{are_linked}
 use Rattle.il_text.specs.Forms.{tail, declaration, named_line, other_line, whole_line, is_hopeless, parts_of}
-use Rattle.il_text.specs.TokenForms.{names, names_from, split_form_of, split_at_mark, onto_front, is_mark}
+use Rattle.il_text.specs.TokenForms.{names, names_from, split_form_of, split_at_mark, before_first, is_mark}
 use Rattle.bay_base.specs.Results.{◌>>=◌}
 use Rattle.il_text.specs.Listing.{PlainProgram}
 use Rattle.il_text.specs.declared.token.Mark.TheVariants as mark
@@ -302,7 +302,7 @@ none-then (Some x) = refl
 fronted-names : (n : List ℕ) (c : Symbol) (o : Option (List Symbol × List Symbol))
     → is_mark mark.Comma c ≡ false
     → split_form_of names.reads tail.reads
-    (option_map (onto_front (name n)) (option_map (onto_front c) o)) ≡ None
+    (option_map (before_first (name n)) (option_map (before_first c) o)) ≡ None
 unfolding names_from
 fronted-names n c None h = refl
 fronted-names n c (Some p) h = rw h (none-then (tail.reads p.1))

@@ -11,7 +11,7 @@ use Rattle.il_text.specs.Listing.{label, action, PlainProgram}
 use Rattle.il_text.specs.Parts.{LineContent, heading, opening, declaring, closing, labelling, acting, entering, leaving, ending}
 use Rattle.il_text.specs.Places.{last_line}
 use Rattle.il_text.specs.Reading.{Read, tokens_of, is_instruction, has_instruction, past_limit, with_instruction, within_bounds, after_text_line, after_parts, after_line, whole_at, program_of_lines, none_yet, program_of, lines, most_instructions, most_open}
-use Rattle.il_text.specs.Steps.{Reached, nothing_read, at_place, with_name, with_item, with_opened, with_declarations, declared_in, left_here, block_scope, is_start, is_between_blocks, may_stand, may_have_instruction, may_enter, may_leave, step, steps}
+use Rattle.il_text.specs.Steps.{Reached, nothing_read, at_stage, with_name, with_item, with_opened, with_declarations, declared_in, left_here, block_scope, is_start, is_between_blocks, may_follow, may_have_instruction, may_enter, may_leave, step, steps}
 use Rattle.il_text.specs.Symbols.{pieces_of}
 use Rattle.il_text.specs.Texts.{TextLine, numbered_parts, all_parts, is_entering, is_leaving, IsDeep, Allowed, no_program, too_deep, too_long, Refused, Ends, OnParts, OnTokens, Reads, ReadsAs}
 use Rattle.il_text.specs.Tokens.{Symbol, LexemeData}
@@ -38,8 +38,8 @@ part-depth n r s (heading name) e =
     let d = depth_of r s (with_name name r) refl
     (cond_some (is_start r.place) (with_name name r) s e).1 in omega (arith, d)
 part-depth n r s (opening scope) e =
-    let d = depth_of r s (at_place (place.Block scope) r) refl
-    (cond_some (is_between_blocks r.place) (at_place (place.Block scope) r) s e).1 in
+    let d = depth_of r s (at_stage (place.Block scope) r) refl
+    (cond_some (is_between_blocks r.place) (at_stage (place.Block scope) r) s e).1 in
     omega (arith, d)
 part-depth n r s (declaring ns kind initial) e =
     let c = declared-some n ns kind initial r s (block_scope r.place) e in
@@ -47,10 +47,10 @@ part-depth n r s (declaring ns kind initial) e =
     omega (arith, d)
 part-depth n r s closing e =
     let c = closed-some r s (block_scope r.place) e in
-    let d = depth_of r s (at_place place.Declarations r) refl c.2 in omega (arith, d)
+    let d = depth_of r s (at_stage place.Declarations r) refl c.2 in omega (arith, d)
 part-depth n r s (labelling name) e =
     let d = depth_of r s (with_item (label n name) r) refl
-    (cond_some (may_stand r) (with_item (label n name) r) s e).1 in omega (arith, d)
+    (cond_some (may_follow r) (with_item (label n name) r) s e).1 in omega (arith, d)
 part-depth n r s (acting a) e =
     let d = depth_of r s (with_item (action n a) r) refl
     (cond_some (may_have_instruction r a) (with_item (action n a) r) s e).1 in omega (arith, d)
@@ -64,8 +64,8 @@ part-depth n r s leaving e =
     let f : depth r ≡ length (l.0 ∷ l.1) = ap length l.2 in
     omega (arith, d, f)
 part-depth n r s ending e =
-    let d = depth_of r s (at_place place.Finished r) refl
-    (cond_some (may_stand r) (at_place place.Finished r) s e).1 in omega (arith, d)
+    let d = depth_of r s (at_stage place.Finished r) refl
+    (cond_some (may_follow r) (at_stage place.Finished r) s e).1 in omega (arith, d)
 
 -- how many pass a test
 abbrev tally : {A : Type 0} → (A → Bool) → List A → ℕ

@@ -180,7 +180,8 @@ going_rises : (A B R : Type 0) → (B → R) → (A × B) ⊎ ⊥ → R
 going_rises A B R f (inl a) = f a.1
 going_rises A B R f (inr b) = absurd b
 
-reads-rise : (last : ℕ) (before : List TextLine) (n : ℕ) (ls : List (List LexemeData)) (p : PlainProgram)
+reads-rise : (last : ℕ) (before : List TextLine) (n : ℕ) (ls : List (List LexemeData))
+    (p : PlainProgram)
     → Climbs 0 (map line_of (all_parts before)) n → Reads last before n ls (Ok p)
     → Rises 0 (item_lines p.items)
 reads-rise last before n [] p c d = derived-rises (all_parts before) p n d c

@@ -14,7 +14,8 @@ use Rattle.il_text.specs.declared.read.Reader as code
 
 -- the result of reading the lexemes on, after the tokens of an unfinished line and the lines before
 -- it
-unfoldable pub read_on : ℕ → Read → ℕ → List Symbol → List LexemeData → Result PlainProgram TextFault
+unfoldable pub read_on : ℕ → Read → ℕ → List Symbol → List LexemeData
+    → Result PlainProgram TextFault
 read_on last r line ss ps = program_of_lines last r line (lines (map token ss ++ ps))
 
 -- the result of reading on from a state of the reader

@@ -124,7 +124,8 @@ complete_program last s = whole_at last s s.place
 
 -- the program of the lines after others; the first of them has the number `line`, and the first
 -- faulty one decides
-unfoldable pub program_of_lines : ℕ → Read → ℕ → List (List LexemeData) → Result PlainProgram TextFault
+unfoldable pub program_of_lines : ℕ → Read → ℕ → List (List LexemeData)
+    → Result PlainProgram TextFault
 program_of_lines last r line [] = complete_program last r.reached
 program_of_lines last r line (l ∷ ls) =
     tokens_of line l >>= (λ ts. after_line line last r ts

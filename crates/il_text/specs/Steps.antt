@@ -35,8 +35,8 @@ nothing_read =
     record { place = place.Start; name = []; declarations = []; items = []; parentheses = [] }
 
 -- the same at another stage of the program
-abbrev pub at_place : Stage → Reached → Reached
-at_place p r =
+abbrev pub at_stage : Stage → Reached → Reached
+at_stage p r =
     record {
       place = p;
       name = r.name;
@@ -162,11 +162,11 @@ declared_here n ns kind initial r (Some scope) =
 -- ends the open block; none if no block is open
 abbrev pub closed_block : Reached → Option VariableScope → Option Reached
 closed_block r None = None
-closed_block r (Some scope) = Some (at_place place.Declarations r)
+closed_block r (Some scope) = Some (at_stage place.Declarations r)
 
 -- whether a line of the body may come here, outside of parentheses
-unfoldable pub may_stand : Reached → Bool
-may_stand r = is_body r.place && is_outside r.parentheses
+unfoldable pub may_follow : Reached → Bool
+may_follow r = is_body r.place && is_outside r.parentheses
 
 -- whether an instruction may come here: the first in a parenthesis is a load, and none leaves it
 unfoldable pub may_have_instruction : Reached → Action → Bool
@@ -190,15 +190,15 @@ left_here n r (f ∷ fs) = Some (with_closed n r f fs)
 unfoldable pub step : ℕ → Reached → LineContent → Option Reached
 step n r (heading name) = if is_start r.place then Some (with_name name r) else None
 step n r (opening scope) =
-    if is_between_blocks r.place then Some (at_place (place.Block scope) r) else None
+    if is_between_blocks r.place then Some (at_stage (place.Block scope) r) else None
 step n r (declaring ns kind initial) = declared_here n ns kind initial r (block_scope r.place)
 step n r closing = closed_block r (block_scope r.place)
-step n r (labelling name) = if may_stand r then Some (with_item (label n name) r) else None
+step n r (labelling name) = if may_follow r then Some (with_item (label n name) r) else None
 step n r (acting a) = if may_have_instruction r a then Some (with_item (action n a) r) else None
 step n r (entering operator negated) =
     if may_enter r then Some (with_opened n operator negated r) else None
 step n r leaving = if may_leave r then left_here n r r.parentheses else None
-step n r ending = if may_stand r then Some (at_place place.Finished r) else None
+step n r ending = if may_follow r then Some (at_stage place.Finished r) else None
 
 -- the state after the parts of one line, in order
 unfoldable pub steps : ℕ → Reached → List LineContent → Option Reached

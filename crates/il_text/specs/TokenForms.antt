@@ -110,14 +110,14 @@ choose_by test f g = record {
 }
 
 -- a token before the first of two parts
-abbrev pub onto_front : Symbol → List Symbol × List Symbol → List Symbol × List Symbol
-onto_front s p = (s ∷ p.0, p.1)
+abbrev pub before_first : Symbol → List Symbol × List Symbol → List Symbol × List Symbol
+before_first s p = (s ∷ p.0, p.1)
 
 -- the tokens before and after the first token of this mark, if there is one
 abbrev pub split_at_mark : Mark → List Symbol → Option (List Symbol × List Symbol)
 split_at_mark m [] = None
 split_at_mark m (s ∷ ss) =
-    if is_mark m s then Some ([], ss) else option_map (onto_front s) (split_at_mark m ss)
+    if is_mark m s then Some ([], ss) else option_map (before_first s) (split_at_mark m ss)
 
 -- whether the mark is among the tokens
 abbrev pub has_mark : Mark → List Symbol → Bool

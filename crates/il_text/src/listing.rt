@@ -255,18 +255,19 @@ impl<'a> Draft<'a> {
     }
 
     // Returns whether a line of the body may come here, outside parentheses.
-    #[tactic(auto, unfolding(crate::specs::Steps::may_stand))]
-    fn may_stand(&self) -> bool
-        ensures { result ≡ rules.may_stand (reached_of self.now) }
+    #[tactic(auto, unfolding(crate::specs::Steps::may_follow))]
+    fn may_follow(&self) -> bool
+        ensures { result ≡ rules.may_follow (reached_of self.now) }
     {
         is_body(self.place) && is_outside(self.parentheses.as_slice())
     }
 
-    // Returns whether an instruction may come here. In a parenthesis the first instruction is a load,
-    // and none leaves the program.
+    // Returns whether an instruction may come here. In a parenthesis the first instruction is a
+    // load, and none leaves the program.
     #[tactic(auto, unfolding(crate::specs::Steps::may_have_instruction))]
     fn may_have_instruction(&self, instruction: Instruction<'a>) -> bool
-        ensures { result ≡ rules.may_have_instruction (reached_of self.now) (action_of instruction.entry) }
+        ensures { result ≡ rules.may_have_instruction (reached_of self.now)
+            (action_of instruction.entry) }
     {
         let inside = is_plain(instruction)
             && (is_some(self.items.as_slice()) || is_load(instruction));
@@ -377,7 +378,7 @@ impl<'a> Draft<'a> {
         ensures none { IfErr result
             (λ e. e ≢ OutOfMemory → step line (reached_of self.old) (labelling name.now) ≡ None) }
     {
-        if !self.may_stand() {
+        if !self.may_follow() {
             return Err(TextFault::BadLine { line });
         }
         self.items.push(Item::Label { line, name })?;
@@ -480,7 +481,7 @@ impl<'a> Draft<'a> {
         ensures bad { IfErr result (λ e. e ≡ BadLine line) }
         ensures none { IfErr result (λ e. step line (reached_of self.old) ending ≡ None) }
     {
-        if !self.may_stand() {
+        if !self.may_follow() {
             return Err(TextFault::BadLine { line });
         }
         self.place = Stage::Finished;

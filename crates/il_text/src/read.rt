@@ -208,7 +208,8 @@ impl<'a> Reader<'a> {
         ensures text { OnOk result (self.new.text.now ≡ self.old.text.now) }
         ensures place { OnOk result (self.new.at ≡ self.old.at) }
         ensures ok { OnOk result (result_from self.new ≡ result_at_line_end self.old) }
-        ensures refused { IfErr result (λ e. e ≢ OutOfMemory → result_at_line_end self.old ≡ Err e) }
+        ensures refused { IfErr result
+            (λ e. e ≢ OutOfMemory → result_at_line_end self.old ≡ Err e) }
     {
         let position = Position {
             line: self.line,
@@ -224,7 +225,8 @@ impl<'a> Reader<'a> {
     fn finish(&mut self) -> Result<(), TextFault>
         ensures ok { OnOk result
             (result_at_text_end self.old ≡ Ok (program_made (reached_of self.new.listing))) }
-        ensures refused { IfErr result (λ e. e ≢ OutOfMemory → result_at_text_end self.old ≡ Err e) }
+        ensures refused { IfErr result
+            (λ e. e ≢ OutOfMemory → result_at_text_end self.old ≡ Err e) }
     {
         let position = Position {
             line: self.line,

@@ -7,7 +7,7 @@ use Rattle.il_image.specs.declared.instr.Instr.{Instr}
 use Rattle.il_image.specs.declared.instr.Instr.TheVariants.{Halt}
 use Rattle.il_image.specs.Images.{Image}
 use Rattle.il_image.specs.Reading.{instr_at}
-use Rattle.il_image.specs.Tables.{Ends, IsHalt, IsPlace, IsSuccessor, LeadsTo, Path, place_of}
+use Rattle.il_image.specs.Tables.{Ends, IsHalt, IsPlace, IsSuccessor, LeadsTo, Path, offset_of}
 use Rattle.il_image.proofs.PlaceLemmas.{goes-forward}
 use Rattle.il_verify.specs.Frames.{PlainFrame, PlainFrames, Visits}
 use Rattle.il_verify.specs.Passing.{raised_budget}
@@ -82,7 +82,7 @@ halts-or-not false = inr (λ e. cc)
 -- ---- one visit
 
 module _ (image : Image) (place : ℕ) (instr : Instr) (next : ℕ) (come : PlainFrame)
-    (old new : PlainFrames) (number : ℕ) (numbered : place_of image.code number ≡ Some place)
+    (old new : PlainFrames) (number : ℕ) (numbered : offset_of image.code number ≡ Some place)
     (here : instr_at image.code place ≡ Some (instr, next))
     (was : old place ≡ Some come) (v : Visits image instr next come old new)
     (places : (q : ℕ) (m : PlainFrame) → place ≤ q → old q ≡ Some m → IsPlace image.code q)

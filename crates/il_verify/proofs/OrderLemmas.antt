@@ -10,7 +10,7 @@ use Rattle.il_image.specs.declared.instr.Instr.{Instr}
 use Rattle.il_image.specs.Images.{Each, IsCode, all_spelled}
 use Rattle.il_image.specs.Reading.{instr_at}
 use Rattle.il_image.specs.Spelling.{IsInstr, spelling}
-use Rattle.il_image.specs.Tables.{IsPlace, place_after, place_of}
+use Rattle.il_image.specs.Tables.{IsPlace, offset_after, offset_of}
 use Rattle.il_image.proofs.InstrLemmas.{back-instr}
 use Rattle.il_image.proofs.PlaceLemmas.{goes-forward}
 use Rattle.il_image.proofs.SetLemmas.{set-here, set-elsewhere}
@@ -20,19 +20,19 @@ use Rattle.il_verify.proofs.EffectLemmas.{not-both}
 -- ---- one place behind the other
 
 pub place-behind : (code : List ℕ) (n place : ℕ) (i : Instr) (next : ℕ)
-    → place_of code n ≡ Some place → instr_at code place ≡ Some (i, next)
-    → place_of code (suc n) ≡ Some next
+    → offset_of code n ≡ Some place → instr_at code place ≡ Some (i, next)
+    → offset_of code (suc n) ≡ Some next
 place-behind code n place i next e here =
-    ap (place_after code) e ∙ ap (option_map (λ (r : Instr × ℕ). r.1)) here
+    ap (offset_after code) e ∙ ap (option_map (λ (r : Instr × ℕ). r.1)) here
 
 pub record Before (code : List ℕ) (n next : ℕ) : Type 0 where
   pub place : ℕ
   pub instr : Instr
-  pub is : place_of code n ≡ Some place
+  pub is : offset_of code n ≡ Some place
   pub here : instr_at code place ≡ Some (instr, next)
 
-before-case : (code : List ℕ) (n next : ℕ) (o : Option ℕ) → place_of code n ≡ o
-    → place_after code o ≡ Some next → Before code n next
+before-case : (code : List ℕ) (n next : ℕ) (o : Option ℕ) → offset_of code n ≡ o
+    → offset_after code o ≡ Some next → Before code n next
 before-case code n next None is e = absurd cc
 before-case code n next (Some place) is e = read (instr_at code place) refl e
   where
@@ -47,15 +47,15 @@ before-case code n next (Some place) is e = read (instr_at code place) refl e
           here = here ∙ ap (λ (m : ℕ). Some (r.0, m)) (same_Some r.1 next f);
         }
 
-pub before : (code : List ℕ) (n next : ℕ) → place_of code (suc n) ≡ Some next → Before code n next
-before code n next e = before-case code n next (place_of code n) refl e
+pub before : (code : List ℕ) (n next : ℕ) → offset_of code (suc n) ≡ Some next → Before code n next
+before code n next e = before-case code n next (offset_of code n) refl e
 
-at-number : (code : List ℕ) (m k : ℕ) → m ≡ k → place_of code m ≡ place_of code k
-at-number code m k e = ap (place_of code) e
+at-number : (code : List ℕ) (m k : ℕ) → m ≡ k → offset_of code m ≡ offset_of code k
+at-number code m k e = ap (offset_of code) e
 
 -- A later number has a later place.
-pub rises : (code : List ℕ) (n k p q : ℕ) → place_of code n ≡ Some p
-    → place_of code (suc (n + k)) ≡ Some q → p < q
+pub rises : (code : List ℕ) (n k p q : ℕ) → offset_of code n ≡ Some p
+    → offset_of code (suc (n + k)) ≡ Some q → p < q
 rises code n zero p q e f =
     let b = before code (n + 0) q f in
     let same : b.place ≡ p =
@@ -71,19 +71,19 @@ rises code n (suc k) p q e f =
     omega arith
 
 -- No place stands between one and the next.
-pub none-between : (code : List ℕ) (n m p q : ℕ) (i : Instr) (next : ℕ) → place_of code n ≡ Some p
-    → instr_at code p ≡ Some (i, next) → place_of code m ≡ Some q → p < q → next ≤ q
+pub none-between : (code : List ℕ) (n m p q : ℕ) (i : Instr) (next : ℕ) → offset_of code n ≡ Some p
+    → instr_at code p ≡ Some (i, next) → offset_of code m ≡ Some q → p < q → next ≤ q
 none-between code n m p q i next e here f less = elim (cases_lt n m) [
   | inr le ↦ elim (cases_eq m n) [
     | inl same ↦ absurd (let equal : p ≡ q =
-        same_Some p q (sym e ∙ ap (place_of code) (sym same) ∙ f) in omega arith)
+        same_Some p q (sym e ∙ ap (offset_of code) (sym same) ∙ f) in omega arith)
     | inr ne ↦ absurd (let back : q < p =
         rises code m (n - suc m) q p f (at-number code (suc (m + (n - suc m))) n (omega arith) ∙ e)
         in omega arith)
   ]
   | inl lt ↦ elim (cases_eq m (suc n)) [
     | inl same ↦ (let equal : next ≡ q =
-        same_Some next q (sym (place-behind code n p i next e here) ∙ ap (place_of code) (sym same)
+        same_Some next q (sym (place-behind code n p i next e here) ∙ ap (offset_of code) (sym same)
         ∙ f) in omega arith)
     | inr ne ↦ (let later : next < q =
         rises code (suc n) (m - suc (suc n)) next q (place-behind code n p i next e here)
@@ -128,7 +128,7 @@ rest-behind code place next j (i ∷ more) are e here =
           ∙ ap (drop (length (spelling i))) e ∙ drop-append_seam (spelling i) (all_spelled more);
     }
 
-pub rest-at : (code : List ℕ) → IsCode code → (n place : ℕ) → place_of code n ≡ Some place
+pub rest-at : (code : List ℕ) → IsCode code → (n place : ℕ) → offset_of code n ≡ Some place
     → Rest code place
 rest-at code c zero place e =
     let start : 0 ≡ place = same_Some 0 place e in
@@ -147,7 +147,7 @@ first-there code place [] are e within none =
 first-there code place (i ∷ more) are e within none =
     not-both (instr_at code place) _ none (read-first code place i more are.0 e)
 
-pub always-there : (code : List ℕ) → IsCode code → (n place : ℕ) → place_of code n ≡ Some place
+pub always-there : (code : List ℕ) → IsCode code → (n place : ℕ) → offset_of code n ≡ Some place
     → place < length code → instr_at code place ≡ None → ⊥
 always-there code c n place e within none = let r =
     rest-at code c n place e in first-there code place r.instrs r.are r.is within none
@@ -162,7 +162,7 @@ there-case : (code : List ℕ) (place : ℕ) (o : Option (Instr × ℕ)) → ins
 there-case code place None is some = absurd (some refl)
 there-case code place (Some r) is some = record { instr = r.0; next = r.1; is = is }
 
-pub is_there : (code : List ℕ) → IsCode code → (n place : ℕ) → place_of code n ≡ Some place
+pub is_there : (code : List ℕ) → IsCode code → (n place : ℕ) → offset_of code n ≡ Some place
     → place < length code → There code place
 is_there code c n place e within =
     there-case code place (instr_at code place) refl (always-there code c n place e within)
@@ -184,7 +184,7 @@ marks-none code n q =
     (λ e. absurd (never-true n q e), λ h. absurd (let less : q < 0 = h.0 in omega arith))
 
 pub marks-more : (code : List ℕ) (n place : ℕ) (starts : List Bool) (i : Instr) (next : ℕ)
-    → place_of code n ≡ Some place → place < length code → length starts ≡ length code
+    → offset_of code n ≡ Some place → place < length code → length starts ≡ length code
     → instr_at code place ≡ Some (i, next)
     → MarksBelow code place starts → MarksBelow code next (set starts place true)
 marks-more code n place starts i next e within size here marks q = elim (cases_eq q place) [

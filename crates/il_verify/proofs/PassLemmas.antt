@@ -8,7 +8,7 @@ use Rattle.il_image.specs.declared.instr.Instr.TheVariants.{Halt}
 use Rattle.il_image.specs.declared.kind.CellKind.{CellKind}
 use Rattle.il_image.specs.Images.{Image}
 use Rattle.il_image.specs.Reading.{instr_at}
-use Rattle.il_image.specs.Tables.{Table, place_of}
+use Rattle.il_image.specs.Tables.{Table, offset_of}
 use Rattle.il_image.proofs.PlaceLemmas.{goes-forward}
 use Rattle.il_verify.specs.declared.fault.VerifyFault.{VerifyFault}
 use Rattle.il_verify.specs.declared.fault.VerifyFault.TheVariants.{BadTarget, Unreachable, DepthClash, NoHalt, OutOfMemory}
@@ -35,7 +35,7 @@ pub record Deepest (table : Table) (depth : ℕ) : Type 0 where
 
 pub record Passing (image : Image) (done budget depth : ℕ) (frames : PlainFrames) : Type 0 where
   pub number : ℕ
-  pub numbered : place_of image.code number ≡ Some done
+  pub numbered : offset_of image.code number ≡ Some done
   pub within : done ≤ length image.code
   pub standing : Standing image done frames
   pub lengths : Lengths image.code done budget frames

@@ -11,7 +11,7 @@ use Rattle.il_image.specs.Effects.{kinds_after}
 use Rattle.il_image.specs.Images.{Image}
 use Rattle.il_image.specs.Kinds.{AreWithin}
 use Rattle.il_image.specs.Reading.{instr_at}
-use Rattle.il_image.specs.Tables.{IsPlace, LeadsTo, Table, place_of}
+use Rattle.il_image.specs.Tables.{IsPlace, LeadsTo, Table, offset_of}
 use Rattle.il_image.proofs.PlaceLemmas.{goes-forward}
 use Rattle.il_verify.specs.Frames.{ComesWhere, GoesOn, Grows, LeadsRight, PlainFrame, PlainFrames, Visits, with_value_at}
 use Rattle.il_verify.specs.Refusals.{Comes, IsFront, IsJoin, JumpsTo, Passes, kinds_after_in}
@@ -90,7 +90,7 @@ effect-there image instr next come old new v =
 
 -- where it leads rightly is a place
 pub right-targets : (code : List ℕ) (number place : ℕ) (instr : Instr) (next to : ℕ)
-    → place_of code number ≡ Some place → instr_at code place ≡ Some (instr, next)
+    → offset_of code number ≡ Some place → instr_at code place ≡ Some (instr, next)
     → LeadsRight code instr next → LeadsTo instr next to → IsPlace code to
 right-targets code number place instr next to numbered here right leads =
     elim (leads-split instr next to leads) [
@@ -161,7 +161,7 @@ pub record Standing (image : Image) (done : ℕ) (frames : PlainFrames) : Type 0
   pub places : (q : ℕ) (m : PlainFrame) → done ≤ q → frames q ≡ Some m → IsPlace image.code q
 
 module _ (image : Image) (place : ℕ) (instr : Instr) (next : ℕ) (come : PlainFrame)
-    (old new : PlainFrames) (number : ℕ) (numbered : place_of image.code number ≡ Some place)
+    (old new : PlainFrames) (number : ℕ) (numbered : offset_of image.code number ≡ Some place)
     (here : instr_at image.code place ≡ Some (instr, next))
     (was : old place ≡ Some come) (v : Visits image instr next come old new)
     (s : Standing image place old) where

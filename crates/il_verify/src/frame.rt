@@ -163,7 +163,7 @@ pub(crate) fn falls_through(instr: Instr) -> bool
 }
 
 // Removes the frame pending at an offset and returns it, if there is one.
-fn taken(pending: &mut Vec<Option<Frame>>, place: usize) -> Option<Frame>
+fn take_pending(pending: &mut Vec<Option<Frame>>, place: usize) -> Option<Frame>
     ensures value { result ≡ frame_at pending.old.items place }
     ensures size { length pending.new.items ≡ length pending.old.items }
     ensures others { (q : ℕ) → (q ≡ place → ⊥)
@@ -194,7 +194,7 @@ pub(crate) fn fall(
         × ((spec.falls_through instr ≡ true)
         × Clashing (plain_frames pending.old.items next) (plain_frame frame).kinds)) }
 {
-    let old = taken(pending, next);
+    let old = take_pending(pending, next);
     if !falls_through(instr) {
         return Ok(old);
     }

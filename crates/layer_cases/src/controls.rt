@@ -6,7 +6,8 @@
 // `ok`; `selected` the index of the selected switch.
 //
 // An `ASK` is `POSITION CATEGORY IDENTITY` with `on` or `off` and the octets of the identity,
-// followed by `test` for a test and by `synchrocheck` if Check requests one. A `VIEW` is the position,
+// followed by `test` for a test and by `synchrocheck` if Check requests one. A `VIEW` is the
+// position,
 // `fresh` or `stale` (`lost-fresh` or `lost-stale` if the process is lost, `local-fresh` or
 // `local-stale` if the key is at local, `lost-local-stale` if both are so), and EnaOpn and EnaCls,
 // as `01`.

@@ -135,7 +135,7 @@ impl<'a> Section<'a> {
 }
 
 // Runs the cases of a section, with the last bay file.
-fn tell_section(
+fn check_section(
     alloc: Global,
     told: &mut CaseReport,
     bay: &str,
@@ -144,12 +144,12 @@ fn tell_section(
 ) -> Result<()> {
     if let "fields" | "points" | "rows" = head {
         let found = bay_text(alloc, bay, head)?;
-        return told.tell(head, check_lines(found.as_str(), body));
+        return told.record_case(head, check_lines(found.as_str(), body));
     }
     let mut section = Section::new(alloc, head, bay)?;
     for line in body.lines() {
         if is_case(line) {
-            told.tell(line, section.check(alloc, bay, line))?;
+            told.record_case(line, section.check(alloc, bay, line))?;
         }
     }
     Ok(())
@@ -169,7 +169,7 @@ fn run(alloc: Global, text: &str) -> Result<String> {
         let (head, body) = head_and_body(section);
         match head {
             "bay" => before.bay = body,
-            _ => tell_section(alloc, &mut told, before.bay, head, body).context(head)?,
+            _ => check_section(alloc, &mut told, before.bay, head, body).context(head)?,
         }
     }
     told.finish()

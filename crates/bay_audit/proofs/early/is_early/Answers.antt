@@ -6,7 +6,7 @@ use Rattle.il_scan.specs.Scans.{MachineData, first_machine}
 use Rattle.bay_audit.specs.Cases.{example_of}
 use Rattle.bay_audit.specs.Conditions.{condition_truths}
 use Rattle.bay_audit.specs.Process.{process_value}
-use Rattle.bay_audit.specs.Rules.{IsEarlyBy, place_of, releasing_point}
+use Rattle.bay_audit.specs.Rules.{IsEarlyBy, index_of_release, releasing_point}
 use Rattle.bay_audit.proofs.CaseLemmas.{example-is}
 use Rattle.bay_audit.proofs.EarlyLemmas.{asked-so}
 use Rattle.bay_audit.proofs.early.is_early.Goals as goal
@@ -24,8 +24,8 @@ returns c shown =
     let inputs = subst
     (λ o. IfSome o (λ values. values.items ≡ map (process_value p) g.reads)) c.in-Some-2.is
     c.in_ok-inputs.ensures in
-    let place : c.release_place-place.result ≡ place_of g rule =
-    c.release_place-place.ensures
+    let place : c.release_index-place.result ≡ index_of_release g rule =
+    c.release_index-place.ensures
     ∙ ap (position (is_point rule.switch (releasing_point rule.operation))) c.writes.ensures in
     record {
       process = p;
@@ -34,10 +34,12 @@ returns c shown =
       asked = asked-so p (example-is case) case inside rule.when c.in_ok-asked.asked
           (c.in_ok-asked.ensures ∙ ap (condition_truths case) c.as_slice.ensures) c.if-asked.false;
       early = subst
-          (λ (xs : List Value). IsEarlyBy xs (first_machine g.image) (place_of g rule) c.args.time)
+          (λ (xs : List Value). IsEarlyBy xs (first_machine g.image) (index_of_release g rule)
+          c.args.time)
           (c.as_slice-2.ensures.value ∙ inputs)
           (subst
-          (λ (m : MachineData). IsEarlyBy c.as_slice-2.result.now m (place_of g rule) c.args.time)
+          (λ (m : MachineData). IsEarlyBy c.as_slice-2.result.now m (index_of_release g rule)
+          c.args.time)
           machine
           (subst
           (λ (o : Option ℕ). IsEarlyBy c.as_slice-2.result.now c.in-Some.machine o c.args.time)

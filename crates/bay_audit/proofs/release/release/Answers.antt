@@ -41,7 +41,7 @@ loop-preserved c =
     c.in-Some.ensures.items (c.loop.invariant.one p is) in
     let full = full-last c.pop.new.self.items case
     (subst (All HasProcess) c.in-Some.ensures.items c.loop.invariant.left) in
-    elim c.match-told_by.branch [
+    elim c.match-release_or_test.branch [
       | in-Ok+in_ok-push-in-Ok w ↦
           let cases = ap (λ v. v.items) w.cases-is ∙ w.in_ok-push-in-Ok.ensures.items in
           record {
@@ -57,7 +57,7 @@ loop-preserved c =
                 c.loop.invariant.full full.1);
             left = subst (All HasProcess) (sym (ap (λ v. v.items) w.left-is)) full.0;
             one = λ p is. subst (λ (ds : List ReportedCase). reported_count ds p
-                + case_count c.match-told_by.left.items p ≡ 1) (sym cases)
+                + case_count c.match-release_or_test.left.items p ≡ 1) (sym cases)
                 (subst (λ (cs : List (List TestAnswer)).
                 reported_count (c.loop.cases.items
                 ++ record { case = case; told = w.in-Ok.told } ∷ [])
@@ -76,7 +76,7 @@ loop-preserved c =
                 (sym (ap (λ v. v.items) w.left-is ∙ w.in_ok-split-in-Err.ensures))
                 (full-more c.pop.new.self.items case w.in-Err.test full.0);
             one = λ p is. subst (λ (ds : List ReportedCase). reported_count ds p
-                + case_count c.match-told_by.left.items p ≡ 1) (sym cases)
+                + case_count c.match-release_or_test.left.items p ≡ 1) (sym cases)
                 (subst (λ (cs : List (List TestAnswer)). reported_count c.loop.cases.items p
                 + case_count cs p ≡ 1)
                 (sym (ap (λ v. v.items) w.left-is ∙ w.in_ok-split-in-Err.ensures))

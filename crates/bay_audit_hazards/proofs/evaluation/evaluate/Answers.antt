@@ -10,7 +10,8 @@ returns-then-not-has_example c =
 
 pub returns-then-not-is_hazard : goal.returns-then-not-is_hazard
 returns-then-not-is_hazard c =
-    none-hazard c.args.network.now c.args.switch c.args.operation c.args.case.now c.in_ok-worst.worst
+    none-hazard c.args.network.now c.args.switch c.args.operation c.args.case.now
+    c.in_ok-worst.worst
     c.in_ok-worst.ensures
     (sym c.is_hazard.ensures ∙ c.if-not-is_hazard.true)
 

@@ -48,8 +48,8 @@ control_rows_of_tree-requires c =
     (subst (λ n. HaveSelected bay.rows n) (sym count)
     (have-selected bay nodes c.requires.sound named))
 
-pub kept_releases-requires : goal.kept_releases-requires
-kept_releases-requires c =
+pub stored_releases-requires : goal.stored_releases-requires
+stored_releases-requires c =
     let bay : Bay = c.args.bay.value in
     let named = rw c.deref.ensures at c.in_ok-nodes.ensures.switches_named in
     let sized = rw c.deref.ensures at c.in_ok-nodes.ensures.switches_sized in

@@ -2,7 +2,7 @@ use Rattle.std.proofs.Common.{◌≡◌, ap, sym, ◌∙◌, length, not}
 use Rattle.bay_nodes.specs.Names.{StatusNames, meter_names}
 use Rattle.bay_process.specs.Layout.{layout_of, status_in, switches_of}
 use Rattle.bay_process.specs.Names.{field_names}
-use Rattle.bay_process.specs.Values.{rows_after_doubt, tells_doubt}
+use Rattle.bay_process.specs.Values.{rows_after_doubt, has_invalid_measure}
 use Rattle.bay_process.proofs.FieldLemmas.{field-leaf_typed, field-named}
 use Rattle.bay_mms_services.specs.Views.{bay_view}
 use Rattle.bay_mms_services.proofs.PlaceLemmas.{names-kept, rows-kept}
@@ -42,7 +42,8 @@ returns-clause-changed c =
     let named =
     ap (status_in (layout_of d.tree)) c.field.ensures
     ∙ field-named (layout_of d.tree) c.args.rows f ∙ ap (field_names f) c.requires.named in
-    c.take_bad_measure.ensures.changed ∙ ap (λ (n : StatusNames). not (tells_doubt n d.tree)) named
+    c.take_bad_measure.ensures.changed
+    ∙ ap (λ (n : StatusNames). not (has_invalid_measure n d.tree)) named
 
 pub returns-clause-after : goal.returns-clause-after
 returns-clause-after c =

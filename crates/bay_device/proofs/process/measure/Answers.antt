@@ -3,7 +3,7 @@ use Rattle.std.proofs.lemmas.Int.{to_z-of_z}
 use Rattle.bay_nodes.specs.Names.{StatusNames, meter_names}
 use Rattle.bay_process.specs.Layout.{layout_of, status_in, switches_of}
 use Rattle.bay_process.specs.Names.{field_names}
-use Rattle.bay_process.specs.Values.{rows_after_measure, tells_measure}
+use Rattle.bay_process.specs.Values.{rows_after_measure, has_measure}
 use Rattle.bay_process.proofs.FieldLemmas.{field-leaf_typed, field-named}
 use Rattle.bay_mms_services.specs.Views.{bay_view}
 use Rattle.bay_mms_services.proofs.PlaceLemmas.{names-kept, rows-kept}
@@ -48,7 +48,7 @@ returns-clause-changed c =
     ∙ field-named (layout_of d.tree) c.args.rows f ∙ ap (field_names f) c.requires.named in
     let fits = c.ranges.value in
     let changed = simp to_z-of_z at c.take_measure.ensures.changed in
-    changed ∙ ap (λ (n : StatusNames). not (tells_measure n c.args.value d.tree)) named
+    changed ∙ ap (λ (n : StatusNames). not (has_measure n c.args.value d.tree)) named
 
 pub returns-clause-after : goal.returns-clause-after
 returns-clause-after c =

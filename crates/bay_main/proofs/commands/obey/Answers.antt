@@ -1,12 +1,12 @@
 use Rattle.std.proofs.Common.{inl, refl}
-use Rattle.bay_cli.specs.JobView.{asked_view}
+use Rattle.bay_cli.specs.JobView.{invoked_view}
 use Rattle.bay_main.proofs.commands.obey.Goals as goal
 
 pub returns-in-Ok : goal.returns-in-Ok
 returns-in-Ok g c =
     let answer = c.do_task-answer in
     inl (record {
-      asked = asked_view c.in-Ok.field-0;
+      asked = invoked_view c.in-Ok.field-0;
       is = c.in-Ok.ensures.ok;
       answer = answer.result;
       done = record {

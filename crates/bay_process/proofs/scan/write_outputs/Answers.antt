@@ -5,8 +5,8 @@ use Rattle.bay_process.specs.Layout.{switches_of}
 use Rattle.bay_process.specs.declared.switch.BoundSwitch.{BoundSwitch}
 use Rattle.bay_process.proofs.scan.write_outputs.Goals as goal
 
-pub tell-requires-clause-rows : goal.tell-requires-clause-rows
-tell-requires-clause-rows c =
+pub write_interlocking-requires-clause-rows : goal.write_interlocking-requires-clause-rows
+write_interlocking-requires-clause-rows c =
     let i = c.loop-place.place in
     let switches = c.args.switches.now in
     rw c.loop-place.invariant.layout

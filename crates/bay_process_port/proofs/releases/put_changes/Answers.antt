@@ -1,6 +1,6 @@
 use Rattle.std.proofs.Common.{ap}
 use Rattle.std.proofs.lemmas.List.{drop_all}
-use Rattle.bay_process_port.specs.Releases.{releases_text, said_from}
+use Rattle.bay_process_port.specs.Releases.{releases_text, releases_from}
 use Rattle.bay_process_port.proofs.ReleaseLemmas.{changes-turn}
 use Rattle.bay_lines.proofs.PutLemmas.{puts-failed, puts-next, puts-nothing, puts-within}
 use Rattle.bay_process_port.proofs.releases.put_changes.Goals as goal
@@ -29,5 +29,5 @@ returns c =
     c.loop-place.invariant.goes _ _
     (puts-nothing _ _ _ c.loop-place.invariant.within
     (ap (λ told. releases_text c.args.device.now
-    (said_from c.args.device.now c.loop-place.place told))
+    (releases_from c.args.device.now c.loop-place.place told))
     (drop_all _ c.args.told.now c.loop-place-test.false)))

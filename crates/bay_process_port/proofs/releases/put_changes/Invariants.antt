@@ -1,5 +1,5 @@
 use Rattle.std.proofs.Common.{◌≤◌, ℕ, Bool, List, drop, length}
-use Rattle.bay_process_port.specs.Releases.{releases_text, said_from}
+use Rattle.bay_process_port.specs.Releases.{releases_text, releases_from}
 use Rattle.bay_process_port.specs.ProcessOutput.{PutsWhole}
 use Rattle.bay_process_port.proofs.releases.put_changes.Given as goal
 
@@ -8,6 +8,7 @@ invariant-loop-place l = record {
   within : length l.queue ≤ 65536;
   goes : (new : List ℕ) (answer : Bool)
       → PutsWhole l.queue
-      (releases_text l.device (said_from l.device l.place (drop l.place l.told))) new answer
-      → PutsWhole l.initial.queue (releases_text l.device (said_from l.device 0 l.told)) new answer;
+      (releases_text l.device (releases_from l.device l.place (drop l.place l.told))) new answer
+      → PutsWhole l.initial.queue (releases_text l.device (releases_from l.device 0 l.told)) new
+      answer;
 }

@@ -40,4 +40,4 @@ returns-else-offered g c =
     search rules in
     offers-kept _ _ _ _ _ _ _ _ leaves up
     (Offers-as _ _ _ _ _ _ _ _ _ c.offer-offered.ensures.offers c.queue-2.ensures
-    c.if-offered.false) (ap (λ s. turn_state s c.args.notes.now) c.drop_front.ensures)
+    c.if-offered.false) (ap (λ s. turn_state s c.args.notes.now) c.remove_first.ensures)

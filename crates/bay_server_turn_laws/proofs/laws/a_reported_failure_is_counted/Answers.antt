@@ -1,6 +1,6 @@
 use Rattle.std.proofs.Common.{ap, sym, ◌∙◌}
 use Rattle.bay_server_turn.specs.Turns.{turn_calls}
-use Rattle.bay_server_turn_laws.specs.Faults.{tells_failure}
+use Rattle.bay_server_turn_laws.specs.Faults.{reports_failure}
 use Rattle.bay_server_turn_laws.proofs.BlameLemmas.{counts, only-failed}
 use Rattle.bay_server_turn_laws.proofs.PartLemmas.{Part-turn}
 use Rattle.bay_server_turn_laws.proofs.laws.a_reported_failure_is_counted.Goals as goal
@@ -10,4 +10,4 @@ returns g c = λ old new now line before after turn serves told h.
     let calls = turn_calls now line serves.script before in
     let whole = Part-turn now line serves.script before in
     counts g.L.Link.does g.L.Link.failures old calls new serves.talks h
-    (only-failed calls (whole.blames (sym (ap tells_failure serves.closed) ∙ told)))
+    (only-failed calls (whole.blames (sym (ap reports_failure serves.closed) ∙ told)))

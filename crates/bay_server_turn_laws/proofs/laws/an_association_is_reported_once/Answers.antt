@@ -1,12 +1,12 @@
 use Rattle.std.proofs.Common.{◌+◌, ◌≤◌, sym, subst}
 use Rattle.bay_server_turn.specs.Turns.{after_turn}
-use Rattle.bay_server_turn_laws.specs.CloseReports.{times_told}
+use Rattle.bay_server_turn_laws.specs.CloseReports.{times_reported}
 use Rattle.bay_server_turn_laws.proofs.TellingLemmas.{told-once}
 use Rattle.bay_server_turn_laws.proofs.laws.an_association_is_reported_once.Goals as goal
 
 pub returns : goal.returns
 returns g c = λ old new now line before after turn place serves.
     let told = (after_turn now line serves.script before).noted in
-    subst (λ closed. times_told (place + 1) closed turn.memory ≤ 1) (sym serves.closed)
-    (subst (λ memory. times_told (place + 1) told.closed memory ≤ 1) (sym serves.memory)
+    subst (λ closed. times_reported (place + 1) closed turn.memory ≤ 1) (sym serves.closed)
+    (subst (λ memory. times_reported (place + 1) told.closed memory ≤ 1) (sym serves.memory)
     (told-once now line serves.script before place serves.all_read serves.all_offered))

@@ -5,7 +5,7 @@ use Rattle.bay_tree.specs.declared.link.RowLink.{RowLink}
 use Rattle.bay_tree.specs.declared.row.Row.{Row}
 use Rattle.bay_tree.specs.Arena.{link_at}
 use Rattle.bay_tree.specs.Names.{IsWordAt, parent_of}
-use Rattle.bay_tree.specs.Rows.{name_at, place_of}
+use Rattle.bay_tree.specs.Rows.{name_at, row_index}
 use Rattle.bay_tree.proofs.ArenaLemmas.{written}
 use Rattle.bay_tree.proofs.LinkLemmas.{IsLinkedFrom, IsWorded, linked-put, linked-skip, linked-word, above-within, unlinked}
 use Rattle.bay_tree.proofs.link.links_of.Goals as goal
@@ -36,9 +36,9 @@ loop-place-preserved c =
     get_or_default rows i c.index-rows-place.result (record { name = []; leaf = None }) lt in
     let named : c.as_str.result.now ≡ name_at rows i =
     c.as_str.ensures ∙ ap (λ (r : Row). r.name) row in
-    let above : option_and_then (place_of rows) (parent_of (name_at rows i)) ≡ None =
-    ap (λ n. option_and_then (place_of rows) (parent_of n)) (sym named)
-    ∙ ap (option_and_then (place_of rows)) (sym c.split_name-parts.ensures.parent)
+    let above : option_and_then (row_index rows) (parent_of (name_at rows i)) ≡ None =
+    ap (λ n. option_and_then (row_index rows) (parent_of n)) (sym named)
+    ∙ ap (option_and_then (row_index rows)) (sym c.split_name-parts.ensures.parent)
     ∙ sym c.in_default.ensures in
     let link : RowLink =
     record {
@@ -66,10 +66,10 @@ loop-place-preserved-in-Some c =
     get_or_default rows i c.index-rows-place.result (record { name = []; leaf = None }) lt in
     let named : c.as_str.result.now ≡ name_at rows i =
     c.as_str.ensures ∙ ap (λ (r : Row). r.name) row in
-    let above : option_and_then (place_of rows) (parent_of (name_at rows i))
+    let above : option_and_then (row_index rows) (parent_of (name_at rows i))
     ≡ Some c.in-Some.above =
-    ap (λ n. option_and_then (place_of rows) (parent_of n)) (sym named)
-    ∙ ap (option_and_then (place_of rows)) (sym c.split_name-parts.ensures.parent)
+    ap (λ n. option_and_then (row_index rows) (parent_of n)) (sym named)
+    ∙ ap (option_and_then (row_index rows)) (sym c.split_name-parts.ensures.parent)
     ∙ sym c.in-Some.ensures in
     let link : RowLink =
     record {

@@ -12,5 +12,5 @@ pub returns-in-Err-clause-serves : goal.returns-in-Err-clause-serves
 returns-in-Err-clause-serves g c = record {
   loaded = Err c.in-Err.why;
   loads = c.in-Err.ensures.err;
-  goes_on = (c.tell_unserved.ensures, refl);
+  goes_on = (c.report_unserved.ensures, refl);
 }

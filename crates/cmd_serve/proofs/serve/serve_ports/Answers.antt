@@ -5,7 +5,7 @@ pub returns-in-Ok-clause-serves : goal.returns-in-Ok-clause-serves
 returns-in-Ok-clause-serves g c = record {
   bound = Ok c.in-Ok.bound;
   host = c.bind_ports.new.host;
-  binds = rw (c.duties_by-duties.ensures, c.key_octets.ensures) at c.in-Ok.ensures.binds;
+  binds = rw (c.settings_by-duties.ensures, c.key_octets.ensures) at c.in-Ok.ensures.binds;
   goes_on = rw c.as_slice.ensures.value at c.serve_bound.ensures;
 }
 
@@ -13,6 +13,6 @@ pub returns-clause-serves : goal.returns-clause-serves
 returns-clause-serves g c = record {
   bound = Err c.in-Err.why;
   host = c.bind_ports.new.host;
-  binds = rw (c.duties_by-duties.ensures, c.key_octets.ensures) at c.in-Err.ensures.binds;
-  goes_on = (c.tell_unserved.ensures, refl);
+  binds = rw (c.settings_by-duties.ensures, c.key_octets.ensures) at c.in-Err.ensures.binds;
+  goes_on = (c.report_unserved.ensures, refl);
 }

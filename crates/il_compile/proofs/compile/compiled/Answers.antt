@@ -2,7 +2,7 @@ use Rattle.std.proofs.Common.{◌+◌, length, map, refl, Ok, inr, sym, ap, ◌�
 use Rattle.il_image.specs.Images.{IsImage}
 use Rattle.il_check.specs.Program.{Checked}
 use Rattle.il_check.specs.ProgramViews.{checked_view}
-use Rattle.il_compile.specs.Behind.{IsSettled}
+use Rattle.il_compile.specs.Continuation.{IsSettled}
 use Rattle.il_compile.specs.Compiled.{point_of}
 use Rattle.il_compile.proofs.CompiledLemmas.{given, is-image, same-code, same-image, short-enough, too_long}
 use Rattle.il_compile.proofs.Spellable.{all-spellable}

@@ -2,7 +2,7 @@ use Rattle.std.proofs.Common.{◌-◌, List, drop, map, sym, subst, arith}
 use Rattle.il_image.specs.Images.{Each}
 use Rattle.il_check.specs.ProgramViews.{item_view}
 use Rattle.il_check.specs.declared.typed.TypedItem.{TypedItem}
-use Rattle.il_compile.specs.Behind.{IsSettled, IsSpellable}
+use Rattle.il_compile.specs.Continuation.{IsSettled, IsSpellable}
 use Rattle.il_compile.proofs.BehindLemmas.{one-back, each-drop, bounded, none-left}
 use Rattle.il_compile.proofs.continuation.compile_all.Goals as goal
 

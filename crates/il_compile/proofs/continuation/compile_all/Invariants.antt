@@ -1,6 +1,6 @@
 use Rattle.std.proofs.Common.{◌≤◌, length, drop, map}
 use Rattle.il_check.specs.ProgramViews.{item_view}
-use Rattle.il_compile.specs.Behind.{IsSettled}
+use Rattle.il_compile.specs.Continuation.{IsSettled}
 use Rattle.il_compile.proofs.continuation.compile_all.Given as goal
 
 abbrev pub invariant-loop-at : goal.invariant-loop-at

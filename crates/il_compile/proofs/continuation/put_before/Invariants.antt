@@ -1,7 +1,7 @@
 use Rattle.std.proofs.Common.{◌≡◌, ◌+◌, ◌≤◌, ◌++◌, min, reverse}
 use Rattle.il_compile.specs.Code as spec
 use Rattle.il_compile.proofs.continuation.put_before.Given as goal
-use Rattle.il_compile.specs.Behind.{octets_bound}
+use Rattle.il_compile.specs.Continuation.{octets_bound}
 
 abbrev pub invariant-loop-instr : goal.invariant-loop-instr
 invariant-loop-instr l = record {

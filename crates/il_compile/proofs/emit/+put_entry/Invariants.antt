@@ -1,7 +1,7 @@
 use Rattle.std.proofs.Common.{◌≡◌, ◌++◌, drop, map}
 use Rattle.il_check.specs.Program.{entries_of}
 use Rattle.il_check.specs.ProgramViews.{entry_view}
-use Rattle.il_compile.specs.Behind.{AreSpellableEntries}
+use Rattle.il_compile.specs.Continuation.{AreSpellableEntries}
 use Rattle.il_compile.specs.Code.{entries_code}
 use Rattle.il_compile.proofs.emit.+put_entry.Given as goal
 

@@ -12,7 +12,7 @@ pub returns-in_default-clause-ok : goal.returns-in_default-clause-ok
 returns-in_default-clause-ok c =
     let old = c.args.pending.now.items in
     subst (λ (new : List (Option Known)). Visits c.args.code.now c.args.place old new)
-    (sym c.taken.ensures.after)
+    (sym c.take_pending.ensures.after)
     (visits-none c.args.code.now c.args.place old c.in_default.ensures.value)
 
 pub returns-in-Halt-clause-ok : goal.returns-in-Halt-clause-ok
@@ -28,7 +28,7 @@ returns-in-Halt-clause-ok c =
     on_ok_weaker c.arrive.result
     (λ a. visits-halt code place next old new here reads c.in-Some.ensures.value
     (subst (λ (mid : List (Option Known)). Arrives mid new (length code) (known_view here))
-    c.taken.ensures.after a))
+    c.take_pending.ensures.after a))
     c.arrive.ensures.ok
 
 pub returns-in-Jump-clause-ok : goal.returns-in-Jump-clause-ok
@@ -45,7 +45,7 @@ returns-in-Jump-clause-ok c =
     (λ m. visits-moves code instr place next old new c.in-Some.here reads
     c.in-Some-instr_at.ensures.forward.0 c.in-Some.ensures.value
     (subst (λ (mid : List (Option Known)). Moves instr next (known_view c.in-Some.here) mid new)
-    c.taken.ensures.after m))
+    c.take_pending.ensures.after m))
     c.jump.ensures.ok
 
 pub returns-in_default-instr : goal.returns-in_default-instr
@@ -57,13 +57,13 @@ returns-in_default-instr c =
     let next = c.in-Some-instr_at.next in
     let instr = c.in-Some-instr_at.instr in
     record {
-      size = omega (arith, c.step.ensures.size, c.taken.ensures.size);
+      size = omega (arith, c.step.ensures.size, c.take_pending.ensures.size);
       ok = on_ok_weaker c.step.result
           (λ m. visits-moves code instr place next old new c.in-Some.here
           (sym c.in-Some-instr_at.ensures.value) c.in-Some-instr_at.ensures.forward.0
           c.in-Some.ensures.value
           (subst (λ (mid : List (Option Known)). Moves instr next (known_view c.in-Some.here) mid
           new)
-          c.taken.ensures.after m))
+          c.take_pending.ensures.after m))
           c.step.ensures.ok;
     }

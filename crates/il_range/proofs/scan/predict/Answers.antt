@@ -3,7 +3,7 @@ use Rattle.std.proofs.lemmas.Result.{IfOk-weaker}
 use Rattle.il_range.specs.declared.timer.KnownTimer.{KnownTimer}
 use Rattle.il_range.specs.declared.delay.KnownDelay.{KnownDelay}
 use Rattle.il_range.specs.declared.range.Range.{Range}
-use Rattle.il_range.specs.Outcomes.{Predicts, Tells}
+use Rattle.il_range.specs.Outcomes.{Predicts, PredictsScan}
 use Rattle.il_range.specs.Starts.{known_of_kinds}
 use Rattle.il_range.proofs.StartLemmas.{pass-tells}
 use Rattle.il_range.proofs.scan.predict.Goals as goal
@@ -23,7 +23,7 @@ returns-in-Ok-clause-tells c =
     let end = c.in-Ok.end in
     let first = c.in_ok-first.first in
     let known = map (λ (u : KnownTimer). u.delay) end.timers.items in
-    let tells : Tells image start delays known end.slots.items =
+    let tells : PredictsScan image start delays known end.slots.items =
     pass-tells image start delays end.timers.items end.slots.items
     (subst
     (λ (code : List ℕ). Predicts code (known_of_kinds image.timers delays)
@@ -35,9 +35,9 @@ returns-in-Ok-clause-tells c =
     c.in-Ok.ensures))) in
     IfOk-weaker c.prediction_at.result _ _
     (λ f is.
-    subst (λ (last : List KnownDelay). Tells image start delays last f.ranges.items)
+    subst (λ (last : List KnownDelay). PredictsScan image start delays last f.ranges.items)
     (sym is.1)
-    (subst (λ (rs : List Range). Tells image start delays known rs)
+    (subst (λ (rs : List Range). PredictsScan image start delays known rs)
     (sym (ap (λ v. v.items) is.0)) tells)) c.prediction_at.ensures
 
 pub returns-in_default-clause-tells : goal.returns-in_default-clause-tells

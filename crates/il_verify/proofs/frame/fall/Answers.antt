@@ -10,17 +10,17 @@ use Rattle.il_verify.proofs.frame.fall.Goals as goal
 pub returns-then-not-falls_through-clause-ok : goal.returns-then-not-falls_through-clause-ok
 returns-then-not-falls_through-clause-ok c =
     stays-so c.args.instr c.args.next (plain_frame c.args.frame) c.args.pending.now.items
-    c.taken-old.new.pending.items c.taken-old.result
-    (sym c.falls_through.ensures ∙ c.if-not-falls_through.true) c.taken-old.ensures.value
-    c.taken-old.ensures.others
+    c.take_pending-old.new.pending.items c.take_pending-old.result
+    (sym c.falls_through.ensures ∙ c.if-not-falls_through.true) c.take_pending-old.ensures.value
+    c.take_pending-old.ensures.others
 
 pub returns-in-None-clause-ok : goal.returns-in-None-clause-ok
 returns-in-None-clause-ok c =
     falls-to c.args.instr c.args.next (plain_frame c.args.frame) c.args.pending.now.items
-    c.taken-old.new.pending.items c.taken-old.result (plain_frame c.args.frame)
-    (sym c.falls_through.ensures ∙ c.if-not-falls_through.false) c.taken-old.ensures.value
-    c.taken-old.ensures.others
-    (begun-grows c.taken-old.result c.args.frame.kinds.items c.args.frame.kinds.items
+    c.take_pending-old.new.pending.items c.take_pending-old.result (plain_frame c.args.frame)
+    (sym c.falls_through.ensures ∙ c.if-not-falls_through.false) c.take_pending-old.ensures.value
+    c.take_pending-old.ensures.others
+    (begun-grows c.take_pending-old.result c.args.frame.kinds.items c.args.frame.kinds.items
     c.args.frame.longest c.in-None.is refl)
 
 pub returns-in-Ok-clause-ok : goal.returns-in-Ok-clause-ok
@@ -30,10 +30,11 @@ returns-in-Ok-clause-ok c =
     subst (λ (kinds : List CellKind). Grows (plain kinds c.args.frame.longest)
     (Some (plain_frame c.in-Some.other)) (plain_frame c.join_frame.new.frame))
     c.as_slice.ensures.value c.in-Ok.ensures.ok in
-    falls-to c.args.instr c.args.next come c.args.pending.now.items c.taken-old.new.pending.items
-    c.taken-old.result (plain_frame c.join_frame.new.frame)
-    (sym c.falls_through.ensures ∙ c.if-not-falls_through.false) c.taken-old.ensures.value
-    c.taken-old.ensures.others
+    falls-to c.args.instr c.args.next come c.args.pending.now.items
+    c.take_pending-old.new.pending.items
+    c.take_pending-old.result (plain_frame c.join_frame.new.frame)
+    (sym c.falls_through.ensures ∙ c.if-not-falls_through.false) c.take_pending-old.ensures.value
+    c.take_pending-old.ensures.others
     (subst (λ (o : Option Frame). Grows come (option_map plain_frame o)
     (plain_frame c.join_frame.new.frame)) (sym c.in-Some.is) grows)
 
@@ -41,14 +42,14 @@ pub returns-in-Err-clause-err : goal.returns-in-Err-clause-err
 returns-in-Err-clause-err c =
     let h = c.in-Err.ensures.err in
     let clash =
-    clash-of c.taken-old.result c.in-Some.other c.as_slice.result.now c.in-Some.is h.1 in
+    clash-of c.take_pending-old.result c.in-Some.other c.as_slice.result.now c.in-Some.is h.1 in
     let there =
-    subst (λ (kinds : List CellKind). Clashing (option_map plain_frame c.taken-old.result)
+    subst (λ (kinds : List CellKind). Clashing (option_map plain_frame c.take_pending-old.result)
     (reverse kinds)) c.as_slice.ensures.value clash in (
       h.0,
       (
         sym c.falls_through.ensures ∙ c.if-not-falls_through.false,
-        clash-at c.args.pending.now.items c.args.next c.taken-old.result
-            (reverse c.args.frame.kinds.items) c.taken-old.ensures.value there,
+        clash-at c.args.pending.now.items c.args.next c.take_pending-old.result
+            (reverse c.args.frame.kinds.items) c.take_pending-old.ensures.value there,
       ),
     )

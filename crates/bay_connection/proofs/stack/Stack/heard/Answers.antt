@@ -1,5 +1,5 @@
 use Rattle.std.proofs.Common.{Result, Ok, Err, OnOk, arith}
-use Rattle.bay_connection.specs.Stack.{talk_of}
+use Rattle.bay_connection.specs.Stack.{connection_state_of}
 use Rattle.bay_connection.proofs.FeedingLemmas.{sized-joined}
 use Rattle.bay_connection.proofs.stack.Stack.heard.Goals as goal
 
@@ -11,5 +11,7 @@ pub returns-in-Answer-clause-kept : goal.returns-in-Answer-clause-kept
 returns-in-Answer-clause-kept c =
     holds c.answer.result (record {
       within = omega (arith, c.requires.nothing);
-      joined = sized-joined (talk_of c.args.self.now) (rw c.in-Answer.is at c.requires.ready);
+      joined =
+          sized-joined (connection_state_of c.args.self.now)
+          (rw c.in-Answer.is at c.requires.ready);
     })

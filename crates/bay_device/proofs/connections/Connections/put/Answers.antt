@@ -1,5 +1,5 @@
 use Rattle.std.proofs.Common.{ap, ◌∙◌, slice_set}
-use Rattle.bay_device.specs.Connections.{talk_in, connection_states}
+use Rattle.bay_device.specs.Connections.{state_without_pdu, connection_states}
 use Rattle.bay_device.proofs.ConnectionLemmas.{are-eight, talks-set}
 use Rattle.bay_device.proofs.connections.Connections.put.Goals as goal
 
@@ -12,4 +12,4 @@ pub returns : goal.returns
 returns c =
     ap connection_states c.put_at.ensures
     ∙ talks-set c.self.inside.places c.args.place c.args.connection
-    ∙ ap (λ ts. slice_set ts c.args.place (talk_in c.args.connection)) c.self.view_is
+    ∙ ap (λ ts. slice_set ts c.args.place (state_without_pdu c.args.connection)) c.self.view_is

@@ -1,5 +1,5 @@
 use Rattle.std.proofs.Common.{None, ap, ◌∙◌, slice_get, slice_set, unwrap_or}
-use Rattle.bay_device.specs.Connections.{talk_in, connection_states}
+use Rattle.bay_device.specs.Connections.{state_without_pdu, connection_states}
 use Rattle.bay_device.proofs.ConnectionLemmas.{are-eight, taken, talk-at, talks-set}
 use Rattle.bay_device.proofs.connections.Connections.take.Goals as goal
 
@@ -9,7 +9,7 @@ invariant_of-self c =
 
 pub returns-clause-value : goal.returns-clause-value
 returns-clause-value c =
-    ap talk_in c.take_at.ensures.value ∙ talk-at c.self.inside.places c.args.place
+    ap state_without_pdu c.take_at.ensures.value ∙ talk-at c.self.inside.places c.args.place
     ∙ ap (λ ts. unwrap_or (slice_get ts c.args.place) None) c.self.view_is
 
 pub returns-clause-rest : goal.returns-clause-rest

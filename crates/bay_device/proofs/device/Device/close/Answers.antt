@@ -1,6 +1,6 @@
 use Rattle.std.proofs.Common.{◌≡◌, ℕ, Option, Some, Ok, Result, subst, ap, sym, ◌∙◌}
 use Rattle.bay_device.specs.Device.{State}
-use Rattle.bay_device.specs.Outcomes.{Outcome, close_outcome, without_connection, connection_at, place_of}
+use Rattle.bay_device.specs.Outcomes.{Outcome, close_outcome, without_connection, connection_at, slot_of}
 use Rattle.bay_device.specs.StateView.{state_view}
 use Rattle.bay_device.specs.Steps.{IsOutcome, quiet_answer}
 use Rattle.bay_device.specs.declared.event.Sent.{Sent}
@@ -16,12 +16,13 @@ returns c =
     let inside = c.self.inside in
     let cs = inside.connections.value in
     let s : State = state_view cs inside.state.value in
-    let here : place_of a ≡ Some c.in-Some.place = sym c.place_of.ensures.value ∙ c.in-Some.is in
+    let here : slot_of a ≡ Some c.in-Some.place =
+    sym c.association_slot.ensures.value ∙ c.in-Some.is in
     let talk = opened _ (sym (rw c.deref.ensures at c.is_open.ensures) ∙ c.if-not-is_open.false) in
-    let some : connection_at (place_of a) s ≡ Some talk.0 =
+    let some : connection_at (slot_of a) s ≡ Some talk.0 =
     ap (λ (o : Option ℕ). connection_at o s) here ∙ talk.1 in
     let whole = ap (close_outcome now a s) some in
-    subst (λ (t : State). IsOutcome (close_outcome now a t (connection_at (place_of a) t))
+    subst (λ (t : State). IsOutcome (close_outcome now a t (connection_at (slot_of a) t))
     (let r : Result Step StepFault = Ok c.quiet.result in r) c.drop_connection.new.self)
     c.self.view_is
     (record {

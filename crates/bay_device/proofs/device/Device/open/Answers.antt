@@ -2,7 +2,7 @@ use Rattle.std.proofs.Common.{◌≡◌, ℕ, List, Option, Some, None, Ok, Resu
 use Rattle.bay_connection.specs.Feeding.{Client}
 use Rattle.bay_connection.specs.ConnectionStates.{ConnectionState}
 use Rattle.bay_device.specs.Device.{State, device_at}
-use Rattle.bay_device.specs.Outcomes.{Outcome, connection_at, initial_connection, open_outcome, place_of, with_connection}
+use Rattle.bay_device.specs.Outcomes.{Outcome, connection_at, initial_connection, open_outcome, slot_of, with_connection}
 use Rattle.bay_device.specs.StateView.{state_view}
 use Rattle.bay_device.specs.Steps.{IsOutcome, quiet_answer}
 use Rattle.bay_device.specs.declared.event.Sent.{Sent}
@@ -19,16 +19,16 @@ returns c =
     let cs = inside.connections.value in
     let place = c.in-Some.place in
     let s : State = state_view cs inside.state.value in
-    let here : place_of a ≡ Some place = sym c.place_of.ensures.value ∙ c.in-Some.is in
-    let none : connection_at (place_of a) s ≡ None =
+    let here : slot_of a ≡ Some place = sym c.association_slot.ensures.value ∙ c.in-Some.is in
+    let none : connection_at (slot_of a) s ≡ None =
     ap (λ (o : Option ℕ). connection_at o s) here
     ∙ not-opened _ (sym (rw c.deref.ensures at c.is_open.ensures) ∙ c.if-is_open.false) in
     let whole =
-    ap (λ (o : Option ℕ). open_outcome now a s o (connection_at (place_of a) s)) here
+    ap (λ (o : Option ℕ). open_outcome now a s o (connection_at (slot_of a) s)) here
     ∙ ap (open_outcome now a s (Some place)) none in
     let new : State = state_view c.put.new.self c.advance-ended.new.self in
     subst (λ (t : State). IsOutcome
-    (open_outcome now a t (place_of a) (connection_at (place_of a) t))
+    (open_outcome now a t (slot_of a) (connection_at (slot_of a) t))
     (let r : Result Step StepFault = Ok c.quiet.result in r) new) c.self.view_is
     (record {
       answered =

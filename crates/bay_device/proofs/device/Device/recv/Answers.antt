@@ -2,7 +2,7 @@ use Rattle.std.proofs.Common.{◌≡◌, ◌<◌, ℕ, [], length, Option, Some,
 use Rattle.std.proofs.lemmas.List.{nil_from_length}
 use Rattle.std.proofs.lemmas.Bool.Decides.{nat_tests}
 use Rattle.bay_device.specs.Device.{State, device_at, ended_at}
-use Rattle.bay_device.specs.Outcomes.{connection_at, place_of}
+use Rattle.bay_device.specs.Outcomes.{connection_at, slot_of}
 use Rattle.bay_device.specs.StateView.{state_view}
 use Rattle.bay_device.specs.Steps.{HandlesOctetsFrom, Receives, quiet_answer}
 use Rattle.bay_device.specs.declared.event.Sent.{Sent}
@@ -19,9 +19,10 @@ returns-then-is_empty c =
     let inside = c.self.inside in
     let cs = inside.connections.value in
     let s : State = state_view cs inside.state.value in
-    let here : place_of a ≡ Some c.in-Some.place = sym c.place_of.ensures.value ∙ c.in-Some.is in
+    let here : slot_of a ≡ Some c.in-Some.place =
+    sym c.association_slot.ensures.value ∙ c.in-Some.is in
     let talk = opened _ (sym (rw c.deref.ensures at c.is_open.ensures) ∙ c.if-not-is_open.false) in
-    let some : connection_at (place_of a) s ≡ Some talk.0 =
+    let some : connection_at (slot_of a) s ≡ Some talk.0 =
     ap (λ (o : Option ℕ). connection_at o s) here ∙ talk.1 in
     let none : octets ≡ [] =
     nil_from_length octets (grind (arith, nat_tests, c.is_empty.ensures, c.if-is_empty.true)) in
@@ -49,24 +50,27 @@ returns c =
     let inside = c.self.inside in
     let cs = inside.connections.value in
     let s : State = state_view cs inside.state.value in
-    let here : place_of a ≡ Some c.in-Some.place = sym c.place_of.ensures.value ∙ c.in-Some.is in
+    let here : slot_of a ≡ Some c.in-Some.place =
+    sym c.association_slot.ensures.value ∙ c.in-Some.is in
     let talk = opened _ (sym (rw c.deref.ensures at c.is_open.ensures) ∙ c.if-not-is_open.false) in
-    let some : connection_at (place_of a) s ≡ Some talk.0 =
+    let some : connection_at (slot_of a) s ≡ Some talk.0 =
     ap (λ (o : Option ℕ). connection_at o s) here ∙ talk.1 in
     let lent : 0 < length octets =
     grind (arith, nat_tests, c.is_empty.ensures, c.if-is_empty.false) in
     let after = rw c.deref_mut.ensures.value at c.advance-ended.ensures.after cs in
-    let still : connection_at (place_of a) (state_view cs c.advance-ended.new.self) ≡ Some talk.0 =
+    let still : connection_at (slot_of a) (state_view cs c.advance-ended.new.self) ≡ Some talk.0 =
     ap (λ (o : Option ℕ). connection_at o (state_view cs c.advance-ended.new.self)) here
     ∙ talk.1 in
-    let heard = c.hear.ensures talk.0 still in
-    let own : HandlesOctetsFrom now a octets (ended_at now s) (device_at now s) talk.0 c.hear.result
-    c.hear.new.self =
+    let heard = c.receive_octets.ensures talk.0 still in
+    let own : HandlesOctetsFrom now a octets (ended_at now s) (device_at now s) talk.0
+    c.receive_octets.result
+    c.receive_octets.new.self =
     subst (λ (o : Option Sent). HandlesOctetsFrom now a octets o (device_at now s) talk.0
-    c.hear.result
-    c.hear.new.self) (rw c.deref_mut.ensures.value at c.advance-ended.ensures.sent cs)
+    c.receive_octets.result
+    c.receive_octets.new.self) (rw c.deref_mut.ensures.value at c.advance-ended.ensures.sent cs)
     (subst (λ (t : State). HandlesOctetsFrom now a octets c.advance-ended.result t talk.0
-    c.hear.result
-    c.hear.new.self) after heard) in
-    subst (λ (t : State). Receives now a octets t (Ok c.hear.result) c.hear.new.self) c.self.view_is
-    (received now a octets s c.hear.new.self talk.0 c.hear.result some lent own)
+    c.receive_octets.result
+    c.receive_octets.new.self) after heard) in
+    subst (λ (t : State). Receives now a octets t (Ok c.receive_octets.result)
+    c.receive_octets.new.self) c.self.view_is
+    (received now a octets s c.receive_octets.new.self talk.0 c.receive_octets.result some lent own)

@@ -7,6 +7,6 @@ use Rattle.bay_device.proofs.state.DeviceState.switch.Goals as goal
 
 pub returns : goal.returns
 returns c connections =
-    let place = rw c.as_slice.ensures at c.place_of.ensures in
+    let place = rw c.as_slice.ensures at c.index_of.ensures in
     place ∙ position-mapped (λ (b : BoundSwitch). b.switch)
     (λ (s : Switch). same_name s.id c.args.id.now) c.args.self.now.bay.switches

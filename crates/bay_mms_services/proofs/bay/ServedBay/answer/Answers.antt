@@ -10,7 +10,8 @@ returns-clause-ok c =
     let pdu = c.args.pdu.now in
     let bytes : IsBytes pdu = λ i. omega (arith, c.type_inv.pdu i) in
     answered_as c.respond.result c.args.client
-    (controls_view c.args.self.now c.respond.new.controls) (bay_with c.args.inputs.now c.args.self.now)
+    (controls_view c.args.self.now c.respond.new.controls)
+    (bay_with c.args.inputs.now c.args.self.now)
     c.read_request-request.result _
     (answer-held pdu c.read_request-request.result bytes c.read_request-request.ensures)
     c.respond.ensures.memory c.respond.ensures.ok

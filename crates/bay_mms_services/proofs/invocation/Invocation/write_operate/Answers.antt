@@ -25,7 +25,7 @@ returns c =
     let read : operate_in (datum_of c.args.given.now) ≡ Ok asking =
     sym c.operate_of.ensures ∙ ap (result_view operate_view) c.in-Ok.is in
     let view = view_of a k b in
-    let o = operate_outcome a.association k c.ask_of.result view a.now w.controls in
+    let o = operate_outcome a.association k c.control_request_of.result view a.now w.controls in
     let answer = c.operate-answer.result in
     let put = c.in_ok-put_decision.ensures in
     let did = c.accept.ensures in
@@ -40,5 +40,5 @@ returns c =
     (due ∙ ap (λ (e : Option TerminationReports). later_ending e (endings a k item asking b answer))
     put.ending)
     ∙ ap (λ (x : Ask). after_operate a b k item asking
-    (operate_outcome a.association k x view a.now w.controls) w) c.ask_of.ensures
+    (operate_outcome a.association k x view a.now w.controls) w) c.control_request_of.ensures
     ∙ sym (ap (write_operate a b k item w) read))

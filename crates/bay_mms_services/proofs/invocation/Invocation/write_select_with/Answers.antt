@@ -23,7 +23,7 @@ returns c =
     let read : operate_in (datum_of c.args.given.now) ≡ Ok (operate_view c.in-Ok.operate) =
     sym c.operate_of.ensures ∙ ap (result_view operate_view) c.in-Ok.is in
     let control = (operate_view c.in-Ok.operate).control in
-    let o = select_with_outcome a.association k c.ask_of.result a.now w.controls in
+    let o = select_with_outcome a.association k c.control_request_of.result a.now w.controls in
     all_three c.put_decision.result _ _ _ _ c.put_decision.ensures.response
     c.put_decision.ensures.reports c.put_decision.ensures.decisions
     (λ has told decided. put-down a b k SelectWith item control control w o _ _ _ _ _ _ _
@@ -32,5 +32,5 @@ returns c =
     (ap (λ (v : _). v.items) c.put_decision.ensures.commands) decided
     c.put_decision.ensures.ending
     ∙ ap (λ (x : Ask). after_decision a b k SelectWith item control
-    (select_with_outcome a.association k x a.now w.controls) w) c.ask_of.ensures
+    (select_with_outcome a.association k x a.now w.controls) w) c.control_request_of.ensures
     ∙ sym (ap (write_select_with a b k item w) read))

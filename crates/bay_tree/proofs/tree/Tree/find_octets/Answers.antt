@@ -1,13 +1,13 @@
 use Rattle.std.proofs.Common.{◌≡◌, Some, None, List, ap, sym, refl, ◌∙◌}
 use Rattle.bay_tree.specs.declared.row.Row.{Row}
-use Rattle.bay_tree.specs.Rows.{place_of}
+use Rattle.bay_tree.specs.Rows.{row_index}
 use Rattle.bay_tree.proofs.NamedLemmas.{found-leaf}
 use Rattle.bay_tree.proofs.SearchLemmas.{place_of-found, place_of-none, place_of-some}
 use Rattle.bay_tree.proofs.tree.Tree.find_octets.Goals as goal
 
-place : (c : goal.In-Some) → place_of c.args.self.now c.args.name.now ≡ Some c.in-Some.index
+place : (c : goal.In-Some) → row_index c.args.self.now c.args.name.now ≡ Some c.in-Some.index
 place c =
-    ap (λ (rs : List Row). place_of rs c.args.name.now)
+    ap (λ (rs : List Row). row_index rs c.args.name.now)
     (sym (c.deref.ensures.value ∙ c.self.view_is))
     ∙ sym c.in-Some.ensures
 
@@ -28,7 +28,7 @@ returns-in-Some-clause-unknown c = (
 
 pub returns-in-None-clause-unknown : goal.returns-in-None-clause-unknown
 returns-in-None-clause-unknown c =
-    let none : place_of c.args.self.now c.args.name.now ≡ None =
-    ap (λ (rs : List Row). place_of rs c.args.name.now)
+    let none : row_index c.args.self.now c.args.name.now ≡ None =
+    ap (λ (rs : List Row). row_index rs c.args.name.now)
     (sym (c.deref.ensures.value ∙ c.self.view_is)) ∙ sym c.in-None.ensures in
     (λ _. place_of-none c.args.self.now c.args.name.now none, λ _. refl)

@@ -1,6 +1,6 @@
 use Rattle.std.proofs.Common.{◌≡◌, ℕ, List, length, refl, ap, arith}
 use Rattle.bay_base.specs.declared.types.ElementaryType.{ElementaryType}
-use Rattle.il_scan.specs.PointPlaces.{read_places}
+use Rattle.il_scan.specs.PointPlaces.{read_indices}
 use Rattle.il_scan.specs.Scans.{MachineData}
 use Rattle.il_scan.proofs.HoldLemmas.{all-held}
 use Rattle.il_scan.proofs.PlaceLemmas.{so-many-types}
@@ -15,7 +15,7 @@ scan_changed-requires-clause-hold g c =
     let typed = ap (λ (ts : List ElementaryType). length ts) c.requires in
     let many = so-many-types 0 held.image.points in
     let read = ap (λ (ns : List ℕ). length ns) c.self.invariant.read in
-    let image : length (read_places 0 c.self.inside.verified.points)
-    ≡ length (read_places 0 held.image.points) =
-    ap (λ (h : MachineData). length (read_places 0 h.image.points)) c.self.view_is in
+    let image : length (read_indices 0 c.self.inside.verified.points)
+    ≡ length (read_indices 0 held.image.points) =
+    ap (λ (h : MachineData). length (read_indices 0 h.image.points)) c.self.view_is in
     all-held _ inputs _ refl (omega (arith, sized, typed, many, read, image, c.len.ensures))

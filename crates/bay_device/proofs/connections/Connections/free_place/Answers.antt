@@ -1,9 +1,0 @@
-use Rattle.std.proofs.Common.{is_none, position, ap, sym, ◌∙◌}
-use Rattle.bay_connection.specs.ConnectionStates.{ConnectionState}
-use Rattle.bay_device.proofs.ConnectionLemmas.{talks-free}
-use Rattle.bay_device.proofs.connections.Connections.free_place.Goals as goal
-
-pub returns-clause-lowest : goal.returns-clause-lowest
-returns-clause-lowest c =
-    c.free_place_in.ensures.lowest ∙ sym (talks-free c.self.inside.places)
-    ∙ ap (λ ts. position (is_none {T = ConnectionState}) ts) c.self.view_is

@@ -1,7 +1,0 @@
-use Rattle.cmd_serve.proofs.serve.tell_unserved.Goals as goal
-
-pub returns-in-Unbound : goal.returns-in-Unbound
-returns-in-Unbound g c = rw c.in-Unbound.is c.tell_unbound.ensures
-
-pub returns-in-Unrecorded : goal.returns-in-Unrecorded
-returns-in-Unrecorded g c = rw c.in-Unrecorded.is c.tell_unrecorded.ensures
