@@ -1,5 +1,4 @@
 pub mod AuditLemmas
-pub mod ExampleLemmas
 pub mod GuardLemmas
 pub mod HoldLemmas
 pub mod IdLemmas
