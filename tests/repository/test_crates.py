@@ -91,7 +91,7 @@ def named_in(text: str) -> set[str]:
             crate, folder = plain, ''
         elif (TOP / 'docs' / f'{plain}.md').exists():
             found.add(f'docs/{plain}.md')
-        elif quoted.startswith(('tools/', 'dev/', 'packaging/')):
+        elif quoted.startswith(('tools/', 'dev/', 'packaging/', 'tests/')):
             path = quoted.split(' ')[0]
             found.add(path)
             crate, folder = '', path.rpartition('/')[0] if '.' in path else path
@@ -115,8 +115,8 @@ def is_there(path: str) -> bool:
 
 def counts(paths: set[str]) -> list[int]:
     """How many are definitions, code, proofs, cases, files of tools and pages, and all of them."""
-    kinds = (('/specs/',), ('/src/',), ('/proofs/',), ('/stdin',), ('tools/', 'dev/', 'packaging/'),
-             ('docs/',))
+    kinds = (('/specs/',), ('/src/',), ('/proofs/',), ('/stdin',),
+             ('tools/', 'dev/', 'packaging/', 'tests/repository/'), ('docs/',))
     found = [sum(any(part in it for part in kind) for it in paths) for kind in kinds]
     return [*found, len(paths)]
 

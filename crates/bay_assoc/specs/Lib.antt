@@ -12,8 +12,8 @@
 --
 -- `Texts`: the texts that are sent. `Receives`: the result of a call, and the phase after it.
 -- `Sized`: the sizes of PDUs and answers. `TakesMemory`: which TSDUs make the code allocate.
--- `Tags`: tags and object identifiers. `Code`: the numbers of the faults. `Views` and
--- `SessionViews`: views of the code's values.
+-- `Tags`: tags and object identifiers. `Code`: the numbers and the words of the faults. `Views`
+-- and `SessionViews`: views of the code's values.
 
 -- Definitions of the crates below that public clauses cite.
 pub use Rattle.bay_ber.specs.Octets

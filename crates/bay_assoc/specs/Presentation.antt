@@ -117,7 +117,8 @@ connect_parts =
     map_form connect_by (maybe (context 2) (try_map_form selector_of octets)
     (value_then (tagged (constructed 4) definition_list) (value_then user_part done)))
 
--- before them the calling selector, which is optional and ignored
+-- the parts of a request for a connection, after the calling selector, which is optional and
+-- ignored
 unfoldable pub normal_parts : Form (List Part) Connect
 normal_parts = map_form (λ x. x.1) (maybe (context 1) any_octets connect_parts)
 

@@ -24,12 +24,12 @@ ReceivesTsdu old octets (Ok h) new = tsdu_meaning old octets ≡ Ok (hearing_of 
 ReceivesTsdu old octets (Err fault) new =
     (new ≡ Failed) × ((fault ≡ OutOfMemory) ⊎ (tsdu_meaning old octets ≡ Err fault))
 
--- A PDU of MMS is the last part of its TSDU,
+-- A PDU of MMS is the last part of its TSDU.
 abbrev pub IsLastPart : List ℕ → Heard → Type 0
 IsLastPart octets (heard.Mms pdu) = (front : List ℕ) × (octets ≡ front ++ pdu.now)
 IsLastPart octets h = Unit {0}
 
--- and is returned only if the association is open.
+-- A PDU of MMS is returned only if the association is open.
 abbrev pub IsOpenFor : Heard → Phase → Type 0
 IsOpenFor (heard.Mms pdu) phase = IsSome (association_terms phase)
 IsOpenFor h phase = Unit {0}

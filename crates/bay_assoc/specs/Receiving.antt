@@ -57,7 +57,8 @@ acse_value a c =
     if is_id c.id a.acse then Ok c.value
     else (if is_id c.id a.mms then Err fault.BadAcse else Err fault.NoContext)
 
--- a value that must be in the context of MMS, likewise
+-- a value that must be in the context of MMS; one in the context of ACSE is refused as BadAcse, and
+-- any other context was not accepted
 abbrev pub mms_value : Accepted → Carried → Result (List ℕ) AssocFault
 mms_value a c =
     if is_id c.id a.mms then Ok c.value

@@ -67,7 +67,8 @@ IsSize (first ∷ []) n = (first ≢ 255) × (n ≡ first)
 IsSize (first ∷ high ∷ low ∷ []) n = (first ≡ 255) × (n ≡ high * 256 + low)
 IsSize octets n = ⊥
 
--- The octets are a unit (its identifier, a length, and as many octets), followed by the rest.
+-- The octets are a unit (its identifier, a length, and the octets that it counts), followed by the
+-- rest.
 pub record Leads (octets : List ℕ) (u : Unit) (rest : List ℕ) : Type 0 where
   pub size : List ℕ
   pub is : octets ≡ u.identifier ∷ (size ++ (u.content ++ rest))

@@ -1,6 +1,6 @@
 // Why a TSDU is refused.
-ghost use Rattle.std.specs.Prelude.{◌≡◌};
-ghost use Rattle.bay_assoc.specs.Code.{code_of};
+ghost use Rattle.std.specs.Prelude.{◌≡◌, Some};
+ghost use Rattle.bay_assoc.specs.Code.{code_of, fault_of, words_of};
 ghost use Rattle.bay_assoc.specs.declared.fault.AssocFault.TheVariants.{OutOfMemory};
 
 use std::alloc::AllocError;
@@ -9,32 +9,25 @@ use thiserror::Error;
 /// Why a TSDU is refused. After any of these the association refuses every later TSDU with
 /// `Failed`.
 #[derive(Clone, Copy, Debug, Error)]
+#[error("{}", self.words())]
 pub enum AssocFault {
     /// The TSDU is not an SPDU that is known here (X.225 8.3).
-    #[error("the TSDU is no SPDU")]
     BadSession,
     /// The user data of the session are not a PPDU (ISO 8823-1 8.2).
-    #[error("the user data of the session are no PPDU")]
     BadPresentation,
     /// No context is offered for ACSE or none for MMS with the Basic Encoding Rules, or a value is
     /// in a context that was not accepted.
-    #[error("the presentation context is missing")]
     NoContext,
     /// A value is not an APDU of ACSE that is allowed now (ISO 8650-1 9), or contains no initiate
     /// of MMS that can be read.
-    #[error("the value is no APDU of ACSE")]
     BadAcse,
     /// The SPDU is not allowed now.
-    #[error("the SPDU may not come now")]
     OutOfPhase,
     /// The proposed size of a PDU of MMS is below 256 octets.
-    #[error("the proposed size is too small")]
     PduSizeTooSmall,
     /// An earlier TSDU was refused.
-    #[error("the association has failed")]
     Failed,
     /// Out of memory for the answer.
-    #[error("out of memory")]
     OutOfMemory,
 }
 
@@ -53,6 +46,39 @@ impl AssocFault {
             AssocFault::PduSizeTooSmall => Some(25),
             AssocFault::Failed => Some(26),
             AssocFault::OutOfMemory => None,
+        }
+    }
+
+    /// Returns what the fault is, in words.
+    pub fn words(self) -> &'static str
+        ensures { result.now ≡ words_of self }
+    {
+        match self {
+            AssocFault::BadSession => "no SPDU",
+            AssocFault::BadPresentation => "a malformed PPDU",
+            AssocFault::NoContext => "a presentation context that was not offered or accepted",
+            AssocFault::BadAcse => "an APDU that can't be read",
+            AssocFault::OutOfPhase => "an SPDU out of place",
+            AssocFault::PduSizeTooSmall => "a PDU size below 256",
+            AssocFault::Failed => "the association has failed",
+            AssocFault::OutOfMemory => "out of memory",
+        }
+    }
+
+    /// Returns the fault with this number; `None` if there is no such fault.
+    pub fn with_code(code: u8) -> Option<AssocFault>
+        ensures value { result ≡ fault_of code }
+        ensures each { (fault : AssocFault) → code_of fault ≡ Some code → result ≡ Some fault }
+    {
+        match code {
+            20 => Some(AssocFault::BadSession),
+            21 => Some(AssocFault::BadPresentation),
+            22 => Some(AssocFault::NoContext),
+            23 => Some(AssocFault::BadAcse),
+            24 => Some(AssocFault::OutOfPhase),
+            25 => Some(AssocFault::PduSizeTooSmall),
+            26 => Some(AssocFault::Failed),
+            _ => None,
         }
     }
 }

@@ -71,9 +71,7 @@ fn both(first: bool, second: bool) -> bool
     first && second
 }
 
-// Returns `first
-//
-// second`, likewise.
+// Returns `first || second`. A call, so that the proof of a caller need not split into cases.
 fn either(first: bool, second: bool) -> bool
     ensures { result ≡ (first || second) }
 {

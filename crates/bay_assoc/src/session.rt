@@ -75,7 +75,7 @@ fn size_at(octets: &[u8]) -> Option<(usize, &[u8])>
     }
 }
 
-// Reads a length, and returns as many octets, and those after them.
+// Reads a length, and returns the octets that it counts, and those after them.
 #[tactic(auto, unfolding(crate::specs::Session::counted_at))]
 fn counted_at(octets: &[u8]) -> Option<(&[u8], &[u8])>
     ensures exact { option_map (λ x. (x.0.now, x.1.now)) result ≡ spec.counted_at octets.now }

@@ -59,6 +59,7 @@ abbrev pub false_inputs : ℕ → List TestAnswer
 false_inputs zero = []
 false_inputs (suc k) = false_inputs k ++ record { test = test.Input k; value = false } ∷ []
 
+-- the case of a process that is lost: the first `switches` switches and `inputs` inputs
 abbrev pub lost_case : ℕ → ℕ → List TestAnswer
 lost_case switches inputs = bad_positions switches ++ false_inputs inputs
 
@@ -74,62 +75,74 @@ same_field PhaseB PhaseB = true
 same_field PhaseC PhaseC = true
 same_field a b = false
 
--- a switch may have the position, by one test and by all
+-- whether a switch may have the position, by a test with this answer
 abbrev pub test_allows_position : ℕ → Dbpos → Bool → Test → Bool
 test_allows_position k position value (test.Position j positions) =
     not (j == k) || beq (has_position positions position) value
 test_allows_position k position value (test.Input j) = true
 test_allows_position k position value (test.AtMost j field most) = true
 
+-- whether a switch may have the position, by one test with its answer
 abbrev pub allows_position : ℕ → Dbpos → TestAnswer → Bool
 allows_position k position l = test_allows_position k position l.value l.test
 
+-- whether a switch may have the position in the case
 abbrev pub may_be : List TestAnswer → ℕ → Dbpos → Bool
 may_be case k position = list_all (allows_position k position) case
 
--- an input may have the value, by one test and by all
+-- whether an input may have the value, by a test with this answer
 abbrev pub test_allows_input : ℕ → Bool → Bool → Test → Bool
 test_allows_input k wanted value (test.Position j which) = true
 test_allows_input k wanted value (test.Input j) = not (j == k) || beq wanted value
 test_allows_input k wanted value (test.AtMost j field most) = true
 
+-- whether an input may have the value, by one test with its answer
 abbrev pub allows_input : ℕ → Bool → TestAnswer → Bool
 allows_input k wanted l = test_allows_input k wanted l.value l.test
 
+-- whether an input may have the value in the case
 abbrev pub input_may : List TestAnswer → ℕ → Bool → Bool
 input_may case k wanted = list_all (allows_input k wanted) case
 
--- the least and the greatest number that a measured value may have
+-- whether a field of a meter is this field of this meter
 abbrev pub is_of_field : ℕ → MeterField → ℕ → MeterField → Bool
 is_of_field k field j which = j == k && same_field which field
 
+-- the greater of two numbers
 abbrev pub greater_int : ℤ → ℤ → ℤ
 greater_int low other = if int_lt low other then other else low
 
+-- the lesser of two numbers
 abbrev pub lesser_int : ℤ → ℤ → ℤ
 lesser_int high other = if int_lt other high then other else high
 
+-- the least number of a measured value after a test with this answer, if it was at least `low`
 abbrev pub low_by : ℕ → MeterField → ℤ → Bool → Test → ℤ
 low_by k field low value (test.Position j which) = low
 low_by k field low value (test.Input j) = low
 low_by k field low value (test.AtMost j which most) =
     if is_of_field k field j which && not value then greater_int low (most +ℤ pos 1) else low
 
+-- the least number of a measured value after one test, if it was at least `low`
 abbrev pub low_after : ℕ → MeterField → ℤ → TestAnswer → ℤ
 low_after k field low l = low_by k field low l.value l.test
 
+-- the greatest number of a measured value after a test with this answer, if it was at most `high`
 abbrev pub high_by : ℕ → MeterField → ℤ → Bool → Test → ℤ
 high_by k field high value (test.Position j which) = high
 high_by k field high value (test.Input j) = high
 high_by k field high value (test.AtMost j which most) =
     if is_of_field k field j which && value then lesser_int high most else high
 
+-- the greatest number of a measured value after one test, if it was at most `high`
 abbrev pub high_after : ℕ → MeterField → ℤ → TestAnswer → ℤ
 high_after k field high l = high_by k field high l.value l.test
 
+-- the least number that a measured value may have in the case
 abbrev pub low_of : List TestAnswer → ℕ → MeterField → ℤ
 low_of case k field = fold (low_after k field) (negsuc 2147483647) case
 
+-- the greatest number that a measured value may have in the case
 abbrev pub high_of : List TestAnswer → ℕ → MeterField → ℤ
 high_of case k field = fold (high_after k field) (pos 2147483647) case
 
@@ -164,10 +177,11 @@ truth_range true true = Either
 truth_range false true = No
 truth_range false false = Either
 
--- the least and the greatest number of a position that a switch may have
+-- the least number of a position that a switch may have
 abbrev pub least_position : Bool → Bool → Bool → ℤ
 least_position i o n = if i then pos 0 else if o then pos 1 else if n then pos 2 else pos 3
 
+-- the greatest number of a position that a switch may have
 abbrev pub greatest_position : Bool → Bool → Bool → ℤ
 greatest_position o n b = if b then pos 3 else if n then pos 2 else if o then pos 1 else pos 0
 

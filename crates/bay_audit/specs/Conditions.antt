@@ -41,21 +41,24 @@ relation_truths Greater low high n = truth_set (int_lt n high) (int_le low n)
 
 -- ---- conditions
 
--- the truth sets of a negation, a conjunction and a disjunction
+-- the truth set of a negation
 abbrev pub negate_truths : TruthSet → TruthSet
 negate_truths a = truth_set a.no a.yes
 
+-- the truth set of a conjunction
 abbrev pub and_truths : TruthSet → TruthSet → TruthSet
 and_truths a b = truth_set (a.yes && b.yes) (a.no || b.no)
 
+-- the truth set of a disjunction
 abbrev pub or_truths : TruthSet → TruthSet → TruthSet
 or_truths a b = truth_set (a.yes || b.yes) (a.no && b.no)
 
--- the stack, top first, with its top negated, and with its two top sets joined
+-- the stack, top first, with its top negated
 abbrev pub negate_top_truths : List TruthSet → List TruthSet
 negate_top_truths [] = []
 negate_top_truths (a ∷ stack) = negate_truths a ∷ stack
 
+-- the stack with its two top sets joined; empty if it has fewer
 abbrev pub join_top_truths : (TruthSet → TruthSet → TruthSet) → List TruthSet → List TruthSet
 join_top_truths f [] = []
 join_top_truths f (b ∷ []) = []
@@ -80,6 +83,7 @@ abbrev pub truths_after_items : List TestAnswer → List ConditionItem → List 
 truths_after_items case [] stack = stack
 truths_after_items case (i ∷ is) stack = truths_after_items case is (truths_after_item case i stack)
 
+-- the truth set on top; that of FALSE if the stack is empty
 abbrev pub top_truths : List TruthSet → TruthSet
 top_truths [] = truth_set false true
 top_truths (a ∷ stack) = a

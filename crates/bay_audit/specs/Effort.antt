@@ -12,6 +12,7 @@ abbrev pub share_among : ℕ → ℕ → ℕ
 share_among passes zero = passes
 share_among passes (suc others) = rounded_up (passes / suc others) passes
 
+-- the passes that the next answer may make
 abbrev pub share_of : PassBudget → ℕ
 share_of budget = share_among budget.passes budget.answers
 

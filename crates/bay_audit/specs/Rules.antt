@@ -56,9 +56,11 @@ pub record BoundProgram : Type 0 where
   pub reads : List Source
   pub writes : List Source
 
+-- the program of an image with these sources
 abbrev pub program : Image → List Source → List Source → BoundProgram
 program image reads writes = record { image = image; reads = reads; writes = writes }
 
+-- the program of an image on a bay, with the sources of its points
 abbrev pub program_of : Bay → Image → BoundProgram
 program_of bay image =
     program image (sources_of false bay.points image.points)
@@ -171,7 +173,8 @@ idle_timer_demand condition n = record {
   limits = [];
 }
 
--- the switch is released while the condition is TRUE, in scans before which delays are so
+-- the switch is released while the condition is TRUE, in scans before which delays are within the
+-- limits
 abbrev pub release_demand_within : Rule → List ConditionItem → List KnownDelay → Demand
 release_demand_within rule condition limits = record {
   kind = Always;
@@ -181,16 +184,17 @@ release_demand_within rule condition limits = record {
   limits = limits;
 }
 
--- the same in each scan
+-- the switch is released while the condition is TRUE, in each scan
 abbrev pub sufficient_demand : Rule → List ConditionItem → Demand
 sufficient_demand rule condition = release_demand_within rule condition []
 
--- the same, if the delay of the timer began at least `time` ago
+-- the switch is released while the condition is TRUE, in scans before which the delay of the timer
+-- began at least the rule's time ago
 abbrev pub due_demand : Rule → Timing → ℕ → Demand
 due_demand rule timing n =
     release_demand_within rule timing.condition (limit_of n (delays.AtLeast timing.time))
 
--- a scan with the condition TRUE reaches the goal, in scans before which delays are so
+-- a scan with the condition TRUE reaches the goal, if delays are within the limits before it
 abbrev pub running_demand : List ConditionItem → Goal → List KnownDelay → Demand
 running_demand condition goal limits = record {
   kind = Always;
@@ -296,11 +300,12 @@ IsRequired g rule timing (Broken case) =
 IsRequired g rule timing (Open case kept) = HasProcess case
 IsRequired g rule timing TooMany = Unit {0}
 
--- the same of a rule of either kind
+-- The answer to a rule of this kind with a time is right.
 abbrev pub IsTimely : RuleKind → BoundProgram → Rule → Timing → RuleAnswer → Type 0
 IsTimely Never g rule timing answer = IsForbidden g rule timing answer
 IsTimely Always g rule timing answer = IsRequired g rule timing answer
 
+-- The answer to a rule with a time is right.
 abbrev pub IsUntil : BoundProgram → Rule → Timing → RuleAnswer → Type 0
 IsUntil g rule timing answer = IsTimely rule.kind g rule timing answer
 
@@ -340,6 +345,7 @@ IsReportedFor These g k operation (Hangs kept) = Unit {0}
 abbrev pub IsReportedOf : BoundProgram → ℕ → Operation → List TestAnswer → CaseRelease → Type 0
 IsReportedOf g k operation case told = IsReportedFor (λ p. is_in case p ≡ true) g k operation told
 
+-- The release in each of the cases is right.
 abbrev pub AreReported : BoundProgram → ℕ → Operation → List ReportedCase → Type 0
 AreReported g k operation [] = Unit {0}
 AreReported g k operation (c ∷ cases) =
@@ -349,6 +355,7 @@ AreReported g k operation (c ∷ cases) =
 abbrev pub reported_count : List ReportedCase → Process → ℕ
 reported_count cases p = count_by (λ c. is_in c.case p) cases
 
+-- the number of the cases that have this process
 abbrev pub case_count : List (List TestAnswer) → Process → ℕ
 case_count cases p = count_by (λ case. is_in case p) cases
 
@@ -377,7 +384,7 @@ pub record IsRelease (bay : Bay) (g : BoundProgram) (r : Release) : Type 0 where
   pub lost : IsReportedFor (IsLost bay) g r.switch r.operation r.lost
   pub start : IsStart g r.switch r.operation r.start
 
--- Each of the releases is so.
+-- Each of the releases is right.
 abbrev pub AreReleases : Bay → BoundProgram → List Release → Type 0
 AreReleases bay g [] = Unit {0}
 AreReleases bay g (r ∷ releases) = IsRelease bay g r × AreReleases bay g releases
@@ -387,6 +394,7 @@ abbrev pub ways : ℕ → List (ℕ × Operation)
 ways zero = []
 ways (suc k) = ways k ++ (k, operations.Open) ∷ (k, operations.Close) ∷ []
 
+-- the switch of a release and its direction
 abbrev pub way_of : Release → ℕ × Operation
 way_of r = (r.switch, r.operation)
 
@@ -443,13 +451,13 @@ IsUndecided verdict.Broken = ⊥
 IsUndecided (verdict.Split test) = Unit {0}
 IsUndecided (verdict.Open kept) = Unit {0}
 
--- a release in this range obeys, or breaks, a rule of this kind for certain, if its condition is
--- TRUE
+-- a release in this range obeys a rule of this kind for certain, if its condition is TRUE
 abbrev pub is_surely_obeyed : RuleKind → Range → Bool
 is_surely_obeyed Never range.No = true
 is_surely_obeyed Always range.Yes = true
 is_surely_obeyed kind r = false
 
+-- a release in this range breaks a rule of this kind for certain, if its condition is TRUE
 abbrev pub is_surely_missed : RuleKind → Range → Bool
 is_surely_missed Never range.Yes = true
 is_surely_missed Always range.No = true
@@ -461,11 +469,12 @@ decide kind o r =
     if is_surely_obeyed kind r || not o.yes then Obeyed
     else if is_surely_missed kind r && not o.no then Missed else Unknown
 
--- the range of the value that the program writes to a point; FALSE if it does not name the point
+-- the range, or FALSE if there is none
 abbrev pub range_there : Option Range → Range
 range_there None = range.No
 range_there (Some r) = r
 
+-- the range at an index; FALSE without an index
 abbrev pub range_at : List Range → Option ℕ → Range
 range_at outputs None = range.No
 range_at outputs (Some place) = range_there (slice_get outputs place)

@@ -16,7 +16,7 @@ pub struct TruthSet {
 }
 
 impl TruthSet {
-    // The truth set of the negation.
+    // Returns the truth set of the negation.
     fn negate_truths(self) -> Self
         ensures { result ≡ spec.negate_truths self }
     {
@@ -26,7 +26,7 @@ impl TruthSet {
         }
     }
 
-    // The truth set of the conjunction.
+    // Returns the truth set of the conjunction.
     fn and_truths(self, other: Self) -> Self
         ensures { result ≡ spec.and_truths self other }
     {
@@ -36,7 +36,7 @@ impl TruthSet {
         }
     }
 
-    // The truth set of the disjunction.
+    // Returns the truth set of the disjunction.
     fn or_truths(self, other: Self) -> Self
         ensures { result ≡ spec.or_truths self other }
     {
@@ -119,6 +119,7 @@ impl Model for TruthSetStack {
 }
 
 impl TruthSetStack {
+    // Creates an empty stack.
     fn new(alloc: Global) -> Self
         ensures { result ≡ [] }
     {
@@ -127,6 +128,7 @@ impl TruthSetStack {
         }
     }
 
+    // Pushes a truth set.
     fn push(&mut self, truths: TruthSet) -> Result<(), AllocError>
         ensures { OnOk result (self.new ≡ truths ∷ self.old) }
     {
@@ -134,6 +136,7 @@ impl TruthSetStack {
         Ok(())
     }
 
+    // Pops the top; `None` if the stack is empty.
     fn pop(&mut self) -> Option<TruthSet>
         ensures { MatchOption result ((self.old ≡ []) × (self.new ≡ []))
             (λ truths. self.old ≡ truths ∷ self.new) }

@@ -78,7 +78,7 @@ pub record ArePartedBy (g : BoundProgram) (k : ℕ) (operation : Operation)
     pub refused : (p : Process) → IsProcess p → 0 < reported_count cases p
         → case_count released p ≡ 0 → case_count hanging p ≡ 0 → Gives false g k operation p
 
--- It is so for each release of which the cases are right.
+-- The lists part the cases so for each release of which the cases are right.
 abbrev pub AreParted : List ReportedCase → List (List TestAnswer) → List (List TestAnswer) → Type 0
 AreParted cases released hanging =
     (g : BoundProgram) (k : ℕ) (operation : Operation) → AreReported g k operation cases

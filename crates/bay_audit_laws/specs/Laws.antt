@@ -64,6 +64,7 @@ IsOfType (BadMeasure k field) = Unit {0}
 IsOfType Lost = Unit {0}
 IsOfType Scan = Unit {0}
 
+-- Each measured value of the events fits 32 bits.
 abbrev pub AreOfTypes : List (ℕ × Event) → Type 0
 AreOfTypes [] = Unit {0}
 AreOfTypes (e ∷ es) = IsOfType e.1 × AreOfTypes es
@@ -80,6 +81,7 @@ IsAllowed rule s command =
     rule.kind ≡ Never → command.switch ≡ rule.switch → command.operation ≡ rule.operation
     → holds rule.when (process_of s) ≡ false
 
+-- Each command of an accepted event obeys a rule.
 abbrev pub CommandsObeyAt : Rule → ℕ → Event → State → Result Step StepFault → State → Type 0
 CommandsObeyAt rule now event old answer new =
     IfOk answer (λ step. All (IsAllowed rule old) step.commands)
@@ -96,9 +98,11 @@ Always Does =
     → AreOfTypes events → EachStep HaltsAt events (initial_device bay image) answers last
     → EachStep (Does rule) events (initial_device bay image) answers last
 
+-- Each scan of a device obeys each rule that holds of its program.
 abbrev pub ScansObey : Type 0
 ScansObey = Always ScanObeysAt
 
+-- Each command of a device obeys each rule that holds of its program.
 abbrev pub CommandsObey : Type 0
 CommandsObey = Always CommandsObeyAt
 
@@ -148,6 +152,7 @@ HasWaited rule timing scans s command =
     → holds rule.when (process_of s) ≡ true
     → IsSomeAnd s.last_scan (λ m. HasHeld timing.time m scans)
 
+-- Each command of an accepted event waits for the time of a rule.
 abbrev pub CommandsWaitAt : Rule → Timing → List (ℕ × Bool) → ℕ → Event → State
     → Result Step StepFault → State → Type 0
 CommandsWaitAt rule timing scans now event old answer new =
@@ -195,24 +200,27 @@ EachIf IsEstablished Does =
     → EachAfter (Does rule timing) timing.condition events [] (initial_device bay image) answers
     last
 
--- the same, if a timer establishes it
+-- `Does` is true in each run of a device, from load of a bay and an image on, if a timer
+-- establishes a rule with a time.
 abbrev pub Waits : (Rule → Timing → List (ℕ × Bool) → ℕ → Event → State → Result Step StepFault
     → State → Type 0) → Type 0
 Waits Does = (n : ℕ) → EachIf (λ g rule timing. IsByTimer g rule timing n) Does
 
+-- Each scan that releases a switch waits for the time of each rule that a timer establishes.
 abbrev pub ScansWait : Type 0
 ScansWait = Waits ScanWaitsAt
 
+-- Each command waits for the time of each rule that a timer establishes.
 abbrev pub CommandsWait : Type 0
 CommandsWait = Waits CommandsWaitAt
 
 -- ---- rules that require a release
 
--- a timer establishes it
+-- Each scan releases a switch when a rule requires it, if a timer establishes the rule.
 abbrev pub ScansAreDue : Type 0
 ScansAreDue = (n : ℕ) → EachIf (λ g rule timing. IsDueByTimer g rule timing n) ScanIsDueAt
 
--- the condition alone releases the switch
+-- Each scan with the condition TRUE releases the switch, if the condition alone releases it.
 abbrev pub ScansRelease : Type 0
 ScansRelease =
     EachIf (λ g rule timing. IsMet g (sufficient_demand rule timing.condition)) ScanReleasesAt

@@ -41,7 +41,8 @@ CameFrom first [] s = s ≡ first
 CameFrom first (p ∷ past) s = (s ≡ p.after)
     × ((before : State) × CameFrom first past before × Steps p.now p.event before p.answer p.after)
 
--- In each run from load of a bay and an image on, both are so while the process is lost.
+-- In each run from load of a bay and an image on, while the process is lost, the device has only
+-- the values of a lost process, and a program reads these.
 abbrev pub LostIsBlind : Type 0
 LostIsBlind =
     (bay : Bay) (image : Image) → IsBay bay → (past : List Past) (s : State)

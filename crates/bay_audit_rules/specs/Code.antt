@@ -1,5 +1,5 @@
--- The numbers and lines of the faults.
-use Rattle.std.specs.Prelude.{ℕ, Option, Some, None}
+-- The numbers, the lines and the words of the faults.
+use Rattle.std.specs.Prelude.{ℕ, List, codes, Option, Some, None}
 use Rattle.bay_audit_rules.specs.declared.fault.RuleFault.{RuleFault}
 use Rattle.bay_audit_rules.specs.declared.fault.RuleFault.TheVariants.{BadWord, BadLine, UnknownName, BadValue, TooMany, NoRule, OutOfMemory}
 
@@ -22,3 +22,13 @@ line_of (BadValue line) = line
 line_of (TooMany line) = line
 line_of NoRule = 1
 line_of OutOfMemory = 0
+
+-- what the fault is, in words
+abbrev pub words_of : RuleFault → List ℕ
+words_of (BadWord line) = codes "a word or a sign that no rule has"
+words_of (BadLine line) = codes "a line is no rule"
+words_of (UnknownName line) = codes "a name is unknown"
+words_of (BadValue line) = codes "a position, a value or a time that what is named can't have"
+words_of (TooMany line) = codes "too many rules, or too many parentheses within each other"
+words_of NoRule = codes "a text without a rule"
+words_of OutOfMemory = codes "out of memory"

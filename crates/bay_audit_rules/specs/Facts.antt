@@ -22,6 +22,7 @@ None ⊕ d = None
 (Some c) ⊕ None = None
 (Some c) ⊕ (Some d) = Some (c ++ d)
 
+-- one item as items
 abbrev pub item : ConditionItem → Items
 item i = Some (i ∷ [])
 

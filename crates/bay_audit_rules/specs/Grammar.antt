@@ -79,7 +79,7 @@ direction_tokens Closing = token.Close ∷ []
 direction_tokens OpeningAndClosing = token.Open ∷ token.Bar ∷ token.Close ∷ []
 direction_tokens ClosingAndOpening = token.Close ∷ token.Bar ∷ token.Open ∷ []
 
--- `until C for T` if the rule forbids, `after C for T` if it requires
+-- `until C for T` if the rule forbids, `after C for T` if it requires; or no time
 pub data IsTimed : RuleKind → List RuleToken → Option HeldCondition → Type 0 where
   untimed : {kind : RuleKind} → IsTimed kind [] None
   timed : {kind : RuleKind} {ts : List RuleToken} {c : Items} {t : Option ℕ} → Reads condition ts c

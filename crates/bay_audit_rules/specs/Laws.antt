@@ -20,7 +20,7 @@ OneReading =
 abbrev pub IsCondition : List ConditionItem → Type 0
 IsCondition c = (p : Process) (stack : List Bool) → after_items p c stack ≡ holds c p ∷ stack
 
--- the items of each part of a condition do so
+-- the items of each part of a condition push exactly one truth value on any stack
 abbrev pub AreConditions : Type 0
 AreConditions =
     (level : Level) (ts : List RuleToken) (c : List ConditionItem) → Reads level ts (Some c)
@@ -33,6 +33,8 @@ pub record AreJoined (p : Process) (c d : List ConditionItem) : Type 0 where
   pub both : holds ((c ++ d) ++ (items.And ∷ [])) p ≡ (holds c p && holds d p)
   pub either : holds ((c ++ d) ++ (items.Or ∷ [])) p ≡ (holds c p || holds d p)
 
+-- any two conditions, negated and joined, have the truth values of their operands, negated and
+-- joined
 abbrev pub AreTruths : Type 0
 AreTruths =
     (p : Process) (c d : List ConditionItem) → IsCondition c → IsCondition d → AreJoined p c d

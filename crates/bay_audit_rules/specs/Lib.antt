@@ -9,7 +9,7 @@
 --
 -- `Words`, `Numbers` and `Pieces`: the words and signs, the numbers and times, and how a line is
 -- split. `Running`, `TokenParsing`, `Turns` and `Reading` describe how the code reads the tokens;
--- no public clause cites them. `Code` numbers the faults.
+-- no public clause cites them. `Code`: the numbers, lines and words of the faults.
 
 pub mod Code
 pub mod Facts

@@ -29,6 +29,7 @@ use Rattle.bay_base.specs.declared.switch.Operation.TheVariants as operations
 abbrev pub is_blank : ℕ → Bool
 is_blank b = b == 32 || (b == 9 || b == 13)
 
+-- whether a piece begins with a blank
 abbrev pub is_blank_piece : List ℕ → Bool
 is_blank_piece [] = false
 is_blank_piece (b ∷ bs) = is_blank b
@@ -52,6 +53,7 @@ line_tokens bay line = tokens_of bay (pieces Line (before_first is_comment line)
 abbrev pub is_nothing : NamedObject → Bool
 is_nothing named = is_none named.switch && is_none named.thing
 
+-- whether a token is a name of nothing in the bay
 abbrev pub is_unknown : RuleToken → Bool
 is_unknown (token.Name named) = is_nothing named
 is_unknown other = false

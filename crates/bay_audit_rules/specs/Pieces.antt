@@ -14,6 +14,7 @@ is_word_octet b = is_name_character b || b == 45
 abbrev pub is_relation_octet : ℕ → Bool
 is_relation_octet b = is_in_range 60 62 b
 
+-- whether two truth values are equal
 abbrev pub same_truth : Bool → Bool → Bool
 same_truth a b = if a then b else (if b then false else true)
 
@@ -29,6 +30,7 @@ abbrev pub joins_piece : Cut → ℕ → List ℕ → Bool
 joins_piece cut a [] = false
 joins_piece cut a (b ∷ bs) = joins cut a b
 
+-- the pieces with an octet before them, which joins the first piece if both belong together
 abbrev pub before : Cut → ℕ → List (List ℕ) → List (List ℕ)
 before cut a [] = (a ∷ []) ∷ []
 before cut a (p ∷ ps) = if joins_piece cut a p then (a ∷ p) ∷ ps else (a ∷ []) ∷ p ∷ ps

@@ -25,12 +25,13 @@ has_relation Unequal x n = not (int_eq x n)
 has_relation AtLeast x n = int_le n x
 has_relation Greater x n = int_lt n x
 
--- the stack, top first, with its top negated, and with its two top values joined; with too few
--- values the stack becomes empty
+-- the stack, top first, with its top negated; an empty stack stays empty
 abbrev pub negate_top : List Bool → List Bool
 negate_top [] = []
 negate_top (a ∷ stack) = not a ∷ stack
 
+-- the stack, top first, with its two top values joined by a function; with too few values the stack
+-- becomes empty
 abbrev pub join_top : (Bool → Bool → Bool) → List Bool → List Bool
 join_top f [] = []
 join_top f (b ∷ []) = []
@@ -53,6 +54,7 @@ abbrev pub after_items : Process → List ConditionItem → List Bool → List B
 after_items p [] stack = stack
 after_items p (i ∷ is) stack = after_items p is (after_item p i stack)
 
+-- the top of the stack; FALSE if it is empty
 abbrev pub top : List Bool → Bool
 top [] = false
 top (a ∷ stack) = a

@@ -29,18 +29,19 @@ abbrev pub more_at : NamedObject → List RuleToken → Taken
 more_at named (token.Bar ∷ (t ∷ ts)) = value_at named (value_of t) (more_at named ts)
 more_at named other = (Some [], 0)
 
--- the values at the start of the tokens, if there is one
+-- a first value, with those that follow it; None if the token is no value
 abbrev pub first_at : NamedObject → Bool → Option TestValue → List RuleToken → Option Taken
 first_at named negated None ts = None
 first_at named negated (Some value) ts =
     let more = more_at named ts in
     Some (value_items named value ⊕ more.0 ⊕ negation negated, suc more.1)
 
+-- the values at the start of the tokens, with those that follow them; None if there is no value
 abbrev pub values_at : NamedObject → Bool → List RuleToken → Option Taken
 values_at named negated [] = None
 values_at named negated (t ∷ ts) = first_at named negated (value_of t) ts
 
--- the same with one more token
+-- items that were read from one more token
 abbrev pub with_one_more_token : Option Taken → Option Taken
 with_one_more_token = option_map (λ taken. (taken.0, suc taken.1))
 
@@ -67,11 +68,12 @@ fact_at named (token.Is ∷ ts) = with_one_more_token (is_at named ts)
 fact_at named (token.Not ∷ ts) = with_one_more_token (values_at named true ts)
 fact_at named ts = or_alone named (values_at named false ts)
 
--- the last pending operator or parenthesis, and those below it
+-- the last pending operator or parenthesis, if there is one
 abbrev pub first_of : List Pending → Option Pending
 first_of [] = None
 first_of (wait ∷ pending) = Some wait
 
+-- the pending operators and parentheses below the last one
 abbrev pub rest_of : List Pending → List Pending
 rest_of [] = []
 rest_of (wait ∷ pending) = pending
@@ -81,6 +83,7 @@ pub record State : Type 0 where
   pub pending : List Pending
   pub items : Items
 
+-- the state with these pending operators and items
 abbrev pub state : List Pending → Items → State
 state pending c = record { pending = pending; items = c }
 
@@ -110,6 +113,7 @@ found_if_complete s rest = alone s.pending s.items
     alone [] c = Some (c, rest)
     alone (wait ∷ pending) c = None
 
+-- the condition that ends before the rest of the tokens, if nothing but an `or` is pending
 abbrev pub finish : State → List RuleToken → Found
 finish s rest = found_if_complete (append_or s) rest
 
@@ -152,20 +156,20 @@ after_operand s (token.Connector Or) ts =
 after_operand s (token.Connector End) ts = close_parenthesis (append_or s)
 after_operand s other ts = (over (finish s (other ∷ ts)), s)
 
--- a token
+-- the phase and the state after one token
 abbrev pub token_step : Phase → State → RuleToken → List RuleToken → Phase × State
 token_step expects s t ts = operand_at s t ts
 token_step (passes zero) s t ts = after_operand s t ts
 token_step (passes (suc k)) s t ts = (passes k, s)
 token_step (over found) s t ts = (over found, s)
 
--- the end of the tokens
+-- the condition found at the end of the tokens
 abbrev pub at_end : Phase → State → Found
 at_end expects s = None
 at_end (passes k) s = finish s []
 at_end (over found) s = found
 
--- all tokens
+-- the condition found after all tokens
 abbrev pub found_after_tokens : Phase → State → List RuleToken → Found
 found_after_tokens phase s [] = at_end phase s
 found_after_tokens phase s (t ∷ ts) = let then =

@@ -16,15 +16,17 @@ use Rattle.bay_audit_rules.specs.declared.token.RuleToken.TheVariants as token
 use Rattle.bay_audit_rules.specs.Facts.{Items, item}
 use Rattle.bay_audit_rules.specs.Running.{fact_at, condition_at}
 
--- the directions at the start of the tokens, and the rest
+-- the directions after an `open`, and the rest
 abbrev pub directions_after_open : List RuleToken → Directions × List RuleToken
 directions_after_open (token.Bar ∷ (token.Close ∷ ts)) = (OpeningAndClosing, ts)
 directions_after_open ts = (Opening, ts)
 
+-- the directions after a `close`, and the rest
 abbrev pub directions_after_close : List RuleToken → Directions × List RuleToken
 directions_after_close (token.Bar ∷ (token.Open ∷ ts)) = (ClosingAndOpening, ts)
 directions_after_close ts = (Closing, ts)
 
+-- the directions at the start of the tokens, and the rest
 abbrev pub directions_at : List RuleToken → Option (Directions × List RuleToken)
 directions_at (token.Open ∷ ts) = Some (directions_after_open ts)
 directions_at (token.Close ∷ ts) = Some (directions_after_close ts)
@@ -36,6 +38,7 @@ time_after_condition c (token.For ∷ (token.Time time ∷ ts)) =
     Some (record { condition = c; time = time }, ts)
 time_after_condition c ts = None
 
+-- a condition at the start of the tokens, with `for` and a time after it, and the rest
 abbrev pub held_condition_at : List RuleToken → Option (HeldCondition × List RuleToken)
 held_condition_at ts = condition_at ts >>= λ found. time_after_condition found.0 found.1
 
@@ -81,16 +84,17 @@ rule_at kind named ts =
       when = when;
     })) (when_at timed.1)
 
--- how the tokens after `look` are read, and those after `never` and `always`
+-- the statement that the tokens after `look` spell
 abbrev pub look_at : List RuleToken → Option RuleStatement
 look_at (token.Name named ∷ ts) = looks_at named ts
 look_at ts = None
 
+-- the statement that the tokens after `never` or `always` spell
 abbrev pub kind_at : RuleKind → List RuleToken → Option RuleStatement
 kind_at kind (token.Name named ∷ ts) = rule_at kind named ts
 kind_at kind ts = None
 
--- how all tokens of a line are read
+-- the statement that the tokens of a line spell
 abbrev pub statement_at : List RuleToken → Option RuleStatement
 statement_at [] = Some Silence
 statement_at (token.Look ∷ ts) = look_at ts

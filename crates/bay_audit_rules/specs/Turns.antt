@@ -12,7 +12,7 @@ pub record Took (taken : Taken) (old new : Items) (ts left : List RuleToken) : T
   pub items : new ≡ old ⊕ taken.0
   pub rest : left ≡ drop taken.1 ts
 
--- the same, if there are such tokens
+-- the tokens at the start, if there are such tokens, were consumed, and their items appended
 abbrev pub TookIf : Option Taken → Items → Items → List RuleToken → Option (Bor (List RuleToken))
     → Type 0
 TookIf None old new ts None = new ≡ old
@@ -20,19 +20,19 @@ TookIf None old new ts (Some rest) = ⊥
 TookIf (Some taken) old new ts None = ⊥
 TookIf (Some taken) old new ts (Some rest) = Took taken old new ts rest.now
 
--- the phase after an operand, or with an operand expected
+-- the phase with an operand expected, or the one after an operand
 abbrev pub phase_of : Bool → Phase
 phase_of true = expects
 phase_of false = passes 0
 
--- one token leads where the definition leads
+-- the result of one token is the phase and the state that the definition yields
 abbrev pub Goes : Advance → State → RuleToken → List RuleToken → Phase × State → Type 0
 Goes (On true rest) new t ts then = (then ≡ (expects, new)) × (rest.now ≡ ts)
 Goes (On false rest) new t ts then = (k : ℕ) × (then ≡ (passes k, new)) × (rest.now ≡ drop k ts)
 Goes Stop new t ts then = then ≡ (over (finish new (t ∷ ts)), new)
 Goes Refuse new t ts then = then.0 ≡ over None
 
--- a condition was found, and its items are in the draft
+-- a condition was found, and its items are in the draft; or none was found
 abbrev pub FoundIf : Found → Items → Option (Bor (List RuleToken)) → Type 0
 FoundIf found new None = found ≡ None
 FoundIf found new (Some rest) = found ≡ Some (new, rest.now)

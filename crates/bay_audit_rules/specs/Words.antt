@@ -81,20 +81,21 @@ abbrev pub name_of : Bay → List ℕ → Option RuleToken
 name_of bay piece =
     if is_name piece then Some (token.Name (named_in bay piece)) else None
 
--- a time or a name
+-- the token of a time, if the piece is one; else that of a name
 abbrev pub other_of : Bay → List ℕ → Option (Option ℕ) → Option RuleToken
 other_of bay piece (Some time) = Some (token.Time time)
 other_of bay piece None = name_of bay piece
 
--- a number, a time or a name
+-- the token of a number, if the piece is one; else that of a time or a name
 abbrev pub literal_of : Bay → List ℕ → Option (Option ℤ) → Option RuleToken
 literal_of bay piece (Some n) = Some (token.TestValue (Number n))
 literal_of bay piece None = other_of bay piece (time_in piece)
 
--- the token that a piece spells: a word or a sign, a number, a time or a name
+-- the token of a word or a sign, if the piece is one; else that of a number, a time or a name
 abbrev pub known_of : Bay → List ℕ → Option RuleToken → Option RuleToken
 known_of bay piece (Some t) = Some t
 known_of bay piece None = literal_of bay piece (number_in piece)
 
+-- the token that a piece spells: a word or a sign, a number, a time or a name
 abbrev pub token_of : Bay → List ℕ → Option RuleToken
 token_of bay piece = known_of bay piece (reserved_token piece)

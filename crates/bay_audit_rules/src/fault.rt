@@ -1,6 +1,6 @@
 // Why a text is not a list of rules.
 ghost use Rattle.std.specs.Prelude.{◌≡◌};
-ghost use Rattle.bay_audit_rules.specs.Code.{code_of, line_of};
+ghost use Rattle.bay_audit_rules.specs.Code.{code_of, line_of, words_of};
 ghost use Rattle.bay_audit_rules.specs.declared.fault.RuleFault.TheVariants.{OutOfMemory};
 
 use std::alloc::{AllocError, AllocFailed};
@@ -8,27 +8,21 @@ use thiserror::Error;
 
 /// Why a text is not a list of rules, with the line of the fault, counted from 1.
 #[derive(Clone, Copy, Debug, Error)]
+#[error("{}", self.words())]
 pub enum RuleFault {
     /// A word or a sign that does not occur in rules.
-    #[error("a word or a sign that no rule has")]
     BadWord { line: usize },
     /// The words of a line do not form a rule.
-    #[error("a line is no rule")]
     BadLine { line: usize },
     /// A name of no switch, input or measured value of the bay.
-    #[error("a name is unknown")]
     UnknownName { line: usize },
     /// A position, a value or a time that the named object can't have.
-    #[error("a position, a value or a time that what is named can't have")]
     BadValue { line: usize },
     /// More than 1,000 rules, or parentheses nested more than 64 deep.
-    #[error("too many rules, or too many parentheses within each other")]
     TooMany { line: usize },
     /// A text without a rule.
-    #[error("a text without a rule")]
     NoRule,
     /// Out of memory.
-    #[error("out of memory")]
     OutOfMemory,
 }
 
@@ -61,6 +55,25 @@ impl RuleFault {
             | RuleFault::TooMany { line } => line,
             RuleFault::NoRule => 1,
             RuleFault::OutOfMemory => 0,
+        }
+    }
+
+    /// Returns what the fault is, in words.
+    pub fn words(self) -> &'static str
+        ensures { result.now ≡ words_of self }
+    {
+        match self {
+            RuleFault::BadWord { .. } => "a word or a sign that no rule has",
+            RuleFault::BadLine { .. } => "a line is no rule",
+            RuleFault::UnknownName { .. } => "a name is unknown",
+            RuleFault::BadValue { .. } => {
+                "a position, a value or a time that what is named can't have"
+            }
+            RuleFault::TooMany { .. } => {
+                "too many rules, or too many parentheses within each other"
+            }
+            RuleFault::NoRule => "a text without a rule",
+            RuleFault::OutOfMemory => "out of memory",
         }
     }
 }

@@ -161,8 +161,8 @@ fn push_ways(
     }
 }
 
-// Appends the rules of a line. Returns false if one of its names or times can't have what the line
-// says.
+// Appends the rules of a line. Returns false if the name is no switch, if another name has a value
+// that it can't have, or if no timer can have the time.
 fn push_rules_of_line(
     alloc: Global,
     line: usize,
@@ -182,8 +182,8 @@ fn push_rules_of_line(
     }
 }
 
-// Appends the rules of a statement. Returns false if one of its names or times can't have what the
-// statement says.
+// Appends the rules of a statement. Returns false if the name of a rule is no switch, if another
+// name has a value that it can't have, or if no timer can have the time.
 fn push_rules(
     alloc: Global,
     line: usize,

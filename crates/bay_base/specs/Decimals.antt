@@ -9,7 +9,7 @@ abbrev pub digits_in : List ℕ → Option ℕ
 digits_in word =
     if all_ascii_digits word && nat_lt 0 (length word) then Some (digits_value 10 word) else None
 
--- the same, or None if the number is 2 ^ 64 or more
+-- the number below 2 ^ 64 that one or more decimal digits spell, or None
 abbrev pub read_number : List ℕ → Option ℕ
 read_number digits =
     if all_ascii_digits digits && nat_lt 0 (length digits)
@@ -24,9 +24,10 @@ with_digit n b =
     if is_ascii_digit b && nat_lt (n * 10 + (b - 48)) (2 ^ 64) then Some (n * 10 + (b - 48))
     else None
 
--- a number as a signed number of 32 bits, and its negation; None if it is out of range
+-- a number as a signed number of 32 bits; None if it is out of range
 abbrev pub positive_of : ℕ → Option ℤ
 positive_of n = if nat_lt n (2 ^ 31) then Some (pos n) else None
 
+-- the negation of a number as a signed number of 32 bits; None if it is out of range
 abbrev pub negative_of : ℕ → Option ℤ
 negative_of n = if nat_le n (2 ^ 31) then Some (neg_ℤ (pos n)) else None

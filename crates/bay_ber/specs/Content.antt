@@ -69,7 +69,7 @@ is_integer content =
 abbrev pub integer_in : List ℕ → Option ℤ
 integer_in content = if is_integer content then Some (signed_of content) else None
 
--- ---- X.690 8.6: bit strings as they are read, likewise
+-- ---- X.690 8.6: bit strings as they are read; laws prove that this agrees with the relation above
 
 -- whether the last octet may have this number of unused bits
 unfoldable pub are_unused : ℕ → List ℕ → Bool
@@ -84,7 +84,7 @@ bits_in (unused ∷ octets) =
     if are_unused unused octets
     then Some (record { octets = octets; count = 8 * length octets - unused }) else None
 
--- ---- X.690 8.2: booleans as they are read, likewise
+-- ---- X.690 8.2: booleans as they are read; laws prove that this agrees with the relation above
 
 -- the boolean of a content, or None
 abbrev pub truth_in : List ℕ → Option Bool

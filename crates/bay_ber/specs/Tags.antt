@@ -33,13 +33,14 @@ constructed number = record { class = ContextSpecific; constructed = true; numbe
 
 -- ---- X.680 table 1: universal tags
 
--- a sequence
+-- the tag of a sequence
 abbrev pub sequence : Tag
 sequence = record { class = Universal; constructed = true; number = 16 }
 
--- an integer, and a visible string
+-- the tag of an integer
 abbrev pub int_tag : Tag
 int_tag = record { class = Universal; constructed = false; number = 2 }
 
+-- the tag of a visible string
 abbrev pub visible_tag : Tag
 visible_tag = record { class = Universal; constructed = false; number = 26 }

@@ -105,7 +105,7 @@ abbrev pub all_of : {B : Type 0} → (Part → Option B) → List Part → Optio
 all_of f [] = Some []
 all_of f (part ∷ parts) = f part >>= λ x. all_of f parts >>= λ xs. Some (x ∷ xs)
 
--- the same of the values that the octets encode
+-- the results of reading each value that the octets encode, or None if one can't be read
 abbrev pub each_in : {B : Type 0} → (Part → Option B) → List ℕ → Option (List B)
 each_in f octets = values_in octets >>= all_of f
 

@@ -120,7 +120,7 @@ fn length_at(octets: &[u8]) -> Result<(usize, &[u8]), BerFault>
     Ok((number_of(octets) as usize, rest))
 }
 
-// Reads the value that octets begin with: its tag, its length, and as many octets.
+// Reads the value that octets begin with: its tag, its length and its content.
 #[tactic(auto, unfolding(crate::specs::Reading::tlv_at))]
 fn tlv_at(octets: &[u8]) -> Result<Tlv<'_>, BerFault>
     ensures { IsRead reading_of result (spec.tlv_at octets.now) }
@@ -154,7 +154,7 @@ pub fn read_tlv(octets: &[u8]) -> Result<Tlv<'_>, BerFault>
     ensures indefinite { (result ≡ Err BerFault.Indefinite) ↔ IsIndefinite octets.now }
     ensures long_length { (result ≡ Err BerFault.LengthTooLong) ↔ HasLongLength octets.now }
     ensures truncated { (result ≡ Err BerFault.Truncated) ↔ IsTruncated octets.now }
-    // The same result, as a function that reads from the left.
+    // The result as a function that reads from the left.
     ensures exact { IsRead reading_of result (spec.tlv_at octets.now) }
 {
     tlv_at(octets)

@@ -9,11 +9,12 @@ use Rattle.bay_cli.specs.declared.task.Task.TheVariants.{Check, Replay, Serve, C
 use Rattle.bay_cli.specs.declared.parse.Job.{Job}
 use Rattle.bay_cli.specs.Jobs.{JobData}
 
--- a program and a task, with texts as values
+-- the view of a program file
 abbrev pub program_view : ProgramFile (Bor (List ℕ)) → ProgramFile (List ℕ)
 program_view (Logic name) = Logic name.now
 program_view (Image name) = Image name.now
 
+-- the view of a task
 abbrev pub task_view : Task (Bor (List ℕ)) → Task (List ℕ)
 task_view (Check bay program) = Check bay.now (program_view program)
 task_view Replay = Replay
@@ -25,7 +26,7 @@ task_view (Compile bay logic out) = Compile bay.now logic.now out.now
 task_view (Audit bay program rules effort) =
     Audit bay.now (program_view program) rules.now effort
 
--- the same, of a task with its log
+-- the view of a task, with whether the log is written
 abbrev pub invoked_view : Invoked (Bor (List ℕ)) → Invoked (List ℕ)
 invoked_view asked = record { task = task_view asked.task; log = asked.log }
 

@@ -20,7 +20,7 @@ use Rattle.bay_cli.specs.declared.task.Task.TheVariants.{Check, Replay, Serve, C
 abbrev pub text_rule : Text → Rule
 text_rule name = record (new_rule name) { long = Some name; value_names = 1; action = Some Set }
 
--- the same, required
+-- a required `--NAME TEXT`
 abbrev pub needed_rule : Text → Rule
 needed_rule name = record (text_rule name) { required = true }
 
@@ -107,13 +107,15 @@ number_of least greatest text =
     if is_unsigned_in least greatest text then Some (digits_value 10 (without_leading_plus text))
     else None
 
--- the port of clients, the port of the process, and the number of turns, if they were given
+-- the port of clients, if it was given
 abbrev pub port_in : List Row → Option ℕ
 port_in rows = option_and_then (number_of 1 65535) (first_of (codes "port") rows)
 
+-- the port of the process, if it was given
 abbrev pub process_in : List Row → Option ℕ
 process_in rows = option_and_then (number_of 1 65535) (first_of (codes "process") rows)
 
+-- the number of turns, if it was given
 abbrev pub turns_in : List Row → Option ℕ
 turns_in rows = option_and_then (number_of 0 4294967295) (first_of (codes "turns") rows)
 
@@ -227,6 +229,7 @@ abbrev pub named_invocation : Text → List Row → Option (Invoked Text)
 named_invocation name rows =
     option_map (λ task. record { task = task; log = logs rows }) (named_task name rows)
 
+-- the task of the parsed words, and whether the log is written
 abbrev pub entered_task : Option (Text × List Row) → Option (Invoked Text)
 entered_task = option_and_then (λ p. named_invocation p.0 p.1)
 
@@ -266,6 +269,7 @@ pub record JobData : Type 0 where
   pub effort : Option ℕ
   pub log : Bool
 
+-- the verb of a task
 abbrev pub verb_of : Task Text → Verb
 verb_of (Check bay program) = verb.Check
 verb_of Replay = verb.Replay
@@ -301,6 +305,7 @@ with_options rows verb = record {
 abbrev pub named_job : Text → List Row → Option JobData
 named_job name rows = option_map (λ task. with_options rows (verb_of task)) (named_task name rows)
 
+-- the job of the parsed words
 abbrev pub entered_job : Option (Text × List Row) → Option JobData
 entered_job = option_and_then (λ p. named_job p.0 p.1)
 

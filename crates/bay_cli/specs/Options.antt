@@ -15,6 +15,7 @@ rule_with_value (Text name) rule = record rule { value_names = 1; action = Some 
 rule_with_value (Number name least greatest) rule =
     record rule { value_names = 1; parser = Some (vp.Unsigned least greatest); action = Some Set }
 
+-- the rule of `clap` for an option
 abbrev pub rule_in : OptionSpec → Rule
 rule_in choice =
     rule_with_value choice.value
@@ -25,6 +26,7 @@ abbrev pub with_rules : App → List OptionSpec → App
 with_rules app [] = app
 with_rules app (choice ∷ choices) = with_rules (with_rule app (rule_in choice)) choices
 
+-- the command of `clap` for an entry of the table
 abbrev pub app_in : Entry → App
 app_in entry = with_rules (new_app entry.name.now) entry.options.now
 

@@ -40,6 +40,7 @@ abbrev pub name_key : NameSection → List ℕ
 name_key Input = codes "name"
 name_key Meter = codes "id"
 
+-- the keys of a table of the section: its one key, with an identifier of at most 16 characters
 abbrev pub name_keys : NameSection → List Key
 name_keys which = record { name = name_key which; form = identifier 16 } ∷ []
 
@@ -53,6 +54,7 @@ abbrev pub max_names : NameSection → ℕ
 max_names Input = 64
 max_names Meter = 8
 
+-- the section of inputs or of meters
 abbrev pub name_section : NameSection → Section
 name_section which =
     record {
@@ -87,6 +89,7 @@ switches_in file = map switch_in (section_tables file switch_section)
 abbrev pub name_in : NameSection → Members → List ℕ
 name_in which table = text_in table (name_key which)
 
+-- the names of the inputs or of the meters that a file describes, if it is not refused
 abbrev pub names_in : Members → NameSection → List (List ℕ)
 names_in file which = map (name_in which) (section_tables file (name_section which))
 

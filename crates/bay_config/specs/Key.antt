@@ -31,6 +31,7 @@ pub record Key : Type 0 where
 abbrev pub is_among : List (List ℕ) → List ℕ → Bool
 is_among texts s = list_any (λ t. bytes_eq s t) texts
 
+-- whether a text begins with an ASCII letter
 abbrev pub begins_with_letter : List ℕ → Bool
 begins_with_letter [] = false
 begins_with_letter (c ∷ cs) = is_ascii_alphabetic c

@@ -12,7 +12,7 @@
 -- has; a missing list counts as an empty one. `Point`: the five points of a switch, the one point
 -- of an input and the six points of a meter, each with its name, its type, its source and whether a
 -- program may write it. `Remote`: the inputs of the switches' keys. `Laws`: the properties of every
--- bay that is read. `Code` numbers the faults.
+-- bay that is read. `Code` has the numbers and the words of the faults.
 
 -- The definitions of lower crates that public clauses cite.
 pub use Rattle.bay_base.specs.Exact

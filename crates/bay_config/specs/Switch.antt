@@ -19,28 +19,34 @@ controls =
     (codes "status", Status) ∷ (codes "direct", Direct) ∷ (codes "sbo", Sbo)
     ∷ (codes "sbo-enhanced", SboEnhanced) ∷ []
 
--- the kind and the control in a table; `None` if missing or invalid
+-- the kind of a switch in a table; `None` if missing or invalid
 abbrev pub kind_of : Members → Option SwitchKind
 kind_of table =
     option_and_then (value_named kinds) (option_and_then as_str (get_member (codes "kind") table))
 
+-- the kind of control in a table; `None` if missing or invalid
 abbrev pub control_of : Members → Option Control
 control_of table =
     option_and_then (value_named controls)
     (option_and_then as_str (get_member (codes "control") table))
 
+-- the key for the id of a switch
 abbrev pub id_key : Key
 id_key = record { name = codes "id"; form = identifier 16 }
 
+-- the key for the kind of a switch
 abbrev pub kind_key : Key
 kind_key = record { name = codes "kind"; form = word (map (λ e. e.0) kinds) }
 
+-- the key for the kind of control of a switch
 abbrev pub control_key : Key
 control_key = record { name = codes "control"; form = word (map (λ e. e.0) controls) }
 
+-- the key for the time that a selection lasts
 abbrev pub sbo_timeout_key : Key
 sbo_timeout_key = record { name = codes "sbo_timeout_ms"; form = number 1 600000 }
 
+-- the key for the time that a switch may travel
 abbrev pub travel_key : Key
 travel_key = record { name = codes "travel_ms"; form = number 1 600000 }
 
@@ -52,9 +58,11 @@ time_keys (Some Direct) = travel_key ∷ []
 time_keys (Some Sbo) = sbo_timeout_key ∷ travel_key ∷ []
 time_keys (Some SboEnhanced) = sbo_timeout_key ∷ travel_key ∷ []
 
+-- the key for the input of a switch's key
 abbrev pub remote_key : Key
 remote_key = record { name = codes "remote"; form = optional (identifier 16) }
 
+-- the key for whether a switch refuses a synchrocheck
 abbrev pub synchrocheck_key : Key
 synchrocheck_key =
     record { name = codes "synchrocheck"; form = optional (word (codes "refuse" ∷ [])) }

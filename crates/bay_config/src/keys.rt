@@ -68,6 +68,7 @@ fn is_name_character(byte: u8) -> bool
     byte.is_ascii_alphanumeric() || byte == b'_'
 }
 
+// Returns whether each character is a letter, a digit or `_`.
 fn has_name_characters(text: &[u8]) -> bool
     ensures { result ≡ list_all spec.is_name_character text.now }
 {
@@ -83,6 +84,7 @@ fn is_identifier(text: &str, most: usize) -> bool
     begins_with_letter(bytes) && has_name_characters(bytes) && bytes.len() <= most
 }
 
+// Returns whether each character is from space to `~`.
 fn has_printable_characters(text: &[u8]) -> bool
     ensures { result ≡ list_all (is_in_range 32 126) text.now }
 {

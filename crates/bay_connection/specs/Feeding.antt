@@ -16,7 +16,8 @@ pub record CompletesIndication (t : ConnectionState) (piece : List ℕ) (used : 
   pub quiet : indications t (take (used - 1) piece) ≡ []
   pub does : indications t (take used piece) ≡ indication ∷ []
 
--- The same; but for a fault, a prefix of the consumed octets may already have it.
+-- The consumed octets have this one indication, and the octets before the last of them have none;
+-- if the indication is a fault, a prefix of the consumed octets may already have it.
 abbrev pub Completes : ConnectionState → List ℕ → ℕ → Indication → Type 0
 Completes t piece used (answers octets) = CompletesIndication t piece used (answers octets)
 Completes t piece used (tells terms pdu) = CompletesIndication t piece used (tells terms pdu)
@@ -35,7 +36,7 @@ FeedsFrom (Going connection rest) t piece used (Some indication) = Completes t p
 FeedsFrom Over t piece used answer = (used ≡ 0) × (answer ≡ Some ends)
 FeedsFrom Broken t piece used answer = ⊥
 
--- The same, from the state of a connection.
+-- One `feed` of the piece to the connection consumes `used` octets, with this result.
 abbrev pub Feeds : ConnectionState → List ℕ → ℕ → Option Indication → Type 0
 Feeds t piece used answer = FeedsFrom t.stream.left t piece used answer
 

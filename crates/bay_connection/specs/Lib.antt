@@ -9,7 +9,7 @@
 -- list, followed by those of the piece from the state after the list.
 --
 -- `Feeding` relates one `feed` to this: its indication, the number of octets it consumes, and the
--- state after it. `Stack`: what the two layers hold.
+-- state after it. `Stack`: what the two layers hold. `Faults`: the words of a fault, by its number.
 
 -- Definitions of the crates below that public clauses cite.
 pub use Rattle.bay_assoc.specs.Receives
@@ -17,5 +17,6 @@ pub use Rattle.bay_transport.specs.Doings
 pub use Rattle.bay_transport.specs.Feeding as StreamFeeding
 -- The definitions of this crate.
 pub mod ConnectionStates
+pub mod Faults
 pub mod Feeding
 pub mod Stack

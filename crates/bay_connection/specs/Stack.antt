@@ -62,7 +62,8 @@ Indicates old doing heard new =
     after_doings old.stream (doing ∷ []) (size_agreed old.stream) old.phase
     ≡ record { indications = option_to_list heard; left = new }
 
--- The same, if the transport completed something; else there is no indication, and nothing changes.
+-- If the transport completed something, its doing has this indication, and the state after it is
+-- `new`; else there is no indication, and nothing changes.
 abbrev pub IndicatesIfSome : ConnectionState → Option Doing → Option Indication → ConnectionState
     → Type 0
 IndicatesIfSome old None heard new = (heard ≡ None) × (new ≡ old)

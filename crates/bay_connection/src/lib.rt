@@ -3,11 +3,12 @@
 // 8650-1).
 //
 // `connection`: the connection of a client, for its user. `indication`: the result of feeding a
-// piece. `laws`: laws about the definitions that the contracts cite. Within the crate, `stack` has
-// the two layers.
+// piece. `fault`: the words of a fault, by its number. `laws`: laws about the definitions that the
+// contracts cite. Within the crate, `stack` has the two layers.
 #![tactic(auto)]
 
 pub mod connection;
+pub mod fault;
 pub mod indication;
 pub mod laws;
 mod stack;

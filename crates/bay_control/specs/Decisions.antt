@@ -70,6 +70,7 @@ selection_at now controls (Some s) =
 abbrev pub is_over_at : ℕ → List SwitchControl → Execution → Bool
 is_over_at now controls e = nat_le (e.start + (control_of controls e.switch).travel_ms) now
 
+-- the execution at a time: none if it has expired
 abbrev pub execution_at : ℕ → List SwitchControl → Option Execution → Option Execution
 execution_at now controls None = None
 execution_at now controls (Some e) = if is_over_at now controls e then None else Some e
@@ -210,10 +211,12 @@ select_of a k now choice answer s = record {
   };
 }
 
+-- the decision on a select at a time
 abbrev pub select_outcome : ℕ → ℕ → ℕ → State → Outcome
 select_outcome a k now s = let t =
     controls_at now s in select_of a k now None (answer_of (rows_of_select a k t)) t
 
+-- the decision on a select with value at a time
 abbrev pub select_with_outcome : ℕ → ℕ → Ask → ℕ → State → Outcome
 select_with_outcome a k ask now s = let t = controls_at now s in
     select_of a k now (Some (requested_choice ask)) (answer_of (rows_of_select_with a k ask t)) t
@@ -231,6 +234,7 @@ operate_of a k operation now answer s = record {
   };
 }
 
+-- the decision on an operate at a time
 abbrev pub operate_outcome : ℕ → ℕ → Ask → View → ℕ → State → Outcome
 operate_outcome a k ask view now s = let t = controls_at now s in
     operate_of a k ask.operation now (answer_of (rows_of_operate a k ask view t)) t
@@ -243,6 +247,7 @@ cancel_of answer s =
       after = record s { selection = if is_ok answer then None else s.selection };
     }
 
+-- the decision on a cancel at a time
 abbrev pub cancel_outcome : ℕ → ℕ → ℕ → State → Outcome
 cancel_outcome a k now s = let t =
     controls_at now s in cancel_of (answer_of (rows_of_cancel a k t)) t

@@ -96,6 +96,7 @@ is_open_after is_open (Cancel a k) b = is_open b
 is_open_after is_open (Contact k position) b = is_open b
 is_open_after is_open Advance b = is_open b
 
+-- Each call of the list is orderly, given the associations that are open before it.
 abbrev pub AreOrderly : (ℕ → Bool) → List Happening → Type 0
 AreOrderly is_open [] = Unit {0}
 AreOrderly is_open (h ∷ hs) =

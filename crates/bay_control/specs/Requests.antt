@@ -80,11 +80,13 @@ is_local (Some input) inputs = not (unwrap_or (slice_get inputs input) false)
 abbrev pub requested_choice : Ask → Choice
 requested_choice ask = record { operation = ask.operation; origin = ask.origin }
 
+-- the operations are equal
 abbrev pub same_operation : Operation → Operation → Bool
 same_operation Open Open = true
 same_operation Close Close = true
 same_operation c d = false
 
+-- the originators have the same category and the same identity
 abbrev pub same_origin : Originator → Originator → Bool
 same_origin c d = int_eq c.cat d.cat && pointwise nat_eq c.ident d.ident
 
@@ -92,7 +94,7 @@ same_origin c d = int_eq c.cat d.cat && pointwise nat_eq c.ident d.ident
 abbrev pub closes_checked : Ask → Bool
 closes_checked ask = ask.synchrocheck && same_operation ask.operation Close
 
--- the operation and the originator are the same
+-- whether the operations are equal and the originators too
 abbrev pub same_choice : Choice → Choice → Bool
 same_choice c d = same_operation c.operation d.operation && same_origin c.origin d.origin
 

@@ -112,10 +112,12 @@ missed_report (Some due) = sent_to due.association due.negative
 abbrev pub over_at : ℕ → State → Option ℕ
 over_at now s = run_out now s.controls.controls s.controls.execution
 
+-- the pending reports, unless an execution has expired
 abbrev pub due_unless : Option ℕ → Option PendingTermination → Option PendingTermination
 due_unless None due = due
 due_unless (Some switch) due = None
 
+-- the report that a switch did not reach the position in time, if its execution has expired
 abbrev pub missed_if : Option ℕ → Option PendingTermination → Option Sent
 missed_if None due = None
 missed_if (Some switch) due = missed_report due
@@ -129,7 +131,7 @@ device_at now s =
       due = due_unless (over_at now s) s.due;
     }
 
--- the report that this sends
+-- the report that the end of an expired execution sends
 abbrev pub ended_at : ℕ → State → Option Sent
 ended_at now s = missed_if (over_at now s) s.due
 

@@ -55,6 +55,7 @@ abbrev pub entries_closed : ℕ → ℕ → Option Why → List Entry
 entries_closed now a None = []
 entries_closed now a (Some why) = entries_of_act now (Closed a)
 
+-- the entries of octets of an open association; without octets there is none
 abbrev pub entries_octets : Option ℕ → ℕ → ℕ → State → ConnectionState → List ℕ → List Entry
 entries_octets choice now a s talk [] = []
 entries_octets choice now a s talk (octet ∷ octets) =
@@ -62,6 +63,7 @@ entries_octets choice now a s talk (octet ∷ octets) =
     ++ entries_closed now a (after_indications choice now a (indications talk (octet ∷ octets))
     (nothing_done (device_at now s))).why
 
+-- the entries of octets; none if the association is not open
 abbrev pub entries_recv : Option ℕ → ℕ → ℕ → List ℕ → State → Option ConnectionState → List Entry
 entries_recv choice now a octets s None = []
 entries_recv choice now a octets s (Some talk) = entries_octets choice now a s talk octets

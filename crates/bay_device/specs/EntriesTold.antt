@@ -129,6 +129,7 @@ abbrev pub state_after_octets : List ℕ → Option ConnectionState → Option C
 state_after_octets octets None = None
 state_after_octets octets (Some talk) = Some (connection_after talk octets)
 
+-- the states of all connections after octets on an association
 abbrev pub states_after_octets : ℕ → List ℕ → List (Option ConnectionState)
     → List (Option ConnectionState)
 states_after_octets a [] talks = talks
@@ -136,6 +137,7 @@ states_after_octets a (octet ∷ octets) talks =
     with_connection_state (slot_of a)
     (state_after_octets (octet ∷ octets) (connection_state_at (slot_of a) talks)) talks
 
+-- the states of all connections after octets on an association, which the device may have closed
 abbrev pub states_after_recv : ℕ → List ℕ → List (Option ConnectionState) → Option (ℕ × Why)
     → List (Option ConnectionState)
 states_after_recv a octets talks (Some closed) = with_connection_state (slot_of a) None talks

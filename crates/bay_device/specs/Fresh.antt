@@ -93,7 +93,8 @@ pub record HasScan (now age : ℕ) (past : List Past) : Type 0 where
 abbrev pub IsFresh : ℕ → ℕ → List Past → Result Step StepFault → Type 0
 IsFresh now age past answer = IfOk answer (λ step. step.commands ≢ [] → HasScan now age past)
 
--- The same of an event's answer, for any events since load that led to the device.
+-- The answer of an event has a command only after such a scan, whatever events since load led to
+-- the device before it.
 abbrev pub FreshAt : ℕ → Event → State → Result Step StepFault → State → Type 0
 FreshAt now event old answer new =
     (past : List Past) → Came past old → IsFresh now old.scan_max_age_ms past answer

@@ -21,12 +21,12 @@
 -- switch operates. `Operates`: each is an operate that a PDU requested and a response accepted;
 -- responses belong to PDUs by their order. `Fresh`: a scan precedes it that is not too old and
 -- since which no value of the process has changed, and the process is not lost. `Remote`: if the
--- switch has a key, the process has reported that it is at remote. `Entries`: the
--- requests on controls and which of them were accepted, with the state of the device;
--- `EntriesTold`: the same by events and answers alone, through the layers of transport, session and
--- presentation. These are the entries that `Backing` of bay_control is about. `LookUps`,
--- `Table`: the indices of names. `Code` numbers the faults. `StateView`, `Connections` and
--- `ReceivingViews` map the code's fields to the definitions.
+-- switch has a key, the process has reported that it is at remote, and since then not that it is at
+-- local, nor was the process lost since. `Entries`: the requests on controls and which of them were
+-- accepted, with the state of the device; `EntriesTold`: the same by events and answers alone,
+-- through the layers of transport, session and presentation. These are the entries that `Backing`
+-- of bay_control is about. `LookUps`, `Table`: the indices of names. `Code` numbers the faults.
+-- `StateView`, `Connections` and `ReceivingViews` map the code's fields to the definitions.
 
 -- The definitions of lower crates that public clauses cite.
 pub use Rattle.bay_base.specs.Exact

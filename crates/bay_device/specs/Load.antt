@@ -60,7 +60,7 @@ abbrev pub device_from : Result LoadData LoadError → Result State LoadFault
 device_from (Ok loaded) = Ok (device_of loaded)
 device_from (Err error) = Err (refusal_of error)
 
--- the same for what may be loaded
+-- The device is that of a possible result of the load, or the fault is the refusal of one.
 abbrev pub LoadsAs : (Result LoadData LoadError → Type 0) → Result State LoadFault → Type 0
 LoadsAs IsResult (Ok s) = (loaded : LoadData) × IsResult (Ok loaded) × (s ≡ device_of loaded)
 LoadsAs IsResult (Err fault) =

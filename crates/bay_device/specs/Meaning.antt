@@ -65,7 +65,7 @@ pub record Means (c : Checked) (now : ℕ) (old new : State) : Type 0 where
       ≡ with_outputs old.switches old.writes
       (outputs_of (map point_of c.externals) after.externals) now 0 old.switches old.rows
 
--- The same of the device after an accepted scan.
+-- After an accepted scan the device has the values that the text means.
 abbrev pub MeansAt : Checked → ℕ → Event → State → Result Step StepFault → State → Type 0
 MeansAt c now event old answer new = event ≡ Scan → IfOk answer (λ step. Means c now old new)
 

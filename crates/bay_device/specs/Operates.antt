@@ -54,8 +54,8 @@ pub record AreOperates (now : ℕ) (event : Event) (names : Bay)
   pub operated : step.commands ≡ operates_in (entries_of_step now event names talks step)
   pub replied : AreRepliedForEvent now event names talks step
 
--- The same of each step of a list of events, for a bay whose variables have these names, and with
--- these states of the connections before the events.
+-- The commands of each step of a list of events are its accepted operates, for a bay whose
+-- variables have these names, and with these states of the connections before the events.
 abbrev pub AllOperate : Bay → List (Option ConnectionState) → List (ℕ × Event)
     → List (Result Step StepFault) → Type 0
 AllOperate names talks [] replies = Unit {0}

@@ -39,7 +39,7 @@ quiet_step ended = record {
   scan = None;
 }
 
--- the outcome of such an event
+-- the outcome of an event that sends nothing but the report that an operate ended
 abbrev pub quiet : Option Sent → State → Outcome
 quiet ended s = record { answer = Ok (quiet_step ended); after = s }
 
@@ -50,22 +50,26 @@ abbrev pub or_else : Option Sent → Option Sent → Option Sent
 or_else (Some sent) later = Some sent
 or_else None later = later
 
+-- the outcome of a reported position; it is refused if there is no such switch
 abbrev pub contact_outcome : ℕ → ℕ → Dbpos → State → Option Switch → Outcome
 contact_outcome now k position s None = refusal_of NoSuchPoint s
 contact_outcome now k position s (Some switch) =
     quiet (or_else (ended_at now s) (reached_at k position (device_at now s)))
     (device_after_contact now k switch position (device_at now s))
 
+-- the outcome of a reported value of an input; it is refused if there is no such input
 abbrev pub input_outcome : ℕ → ℕ → Bool → State → Option Bool → Outcome
 input_outcome now k value s None = refusal_of NoSuchPoint s
 input_outcome now k value s (Some before) =
     quiet (ended_at now s) (device_after_input k value before (device_at now s))
 
+-- the outcome of a measured value; it is refused if there is no such meter
 abbrev pub measure_outcome : ℕ → ℕ → MeterField → ℤ → State → Option (List ℕ) → Outcome
 measure_outcome now k field value s None = refusal_of NoSuchPoint s
 measure_outcome now k field value s (Some id) =
     quiet (ended_at now s) (device_after_measure now k field value (device_at now s))
 
+-- the outcome of a report that a measured value is invalid; it is refused if there is no such meter
 abbrev pub doubt_outcome : ℕ → ℕ → MeterField → State → Option (List ℕ) → Outcome
 doubt_outcome now k field s None = refusal_of NoSuchPoint s
 doubt_outcome now k field s (Some id) =
@@ -79,6 +83,7 @@ lost_outcome now s = quiet (ended_at now s) (device_after_loss now (device_at no
 abbrev pub scan_step : Scanned → Step
 scan_step scanned = record (quiet_step scanned.ended) { scan = Some scanned.steps }
 
+-- the outcome of a scan
 abbrev pub scan_outcome : ℕ → State → Outcome
 scan_outcome now s = record {
   answer =
@@ -121,7 +126,8 @@ abbrev pub without_owner : ℕ → State → State
 without_owner a s =
     record s { controls = without_association a s.controls; due = due_without a s.due }
 
--- the same, and the association is no longer open
+-- the device after an association is closed: the association is no longer open, and its selection
+-- ends
 abbrev pub without_connection : ℕ → State → State
 without_connection a s = with_connection (slot_of a) None (without_owner a s)
 
@@ -220,6 +226,7 @@ pub record Outcomes : Type 0 where
   pub answers : List (Result Step StepFault)
   pub after : State
 
+-- the results with one more answer before them
 abbrev pub with_first : Result Step StepFault → Outcomes → Outcomes
 with_first answer rest = record { answers = answer ∷ rest.answers; after = rest.after }
 

@@ -26,6 +26,7 @@ pub record Done : Type 0 where
 abbrev pub sent_on : ℕ → List ℕ → Sent
 sent_on a octets = record { association = a; octets = octets }
 
+-- the result so far, with octets to send on an association added
 abbrev pub with_sent : ℕ → List ℕ → Done → Done
 with_sent a octets d = record d { sent = d.sent ++ sent_on a octets ∷ [] }
 
@@ -59,6 +60,7 @@ due_of a terms e =
       negative = sending_if terms e.negative;
     }
 
+-- the pending reports for the end of an operate, if there are reports
 abbrev pub due_if : ℕ → Terms → Option TerminationReports → Option PendingTermination
 due_if a terms None = None
 due_if a terms (Some e) = Some (due_of a terms e)

@@ -10,6 +10,7 @@ use Rattle.bay_device.specs.declared.termination.PendingTermination.{PendingTerm
 use Rattle.bay_device.specs.declared.event.Why.{Why}
 use Rattle.bay_device.specs.declared.message.EventEffects.{EventEffects}
 
+-- the result so far, from a device and the effects in the code
 abbrev pub done_of : State → EventEffects → Done
 done_of s made = record {
   state = s;
@@ -28,6 +29,7 @@ abbrev pub on_heard_if : ℕ → ℕ → Option Indication → Done → (Done �
 on_heard_if now a None d later = later d
 on_heard_if now a (Some i) d later = on_indication now a i d later
 
+-- The indication, if there is one, does not end the association.
 abbrev pub IsContinuedIf : Option Indication → Type 0
 IsContinuedIf None = Unit {0}
 IsContinuedIf (Some i) = IsContinued i

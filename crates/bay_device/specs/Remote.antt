@@ -40,11 +40,13 @@ abbrev pub IsAtRemote : State → List Past → Command → Type 0
 IsAtRemote s past command =
     (input : ℕ) → key_of s command.switch ≡ Some input → is_on input past ≡ true
 
--- Each command of a step is so.
+-- For each command of a step whose switch has a key, the process has reported that the key is at
+-- remote.
 abbrev pub AreAtRemote : State → List Past → Result Step StepFault → Type 0
 AreAtRemote s past answer = IfOk answer (λ step. All (IsAtRemote s past) step.commands)
 
--- The same of an event's answer, for any events since load that led to the device.
+-- The key is at remote so for each command of an event's answer, whatever events since load led to
+-- the device before it.
 abbrev pub RemoteAt : ℕ → Event → State → Result Step StepFault → State → Type 0
 RemoteAt now event old answer new =
     (past : List Past) → Came past old → AreAtRemote old past answer

@@ -40,7 +40,8 @@ pub record Steps (now : ℕ) (event : Event) (old : State) (answer : Result Step
   pub answered : answer ≡ (outcome choice now event old).answer
   pub left : new ≡ (outcome choice now event old).after
 
--- the same of octets of an association, at a time that is not refused
+-- Octets of an association, at a time that is not refused, have this answer and lead to this
+-- device, for some choice.
 pub record Receives (now a : ℕ) (octets : List ℕ) (old : State) (answer : Result Step StepFault)
     (new : State) : Type 0 where
   pub choice : Option ℕ
@@ -48,8 +49,8 @@ pub record Receives (now a : ℕ) (octets : List ℕ) (old : State) (answer : Re
       (connection_at (slot_of a) old)).answer
   pub left : new ≡ (recv_outcome choice now a octets old (connection_at (slot_of a) old)).after
 
--- The same of octets of an open association, after the end of what has expired; `ended` is the
--- report of that.
+-- Octets of an open association have this answer and lead to this device, for some choice, after
+-- the end of what has expired, of which `ended` is the report.
 pub record HandlesOctetsFrom (now a : ℕ) (octets : List ℕ) (ended : Option Sent) (s : State)
     (talk : ConnectionState)
     (step : Step) (new : State) : Type 0 where
@@ -60,6 +61,7 @@ pub record HandlesOctetsFrom (now a : ℕ) (octets : List ℕ) (ended : Option S
   pub left : new ≡ (recv_done a (connection_after talk octets) ended
       (after_indications choice now a (indications talk octets) (nothing_done s))).after
 
+-- Octets of an open association have this answer, from the state of its connection.
 abbrev pub HandlesOctets : ℕ → ℕ → List ℕ → Option Sent → State → Step → State → Type 0
 HandlesOctets now a octets ended s step new =
     (talk : ConnectionState) → connection_at (slot_of a) s ≡ Some talk

@@ -9,6 +9,7 @@ use Rattle.bay_device.specs.declared.table.NameTables.{NameTables}
 abbrev pub key_after : ℕ → ℕ → ℕ
 key_after key octet = (key * 31 + octet % 32) % 64
 
+-- the key of a name
 abbrev pub key_of : List ℕ → ℕ
 key_of name = fold key_after 0 name
 

@@ -385,7 +385,7 @@ impl Device {
         // If there is a command, the events since load include a scan that is not too old, since
         // which the process has not changed, and after all of them the process is not lost.
         ensures fresh { FreshAt now event.entry self.old result self.new }
-        // The key of its switch, if any, was reported at remote since the process was last lost.
+        // If its switch has a key, the last report of it since the process was last lost is remote.
         ensures remote { RemoteAt now event.entry self.old result self.new }
         // There is at most one command.
         ensures single { IsSingle result }
@@ -449,7 +449,7 @@ impl Device {
         // process has not changed, and after all of them the process is not lost;
         ensures fresh { IfOk result
             (λ answers. EachStep FreshAt events.now self.old answers.items self.new) }
-        // the key of its switch, if any, was reported at remote since the process was last lost;
+        // if its switch has a key, the last report of it since the process was last lost is remote;
         ensures remote { IfOk result
             (λ answers. EachStep RemoteAt events.now self.old answers.items self.new) }
         // there is at most one command for each event;

@@ -33,7 +33,7 @@ released_state s = record s {
   controls = record { controls = []; selection = None; execution = None };
 }
 
--- the same, but switch 0 has a key, whose input has this value
+-- the device of `released_state`, but switch 0 has a key, whose input has this value
 abbrev pub keyed_state : Bool → State → State
 keyed_state value s = record (released_state s) {
   input_values = value ∷ [];
@@ -51,7 +51,7 @@ keyed_state value s = record (released_state s) {
   };
 }
 
--- as `released_state`, but switch 0 began at time 5 to open, which takes half a second
+-- the device of `released_state`, but switch 0 began at time 5 to open, which takes half a second
 abbrev pub operating_state : State → State
 operating_state s = record (released_state s) {
   controls = record {
@@ -68,8 +68,8 @@ operating_state s = record (released_state s) {
   };
 }
 
--- as `released_state`, but with these two values below this node CILO, by the names that PROTOCOL
--- gives
+-- the device of `released_state`, but with these two values below this node CILO, by the names that
+-- PROTOCOL gives
 abbrev pub interlocked_state : List ℕ → Bool → Bool → State → State
 interlocked_state node opn cls s = record (released_state s) {
   rows = record { name = node ++ codes "$ST$EnaOpn$stVal"; leaf = Some (leaf.Truth opn) }

@@ -40,10 +40,11 @@ two_switches s = record s {
 abbrev pub open_switch : ℕ → Command
 open_switch k = record { switch = k; operation = Open }
 
--- a report of the value of an input that was accepted, and one that was refused
+-- a report of the value of an input that was accepted
 abbrev pub input_past : ℕ → Bool → State → Step → Past
 input_past k value s step = record { now = 0; event = Input k value; answer = Ok step; after = s }
 
+-- a report of the value of an input that was refused
 abbrev pub refused_input : ℕ → Bool → State → StepFault → Past
 refused_input k value s fault =
     record { now = 0; event = Input k value; answer = Err fault; after = s }

@@ -38,10 +38,11 @@ selected_by a = accepted_entry (Select a 0)
 abbrev pub refused_select : Entry
 refused_select = record (selected_by 1) { is_accepted = false }
 
--- a cancel, and an operate, of the switch by association 1
+-- an accepted cancel of the switch by association 1
 abbrev pub cancel_entry : Entry
 cancel_entry = accepted_entry (Cancel 1 0)
 
+-- an accepted operate of the switch by association 1
 abbrev pub operate_entry : Choice → Entry
 operate_entry choice = accepted_entry (Operate 1 0 choice)
 
@@ -56,10 +57,11 @@ unrelated_entries choice =
     ∷ record (selected_by 2) { is_accepted = false }
     ∷ []
 
--- one switch with enhanced security, and a select with value of it by association 1
+-- one switch with enhanced security
 abbrev pub enhanced_switch : List SwitchControl
 enhanced_switch = sbo_control SboEnhanced ∷ []
 
+-- an accepted select with value of that switch by association 1
 abbrev pub selected_with : Choice → Entry
 selected_with choice = accepted_entry (SelectWith 1 0 choice)
 

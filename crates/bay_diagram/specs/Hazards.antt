@@ -23,11 +23,12 @@ use Rattle.bay_diagram.specs.Walks.{leads}
 
 -- ---- where walks lead
 
--- a route without a branch, and one without two
+-- a route without a branch
 abbrev pub without : Over → Branch → Avoid → Route
 without over s nodes =
     record { over = over; without = s.number; also_without = s.number; avoid = nodes }
 
+-- a route without two branches
 abbrev pub without_both : Over → Branch → Branch → Avoid → Route
 without_both over s d nodes =
     record { over = over; without = s.number; also_without = d.number; avoid = nodes }
@@ -50,12 +51,12 @@ is_target net r s Live x = is_live net r s x
 is_target net r s Terminal x = is_terminal_kind x.kind
 is_target net r s Load x = is_terminal_kind x.kind && not x.is_source
 
--- such a node is joined to the node a
+-- a node that a walk looks for is joined to the node a
 abbrev pub reaches_by : Network → Reading → Branch → (ℕ → ℕ → Bool) → ℕ → Target → Bool
 reaches_by net r s joins a target =
     list_any (λ x. is_target net r s target x && joins a x.number) net.nodes
 
--- a walk leads from the node a to such a node
+-- a walk of the route leads from the node a to a node that it looks for
 abbrev pub reaches : Network → Reading → Branch → Route → ℕ → Target → Bool
 reaches net r s route a target = reaches_by net r s (leads net r route) a target
 
@@ -65,7 +66,8 @@ reaches_earth_by net r s joins a =
     list_any (λ c. is_earthing c.kind
     && (not (c.number == s.number) && (r.may c.device && joins a c.one))) net.branches
 
--- a walk leads from the node a to such a node
+-- a walk of the route leads from the node a to a node that an earthing switch other than s may
+-- earth
 abbrev pub reaches_earth : Network → Reading → Branch → Route → ℕ → Bool
 reaches_earth net r s route a = reaches_earth_by net r s (leads net r route) a
 
@@ -85,6 +87,7 @@ abbrev pub earths_by : Network → Reading → Branch → (ℕ → ℕ → Bool)
 earths_by net r s gapless inseparable = list_any (λ x. x.is_source
     && (gapless s.one x.number && (r.alive x.dead || not (inseparable s.one x.number)))) net.nodes
 
+-- the earthing switch would close onto a node that is not isolated
 abbrev pub earths : Network → Reading → Branch → Bool
 earths net r s =
     earths_by net r s (leads net r (without Gapless s avoid.Nothing))
@@ -98,6 +101,7 @@ bridges_from net r s a b =
     reaches net r s (without Gapless s (avoid.Node b)) a Live
     && reaches_earth net r s (without Gapless s (avoid.Node a)) b
 
+-- the switch would join a live source and an earth, which nothing but open breakers parts
 abbrev pub bridges : Network → Reading → Branch → Bool
 bridges net r s = bridges_from net r s s.one s.other || bridges_from net r s s.other s.one
 
@@ -111,6 +115,7 @@ breaks_from net r s a b =
     && (reaches net r s (without Possible s (avoid.Node a)) b Terminal
     || reaches_earth net r s (without Possible s (avoid.Node a)) b)
 
+-- the disconnector would make or break a current
 abbrev pub breaks : Network → Reading → Branch → Bool
 breaks net r s =
     (breaks_from net r s s.one s.other || breaks_from net r s s.other s.one)
@@ -126,23 +131,28 @@ comes_to net r s d a b x y p q =
     reaches net r s (without_both Possible s d (avoid.NodesAndEnd a x y)) b p
     && reaches net r s (without_both Possible s d (avoid.NodesAndEnd a x b)) y q
 
+-- s would close a path of a current through d, which passes no terminal between a and x
 abbrev pub makes_near : Network → Reading → Branch → Branch → ℕ → ℕ → ℕ → ℕ → Bool
 makes_near net r s d a b x y =
     not (is_terminal net a || is_terminal net x)
     && (leads net r (without_both Possible s d (avoid.TerminalsAndNodes b y)) a x
     && (comes_to net r s d a b x y Live Terminal || comes_to net r s d a b x y Terminal Live))
 
+-- s would energise a terminal that is no source by a path through d, which passes no source between
+-- a and x
 abbrev pub energises : Network → Reading → Branch → Branch → ℕ → ℕ → ℕ → ℕ → Bool
 energises net r s d a b x y =
     not (is_source net a || is_source net x)
     && (leads net r (without_both Possible s d (avoid.SourcesAndNodes b y)) a x
     && comes_to net r s d a b x y Live Load)
 
+-- s would close a path of a current through d, with the sides a and x facing each other
 abbrev pub makes_from : Network → Reading → Branch → Branch → ℕ → ℕ → ℕ → ℕ → Bool
 makes_from net r s d a b x y =
     not (a == y || (b == x || b == y))
     && (makes_near net r s d a b x y || energises net r s d a b x y)
 
+-- s would close a path of a current through d, whichever sides of the two face each other
 abbrev pub makes : Network → Reading → Branch → Branch → Bool
 makes net r s d =
     makes_from net r s d s.one s.other d.one d.other
@@ -160,11 +170,13 @@ lies_beside net r s d a b =
     && leads net r (without_both Possible s d (avoid.TransformersAndNodes b d.other a d.one))
     b d.other)))
 
+-- a current can flow through d from its side x, without s
 abbrev pub feeds_from : Network → Reading → Branch → Branch → ℕ → ℕ → Bool
 feeds_from net r s d x y =
     reaches net r s (without_both Possible s d (avoid.Node y)) x Live
     && reaches net r s (without_both Possible s d (avoid.Node x)) y Terminal
 
+-- s lies on a path beside d, and without s a current can flow through d
 abbrev pub leaves : Network → Reading → Branch → Branch → Bool
 leaves net r s d =
     (lies_beside net r s d s.one s.other || lies_beside net r s d s.other s.one)
@@ -177,14 +189,17 @@ is_exposed net r s d =
     is_disconnector d.kind && (not (d.number == s.number) && (r.moves d.device
     && (not (has_beside net r s d) && not (has_beside net r d s))))
 
+-- s would make a current through a disconnector that may be on its way
 abbrev pub makes_any : Network → Reading → Branch → Bool
 makes_any net r s = list_any (λ d. is_exposed net r s d && makes net r s d) net.branches
 
+-- s would take away a path beside a disconnector that may be on its way
 abbrev pub leaves_any : Network → Reading → Branch → Bool
 leaves_any net r s = list_any (λ d. is_exposed net r s d && leaves net r s d) net.branches
 
 -- ---- an operation
 
+-- an operation of a branch is a hazard, by the kind of the branch
 abbrev pub endangers_by : Network → Reading → Branch → SwitchKind → Operation → Bool
 endangers_by net r s Earthing Close = earths net r s
 endangers_by net r s Earthing Open = false

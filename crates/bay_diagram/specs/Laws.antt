@@ -21,6 +21,7 @@ pub record IsBounded (net : Network) (a : Allowed) (p : Process) (k : ℕ) (oper
   pub worst : is_hazard net (reading_of p) k operation ≡ true
       → is_hazard net (worst_of a) k operation ≡ true
 
+-- The hazards of each process of a case are bounded by the best and the worst of the case.
 abbrev pub HazardsAreBounded : Type 0
 HazardsAreBounded = (net : Network) (a : Allowed) (p : Process) → IsAllowed a p
     → (k : ℕ) (operation : Operation) → IsBounded net a p k operation
@@ -31,6 +32,8 @@ pub record IsExact (net : Network) (a : Allowed) (p : Process) (k : ℕ) (operat
   pub worst : is_hazard net (worst_of a) k operation ≡ is_hazard net (reading_of p) k operation
   pub best : is_hazard net (best_of a) k operation ≡ is_hazard net (reading_of p) k operation
 
+-- In a case that allows one process alone, the hazards of the best and the worst are those of the
+-- process.
 abbrev pub HazardsAreExact : Type 0
 HazardsAreExact = (net : Network) (a : Allowed) (p : Process) → IsAllowed a p → IsOnly a p
     → (k : ℕ) (operation : Operation) → IsExact net a p k operation

@@ -19,6 +19,7 @@ is_terminal_kind Cable = true
 is_terminal_kind Transformer = true
 is_terminal_kind Junction = false
 
+-- nodes of the kind are transformers
 abbrev pub is_transformer_kind : NodeKind → Bool
 is_transformer_kind Busbar = false
 is_transformer_kind Line = false
@@ -26,11 +27,13 @@ is_transformer_kind Cable = false
 is_transformer_kind Transformer = true
 is_transformer_kind Junction = false
 
+-- a switch of the kind is an earthing switch
 abbrev pub is_earthing : SwitchKind → Bool
 is_earthing Breaker = false
 is_earthing Disconnector = false
 is_earthing Earthing = true
 
+-- a switch of the kind is a disconnector
 abbrev pub is_disconnector : SwitchKind → Bool
 is_disconnector Breaker = false
 is_disconnector Disconnector = true
@@ -43,11 +46,14 @@ is_own k (Other closed opened) = false
 
 -- ---- the node with a number
 
+-- the node with this number is a terminal
 abbrev pub is_terminal : Network → ℕ → Bool
 is_terminal net n = list_any (λ x. x.number == n && is_terminal_kind x.kind) net.nodes
 
+-- the node with this number is a transformer
 abbrev pub is_transformer : Network → ℕ → Bool
 is_transformer net n = list_any (λ x. x.number == n && is_transformer_kind x.kind) net.nodes
 
+-- the node with this number is a source
 abbrev pub is_source : Network → ℕ → Bool
 is_source net n = list_any (λ x. x.number == n && x.is_source) net.nodes

@@ -43,6 +43,7 @@ abbrev pub is_open : Process → Device → Bool
 is_open p (Own k) = same_position (p.position k) Off
 is_open p (Other closed opened) = is_true_input p opened && not (is_true_input p closed)
 
+-- the switch is known to be closed
 abbrev pub is_closed : Process → Device → Bool
 is_closed p (Own k) = same_position (p.position k) On
 is_closed p (Other closed opened) = is_true_input p closed && not (is_true_input p opened)
@@ -79,22 +80,24 @@ abbrev pub may_say : Allowed → Option ℕ → Bool → Bool
 may_say a None value = not value
 may_say a (Some k) value = a.input k value
 
--- the switch may be known to be open, to be closed, and to be neither
+-- the switch may be known to be open
 abbrev pub may_be_open : Allowed → Device → Bool
 may_be_open a (Own k) = a.position k Off
 may_be_open a (Other closed opened) = may_say a opened true && may_say a closed false
 
+-- the switch may be known to be closed
 abbrev pub may_be_closed : Allowed → Device → Bool
 may_be_closed a (Own k) = a.position k On
 may_be_closed a (Other closed opened) = may_say a closed true && may_say a opened false
 
+-- the switch may be known neither to be open nor to be closed
 abbrev pub may_be_neither : Allowed → Device → Bool
 may_be_neither a (Own k) = a.position k Intermediate || a.position k Bad
 may_be_neither a (Other closed opened) =
     may_say a closed true && may_say a opened true
     || may_say a closed false && may_say a opened false
 
--- the worst of what can be known in a case, and the best
+-- the worst of what can be known in a case
 abbrev pub worst_of : Allowed → Reading
 worst_of a = record {
   may = λ d. may_be_closed a d || may_be_neither a d;
@@ -103,6 +106,7 @@ worst_of a = record {
   alive = λ i. may_say a i false;
 }
 
+-- the best of what can be known in a case
 abbrev pub best_of : Allowed → Reading
 best_of a = record {
   may = λ d. not (may_be_open a d);
@@ -127,16 +131,19 @@ has_value None value = true
 has_value (Some s) true = s.yes
 has_value (Some s) false = s.no
 
+-- the positions and values that a case of the code allows
 abbrev pub allowed_by : Known → Allowed
 allowed_by known = record {
   position = λ k. has_position (slice_get known.positions k);
   input = λ k. has_value (slice_get known.inputs k);
 }
 
+-- the worst or the best of what can be known in a case
 abbrev pub reading_at : Bound → Allowed → Reading
 reading_at Worst a = worst_of a
 reading_at Best a = best_of a
 
+-- what is known in a case of the code
 abbrev pub reading_in : Known → Reading
 reading_in known = reading_at known.bound (allowed_by known)
 

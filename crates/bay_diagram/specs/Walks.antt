@@ -38,6 +38,7 @@ is_free net route b =
     && (not (b.number == route.without || b.number == route.also_without)
     && not (avoids net route.avoid b.one || avoids net route.avoid b.other))
 
+-- a walk of the route may lead over the branch
 abbrev pub may_lead_over : Network → Reading → Route → Branch → Bool
 may_lead_over net r route b = is_over r route.over b && is_free net route b
 

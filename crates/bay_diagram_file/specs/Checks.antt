@@ -24,13 +24,15 @@ use Rattle.bay_diagram_file.specs.declared.row.SwitchRow.{SwitchRow}
 
 -- ---- names
 
--- the index of the node, the switch of the bay, or the input with a name
+-- the index of the node with a name
 abbrev pub node_named : List NodeRow → List ℕ → Option ℕ
 node_named nodes name = position (λ n. same_name name n.name) nodes
 
+-- the index of the switch of the bay with an id
 abbrev pub switch_named : List Switch → List ℕ → Option ℕ
 switch_named switches name = position (λ s. same_name name s.id) switches
 
+-- the index of the input with a name
 abbrev pub input_named : List (List ℕ) → List ℕ → Option ℕ
 input_named inputs name = position (λ i. same_name name i) inputs
 
@@ -39,11 +41,12 @@ abbrev pub is_no_input : List (List ℕ) → Option (List ℕ) → Bool
 is_no_input inputs None = false
 is_no_input inputs (Some name) = is_none (input_named inputs name)
 
--- an id is given, and is of none, or of one, of the switches
+-- an id is given, and is of none of the switches
 abbrev pub is_no_switch : List Switch → Option (List ℕ) → Bool
 is_no_switch switches None = false
 is_no_switch switches (Some id) = is_none (switch_named switches id)
 
+-- an id is given, and is of one of the switches
 abbrev pub is_switch : List Switch → Option (List ℕ) → Bool
 is_switch switches None = false
 is_switch switches (Some id) = is_some (switch_named switches id)
@@ -54,6 +57,7 @@ name_of s = unwrap_or s.switch (unwrap_or s.name [])
 
 -- ---- a node
 
+-- whether a node is an earth or a junction
 abbrev pub is_bare : NodeWord → Bool
 is_bare Earth = true
 is_bare (Kind Busbar) = false
@@ -62,17 +66,20 @@ is_bare (Kind Cable) = false
 is_bare (Kind Transformer) = false
 is_bare (Kind Junction) = true
 
+-- whether a node is an earth
 abbrev pub is_earth : NodeWord → Bool
 is_earth Earth = true
 is_earth (Kind k) = false
 
+-- whether a node is a junction
 abbrev pub is_junction : NodeWord → Bool
 is_junction word = is_bare word && not (is_earth word)
 
--- another node has the name, too
+-- the number of nodes with a name
 abbrev pub nodes_named : List NodeRow → List ℕ → ℕ
 nodes_named nodes name = length (filter (λ m. same_name name m.name) nodes)
 
+-- another node has the name of this one, too
 abbrev pub is_node_twice : List NodeRow → NodeRow → Bool
 is_node_twice nodes n = nat_lt 1 (nodes_named nodes n.name)
 
@@ -98,10 +105,11 @@ is_loose switches n = nat_lt (switches_at switches n) (least_of n.kind)
 
 -- ---- a switch
 
--- another switch has the name, too
+-- the number of switches with a name
 abbrev pub switches_named : List SwitchRow → List ℕ → ℕ
 switches_named switches name = length (filter (λ m. same_name name (name_of m)) switches)
 
+-- another switch has the name of this one, too
 abbrev pub is_switch_twice : List SwitchRow → SwitchRow → Bool
 is_switch_twice switches s = nat_lt 1 (switches_named switches (name_of s))
 
@@ -113,15 +121,17 @@ has_no_name bay nodes s =
     || (is_no_switch bay.switches s.switch
     || (is_no_input bay.inputs s.closed || is_no_input bay.inputs s.opened)))
 
--- the kind of a switch of the bay, of one that is not there, and of a table
+-- the kind of a switch of the bay; a breaker if there is none
 abbrev pub kind_found : Option Switch → SwitchKind
 kind_found None = Breaker
 kind_found (Some s) = s.kind
 
+-- the kind of a switch by the id of a switch of the bay, or else by its key
 abbrev pub kind_by : List Switch → Option (List ℕ) → Option SwitchKind → SwitchKind
 kind_by switches None kind = unwrap_or kind Breaker
 kind_by switches (Some id) kind = kind_found (find (λ s. same_name id s.id) switches)
 
+-- the kind of the switch of a table
 abbrev pub kind_of : List Switch → SwitchRow → SwitchKind
 kind_of switches s = kind_by switches s.switch s.kind
 
@@ -137,31 +147,34 @@ has_bad_keys switches s =
     || (is_some s.switch && (is_some s.kind || (is_some s.closed || is_some s.opened))
     || (is_some s.name && is_none s.kind || is_switch switches s.name))
 
--- both nodes of a switch are the same; or an earthing switch has not just one earth, or isolates;
--- or any other switch has an earth
+-- an earthing switch has not just one earth, or isolates; or any other switch has an earth
 abbrev pub fits_badly : SwitchKind → Bool → Bool → Bool → Bool
 fits_badly kind one other isolates =
     if is_earthing kind then beq one other || isolates else one || other
 
+-- both nodes of a switch are the same, or the switch does not fit them
 abbrev pub has_bad_nodes : List Switch → List NodeRow → SwitchRow → Bool
 has_bad_nodes switches nodes s =
     same_name s.one s.other
     || fits_badly (kind_of switches s) (is_earth_named nodes s.one) (is_earth_named nodes s.other)
     s.isolates
 
--- no table is the switch of the bay
+-- the id is given, and is that of the switch of the bay
 abbrev pub is_of : Option (List ℕ) → Switch → Bool
 is_of None s = false
 is_of (Some id) s = same_name id s.id
 
+-- a table is the switch of the bay
 abbrev pub is_present : List SwitchRow → Switch → Bool
 is_present rows s = list_any (λ row. is_of row.switch s) rows
 
+-- no table is the switch of the bay
 abbrev pub is_absent : List SwitchRow → Switch → Bool
 is_absent rows s = not (is_present rows s)
 
 -- ---- the first refusal
 
+-- the refusal of the table at an index; None if no table fails the check
 abbrev pub refusal : FaultKind → (ℕ → Place) → Option ℕ → Option DiagramFault
 refusal kind place None = None
 refusal kind place (Some i) = Some (record { kind = kind; place = place i })
@@ -178,11 +191,13 @@ is_fault row_fault.MissingKey (Some row_fault.MissingKey) = true
 is_fault row_fault.BadValue (Some row_fault.BadValue) = true
 is_fault which found = false
 
+-- the refusal of the first table that has this fault by itself
 abbrev pub row_refusal : FaultKind → RowFault → List NodeRow → List SwitchRow → Option DiagramFault
 row_refusal kind which nodes switches =
     or (refusal kind places.Node (position (λ n. is_fault which n.fault) nodes))
     (refusal kind places.Between (position (λ s. is_fault which s.fault) switches))
 
+-- the refusal of the first name that two tables have, or that is unknown
 abbrev pub name_refusal : Bay → List NodeRow → List SwitchRow → Option DiagramFault
 name_refusal bay nodes switches =
     or (refusal DuplicateName places.Node (position (is_node_twice nodes) nodes))
@@ -190,20 +205,25 @@ name_refusal bay nodes switches =
     (or (refusal UnknownName places.Node (position (λ n. is_no_input bay.inputs n.dead) nodes))
     (refusal UnknownName places.Between (position (has_no_name bay nodes) switches))))
 
+-- the refusal of the first bad source, or else of the first switch with bad keys, or with bad nodes
 abbrev pub shape_refusal : Bay → List NodeRow → List SwitchRow → Option DiagramFault
 shape_refusal bay nodes switches =
     or (refusal BadSource places.Node (position is_bad_source nodes))
     (or (refusal BadKeys places.Between (position (has_bad_keys bay.switches) switches))
     (refusal BadNodes places.Between (position (has_bad_nodes bay.switches nodes) switches)))
 
+-- some node is a source
 abbrev pub has_source : List NodeRow → Bool
 has_source nodes = list_any (λ n. n.is_source) nodes
 
+-- the refusal of a diagram without a source
 abbrev pub source_refusal : List NodeRow → Option DiagramFault
 source_refusal nodes =
     if has_source nodes then None
     else Some (record { kind = Incomplete; place = places.File })
 
+-- the refusal of the first switch of the bay without a table, of the first node with too few
+-- switches, or of a diagram without a source
 abbrev pub whole_refusal : Bay → List NodeRow → List SwitchRow → Option DiagramFault
 whole_refusal bay nodes switches =
     or (refusal Incomplete places.Switch (position (is_absent switches) bay.switches))

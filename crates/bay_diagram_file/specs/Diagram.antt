@@ -18,6 +18,7 @@ use Rattle.bay_diagram_file.specs.declared.row.SwitchRow.{SwitchRow}
 
 -- ---- the sections
 
+-- a fault of the file as a whole
 abbrev pub of_file : FaultKind → DiagramFault
 of_file kind = record { kind = kind; place = File }
 
@@ -33,14 +34,17 @@ count_refusal n =
     if nat_lt n 1 then Some (of_file MissingKey)
     else if nat_lt 64 n then Some (of_file TooMany) else None
 
+-- the refusal of a section that must be a list; `None` is a section that is not a list
 abbrev pub list_refusal : Option Items → Option DiagramFault
 list_refusal None = Some (of_file BadValue)
 list_refusal (Some items) = count_refusal (length (list_of items))
 
+-- the refusal of a section, which may not be missing
 abbrev pub section_refusal : Option Data → Option DiagramFault
 section_refusal None = Some (of_file MissingKey)
 section_refusal (Some d) = list_refusal (as_array d)
 
+-- the first refusal of the sections of a file
 abbrev pub sections_refusal : Members → Option DiagramFault
 sections_refusal file =
     or (keys_refusal file)
@@ -49,9 +53,11 @@ sections_refusal file =
 
 -- ---- the diagram
 
+-- the tables of the section `node`
 abbrev pub node_rows : Members → List NodeRow
 node_rows file = map node_row_of (values_in file (codes "node"))
 
+-- the tables of the section `between`
 abbrev pub switch_rows : Members → List SwitchRow
 switch_rows file = map switch_row_of (values_in file (codes "between"))
 
@@ -60,6 +66,7 @@ abbrev pub file_refusal : Bay → Members → Option DiagramFault
 file_refusal bay file =
     or (sections_refusal file) (tables_refusal bay (node_rows file) (switch_rows file))
 
+-- the diagram of a file, or its first refusal
 abbrev pub network_in : Bay → Members → Result Network DiagramFault
 network_in bay file =
     unless_refused (file_refusal bay file) (network_of bay (node_rows file) (switch_rows file))

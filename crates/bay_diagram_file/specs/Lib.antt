@@ -2,7 +2,7 @@
 --
 -- `Diagram` is the main file: the first refusal of a text, and the diagram that it describes.
 -- `Row`: the tables of a file, each by itself. `Checks`: what they must be together. `Parts`: the
--- nodes and branches that they describe. `Code`: the number of each fault.
+-- nodes and branches that they describe. `Code`: the number and the words of each fault.
 pub mod Checks
 pub mod Code
 pub mod Diagram

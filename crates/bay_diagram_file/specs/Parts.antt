@@ -17,11 +17,13 @@ use Rattle.bay_diagram_file.specs.declared.row.SwitchRow.{SwitchRow}
 abbrev pub number_of : ℕ → ℕ
 number_of i = if nat_lt i 256 then i else 0
 
+-- the number of the node with a name; 0 if there is none
 abbrev pub number_named : List NodeRow → List ℕ → ℕ
 number_named nodes name = number_of (unwrap_or (node_named nodes name) 0)
 
 -- ---- nodes
 
+-- the node of a table with this kind; an earth is none
 abbrev pub node_with : List (List ℕ) → ℕ → NodeRow → NodeWord → Option Node
 node_with inputs i n Earth = None
 node_with inputs i n (Kind kind) = Some (record {
@@ -43,6 +45,7 @@ nodes_from inputs i (n ∷ nodes) =
 
 -- ---- branches
 
+-- how the position of the switch of a table is known
 abbrev pub device_by : Bay → SwitchRow → Option (List ℕ) → Device
 device_by bay s (Some id) = Own (unwrap_or (switch_named bay.switches id) 0)
 device_by bay s None =
@@ -56,6 +59,7 @@ ends_of nodes s =
     if is_earth_named nodes s.one then (other, other)
     else if is_earth_named nodes s.other then (one, one) else (one, other)
 
+-- the branch of the table at an index
 abbrev pub branch_of : Bay → List NodeRow → ℕ → SwitchRow → Branch
 branch_of bay nodes i s =
     let kind = kind_of bay.switches s in
@@ -74,6 +78,7 @@ branches_from bay nodes i [] = []
 branches_from bay nodes i (s ∷ switches) =
     branch_of bay nodes i s ∷ branches_from bay nodes (suc i) switches
 
+-- the diagram of the tables
 abbrev pub network_of : Bay → List NodeRow → List SwitchRow → Network
 network_of bay nodes switches = record {
   nodes = nodes_from bay.inputs 0 nodes;

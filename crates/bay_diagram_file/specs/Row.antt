@@ -14,12 +14,15 @@ use Rattle.bay_diagram_file.specs.declared.row.SwitchRow.{SwitchRow}
 
 -- ---- values at keys
 
+-- the table has the key
 abbrev pub has : Members → List ℕ → Bool
 has table name = is_some (get_member name table)
 
+-- the value is a text
 abbrev pub is_text : Data → Bool
 is_text d = is_some (as_str d)
 
+-- the value is a truth value
 abbrev pub is_truth : Data → Bool
 is_truth d = is_some (as_bool d)
 
@@ -40,7 +43,7 @@ truth_in table name = unwrap_or (option_and_then as_bool (get_member name table)
 abbrev pub has_name : Members → List ℕ → Bool
 has_name table name = passes (is_identifier 32) (text_of table name)
 
--- the items of a list
+-- the items of a list of the file, as a list
 abbrev pub list_of : Items → List Data
 list_of no_items = []
 list_of (item d ds) = d ∷ list_of ds
@@ -50,24 +53,29 @@ abbrev pub items_in : Option Items → List Data
 items_in None = []
 items_in (Some items) = list_of items
 
+-- the values of the list at a key; none if it is missing or no list
 abbrev pub values_in : Members → List ℕ → List Data
 values_in table name = items_in (option_and_then as_array (get_member name table))
 
 -- ---- a node
 
+-- the words for the kinds of node
 abbrev pub node_words : List (List ℕ × NodeWord)
 node_words =
     (codes "busbar", Kind Busbar) ∷ (codes "line", Kind Line) ∷ (codes "cable", Kind Cable)
     ∷ (codes "transformer", Kind Transformer) ∷ (codes "junction", Kind Junction)
     ∷ (codes "earth", Earth) ∷ []
 
+-- the kind of a node in a table; None if it is missing or none of the words
 abbrev pub node_kind_in : Members → Option NodeWord
 node_kind_in table = option_and_then (value_named node_words) (text_of table (codes "kind"))
 
+-- the keys that the table of a node may have
 abbrev pub node_keys : List (List ℕ)
 node_keys =
     codes "name" ∷ codes "kind" ∷ codes "source" ∷ codes "system" ∷ codes "dead" ∷ []
 
+-- the value at each key of the table of a node is one that it may have
 abbrev pub has_node_values : Members → Bool
 has_node_values table =
     has_name table (codes "name")
@@ -83,6 +91,7 @@ node_fault table =
     else if not (has table (codes "name") && has table (codes "kind")) then Some MissingKey
     else if not (has_node_values table) then Some BadValue else None
 
+-- the table of a node, with what is wrong with it
 abbrev pub node_row : Members → NodeRow
 node_row table = record {
   fault = node_fault table;
@@ -104,18 +113,22 @@ bad_node_row = record {
   dead = None;
 }
 
+-- the row of a table of a node, or of a value that is no table
 abbrev pub node_row_from : Option Members → NodeRow
 node_row_from None = bad_node_row
 node_row_from (Some table) = node_row table
 
+-- the row of a value of the section `node`
 abbrev pub node_row_of : Data → NodeRow
 node_row_of d = node_row_from (as_table d)
 
 -- ---- a switch
 
+-- the kind of a switch in a table; None if it is missing or none of the words
 abbrev pub switch_kind_in : Members → Option SwitchKind
 switch_kind_in table = option_and_then (value_named kinds) (text_of table (codes "kind"))
 
+-- the keys that the table of a switch may have
 abbrev pub switch_keys : List (List ℕ)
 switch_keys =
     codes "switch" ∷ codes "name" ∷ codes "kind" ∷ codes "nodes" ∷ codes "closed" ∷ codes "open"
@@ -128,12 +141,15 @@ are_two_texts (a ∷ []) = false
 are_two_texts (a ∷ b ∷ []) = is_text a && is_text b
 are_two_texts (a ∷ b ∷ c ∷ ds) = false
 
+-- the table names two nodes
 abbrev pub has_nodes : Members → Bool
 has_nodes table = are_two_texts (values_in table (codes "nodes"))
 
+-- the text at an index of a list, if there is one
 abbrev pub text_at : List Data → ℕ → Option (List ℕ)
 text_at ds i = option_and_then as_str (slice_get ds i)
 
+-- the value at each key of the table of a switch is one that it may have
 abbrev pub has_switch_values : Members → Bool
 has_switch_values table =
     (not (has table (codes "switch")) || has_name table (codes "switch"))
@@ -151,6 +167,7 @@ switch_fault table =
     else if not (has table (codes "nodes")) then Some MissingKey
     else if not (has_switch_values table) then Some BadValue else None
 
+-- the table of a switch, with what is wrong with it
 abbrev pub switch_row : Members → SwitchRow
 switch_row table = record {
   fault = switch_fault table;
@@ -178,9 +195,11 @@ bad_switch_row = record {
   isolates = false;
 }
 
+-- the row of a table of a switch, or of a value that is no table
 abbrev pub switch_row_from : Option Members → SwitchRow
 switch_row_from None = bad_switch_row
 switch_row_from (Some table) = switch_row table
 
+-- the row of a value of the section `between`
 abbrev pub switch_row_of : Data → SwitchRow
 switch_row_of d = switch_row_from (as_table d)

@@ -445,7 +445,8 @@ fn bad_nodes(own: &[Switch], nodes: &[NodeRow], switches: &[SwitchRow]) -> Optio
         .position(|row| has_bad_nodes(own, nodes, row))
 }
 
-// Returns the refusal of the first node or switch that may not be as its table says.
+// Returns the refusal of the first bad source, or else of the first switch with bad keys, or with
+// bad nodes.
 fn shape_refusal(bay: &Bay, nodes: &[NodeRow], switches: &[SwitchRow]) -> Option<DiagramFault>
     ensures { result ≡ spec.shape_refusal bay.now nodes.now switches.now }
 {

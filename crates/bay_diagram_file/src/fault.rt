@@ -1,6 +1,6 @@
 // Why a text is not a diagram of a bay.
 ghost use Rattle.std.specs.Prelude.{◌≡◌};
-ghost use Rattle.bay_diagram_file.specs.Code.{code_of, out_of_memory};
+ghost use Rattle.bay_diagram_file.specs.Code.{code_of, out_of_memory, words_of};
 
 use std::alloc::{AllocError, AllocFailed};
 use thiserror::Error;
@@ -20,27 +20,21 @@ pub enum Place {
 
 /// What is wrong with a text that is no diagram of a bay.
 #[derive(Clone, Copy, Debug, PartialEq, Eq, Error)]
+#[error("{}", self.words())]
 pub enum FaultKind {
     /// The text is not a TOML document, or has more than 262,144 octets.
-    #[error("the text is not a TOML document, or is too long: mend it, or shorten it")]
     BadToml,
     /// A section or a key is unknown.
-    #[error("a section or a key is unknown: leave it out, or write the one that is meant")]
     UnknownKey,
     /// A section or a required key is missing.
-    #[error("a section or a key is missing: add it")]
     MissingKey,
     /// A section is no list of tables, or a value has a wrong type or is none of its words.
-    #[error("a value has a wrong type, or is none of the words of its key: write one of them")]
     BadValue,
     /// A section has more than 64 tables.
-    #[error("a section has more than 64 tables: leave out what no switch of the bay can reach")]
     TooMany,
     /// Another table of the section has the same name.
-    #[error("two tables have one name: give each its own")]
     DuplicateName,
     /// A name of no node of the diagram, or of no switch or input of the bay.
-    #[error("a name is unknown: write that of a node, or of a switch or an input of the bay file")]
     UnknownName,
     /// A junction or an earth is a source, or another node has a key of sources.
     #[error("only a busbar, a line, a cable or a transformer may be a source, and only a source \
@@ -56,10 +50,8 @@ pub enum FaultKind {
     BadNodes,
     /// A switch of the bay is in no table, or too few switches lead to a node, or no node is a
     /// source.
-    #[error("a switch of the bay, a switch at a node, or a source is missing: add it")]
     Incomplete,
     /// Out of memory.
-    #[error("out of memory")]
     OutOfMemory,
 }
 
@@ -80,6 +72,44 @@ impl FaultKind {
             FaultKind::BadKeys | FaultKind::BadNodes => Some(154),
             FaultKind::Incomplete => Some(155),
             FaultKind::OutOfMemory => None,
+        }
+    }
+
+    /// Returns what the fault is, in words.
+    pub fn words(self) -> &'static str
+        ensures { result.now ≡ words_of self }
+    {
+        match self {
+            FaultKind::BadToml => {
+                "the text is not a TOML document, or is too long: mend it, or shorten it"
+            }
+            FaultKind::UnknownKey => {
+                "a section or a key is unknown: leave it out, or write the one that is meant"
+            }
+            FaultKind::MissingKey => "a section or a key is missing: add it",
+            FaultKind::BadValue => {
+                "a value has a wrong type, or is none of the words of its key: write one of them"
+            }
+            FaultKind::TooMany => {
+                "a section has more than 64 tables: leave out what no switch of the bay can reach"
+            }
+            FaultKind::DuplicateName => "two tables have one name: give each its own",
+            FaultKind::UnknownName => {
+                "a name is unknown: write that of a node, or of a switch or an input of the bay file"
+            }
+            FaultKind::BadSource => {
+                "only a busbar, a line, a cable or a transformer may be a source, and only a source may have the keys `dead` and `system`: leave the keys out, or change the kind"
+            }
+            FaultKind::BadKeys => {
+                "a switch of the bay has the keys `switch` and `nodes`, one of another bay `name`, `kind` and `nodes`: leave the others out"
+            }
+            FaultKind::BadNodes => {
+                "a switch leads to two nodes, an earthing switch to a node and to an earth, and no other switch to an earth: change its nodes or its kind"
+            }
+            FaultKind::Incomplete => {
+                "a switch of the bay, a switch at a node, or a source is missing: add it"
+            }
+            FaultKind::OutOfMemory => "out of memory",
         }
     }
 }

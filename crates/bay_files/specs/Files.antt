@@ -11,7 +11,8 @@ use Rattle.bay_io.specs.declared.input.ReadFault.{ReadFault}
 abbrev pub FileReads : Type 0 → Type 1
 FileReads F = F → List ℕ → Result (List ℕ) ReadFault → Type 0
 
--- the same, with whether the file's mode denies all access to its group and others
+-- the type of a relation of reads whose result also has whether the file's mode denies all access
+-- to its group and others
 abbrev pub FileGuards : Type 0 → Type 1
 FileGuards F = F → List ℕ → Result (List ℕ × Bool) ReadFault → Type 0
 
@@ -56,8 +57,8 @@ ReadsBoth reads files bay program (Err unread) =
     ⊎ ((octets : List ℕ) × ReadsFile reads files bay (Ok octets)
     × ReadsFile reads files program (Err unread))
 
--- what follows an attempt: the file was written; or the name beside is taken, and `next` holds, the
--- next attempt; or the file could not be written
+-- what holds after an attempt: the file was written; or the name beside it is taken, and `next`
+-- holds; or the file could not be written
 abbrev pub FollowsTry : {F : Type 0} → Result Bool FileFault → Type 0 → F → F → Option FileFault
     → Type 0
 FollowsTry (Ok true) next mid new fault = (new ≡ mid) × (fault ≡ None)

@@ -23,13 +23,15 @@ abbrev pub came_of : {E : Type 0} → Result ℕ E → List ℕ → Option (List
 came_of (Ok n) room = Some (take n room)
 came_of (Err e) room = None
 
--- a read, a write and a flush, from their arguments and results
+-- a read, from the size of its room, its result, and the octets in the room after it
 abbrev pub reads : {E : Type 0} → ℕ → Result ℕ E → List ℕ → ReadCall
 reads room answer after = record { room = room; came = came_of answer after }
 
+-- a write, from the octets offered and its result
 abbrev pub writes : {E : Type 0} → List ℕ → Result ℕ E → WriteCall
 writes octets answer = Write octets (result_ok answer)
 
+-- a flush, from its result
 abbrev pub flushes : {X E : Type 0} → Result X E → WriteCall
 flushes answer = Flush (is_ok answer)
 
@@ -39,6 +41,7 @@ part_text (Text text) = text.now
 part_text (Number number) = decimal number
 part_text (Moment moment) = utc_text moment
 
+-- the texts of the parts of a line, one after the other
 abbrev pub parts_text : List LinePart → List ℕ
 parts_text [] = []
 parts_text (part ∷ parts) = part_text part ++ parts_text parts
@@ -86,7 +89,8 @@ pub record CallsMade {S C : Type 0} (does : S → C → S → Type 0) (fails : C
   pub talks : MakesCalls does old calls new
   pub failed : is ≡ (was || some_call fails calls)
 
--- the same, with at most `most` calls
+-- At most `most` calls led from the old state to the new one; and a call has failed by now if one
+-- had failed before, or one of these calls failed.
 pub record MakesFewCalls {S C : Type 0} (does : S → C → S → Type 0) (fails : C → Bool) (most : ℕ)
     (old : S) (was : Bool) (new : S) (is : Bool) : Type 0 where
   pub asked : CallsMade does fails old was new is

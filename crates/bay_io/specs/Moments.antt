@@ -25,7 +25,8 @@ year_from (suc more) y days =
     then (y, days)
     else year_from more (y + 1) (days - days_in_year y)
 
--- the month of a day of a year, likewise
+-- the month of the day `days` days after the first of month `m` of year `y`, and the day's offset
+-- from the first of that month; looks at most as many months ahead as the first argument
 unfoldable pub month_from : ℕ → ℕ → ℕ → ℕ → ℕ × ℕ
 month_from zero y m days = (m, days)
 month_from (suc more) y m days =
@@ -48,15 +49,17 @@ date_text y m days ms =
     ∷ digit_at (ms / 1000 % 60) 10 ∷ digit_at (ms / 1000 % 60) 1 ∷ 46
     ∷ digit_at ms 100 ∷ digit_at ms 10 ∷ digit_at ms 1 ∷ 90 ∷ []
 
--- the same, from the year with the day's offset in it, and the milliseconds of the day
+-- the text of a moment, from its year with the day's offset in the year, and the milliseconds of
+-- the day
 abbrev pub dated : ℕ × ℕ → ℕ → List ℕ
 dated year ms =
     let month = month_from 11 year.0 1 year.1 in date_text year.0 month.0 month.1 ms
 
--- a moment in milliseconds since 1970, up to the last of the year 9999
+-- the text of a moment in milliseconds since 1970, up to the last of the year 9999
 abbrev pub date_of : ℕ → List ℕ
 date_of moment = dated (year_from 8029 1970 (moment / 86400000)) (moment % 86400000)
 
--- for a later one, that last one
+-- the text of a moment in milliseconds since 1970; after the year 9999, that of its last
+-- millisecond
 unfoldable pub utc_text : ℕ → List ℕ
 utc_text moment = date_of (min moment 253402300799999)

@@ -44,7 +44,7 @@ Ends contents old new (Err e) =
     SendsPart (contents old.inner) (contents new.inner) old.pending
     × (old.has_failed ≡ true → new.inner ≡ old.inner) × (new.has_failed ≡ true)
 
--- the same, with the calls of the sink, none of which logs
+-- The writer was finished as `Ends` states, by these calls of the sink, none of which logs.
 pub record Finishes {W X E : Type 0} (contents : W → Option (List ℕ))
     (does : W → WriteCall → W → Type 0) (old new : Writing W) (result : Result X E) : Type 0 where
   pub ends : Ends contents old new result

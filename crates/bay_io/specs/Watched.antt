@@ -14,7 +14,7 @@ pub record Watching (W : Type 0) : Type 0 where
   pub is_flushed : Bool
   pub logs : Bool
 
--- a writer: the same of its sink, and the octets not yet written
+-- a writer: its sink, what is known of the sink, and the octets not yet written
 pub record Writing (W : Type 0) : Type 0 where
   pub inner : W
   pub has_failed : Bool

@@ -12,6 +12,7 @@ pub record Cutting : Type 0 where
   pub lines : List (List ℕ)
   pub kept : List ℕ
 
+-- the removed lines with one before them
 abbrev pub with_line : List ℕ → Cutting → Cutting
 with_line line c = record { lines = line ∷ c.lines; kept = c.kept }
 

@@ -12,6 +12,7 @@ escaped_octet octet =
     if is_plain octet then octet ∷ []
     else codes "\\x" ++ digit_char (octet / 16) ∷ digit_char (octet % 16) ∷ []
 
+-- the escaped forms of octets, one after the other
 abbrev pub escaped_octets : List ℕ → List ℕ
 escaped_octets [] = []
 escaped_octets (octet ∷ octets) = escaped_octet octet ++ escaped_octets octets

@@ -19,6 +19,7 @@ abbrev pub is_return : Option ℕ → Bool
 is_return None = false
 is_return (Some b) = b == 13
 
+-- whether the last of the octets is CR
 abbrev pub ends_in_return : List ℕ → Bool
 ends_in_return xs = is_return (slice_get xs (length xs - 1))
 

@@ -1,6 +1,6 @@
--- The errors of a load: the fault of a bay file, of a program or of an image, with its number and
--- its line.
-use Rattle.std.specs.Prelude.{ℕ, Option, None, Some}
+-- The errors of a load: the fault of a bay file, of a program or of an image, with its number, its
+-- line and its words.
+use Rattle.std.specs.Prelude.{ℕ, List, codes, Option, None, Some}
 use Rattle.bay_config.specs.Code as bay
 use Rattle.bay_config.specs.declared.fault.BayFault.{BayFault}
 use Rattle.il_text.specs.Code as text
@@ -21,22 +21,27 @@ abbrev pub unless_memory : Option ℕ → LoadError → LoadError
 unless_memory (Some code) error = error
 unless_memory None error = OutOfMemory
 
--- the error of each fault
+-- the error of a fault of the bay file
 abbrev pub bay_error : BayFault → LoadError
 bay_error fault = unless_memory (bay.code_of fault) (Bay fault)
 
+-- the error of a fault of the text
 abbrev pub text_error : TextFault → LoadError
 text_error fault = unless_memory (text.code_of fault) (Text fault)
 
+-- the error of a fault of the checks
 abbrev pub check_error : CheckFault → LoadError
 check_error fault = unless_memory (check.code_of fault) (Check fault)
 
+-- the error of a fault of the compiler
 abbrev pub compile_error : CompileFault → LoadError
 compile_error fault = unless_memory (compile.code_of fault) (Compile fault)
 
+-- the error of a fault of octets that are no image
 abbrev pub image_error : ImageFault → LoadError
 image_error fault = unless_memory (image.code_of fault) (Image fault)
 
+-- the error of a fault of the verifier
 abbrev pub verify_error : VerifyFault → LoadError
 verify_error fault = unless_memory (verify.code_of fault) (Verify fault)
 
@@ -59,3 +64,13 @@ line_of (Compile fault) = 0
 line_of (Image fault) = 0
 line_of (Verify fault) = 0
 line_of OutOfMemory = 0
+
+-- what an error is, in words: those of its fault
+abbrev pub words_of : LoadError → List ℕ
+words_of (Bay fault) = bay.words_of fault
+words_of (Text fault) = text.words_of fault
+words_of (Check fault) = check.words_of fault
+words_of (Compile fault) = compile.words_of fault
+words_of (Image fault) = image.words_of fault
+words_of (Verify fault) = verify.words_of fault
+words_of OutOfMemory = codes "out of memory"

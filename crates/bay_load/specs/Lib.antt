@@ -1,9 +1,9 @@
 -- What is loaded from the octets of a bay file and of a program or an image.
 --
 -- `Loads` is the main file: a bay, the names of its program and a verified image, or the first
--- error. `Errors`: the errors of a load, with their numbers and lines. `Words`: their texts.
--- `Names`: the names that a program declares. `Report`: instructions, depth and budget of an image.
--- `Verified`: the image of a checked program is verified, with the points that it was checked with.
+-- error. `Errors`: the errors of a load, with their numbers, lines and words. `Names`: the names
+-- that a program declares. `Report`: instructions, depth and budget of an image. `Verified`: the
+-- image of a checked program is verified, with the points that it was checked with.
 
 -- What public clauses cite of the crates below.
 pub use Rattle.bay_config.specs.Bay
@@ -18,4 +18,3 @@ pub mod Loads
 pub mod Names
 pub mod Report
 pub mod Verified
-pub mod Words

@@ -54,20 +54,20 @@ abbrev pub of_compiled : Bay → NamesData → Result Code CompileFault → Resu
 of_compiled bay names (Ok image) = Ok (record { bay = bay; names = names; image = image })
 of_compiled bay names (Err fault) = Err (compile_error fault)
 
--- the same of a bay and the result of the checks of its program
+-- what is loaded of a bay and the result of the checks of its program
 abbrev pub of_checked : Bay → NamesData → Result Checked CheckFault → Result LoadData LoadError
 of_checked bay names (Ok checked) = of_compiled bay names (compiled_of checked)
 of_checked bay names (Err fault) = Err (check_error fault)
 
--- the same of a bay and the parsed text of a program
+-- what is loaded of a bay and the parsed text of its program
 abbrev pub of_program : Bay → Result PlainProgram TextFault → Result LoadData LoadError
 of_program bay (Ok program) =
     of_checked bay (names_of program.declarations) (checked_of bay.points program)
 of_program bay (Err fault) = Err (text_error fault)
 
--- the same of a bay file and a program: a fault of the bay file comes before one of the program's
--- text, that before one of its checks, and that before the refusal of an image that would be too
--- long
+-- what is loaded of a bay file and a program: a fault of the bay file comes before one of the
+-- program's text, that before one of its checks, and that before the refusal of an image that would
+-- be too long
 abbrev pub of_bay : Result Bay BayFault → Result PlainProgram TextFault → Result LoadData LoadError
 of_bay (Ok bay) program = of_program bay program
 of_bay (Err fault) program = Err (bay_error fault)
@@ -103,6 +103,8 @@ LoadsImage bay image (Err error) =
     (fault : VerifyFault) × (place : ℕ) × IsRefusal bay.points image fault place
     × (error ≡ verify_error fault)
 
+-- The result of loading the octets of an image for a bay: the first fault of the octets, or the
+-- result of loading the image that they spell.
 abbrev pub LoadsRead : Bay → Result Code ImageFault → Result LoadData LoadError → Type 0
 LoadsRead bay (Ok image) result = LoadsImage bay image result
 LoadsRead bay (Err fault) result = result ≡ Err (image_error fault)
@@ -134,7 +136,7 @@ abbrev pub LoadsTo : List ℕ → Form → List ℕ → Result LoadData LoadErro
 LoadsTo bay Logic program loaded = load_of bay program ≡ loaded
 LoadsTo bay Image program loaded = Loads (file_of bay) (image_spelled program) loaded
 
--- the same; or memory ran out
+-- This is loaded or refused as `LoadsTo` says, or memory ran out.
 abbrev pub MayLoadTo : List ℕ → Form → List ℕ → Result LoadData LoadError → Type 0
 MayLoadTo bay form program loaded = LoadsTo bay form program loaded ⊎ (loaded ≡ Err OutOfMemory)
 

@@ -24,13 +24,15 @@ timer_in Local (Elementary kind) name = []
 timer_in Local (Timer kind) name = name ∷ []
 timer_in External kind name = []
 
--- the names of the declarations, in their order
+-- the names of the variables that are declared, in their order
 abbrev pub variable_names : List Declared → List (List ℕ)
 variable_names = flat_map (λ d. variable_in d.scope d.kind d.name)
 
+-- the names of the timers that are declared, in their order
 abbrev pub timer_names : List Declared → List (List ℕ)
 timer_names = flat_map (λ d. timer_in d.scope d.kind d.name)
 
+-- the names of the variables and of the timers that are declared
 abbrev pub names_of : List Declared → NamesData
 names_of declared =
     record { variables = variable_names declared; timers = timer_names declared }

@@ -1,11 +1,9 @@
 // Why files are not loaded.
 ghost use Rattle.std.specs.Prelude.{◌≡◌};
-ghost use Rattle.bay_load.specs.Errors.{bay_error, check_error, code_of, compile_error, image_error, line_of, text_error, verify_error};
+ghost use Rattle.bay_load.specs.Errors.{bay_error, check_error, code_of, compile_error, image_error, line_of, text_error, verify_error, words_of};
 ghost use Rattle.bay_load.specs.Errors as spec;
-ghost use Rattle.bay_load.specs.Words.{words_of};
 ghost use Rattle.bay_load.specs.declared.error.LoadError.TheVariants.{OutOfMemory};
 
-use crate::words::{bay_words, check_words, compile_words, image_words, text_words, verify_words};
 use bay_config::fault::BayFault;
 use il_check::fault::CheckFault;
 use il_compile::fault::CompileFault;
@@ -67,12 +65,12 @@ impl LoadError {
         ensures { result.now ≡ words_of self }
     {
         match self {
-            LoadError::Bay(fault) => bay_words(fault),
-            LoadError::Text(fault) => text_words(fault),
-            LoadError::Check(fault) => check_words(fault),
-            LoadError::Compile(fault) => compile_words(fault),
-            LoadError::Image(fault) => image_words(fault),
-            LoadError::Verify(fault) => verify_words(fault),
+            LoadError::Bay(fault) => fault.words(),
+            LoadError::Text(fault) => fault.words(),
+            LoadError::Check(fault) => fault.words(),
+            LoadError::Compile(fault) => fault.words(),
+            LoadError::Image(fault) => fault.words(),
+            LoadError::Verify(fault) => fault.words(),
             LoadError::OutOfMemory => "out of memory",
         }
     }

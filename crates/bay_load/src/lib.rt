@@ -13,4 +13,3 @@ pub mod load;
 pub mod loaded;
 pub mod names;
 pub mod report;
-mod words;

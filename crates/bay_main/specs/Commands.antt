@@ -121,7 +121,8 @@ CompilesOctets writes contents asks out both before after old new answer =
     × MayLoadTo both.bay form.Logic both.program loaded
     × CompilesLoaded writes contents asks out loaded before after old new answer
 
--- the same if the files could be read; otherwise this is reported, and no file is touched
+-- the files are loaded and compiled if they could be read; otherwise this is reported, and no file
+-- is touched
 abbrev pub CompilesRead : {F W : Type 0} → FileWrites F → (W → Option (List ℕ))
     → (W → WriteCall → W → Type 0) → List ℕ → Result FilesData UnreadData → F → F → Writing W
     → Writing W → Result ℕ WriteFault → Type 0

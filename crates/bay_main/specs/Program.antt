@@ -92,7 +92,7 @@ pub record Runs {F L H R O E : Type 0} (reads : FileReads F) (guards : FileGuard
       × SystemDoes contents log_contents output (Log (complaint_of last)) told
   pub tells : status ≡ status_of last
 
--- The same for an output over these writers, which were not used before.
+-- The program runs with an output over these writers, which were not used before.
 pub record Concludes {F L H R O E : Type 0} (reads : FileReads F) (guards : FileGuards F)
     (writes : FileWrites F) (same : F → List ℕ → List ℕ → Bool → Type 0)
     (step : L → Call → L → Type 0) (acts : H → HostCall L → H → Type 0)

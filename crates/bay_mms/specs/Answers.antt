@@ -26,22 +26,23 @@ is_empty (Ok (read [])) = true
 is_empty (Ok (write [] [])) = true
 is_empty answer = false
 
--- the unit, if the service makes the code build a list: a read or a write, not of no variables
+-- the unit, if the service makes the code build a list: it is a read or a write, other than a well
+-- encoded one without variables
 abbrev pub list_of : Part → Option (Unit {0})
 list_of service =
     if (same_tag service.tag (constructed 4) || same_tag service.tag (constructed 5))
     && not (is_empty (answer Bad service_request service)) then Some tt else None
 
--- an invoke id, followed by such a service
+-- an invoke id, followed by a service that makes the code build a list
 unfoldable pub list_parts : Form (List Part) (Part × (Unit {0} × Unit {0}))
 list_parts = value_then whole (value_then (try_map_form list_of whole) done)
 
--- a confirmed request for such a service
+-- a confirmed request for a service that makes the code build a list
 unfoldable pub list_pdu : Form Part (Part × (Unit {0} × Unit {0}))
 list_pdu = tagged (constructed 0) (fields list_parts)
 
--- Reading the octets allocates: they are a confirmed request for a read or a write, not of no
--- variables.
+-- Reading the octets allocates: they are a confirmed request for a read or a write, other than a
+-- well encoded one without variables.
 abbrev pub TakesMemory : List ℕ → Type 0
 TakesMemory octets = (x : Part × (Unit {0} × Unit {0})) × (one list_pdu).Spells octets x
 

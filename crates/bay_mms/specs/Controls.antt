@@ -67,23 +67,27 @@ pub record IsOperate (d : Datum) (o : Operate) : Type 0 where
 
 -- ---- own: how simple data are read
 
--- the value of each kind, if the data are of that kind
+-- the truth value, if the data are a boolean
 abbrev pub truth_as : Datum → Option Bool
 truth_as (truth value) = Some value
 truth_as d = None
 
+-- the number, if the data are an integer
 abbrev pub integer_as : Datum → Option ℤ
 integer_as (integer value) = Some value
 integer_as d = None
 
+-- the number, if the data are an unsigned number
 abbrev pub unsigned_as : Datum → Option ℤ
 unsigned_as (unsigned value) = Some value
 unsigned_as d = None
 
+-- the octets, if the data are an octet string
 abbrev pub octets_as : Datum → Option (List ℕ)
 octets_as (octets value) = Some value
 octets_as d = None
 
+-- the eight octets, if the data are a utc-time
 abbrev pub moment_as : Datum → Option (List ℕ)
 moment_as (utc value) = Some value
 moment_as d = None

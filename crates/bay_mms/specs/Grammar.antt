@@ -64,7 +64,7 @@ access =
 abbrev pub any_alternate : List VariableSpecification → Bool
 any_alternate vs = list_any (λ v. v.is_alternate) vs
 
--- whether there are `count` of them, if a count is given
+-- whether a number is the given count; true if no count is given
 abbrev pub are_as_many : Option ℕ → ℕ → Bool
 are_as_many None number = true
 are_as_many (Some count) number = number == count
@@ -74,7 +74,7 @@ abbrev pub served_names : List Naming → Bool → Result (List Naming) Refusal
 served_names ns alternate =
     if alternate then Err Unknown else (if nat_lt 32 (length ns) then Err Many else Ok ns)
 
--- the same, if there are `count` names
+-- The names, if they are served, and if there are `count` of them.
 abbrev pub counted_names : Option ℕ → List Naming → Bool → Result (List Naming) Refusal
 counted_names count ns alternate =
     if are_as_many count (length ns) then served_names ns alternate else Err Bad
@@ -124,10 +124,11 @@ scope =
     (choice (context 1) (map_form in_domain octets)
     (tagged (context 2) (map_form (λ x. of_association) empty)))
 
--- objectClass, and objectScope, each with its tag
+-- objectClass with its tag
 unfoldable pub class_part : Form Part ℤ
 class_part = tagged (constructed 0) (one (tagged (context 0) integer))
 
+-- objectScope with its tag
 unfoldable pub scope_part : Form Part Place
 scope_part = tagged (constructed 1) (one scope)
 
@@ -165,7 +166,7 @@ read_parts = maybe (context 0) any_octets (value_then (tagged (constructed 1) (o
 
 -- ---- ISO 9506-2 Write-Request: variables that are written
 
--- the write of these data to as many variables
+-- the write of these data, one for each variable
 unfoldable pub write_service : Access × (List Datum × Unit {0}) → Result Asking Refusal
 write_service x = requested_names (Some (length x.1.0)) x.0 >> λ ns. Ok (write ns x.1.0)
 

@@ -72,6 +72,6 @@ response_of_texts id texts more =
 abbrev pub length_of_page : ℕ → ℕ → ℕ
 length_of_page id names = element_length (id + element_length (element_length names + 3))
 
--- the same, from the invoke id
+-- the number of octets of a response with this invoke id whose names take `names` octets
 abbrev pub page_length : ℕ → ℕ → ℕ
 page_length id names = length_of_page (element_length (length (integer_octets (pos id)))) names

@@ -95,7 +95,7 @@ fn variable_from_value<'a>(value: &Value<'a>) -> Option<VariableSpecification<'a
     variable_from_parts(parts.as_slice())
 }
 
-// Appends a name; with the first one, allocates room for as many names as are served.
+// Appends a name; with the first one, allocates room for the most names that are served.
 fn push_name<'a>(names: &mut Vec<ObjectName<'a>>, name: ObjectName<'a>) -> Result<(), AllocError>
     ensures { OnOk result (map object_name_view names.new.items
         ≡ map object_name_view names.old.items ++ object_name_view name.entry ∷ []) }
@@ -107,7 +107,7 @@ fn push_name<'a>(names: &mut Vec<ObjectName<'a>>, name: ObjectName<'a>) -> Resul
     Ok(())
 }
 
-// Returns whether there are `count` of them, if a count is given.
+// Returns whether a number is the given count; true if no count is given.
 fn are_as_many(count: Option<usize>, number: usize) -> bool
     ensures { result ≡ spec.are_as_many count number }
 {

@@ -81,9 +81,10 @@ proposal = map_form proposal_by (fields proposal_parts)
 unfoldable pub initiate : Form (List ℕ) Proposal
 initiate = one (tagged (constructed 8) proposal)
 
--- the proposal that octets are read as, and the relation of its encoding
+-- the proposal that octets are read as, or None
 abbrev pub initiate_in : List ℕ → Option Proposal
 initiate_in octets = initiate.reads octets
 
+-- The octets encode an initiate with this proposal.
 abbrev pub IsInitiate : List ℕ → Proposal → Type 0
 IsInitiate octets p = initiate.Spells octets p

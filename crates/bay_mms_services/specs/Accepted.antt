@@ -67,6 +67,7 @@ write_act a given k SelectWith = select_with_act a k (operate_in given)
 write_act a given k Operate = operate_act a k (operate_in given)
 write_act a given k Cancel = cancel_act a k (cancel_in given)
 
+-- the act of a write, by the target of its variable
 abbrev pub act_of_write : ℕ → Datum → Option Target → Option Act
 act_of_write a given None = None
 act_of_write a given (Some t) = write_act a given t.switch t.part
@@ -119,6 +120,7 @@ read_accepted now a b (name ∷ ns) (result ∷ results) =
     entries_of now (act_of_read a (target_at b (row_named b name))) (is_granted result)
     ++ read_accepted now a b ns results
 
+-- the entries of the variables of a write, each with its data and its result, in their order
 abbrev pub write_accepted : ℕ → ℕ → Bay → List Naming → List Datum → List Part → List Entry
 write_accepted now a b [] values results = []
 write_accepted now a b (name ∷ ns) [] results = []

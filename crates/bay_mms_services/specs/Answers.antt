@@ -59,6 +59,7 @@ response_answer c id b response = answer_within_size c id b response (plain_answ
 
 -- ---- the services
 
+-- the answer to identify: the vendor, the model and the revision
 abbrev pub identify_answer : ClientContext → ℕ → Bay → Answered
 identify_answer c id b =
     response_answer c id b (response.confirmed_response id
@@ -80,6 +81,7 @@ answer_from_reading c id b r =
     answer_within_size c id b (read_text id r.results)
     (one_pdu_answer (read_text id r.results) r.decisions (with_controls r.controls b))
 
+-- the answer to a read of these variables
 abbrev pub read_answer : ClientContext → ℕ → Bay → List Naming → Answered
 read_answer c id b ns = answer_from_reading c id b (read_all c b ns (nothing_read b))
 
@@ -94,6 +96,7 @@ answer_from_writing c id b w = answer_within_size c id b (write_text id w.result
       after = with_controls w.controls b;
     })
 
+-- the answer to a write of these data to these variables
 abbrev pub write_answer : ClientContext → ℕ → Bay → List Naming → List Datum → Answered
 write_answer c id b ns values =
     answer_from_writing c id b (write_all c b ns values (nothing_written b))

@@ -119,6 +119,8 @@ abbrev pub termination_report : List ℕ → List ℕ → Operate → List ℕ
 termination_report domain item o =
     report_text (item_name domain item ∷ []) (datum (operate_datum o) no_data)
 
+-- the report that the switch did not reach the requested position in time (the negative
+-- CommandTermination)
 abbrev pub failed_report : List ℕ → List ℕ → List ℕ → Operate → List ℕ
 failed_report object domain item o =
     report_text (failure_name ∷ item_name domain item ∷ [])
@@ -156,5 +158,6 @@ pub record AreShort (e : TerminationReports) : Type 0 where
   pub positive : IfSome e.positive (λ pdu. length pdu ≤ longest_pdu)
   pub negative : IfSome e.negative (λ pdu. length pdu ≤ longest_pdu)
 
+-- The reports for the end of an operate, if there are any, have at most 65,000 octets each.
 abbrev pub IsShort : Option TerminationReports → Type 0
 IsShort ending = IfSome ending AreShort

@@ -34,6 +34,7 @@ target_at b (Some place) = target_of (length b.switches) (name_at b.rows place)
 
 -- ---- reads: a read of SBO selects
 
+-- the call of a read of a part of a control, if the read makes one
 abbrev pub read_call : ClientContext → ℕ → ControlPart → Option Call
 read_call c k Select = Some (call.Select c.association k)
 read_call c k SelectWith = None
@@ -47,16 +48,19 @@ call_of_read c (Some t) = read_call c t.switch t.part
 
 -- ---- writes, if their data have the right type and range
 
+-- the call of a write to SBOw
 abbrev pub select_with_call : ClientContext → ℕ → Result asked.Operate DataAccessError → Option Call
 select_with_call c k (Ok o) = Some (call.SelectWith c.association k (control_request_of o))
 select_with_call c k (Err fault) = None
 
+-- the call of a write to Oper
 abbrev pub operate_call : ClientContext → ℕ → Bay → Result asked.Operate DataAccessError
     → Option Call
 operate_call c k b (Ok o) =
     Some (call.Operate c.association k (control_request_of o) (view_of c k b))
 operate_call c k b (Err fault) = None
 
+-- the call of a write to Cancel
 abbrev pub cancel_call : ClientContext → ℕ → Result Control DataAccessError → Option Call
 cancel_call c k (Ok control) = Some (call.Cancel c.association k)
 cancel_call c k (Err fault) = None
@@ -81,12 +85,14 @@ entries_of_call c controls None = []
 entries_of_call c controls (Some asked) =
     entries_of c.now (act_of asked) (is_ok (outcome_of asked c.now controls).answer)
 
+-- the entries of the variables of a read, in their order
 abbrev pub read_entries : ClientContext → Bay → List Naming → Reading → List Entry
 read_entries c b [] r = []
 read_entries c b (name ∷ ns) r =
     entries_of_call c r.controls (call_of_read c (target_at b (row_named b name)))
     ++ read_entries c b ns (read_one c b name r)
 
+-- the entries of the variables of a write, in their order
 abbrev pub write_entries : ClientContext → Bay → List Naming → List Datum → Writing → List Entry
 write_entries c b [] values w = []
 write_entries c b (name ∷ ns) [] w = []

@@ -18,6 +18,7 @@ names_after_name c id b after None = error_text id NoSuchObject
 names_after_name c id b after (Some place) =
     first_page id c.size (names_of (rows_after b.rows after))
 
+-- the names of the variables of the domain after a name, or from the first
 abbrev pub variable_names : ClientContext → ℕ → Bay → Option (List ℕ) → List ℕ
 variable_names c id b None = first_page id c.size (names_of b.rows)
 variable_names c id b (Some name) = names_after_name c id b (Some name) (row_index b.rows name)

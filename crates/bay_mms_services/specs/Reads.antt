@@ -48,6 +48,7 @@ abbrev pub value_read : Bay → ℕ → Reading → Reading
 value_read b place r =
     record r { results = r.results ++ datum_text (data_at (client_rows b r.controls) place) }
 
+-- a read after a variable that is a part of a control
 abbrev pub read_part : ClientContext → Bay → ℕ → Reading → ℕ → ControlPart → Reading
 read_part c b place r k Select =
     select_done c b k (name_at b.rows place) r (select_outcome c.association k c.now r.controls)
@@ -55,6 +56,7 @@ read_part c b place r k SelectWith = value_read b place r
 read_part c b place r k Operate = value_read b place r
 read_part c b place r k Cancel = value_read b place r
 
+-- a read after a variable that exists, by its target
 abbrev pub read_target : ClientContext → Bay → ℕ → Reading → Option Target → Reading
 read_target c b place r None = value_read b place r
 read_target c b place r (Some t) = read_part c b place r t.switch t.part

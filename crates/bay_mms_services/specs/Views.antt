@@ -34,7 +34,8 @@ bay_with inputs b = record {
   controls = controls_view b b.controls;
 }
 
--- the same without inputs, on which only the view of a switch depends
+-- the bay of the definitions for a served bay, without inputs: only the view of a switch depends on
+-- them
 abbrev pub bay_view : ServedBay → Bay
 bay_view b = bay_with [] b
 
@@ -50,6 +51,7 @@ reading_view b controls decisions results = record {
   results = results;
 }
 
+-- a write after some of its variables, with the controls after these
 abbrev pub writing_view : ServedBay → Controls → Written → Writing
 writing_view b controls w =
     record {

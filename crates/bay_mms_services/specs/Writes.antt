@@ -84,6 +84,7 @@ after_operate c b k item o outcome w =
       ending = later_ending w.ending (endings c k item o b outcome.answer);
     }
 
+-- a write after a variable that is SBOw, or the error of its data
 abbrev pub write_select_with : ClientContext → Bay → ℕ → List ℕ → Writing
     → Result asked.Operate DataAccessError → Writing
 write_select_with c b k item w (Err error) = write_failed error w
@@ -92,6 +93,7 @@ write_select_with c b k item w (Ok o) =
     (select_with_outcome c.association k (control_request_of o) c.now w.controls)
     w
 
+-- a write after a variable that is Oper, or the error of its data
 abbrev pub write_operate : ClientContext → Bay → ℕ → List ℕ → Writing
     → Result asked.Operate DataAccessError → Writing
 write_operate c b k item w (Err error) = write_failed error w
@@ -99,6 +101,7 @@ write_operate c b k item w (Ok o) =
     after_operate c b k item o
     (operate_outcome c.association k (control_request_of o) (view_of c k b) c.now w.controls) w
 
+-- a write after a variable that is Cancel, or the error of its data
 abbrev pub write_cancel : ClientContext → Bay → ℕ → List ℕ → Writing
     → Result Control DataAccessError
     → Writing
@@ -113,10 +116,12 @@ write_part c b k item given w SelectWith = write_select_with c b k item w (opera
 write_part c b k item given w Operate = write_operate c b k item w (operate_in given)
 write_part c b k item given w Cancel = write_cancel c b k item w (cancel_in given)
 
+-- a write after a variable that exists, by its target; it must be a part of a control
 abbrev pub write_target : ClientContext → Bay → List ℕ → Datum → Writing → Option Target → Writing
 write_target c b item given w None = write_failed ObjectAccessDenied w
 write_target c b item given w (Some t) = write_part c b t.switch item given w t.part
 
+-- a write after a variable; one that does not exist is an error
 abbrev pub write_row : ClientContext → Bay → Datum → Writing → Option ℕ → Writing
 write_row c b given w None = write_failed ObjectNonExistent w
 write_row c b given w (Some place) =

@@ -44,10 +44,11 @@ operation_names node = status_names node (codes "$ST$OpCnt")
 
 -- ---- IEC 61850-7-4 CILO: names of interlocking values
 
--- the names of the two interlocking values, below CILO
+-- the names of the release of the opening, below CILO
 abbrev pub opening_names : List ℕ → StatusNames
 opening_names node = status_names node (codes "$ST$EnaOpn")
 
+-- the names of the release of the closing, below CILO
 abbrev pub closing_names : List ℕ → StatusNames
 closing_names node = status_names node (codes "$ST$EnaCls")
 
@@ -87,10 +88,11 @@ interlocking_of k = node_name (codes "CILO") (k + 1)
 
 -- ---- IEC 61850-7-4 CILO: names of interlocking values by index
 
--- the names of the two interlocking values of the switch at index k
+-- the names of the release of the opening of the switch at index k
 abbrev pub opening_of : ℕ → StatusNames
 opening_of k = opening_names (interlocking_of k)
 
+-- the names of the release of the closing of the switch at index k
 abbrev pub closing_of : ℕ → StatusNames
 closing_of k = closing_names (interlocking_of k)
 
@@ -127,10 +129,11 @@ control_names k = control_names_of (control_of k)
 
 -- ---- IEC 61850-7-3 MV, CMV: names of measured values
 
--- the names of a measured value, and of the measured value of a phase (IEC 61850-7-3, MV and CMV)
+-- the names of a measured value (IEC 61850-7-3, MV)
 abbrev pub total_names : List ℕ → List ℕ → StatusNames
 total_names node object = value_names node object (codes "$mag$i")
 
+-- the names of the measured value of a phase (IEC 61850-7-3, CMV)
 abbrev pub phase_names : List ℕ → List ℕ → StatusNames
 phase_names node object = value_names node object (codes "$cVal$mag$i")
 

@@ -54,6 +54,7 @@ abbrev pub node_rows : Node → List Row
 node_rows node =
     row node.name None ∷ map (λ r. row (node.name ++ r.name) r.leaf) (rows_of_parts [] node.parts)
 
+-- a list of parts as the parts of a structure
 abbrev pub parts_of : List NodePart → Parts
 parts_of [] = end
 parts_of (p ∷ ps) = part p (parts_of ps)
@@ -190,10 +191,11 @@ interlocking_parts =
 abbrev pub magnitude : NodePart
 magnitude = inside (codes "mag") (value (codes "i") (Int32 (pos 0)) ∷ [])
 
--- a measured value, and the measured value of a phase (IEC 61850-7-3, MV and CMV)
+-- a measured value (IEC 61850-7-3, MV)
 abbrev pub measured_value : List ℕ → NodePart
 measured_value name = inside name (magnitude ∷ stamp Invalid)
 
+-- the measured value of a phase (IEC 61850-7-3, CMV)
 abbrev pub phase : List ℕ → NodePart
 phase name = inside name (inside (codes "cVal") (magnitude ∷ []) ∷ stamp Invalid)
 
@@ -266,10 +268,11 @@ abbrev pub position_nodes : Bool → List Switch → List Node
 position_nodes breakers switches =
     map position_node (enumerate_from 1 (filter (is_of breakers) switches))
 
--- the nodes of the controls and of the interlocking, numbered in the order of the switches, from 1
+-- the nodes of the controls, numbered in the order of the switches, from 1
 abbrev pub control_nodes : List Switch → List Node
 control_nodes switches = map control_node (enumerate_from 1 switches)
 
+-- the nodes of the interlocking, numbered in the order of the switches, from 1
 abbrev pub interlocking_nodes : List Switch → List Node
 interlocking_nodes switches = map interlocking_node (enumerate_from 1 switches)
 

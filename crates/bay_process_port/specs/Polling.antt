@@ -31,9 +31,11 @@ pub record AttendedPart : Type 0 where
   pub after : Result PortData DisconnectReason
   pub calls : List Call
 
+-- the connection stays open
 abbrev pub stays_open : PortData → List Call → AttendedPart
 stays_open p calls = record { after = Ok p; calls = calls }
 
+-- the connection must be closed
 abbrev pub must_close : DisconnectReason → List Call → AttendedPart
 must_close why calls = record { after = Err why; calls = calls }
 
@@ -68,6 +70,7 @@ abbrev pub offered_of : List ℕ → Option ℕ → PortData → AttendedPart
 offered_of [] taken p = stays_open p []
 offered_of (b ∷ bs) taken p = after_write taken p (Writes 1 (b ∷ bs) taken ∷ [])
 
+-- the queue is offered once
 abbrev pub offer_part : Option ℕ → PortData → AttendedPart
 offer_part taken p = offered_of p.queue taken p
 
@@ -87,12 +90,14 @@ read_by heard p =
 
 -- ---- one after the other
 
+-- a part, and the next one unless the connection must be closed
 abbrev pub part_then : Result PortData DisconnectReason → List Call → (PortData → AttendedPart)
     → AttendedPart
 part_then (Err why) calls next = must_close why calls
 part_then (Ok p) calls next =
     record { after = (next p).after; calls = calls ++ (next p).calls }
 
+-- two parts, one after the other
 abbrev pub and_then : AttendedPart → (PortData → AttendedPart) → AttendedPart
 and_then part next = part_then part.after part.calls next
 
@@ -118,6 +123,7 @@ closed_or_open before (Err why) calls = record {
   calls = calls ++ Closes 1 ∷ [];
 }
 
+-- a connected process is served
 abbrev pub attended_here : PortData → AttendedPart → Attended
 attended_here before part = closed_or_open before part.after part.calls
 
@@ -143,9 +149,11 @@ opened_or_closed before (Ok p) calls = record { port = p; news = Some Opened; ca
 opened_or_closed before (Err why) calls =
     record { port = with_no_data Away before; news = None; calls = calls ++ Closes 1 ∷ [] }
 
+-- a process that was greeted is connected, or its connection is closed again
 abbrev pub after_greeting : PortData → AttendedPart → Attended
 after_greeting before part = opened_or_closed before part.after part.calls
 
+-- the result with this call before its calls
 abbrev pub with_call : Call → Attended → Attended
 with_call call a = record a { calls = call ∷ a.calls }
 
@@ -171,6 +179,7 @@ close_dismissed why p = record {
   calls = Closes 1 ∷ [];
 }
 
+-- what the port does after a turn, by the state of the process
 abbrev pub attended_as : Presence → ReportedTurn → State → Script → PortData → Attended
 attended_as Away t s script p =
     accepted_in t.now s script.accepted (script.heard, script.again) p

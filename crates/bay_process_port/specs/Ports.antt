@@ -45,6 +45,7 @@ abbrev pub initial_presence : Option SupervisionSettings → Presence
 initial_presence None = Away
 initial_presence (Some duties) = Leaving
 
+-- the port before any process has connected
 abbrev pub initial_port : Bool → Option SupervisionSettings → PortData
 initial_port tells duties = empty_port tells duties (initial_presence duties)
 
@@ -70,6 +71,7 @@ pub record PortReading : Type 0 where
   pub line : Option (List ℕ)
   pub port : PortData
 
+-- a turn takes nothing
 abbrev pub empty_reading : PortData → PortReading
 empty_reading p = record { is_lost = false; event = None; line = None; port = p }
 
@@ -96,6 +98,7 @@ silence now None = Ok None
 silence now (Some w) =
     if nat_le (now - w.heard) w.duties.limit then Ok None else Err (Silent w.duties.limit)
 
+-- the message of a line that was judged, or why the connection must be closed
 abbrev pub message_of : Result TimedMessage DisconnectReason
     → Result (Option TimedMessage) DisconnectReason
 message_of (Err why) = Err why
@@ -127,6 +130,7 @@ line_reading now said (Whole line rest) p = record {
   port = record p { kept = rest; watch = watched_after now said p.watch };
 }
 
+-- what a turn takes, by what was judged
 abbrev pub reading_by : ℕ → Result (Option TimedMessage) DisconnectReason → LineSearchData
     → PortData
     → PortReading
@@ -134,6 +138,7 @@ reading_by now (Err why) f p = dismissed_of why p
 reading_by now (Ok None) f p = empty_reading p
 reading_by now (Ok (Some said)) f p = line_reading now said f p
 
+-- what a turn takes of a connected process
 abbrev pub reading_here : State → ℕ → ℕ → PortData → PortReading
 reading_here s now jump p = reading_by now (judged_at s now jump p) (first_line_of p.kept) p
 
@@ -141,6 +146,7 @@ reading_here s now jump p = reading_by now (judged_at s now jump p) (first_line_
 abbrev pub lost_of : PortData → PortReading
 lost_of p = record { is_lost = true; event = None; line = None; port = with_no_data Away p }
 
+-- what a turn takes, by the state of the process
 abbrev pub reading_as : Presence → State → ℕ → ℕ → PortData → PortReading
 reading_as Away s now jump p = empty_reading p
 reading_as Leaving s now jump p = lost_of p

@@ -25,6 +25,7 @@ pub record ReportedTurn : Type 0 where
   pub text : List ℕ
   pub over : Option ℕ
 
+-- the turn at a moment, by its report and the device after it
 abbrev pub reported_turn : ℕ → Turn → State → ReportedTurn
 reported_turn now turn s =
     record { now = now; text = process_turn_text now turn s; over = turn.over }
@@ -33,14 +34,17 @@ reported_turn now turn s =
 abbrev pub over_line : ℕ → List ℕ → List ℕ
 over_line now id = decimal now ++ codes " over " ++ id ++ codes "\n"
 
+-- the line of an operate of this switch that has expired; nothing without a switch
 abbrev pub expiry_part : ℕ → Option Switch → List ℕ
 expiry_part now None = []
 expiry_part now (Some switch) = over_line now switch.id
 
+-- the line of an operate that has expired, if one has
 abbrev pub expiry_text : ℕ → State → Option ℕ → List ℕ
 expiry_text now s None = []
 expiry_text now s (Some k) = expiry_part now (slice_get s.switches k)
 
+-- only a supervised process receives the line of an operate that has expired
 abbrev pub expiry_for : Option Watched → Option ℕ → Option ℕ
 expiry_for None over = None
 expiry_for (Some w) over = over
@@ -50,6 +54,7 @@ abbrev pub lives_in : Option Watched → Bool
 lives_in None = false
 lives_in (Some w) = w.lives
 
+-- the line that the server is alive, if it must be sent
 abbrev pub alive_text : ℕ → Bool → List ℕ
 alive_text now lives = if lives then decimal now ++ codes " alive\n" else []
 

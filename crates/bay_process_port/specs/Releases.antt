@@ -47,6 +47,7 @@ abbrev pub release_line : List ℕ → Release → List ℕ
 release_line id release =
     id ++ codes "=" ++ digit_text release.0 ++ digit_text release.1 ++ codes "\n"
 
+-- the line of the release of this switch; nothing without a switch
 abbrev pub release_part : Release → Option Switch → List ℕ
 release_part release None = []
 release_part release (Some switch) = release_line switch.id release

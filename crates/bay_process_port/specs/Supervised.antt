@@ -19,10 +19,10 @@ pub record SupervisionSettings : Type 0 where
   pub limit : ℕ
   pub key : List ℕ
 
--- and what is known of it: whether it has introduced itself; the moment of the last line that was
--- taken, but no later one than that of its turn, or before the first line the moment at which the
--- connection was accepted; the moment that this line names; and whether the last turn took a line
--- which reports that the process lives
+-- what is known of a supervised process: its settings; whether it has introduced itself; the moment
+-- of the last line that was taken, but no later one than that of its turn, or before the first line
+-- the moment at which the connection was accepted; the moment that this line names; and whether the
+-- last turn took a line which reports that the process lives
 pub record Watched : Type 0 where
   pub duties : SupervisionSettings
   pub introduced : Bool
@@ -35,6 +35,7 @@ abbrev pub initial_watch : SupervisionSettings → Watched
 initial_watch duties =
     record { duties = duties; introduced = false; heard = 0; last = 0; lives = false }
 
+-- the supervision settings, if the process is supervised
 abbrev pub settings_in : Option Watched → Option SupervisionSettings
 settings_in watch = option_map (λ (w : Watched). w.duties) watch
 
@@ -48,7 +49,7 @@ heard_at moment watch = option_map (λ (w : Watched). record w { heard = moment 
 abbrev pub is_timely : ℕ → ℕ → ℕ → Bool
 is_timely limit now moment = nat_le (now - moment) limit && nat_le (moment - now) limit
 
--- or the connection ends
+-- the message with its moment, if the moment is timely; otherwise the connection ends
 abbrev pub judge_moment : ℕ → ℕ → ℕ → ProcessMessage → Result TimedMessage DisconnectReason
 judge_moment limit now moment word =
     if is_timely limit now moment then Ok (record { moment = moment; word = word })
@@ -65,8 +66,8 @@ abbrev pub word_of : Option ProcessEvent → ProcessMessage
 word_of None = Lives
 word_of (Some event) = Reports event
 
--- but the moments of a process do not go back: a line whose moment is before that of the last line
--- that was taken ends the connection
+-- The moments of a process do not go back: a line whose moment is before that of the last line that
+-- was taken ends the connection
 abbrev pub judge_later_line : List ℕ → Watched → ℕ → Option TimedLine
     → Result TimedMessage DisconnectReason
 judge_later_line line w now None = Err (BadLine (shown_text line))
@@ -110,7 +111,7 @@ line_in (Reports event) line = Some line
 line_in Introduces line = None
 line_in Lives line = None
 
--- what is known of the process after it
+-- what is known of the process after a message
 abbrev pub known_as : ProcessMessage → Watched → Watched
 known_as Blank w = w
 known_as (Reports event) w = w
@@ -122,6 +123,7 @@ abbrev pub known_by : ℕ → TimedMessage → Watched → Watched
 known_by now said w =
     known_as said.word (record w { heard = min now said.moment; last = said.moment })
 
+-- what is known of the process after a message, if it is supervised
 abbrev pub watched_after : ℕ → TimedMessage → Option Watched → Option Watched
 watched_after now said watch = option_map (known_by now said) watch
 

@@ -32,6 +32,7 @@ abbrev pub line_read : Use → PortData → List (List ℕ)
 line_read (Takes s now jump) p = option_to_list (reading_at s now jump p).line
 line_read (Attends t s script) p = []
 
+-- the octets of a read
 abbrev pub octets_in : ReadOutcome → List ℕ
 octets_in (Octets octets) = octets
 octets_in Silence = []
@@ -46,20 +47,24 @@ octets_read_by (Reads a room heard ∷ calls) = octets_in heard ++ octets_read_b
 octets_read_by (Writes a octets taken ∷ calls) = octets_read_by calls
 octets_read_by (Closes a ∷ calls) = octets_read_by calls
 
+-- the octets that the link read in a use
 abbrev pub octets_read : Use → PortData → List ℕ
 octets_read (Takes s now jump) p = []
 octets_read (Attends t s script) p = octets_read_by (attendance t s script p).calls
 
 -- ---- one use after the other
 
+-- the port after uses
 abbrev pub after_uses : List Use → PortData → PortData
 after_uses [] p = p
 after_uses (u ∷ us) p = after_uses us (port_after u p)
 
+-- the lines that turns take in uses
 abbrev pub all_lines_read : List Use → PortData → List (List ℕ)
 all_lines_read [] p = []
 all_lines_read (u ∷ us) p = line_read u p ++ all_lines_read us (port_after u p)
 
+-- the octets that the link read in uses
 abbrev pub all_octets_read : List Use → PortData → List ℕ
 all_octets_read [] p = []
 all_octets_read (u ∷ us) p = octets_read u p ++ all_octets_read us (port_after u p)
@@ -89,10 +94,12 @@ releases_sent_as Leaving s p = []
 releases_sent_as (Dismissed why) s p = []
 releases_sent_as Here s p = new_releases s p.told
 
+-- the releases that are sent in a use, to a connected process
 abbrev pub releases_sent : Use → PortData → List (ℕ × Release)
 releases_sent (Takes s now jump) p = []
 releases_sent (Attends t s script) p = releases_sent_as p.presence s p
 
+-- the releases that are sent in uses
 abbrev pub all_releases_sent : List Use → PortData → List (ℕ × Release)
 all_releases_sent [] p = []
 all_releases_sent (u ∷ us) p = releases_sent u p ++ all_releases_sent us (port_after u p)

@@ -187,15 +187,15 @@ impl SupervisedProcess {
         self.lives = false;
     }
 
-    /// Its connection was accepted at a moment.
+    /// Records that its connection was accepted at a moment.
     pub(crate) fn mark_active(&mut self, moment: u64)
         ensures { self.new ≡ record self.old { heard = moment } }
     {
         self.heard = moment;
     }
 
-    /// A turn at a moment took a line. The line counts from the moment that it names, but from no
-    /// later one than that of the turn.
+    /// Records that a turn at a moment took a line. The line counts from the moment that it names,
+    /// but from no later one than that of the turn.
     pub(crate) fn accept_message(&mut self, now: u64, said: TimedMessage)
         ensures { self.new ≡ spec.known_by now said self.old }
     {

@@ -59,6 +59,7 @@ pub record IsAnswered (begin : List ℕ) (first : State) (past : List Past)
       (pdu_in sent))) operate
   pub remote : IsAtRemote first earlier operate
 
+-- Each line of a command in the text of a run is answered so.
 abbrev pub AreAnswered : (parts : ScenarioParts) (first : State) (text : List ℕ) (status : ℕ)
     → IsRun parts first text status → Type 0
 AreAnswered parts first text status run =

@@ -51,6 +51,7 @@ pub record IsMeant (c : Checked) (begin : List ℕ) (first : State) (past : List
   pub values : AreValues first.writes (outputs_of (map point_of c.externals) after.externals) 0
       first.switches read.switches
 
+-- Each line of a scan in the text of a run has what the program means.
 abbrev pub AreMeant : (parts : ScenarioParts) (first : State) (text : List ℕ) (status : ℕ)
     → IsRun parts first text status → Type 0
 AreMeant parts first text status run =

@@ -81,6 +81,7 @@ switches_in (word ∷ words) =
     option_and_then (λ switch. option_map (λ more. switch ∷ more) (switches_in words))
     (switch_in (parts_in word))
 
+-- a line of a scan: its moment, its steps, and the switches
 pub record PrintedScan : Type 0 where
   pub moment : ℕ
   pub steps : ℕ
@@ -105,11 +106,13 @@ printed_scan line = scan_in (words_in line)
 
 -- ---- the line of a command
 
+-- a line of a command: its moment, the id of the switch, and the operation
 pub record PrintedCommand : Type 0 where
   pub moment : ℕ
   pub id : List ℕ
   pub operation : Operation
 
+-- `on` closes a switch, `off` opens it
 abbrev pub order_of : List ℕ → Option Operation
 order_of word =
     if bytes_eq word (codes "on") then Some operations.Close

@@ -29,13 +29,14 @@ switches_digits s k (switch ∷ switches) =
 abbrev pub IsEnded : List ℕ → List ℕ → Type 0
 IsEnded text line = text ≡ line ++ 10 ∷ []
 
--- The line of a load, of a scan, of a command and of sent octets is read back.
+-- The line of a load is read back.
 abbrev pub ReadsBudgets : Type 0
 ReadsBudgets =
     (report : Report) → report.budget < 2 ^ 64
     → (line : List ℕ) × IsEnded (report_text report) line
     × (printed_budget line ≡ Some report.budget)
 
+-- The line of a scan is read back.
 abbrev pub ReadsScans : Type 0
 ReadsScans =
     (now steps : ℕ) (s : State) → now < 2 ^ 64 → steps < 2 ^ 64 → HaveIds s.switches
@@ -43,6 +44,7 @@ ReadsScans =
     × (printed_scan line ≡ Some (record
     { moment = now; steps = steps; switches = switches_digits s 0 s.switches }))
 
+-- The line of a command is read back.
 abbrev pub ReadsCommands : Type 0
 ReadsCommands =
     (now : ℕ) (id : List ℕ) (operation : Operation) → now < 2 ^ 64 → is_identifier 16 id ≡ true
@@ -50,6 +52,7 @@ ReadsCommands =
     × (printed_command line ≡ Some (record
     { moment = now; id = id; operation = operation }))
 
+-- The line of sent octets is read back.
 abbrev pub ReadsSends : Type 0
 ReadsSends =
     (now : ℕ) (sent : Sent)

@@ -4,6 +4,7 @@ use Rattle.std.specs.List.{Contains}
 use Rattle.cmd_replay.specs.Replay.{IsReport}
 use Rattle.bay_replay_laws.specs.Printed.{PrintedScan, lines_in, printed_budget, printed_scan}
 
+-- the first of some lines
 abbrev pub first_of : List (List ℕ) → List ℕ
 first_of [] = []
 first_of (line ∷ lines) = line
@@ -16,7 +17,7 @@ AreWithinBudget text =
     → (budget : ℕ) × (printed_budget (first_of (lines_in text)) ≡ Some budget)
     × (scan.steps ≤ budget)
 
--- This holds for each report.
+-- In each report the lines of scans are within the budget.
 abbrev pub ScansAreWithinBudget : Type 0
 ScansAreWithinBudget =
     (scenario : List ℕ) (log : Option (List ℕ)) (text : List ℕ) (status : ℕ)

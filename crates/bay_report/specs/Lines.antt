@@ -54,10 +54,12 @@ order_text operations.Close = codes " on\n"
 abbrev pub command_line : ℕ → List ℕ → Operation → List ℕ
 command_line now id operation = decimal now ++ codes " command " ++ id ++ order_text operation
 
+-- the line of a command to this switch; nothing without a switch
 abbrev pub command_part : ℕ → Operation → Option Switch → List ℕ
 command_part now operation None = []
 command_part now operation (Some switch) = command_line now switch.id operation
 
+-- the line of a command to the switch at its index
 abbrev pub command_text : ℕ → State → Command → List ℕ
 command_text now s command =
     command_part now command.operation (slice_get s.switches command.switch)
@@ -78,7 +80,7 @@ abbrev pub closing_text : ℕ → ℕ → Why → List ℕ
 closing_text now a why =
     decimal now ++ codes " closed " ++ decimal a ++ codes " " ++ why_text why
 
--- the same, if one was closed
+-- the line of the association that was closed, if one was
 abbrev pub closed_text : ℕ → Option (ℕ × Why) → List ℕ
 closed_text now None = []
 closed_text now (Some closed) = closing_text now closed.0 closed.1

@@ -10,8 +10,7 @@ use Rattle.bay_io.specs.declared.input.ReadFault.{ReadFault}
 use Rattle.bay_io.specs.declared.input.ReadFault.TheVariants as unread
 use Rattle.bay_io.specs.declared.outbox.WriteFault.{WriteFault}
 use Rattle.bay_lines.specs.Escaped.{shown_text}
-use Rattle.bay_load.specs.Errors.{code_of, line_of}
-use Rattle.bay_load.specs.Words.{words_of}
+use Rattle.bay_load.specs.Errors.{code_of, line_of, words_of}
 use Rattle.bay_load.specs.declared.error.LoadError.{LoadError}
 use Rattle.bay_report.specs.Report.{IsLast, Prints, refusal_of}
 
@@ -57,7 +56,7 @@ unread_line name (unread.Failed kind) =
     Some (codes "bayctl: fault 121: " ++ (name ++ (codes ": " ++ (kind_words kind ++ codes "\n"))))
 unread_line name unread.OutOfMemory = None
 
--- the text that is printed for it
+-- the text that is printed for a file that can't be read
 abbrev pub unread_text : ReadFault → List ℕ
 unread_text unread.TooLong = codes "fault 121\n"
 unread_text (unread.Failed kind) = codes "fault 121\n"
@@ -78,6 +77,7 @@ refused_by (Some code) line words =
     ++ (codes ": " ++ (words ++ codes "\n")))))
 refused_by None line words = None
 
+-- the log line of a refused load; none if memory ran out
 abbrev pub refused_line : LoadError → Option (List ℕ)
 refused_line error = refused_by (code_of error) (line_of error) (words_of error)
 
@@ -99,11 +99,11 @@ unreadable_line k line =
 abbrev pub write_words : ErrorKind → List ℕ
 write_words kind.AlreadyExists = codes "it exists already, so name a new file"
 write_words kind.NotFound = codes "there is no such folder"
-write_words kind.PermissionDenied = codes "permission denied"
-write_words kind.IsADirectory = codes "it is a folder"
-write_words kind.NotADirectory = codes "a part of its name is no folder"
-write_words kind.FilesystemLoop = codes "too many links"
-write_words kind.InvalidFilename = codes "its name is too long"
+write_words kind.PermissionDenied = kind_words kind.PermissionDenied
+write_words kind.IsADirectory = kind_words kind.IsADirectory
+write_words kind.NotADirectory = kind_words kind.NotADirectory
+write_words kind.FilesystemLoop = kind_words kind.FilesystemLoop
+write_words kind.InvalidFilename = kind_words kind.InvalidFilename
 write_words kind.StorageFull = codes "no space is left"
 write_words kind.ReadOnlyFilesystem = codes "its file system is read-only"
 write_words _ = codes "it can't be written"

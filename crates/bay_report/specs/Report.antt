@@ -24,6 +24,7 @@ abbrev pub refusal_by : Option ℕ → ℕ → List ℕ
 refusal_by None line = codes "load refused memory\n"
 refusal_by (Some code) line = numbered_refusal code line
 
+-- the line of a refused load
 abbrev pub refusal_of : LoadError → List ℕ
 refusal_of fault = refusal_by (error.code_of fault) (error.line_of fault)
 
@@ -49,7 +50,7 @@ pub record Reports (May : List ℕ → ℕ → Type 0) (pending : List ℕ) (old
   pub told : May text status
   pub appended : Appends old new (pending ++ text)
 
--- the writer received a prefix of these
+-- the writer received a prefix of what was pending and of one text that may be printed
 pub record ReportsPart (May : List ℕ → ℕ → Type 0) (pending : List ℕ) (old new : Option (List ℕ))
     : Type 0 where
   pub text : List ℕ
@@ -72,7 +73,7 @@ Printed contents May old new (Err fault) =
     ReportsPart May old.pending (contents old.inner) (contents new.inner)
     × (new.has_failed ≡ true)
 
--- the same, with the calls on the writer, none of which logs
+-- A text was printed (`Printed`) by these calls on the writer, none of which logs.
 pub record Prints {W : Type 0} (contents : W → Option (List ℕ)) (asks : W → WriteCall → W → Type 0)
     (May : List ℕ → ℕ → Type 0) (old new : Writing W) (result : Result ℕ WriteFault)
     : Type 0 where

@@ -124,8 +124,8 @@ fn put_ended<W: Sink>(writer: &mut WatchedWriter<W>, moment: u64, ended: &Option
     }
 }
 
-// Returns the end of a command's line.
-fn order(operation: Operation) -> &'static [u8]
+/// Returns the end of a command's line.
+pub fn command_end(operation: Operation) -> &'static [u8]
     ensures { result.now ≡ order_text operation }
 {
     match operation {
@@ -147,7 +147,7 @@ fn put_command_line<W: Sink>(
     writer.put_number(moment);
     writer.put(b" command ");
     writer.put(id.as_bytes());
-    writer.put(order(operation));
+    writer.put(command_end(operation));
 }
 
 // Writes the line of a command; nothing if the device has no such switch.

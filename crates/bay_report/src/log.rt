@@ -69,11 +69,11 @@ fn write_words(kind: ErrorKind) -> &'static [u8]
     match kind {
         ErrorKind::AlreadyExists => b"it exists already, so name a new file",
         ErrorKind::NotFound => b"there is no such folder",
-        ErrorKind::PermissionDenied => b"permission denied",
-        ErrorKind::IsADirectory => b"it is a folder",
-        ErrorKind::NotADirectory => b"a part of its name is no folder",
-        ErrorKind::FilesystemLoop => b"too many links",
-        ErrorKind::InvalidFilename => b"its name is too long",
+        ErrorKind::PermissionDenied
+        | ErrorKind::IsADirectory
+        | ErrorKind::NotADirectory
+        | ErrorKind::FilesystemLoop
+        | ErrorKind::InvalidFilename => kind_words(kind),
         ErrorKind::StorageFull => b"no space is left",
         ErrorKind::ReadOnlyFilesystem => b"its file system is read-only",
         _ => b"it can't be written",

@@ -69,10 +69,11 @@ seen_log Position now id before after =
 seen_log Release now id before after =
     word_log now (codes " release ") id (release_word before.release) (release_word after.release)
 
+-- the change of the switch at an index
 abbrev pub switch_log : Column → ℕ → State → ℕ → SwitchView → List (List ℕ)
 switch_log column now s k before = seen_log column now (id_of s k) before (seen_at s k)
 
--- the same for the switches from index k on
+-- the changes of the switches from index k on
 abbrev pub switches_log : Column → ℕ → State → ℕ → List SwitchView → List (List ℕ)
 switches_log column now s k [] = []
 switches_log column now s k (before ∷ more) =
@@ -84,6 +85,7 @@ switches_log column now s k (before ∷ more) =
 abbrev pub end_line : ℕ → State → List ℕ → ℕ → List ℕ
 end_line now s why k = concat (utc_text now ∷ codes " operate of " ∷ id_of s k ∷ why ∷ [])
 
+-- the line of an operate that has ended, if one has
 abbrev pub end_log : ℕ → State → List ℕ → Option ℕ → List (List ℕ)
 end_log now s why None = []
 end_log now s why (Some k) = end_line now s why k ∷ []
@@ -105,6 +107,7 @@ abbrev pub reached_in : Option ℕ → Option ℕ → Option ℕ
 reached_in (Some after) operating = None
 reached_in None operating = operating
 
+-- the operates that have ended in a turn: because the time expired, or the position was reached
 abbrev pub ends_log : ℕ → BayView → State → Turn → List (List ℕ)
 ends_log now before s turn =
     end_log now s (codes " ended: time over\n") turn.over

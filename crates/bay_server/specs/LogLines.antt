@@ -6,8 +6,8 @@ use Rattle.std.specs.Net.Addr.{ipv4_octets}
 use Rattle.std.specs.Net.Socket.{v4_ip, v4_port}
 use Rattle.std.specs.declared.net.socket_addr.SocketAddrV4.{SocketAddrV4}
 use Rattle.bay_io.specs.Moments.{utc_text}
+use Rattle.bay_control.specs.Causes as causes
 use Rattle.bay_control.specs.declared.cause.AddCause.{AddCause}
-use Rattle.bay_control.specs.declared.cause.AddCause.TheVariants.{NotSupported, BlockedBySwitchingHierarchy, SelectFailed, PositionReached, BlockedByMode, BlockedByProcess, BlockedByInterlocking, BlockedBySynchrocheck, CommandAlreadyInExecution, OneOfNControl, TimeLimitOver, ObjectNotSelected}
 use Rattle.bay_device.specs.Device.{State}
 use Rattle.bay_lines.specs.Escaped.{shown_text}
 use Rattle.bay_base.specs.declared.switch.Operation.{Operation}
@@ -17,7 +17,7 @@ use Rattle.bay_process_port.specs.declared.connection_event.ConnectionEvent.{Con
 use Rattle.bay_process_port.specs.declared.connection_event.ConnectionEvent.TheVariants.{Opened, Closed}
 use Rattle.bay_process_port.specs.declared.connection_event.DisconnectReason.{DisconnectReason}
 use Rattle.bay_process_port.specs.declared.connection_event.DisconnectReason.TheVariants as parting
-use Rattle.bay_server_turn.specs.Code.{code_of}
+use Rattle.bay_server_turn.specs.Code.{code_of, words_of}
 use Rattle.bay_mms_services.specs.declared.answer.ControlRequest.{ControlRequest}
 use Rattle.bay_mms_services.specs.declared.answer.ControlDecision.{ControlDecision}
 use Rattle.bay_mms_services.specs.declared.target.ControlPart.{ControlPart}
@@ -25,7 +25,6 @@ use Rattle.bay_mms_services.specs.declared.target.ControlPart.TheVariants.{Selec
 use Rattle.bay_server_turn.specs.declared.fault.ServeFault.{ServeFault}
 use Rattle.bay_server_turn.specs.declared.fault.ServeFault.TheVariants.{BadLine, MomentTooLarge}
 use Rattle.bay_server_turn.specs.declared.turn_report.CloseReason.{CloseReason}
-use Rattle.bay_server_turn.specs.declared.turn_report.CloseReason.TheVariants as closing
 use Rattle.bay_server.specs.declared.clock.ClockShift.{ClockShift}
 use Rattle.bay_server.specs.declared.clock.ClockSide.{ClockSide}
 use Rattle.bay_server.specs.declared.clock.ClockSide.TheVariants.{Near, Ahead, Behind}
@@ -39,16 +38,17 @@ concat (text ∷ texts) = text ++ concat texts
 
 -- ---- ports
 
--- why a port can't be opened
-abbrev pub reason_of : BindFault → List ℕ
-reason_of InUse = codes "another program uses it"
-reason_of Denied = codes "permission denied"
-reason_of NoDescriptor = codes "too many open files"
-reason_of Failed = codes "the system does not open it"
+-- why a port can't be opened, in words
+abbrev pub bind_words : BindFault → List ℕ
+bind_words InUse = codes "another program uses it"
+bind_words Denied = codes "permission denied"
+bind_words NoDescriptor = codes "too many open files"
+bind_words Failed = codes "the system does not open it"
 
+-- the line of a port that can't be opened
 abbrev pub unbound_log : ℕ → BindFault → List ℕ
 unbound_log port fault =
-    concat (codes "bayctl: fault 121: port " ∷ decimal port ∷ codes ": " ∷ reason_of fault
+    concat (codes "bayctl: fault 121: port " ∷ decimal port ∷ codes ": " ∷ bind_words fault
     ∷ codes "\n" ∷ [])
 
 -- the ports that are listened on: that of the clients, and that of the process, if there is one
@@ -72,32 +72,12 @@ side_line now distance Behind =
     concat (utc_text now ∷ codes " the system's clock is " ∷ decimal distance
     ∷ codes " ms behind\n" ∷ [])
 
+-- the line of a change of the side, if there is one
 abbrev pub shift_log : ℕ → Option ClockShift → List (List ℕ)
 shift_log now None = []
 shift_log now (Some shift) = side_line now shift.distance shift.side ∷ []
 
 -- ---- associations
-
--- the meaning of a fault of the device, by its number
-abbrev pub fault_words : ℕ → List ℕ
-fault_words code =
-    if code == 10 then codes "no TPKT"
-    else if code == 11 then codes "a TPDU that is malformed, unknown or out of place"
-    else if code == 12 then codes "a transport class other than 0"
-    else if code == 13 then codes "a TSDU of more than 70,000 octets"
-    else if code == 20 then codes "no SPDU"
-    else if code == 21 then codes "a malformed PPDU"
-    else if code == 22 then codes "a presentation context that was not offered or accepted"
-    else if code == 23 then codes "an APDU that can't be read"
-    else if code == 24 then codes "an SPDU out of place"
-    else if code == 25 then codes "a PDU size below 256"
-    else codes "octets that can't be read"
-
-abbrev pub closing_words : CloseReason → List ℕ
-closing_words closing.Ended = codes "its client ended it"
-closing_words (closing.Fault code) = fault_words code
-closing_words closing.QueueFull = codes "a reply does not fit its queue"
-closing_words closing.LinkFailed = codes "its connection failed, or it sent nothing for too long"
 
 -- one of the four octets of an address
 abbrev pub octet_text : SocketAddrV4 → ℕ → List ℕ
@@ -110,6 +90,7 @@ opened_line now opened =
     ∷ octet_text opened.1 0 ∷ codes "." ∷ octet_text opened.1 1 ∷ codes "." ∷ octet_text opened.1 2
     ∷ codes "." ∷ octet_text opened.1 3 ∷ codes ":" ∷ decimal (v4_port opened.1) ∷ codes "\n" ∷ [])
 
+-- the line of an association that was opened, if one was
 abbrev pub opened_log : ℕ → Option (ℕ × SocketAddrV4) → List (List ℕ)
 opened_log now None = []
 opened_log now (Some opened) = opened_line now opened ∷ []
@@ -118,7 +99,7 @@ opened_log now (Some opened) = opened_line now opened ∷ []
 abbrev pub closed_line : ℕ → ℕ × CloseReason → List ℕ
 closed_line now closed =
     concat (utc_text now ∷ codes " association " ∷ decimal closed.0 ∷ codes " closed "
-    ∷ decimal (code_of closed.1) ∷ codes ": " ∷ closing_words closed.1 ∷ codes "\n" ∷ [])
+    ∷ decimal (code_of closed.1) ∷ codes ": " ∷ words_of closed.1 ∷ codes "\n" ∷ [])
 
 -- an association was closed because memory ran out
 abbrev pub memory_line : ℕ → ℕ → List ℕ
@@ -134,30 +115,12 @@ service_words SelectWith = codes " select "
 service_words Operate = codes " operate "
 service_words Cancel = codes " cancel "
 
--- the decision, with the number of the cause and its text
-abbrev pub verdict_words : Result (Unit {0}) AddCause → List ℕ
-verdict_words (Ok done) = codes ": done\n"
-verdict_words (Err NotSupported) =
-    codes ": refused 1: the switch has no control of this kind\n"
-verdict_words (Err BlockedBySwitchingHierarchy) =
-    codes ": refused 2: the key of the switch is at local\n"
-verdict_words (Err SelectFailed) =
-    codes ": refused 3: another association has selected the switch\n"
-verdict_words (Err PositionReached) =
-    codes ": refused 5: the switch is where it is asked to go\n"
-verdict_words (Err BlockedByMode) = codes ": refused 8: the request is a test request\n"
-verdict_words (Err BlockedByProcess) = codes ": refused 9: the process is lost\n"
-verdict_words (Err BlockedByInterlocking) =
-    codes ": refused 10: the interlocking does not release the operation\n"
-verdict_words (Err BlockedBySynchrocheck) =
-    codes ": refused 11: the switch has no synchrocheck\n"
-verdict_words (Err CommandAlreadyInExecution) = codes ": refused 12: the switch is operating\n"
-verdict_words (Err OneOfNControl) =
-    codes ": refused 14: another switch is selected or operating\n"
-verdict_words (Err TimeLimitOver) =
-    codes ": refused 16: the switch did not reach its position in time\n"
-verdict_words (Err ObjectNotSelected) =
-    codes ": refused 18: the association has not selected the switch for this\n"
+-- the decision, with the number and the words of the cause of a refusal
+abbrev pub verdict_texts : Result (Unit {0}) AddCause → List (List ℕ)
+verdict_texts (Ok done) = codes ": done\n" ∷ []
+verdict_texts (Err cause) =
+    codes ": refused " ∷ decimal (causes.code_of cause) ∷ codes ": " ∷ causes.words_of cause
+    ∷ codes "\n" ∷ []
 
 -- an operation closes
 abbrev pub is_close : Operation → Bool
@@ -183,19 +146,21 @@ written_line now id ident decision asked =
     ∷ service_words decision.part ∷ id ∷ position_words asked.operation ∷ sign_text asked.origin.cat
     ∷ decimal (unsigned_abs asked.origin.cat) ∷ codes " orIdent="
     ∷ ident ∷ codes " ctlNum=" ∷ decimal asked.ctl_num
-    ∷ verdict_words decision.answer ∷ [])
+    ∷ verdict_texts decision.answer)
 
 -- a select by a read
 abbrev pub selected_line : ℕ → List ℕ → ControlDecision → List ℕ
 selected_line now id decision =
     concat (utc_text now ∷ codes " association " ∷ decimal decision.association
-    ∷ service_words decision.part ∷ id ∷ verdict_words decision.answer ∷ [])
+    ∷ service_words decision.part ∷ id ∷ verdict_texts decision.answer)
 
+-- the line of a decision on what was written, or on a select by a read
 abbrev pub line_of : ℕ → List ℕ → ControlDecision → Option ControlRequest → List ℕ
 line_of now id decision None = selected_line now id decision
 line_of now id decision (Some asked) =
     written_line now id (shown_text asked.origin.ident) decision asked
 
+-- the line of a decision
 abbrev pub decision_line : ℕ → State → ControlDecision → List ℕ
 decision_line now s decision = line_of now (id_of s decision.switch) decision decision.asked
 
@@ -233,11 +198,13 @@ parted_line now code words =
     concat (utc_text now ∷ codes " process closed " ∷ decimal code ∷ codes ": " ∷ words
     ∷ codes "\n" ∷ [])
 
+-- its connection was closed because it sent no line for this number of milliseconds
 abbrev pub silent_line : ℕ → ℕ → List ℕ
 silent_line now limit =
     concat (utc_text now ∷ codes " process closed 134: no line for " ∷ decimal limit
     ∷ codes " ms\n" ∷ [])
 
+-- its connection was closed, for this reason
 abbrev pub disconnect_line : ℕ → DisconnectReason → List ℕ
 disconnect_line now parting.Ended = parted_line now 0 (codes "it ended its connection")
 disconnect_line now (parting.BadLine line) = parted_line now 120 line
@@ -254,6 +221,7 @@ disconnect_line now parting.OutOfOrder =
 disconnect_line now (parting.Silent limit) = silent_line now limit
 disconnect_line now parting.Jumped = parted_line now 134 (codes "the clock has jumped")
 
+-- an event of its connection
 abbrev pub connection_event_log : ℕ → ConnectionEvent → List ℕ
 connection_event_log now Opened = concat (utc_text now ∷ codes " process open\n" ∷ [])
 connection_event_log now (Closed why) = disconnect_line now why

@@ -118,7 +118,7 @@ with_loss is_lost (Err fault) = Err fault
 with_loss is_lost (Ok given) =
     Ok (record { is_lost = is_lost || given.is_lost; event = given.event })
 
--- a line of the trace
+-- the input of a turn from a line of the trace
 abbrev pub next_by : State → Bool → ℕ × List ℕ → NextInput
 next_by s is_lost line = record {
   number = line.0;
@@ -126,7 +126,7 @@ next_by s is_lost line = record {
   given = with_loss is_lost (turn_input_of_line s line.1);
 }
 
--- what the port of the process has, if one is heard; it has no number
+-- the input of a turn from the port of the process, if there is one; its line has no number
 abbrev pub from_port : {L : Type 0} → State → ℕ → ℕ → List (ℕ × List ℕ) → Option (ProcessData L)
     → Chosen L
 from_port s now jump lines None = record {
@@ -146,8 +146,8 @@ from_port s now jump lines (Some p) =
       process = Some (record { link = p.link; port = taken.port });
     }
 
--- The next line of the trace, and beside it that the process is lost; or where there is no line
--- what the process has.
+-- The input of a turn is the next line of the trace, with the loss of the process, if it is lost;
+-- if no line is left, it is what the process has.
 abbrev pub from_trace : {L : Type 0} → Option (ℕ × List ℕ) → State → ℕ → ℕ → List (ℕ × List ℕ)
     → Option (ProcessData L) → Chosen L
 from_trace None s now jump lines process = from_port s now jump lines process
@@ -157,6 +157,7 @@ from_trace (Some line) s now jump lines process = record {
   process = after_loss s now jump process;
 }
 
+-- the input of a turn, by the lines of the trace that are left
 abbrev pub choose_input : {L : Type 0} → State → ℕ → ℕ → List (ℕ × List ℕ) → Option (ProcessData L)
     → Chosen L
 choose_input s now jump lines process = from_trace (slice_get lines 0) s now jump lines process

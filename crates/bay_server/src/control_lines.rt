@@ -1,9 +1,10 @@
 // Logs the controls that clients request.
-ghost use Rattle.std.specs.Prelude.{◌≡◌, map};
+ghost use Rattle.std.specs.Prelude.{◌≡◌, ◌++◌, codes, map};
 ghost use Rattle.std.specs.List.{flat_map};
+ghost use Rattle.bay_io.specs.Calls.{part_text};
 ghost use Rattle.bay_io.specs.Sent.{Logs};
 ghost use Rattle.bay_server.specs.Logging.{LogsAll};
-ghost use Rattle.bay_server.specs.LogLines.{decisions_log, decision_line, id_of, selected_line, sign_text, written_line};
+ghost use Rattle.bay_server.specs.LogLines.{concat, decisions_log, decision_line, id_of, selected_line, sign_text, verdict_texts, written_line};
 ghost use Rattle.bay_server.specs.LogLines as spec;
 
 use bay_base::listing::Listing;
@@ -28,40 +29,28 @@ fn service_words(part: ControlPart) -> &'static [u8]
     }
 }
 
-// Returns the decision, with the number of the cause and its text.
-fn verdict_words(answer: Result<(), AddCause>) -> &'static [u8]
-    ensures { result.now ≡ spec.verdict_words answer }
+// The parts of a line that say what was decided, all but its end.
+type VerdictParts = (
+    LinePart<'static>,
+    LinePart<'static>,
+    LinePart<'static>,
+    LinePart<'static>,
+);
+
+// Returns what was decided, with the number and the words of the cause of a refusal.
+fn verdict_parts(answer: Result<(), AddCause>) -> VerdictParts
+    ensures { part_text result.0 ++ (part_text result.1 ++ (part_text result.2
+        ++ (part_text result.3 ++ codes "\n"))) ≡ concat (verdict_texts answer) }
 {
+    let nothing = LinePart::Text(b"");
     match answer {
-        Ok(()) => b": done\n",
-        Err(AddCause::NotSupported) => { b": refused 1: the switch has no control of this kind\n" }
-        Err(AddCause::BlockedBySwitchingHierarchy) => {
-            b": refused 2: the key of the switch is at local\n"
-        }
-        Err(AddCause::SelectFailed) => {
-            b": refused 3: another association has selected the switch\n"
-        }
-        Err(AddCause::PositionReached) => {
-            b": refused 5: the switch is where it is asked to go\n"
-        }
-        Err(AddCause::BlockedByMode) => b": refused 8: the request is a test request\n",
-        Err(AddCause::BlockedByProcess) => b": refused 9: the process is lost\n",
-        Err(AddCause::BlockedByInterlocking) => {
-            b": refused 10: the interlocking does not release the operation\n"
-        }
-        Err(AddCause::BlockedBySynchrocheck) => {
-            b": refused 11: the switch has no synchrocheck\n"
-        }
-        Err(AddCause::CommandAlreadyInExecution) => b": refused 12: the switch is operating\n",
-        Err(AddCause::OneOfNControl) => {
-            b": refused 14: another switch is selected or operating\n"
-        }
-        Err(AddCause::TimeLimitOver) => {
-            b": refused 16: the switch did not reach its position in time\n"
-        }
-        Err(AddCause::ObjectNotSelected) => {
-            b": refused 18: the association has not selected the switch for this\n"
-        }
+        Ok(()) => (LinePart::Text(b": done"), nothing, nothing, nothing),
+        Err(cause) => (
+            LinePart::Text(b": refused "),
+            LinePart::Number(u64::from(cause.code())),
+            LinePart::Text(b": "),
+            LinePart::Text(cause.words().as_bytes()),
+        ),
     }
 }
 
@@ -104,6 +93,7 @@ fn log_written<'a, W: Sink>(
     ensures { Logs W.contents W.does writer.old
         (written_line moment id.now ident.now decision.now asked.now) writer.new }
 {
+    let (verdict, number, colon, cause) = verdict_parts(decision.answer);
     writer.log(&[
         LinePart::Moment(moment),
         LinePart::Text(b" association "),
@@ -117,7 +107,11 @@ fn log_written<'a, W: Sink>(
         LinePart::Text(ident),
         LinePart::Text(b" ctlNum="),
         LinePart::Number(u64::from(asked.ctl_num)),
-        LinePart::Text(verdict_words(decision.answer)),
+        verdict,
+        number,
+        colon,
+        cause,
+        LinePart::Text(b"\n"),
     ]);
 }
 
@@ -131,13 +125,18 @@ fn log_selected<W: Sink>(
     ensures { Logs W.contents W.does writer.old (selected_line moment id.now decision.now)
         writer.new }
 {
+    let (verdict, number, colon, cause) = verdict_parts(decision.answer);
     writer.log(&[
         LinePart::Moment(moment),
         LinePart::Text(b" association "),
         LinePart::Number(u64::from(decision.association)),
         LinePart::Text(service_words(decision.part)),
         LinePart::Text(id),
-        LinePart::Text(verdict_words(decision.answer)),
+        verdict,
+        number,
+        colon,
+        cause,
+        LinePart::Text(b"\n"),
     ]);
 }
 

@@ -1,7 +1,7 @@
 // The system that serving uses: ports, and two clocks.
 ghost use Rattle.std.specs.Prelude.{◌≡◌};
 ghost use Rattle.bay_server.specs.Host.{HostCall, Binds, Tells, Pauses};
-ghost use Rattle.bay_server.specs.LogLines.{reason_of};
+ghost use Rattle.bay_server.specs.LogLines.{bind_words};
 
 use crate::clock::Clocks;
 use bay_net::readiness::Readiness;
@@ -22,31 +22,28 @@ const TOO_MANY_FILES: i32 = 24;
 
 /// Why a port can't be opened.
 #[derive(Clone, Copy, Debug, Error)]
+#[error("{}", self.words())]
 pub enum BindFault {
     /// Another program listens on it.
-    #[error("another program uses it")]
     InUse,
     /// The program may not listen on it.
-    #[error("permission denied")]
     Denied,
     /// The program has as many open files as it may have.
-    #[error("too many open files")]
     NoDescriptor,
     /// Any other reason.
-    #[error("the system does not open it")]
     Failed,
 }
 
 impl BindFault {
-    /// Returns the reason in words.
-    pub fn reason(self) -> &'static [u8]
-        ensures { result.now ≡ reason_of self }
+    /// Returns what the fault is, in words.
+    pub fn words(self) -> &'static str
+        ensures { result.now ≡ bind_words self }
     {
         match self {
-            BindFault::InUse => b"another program uses it",
-            BindFault::Denied => b"permission denied",
-            BindFault::NoDescriptor => b"too many open files",
-            BindFault::Failed => b"the system does not open it",
+            BindFault::InUse => "another program uses it",
+            BindFault::Denied => "permission denied",
+            BindFault::NoDescriptor => "too many open files",
+            BindFault::Failed => "the system does not open it",
         }
     }
 }

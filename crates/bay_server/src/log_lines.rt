@@ -2,9 +2,8 @@
 ghost use Rattle.std.specs.Prelude.{◌≡◌, Some, map, take};
 ghost use Rattle.bay_io.specs.Sent.{Logs};
 ghost use Rattle.bay_server.specs.Logging.{LogsAll};
-ghost use Rattle.bay_server.specs.LogLines.{closed_line, memory_line, connection_event_log, opened_line, opened_log, parted_line, disconnect_line, ports_log, reason_of, refused_line, refused_log, shift_log, silent_line, unbound_log, unserved_log, used_up_log};
+ghost use Rattle.bay_server.specs.LogLines.{closed_line, memory_line, connection_event_log, opened_line, opened_log, parted_line, disconnect_line, ports_log, refused_line, refused_log, shift_log, silent_line, unbound_log, unserved_log, used_up_log};
 ghost use Rattle.bay_server.specs.ChangeLines.{turn_log};
-ghost use Rattle.bay_server.specs.LogLines as spec;
 ghost use Rattle.bay_server_turn.specs.declared.fault.ServeFault.TheVariants.{BadLine};
 
 use crate::change_lines::{BayView, Column, log_ends, log_lost, log_switches};
@@ -30,7 +29,7 @@ pub fn log_unbound<W: Sink>(writer: &mut WatchedWriter<W>, port: u16, fault: Bin
         LinePart::Text(b"bayctl: fault 121: port "),
         LinePart::Number(u64::from(port)),
         LinePart::Text(b": "),
-        LinePart::Text(fault.reason()),
+        LinePart::Text(fault.words().as_bytes()),
         LinePart::Text(b"\n"),
     ]);
 }
@@ -86,37 +85,6 @@ pub fn log_shift<W: Sink>(writer: &mut WatchedWriter<W>, moment: u64, shift: Opt
         ]),
         ClockSide::Ahead => writer.log(&[moment, is, distance, LinePart::Text(b" ms ahead\n")]),
         ClockSide::Behind => writer.log(&[moment, is, distance, LinePart::Text(b" ms behind\n")]),
-    }
-}
-
-// Returns the meaning of a fault of the device, by its number.
-fn fault_words(code: u8) -> &'static [u8]
-    ensures { result.now ≡ spec.fault_words code }
-{
-    match code {
-        10 => b"no TPKT",
-        11 => b"a TPDU that is malformed, unknown or out of place",
-        12 => b"a transport class other than 0",
-        13 => b"a TSDU of more than 70,000 octets",
-        20 => b"no SPDU",
-        21 => b"a malformed PPDU",
-        22 => b"a presentation context that was not offered or accepted",
-        23 => b"an APDU that can't be read",
-        24 => b"an SPDU out of place",
-        25 => b"a PDU size below 256",
-        _ => b"octets that can't be read",
-    }
-}
-
-// Returns why an association was closed, in words.
-fn closing_words(closing: CloseReason) -> &'static [u8]
-    ensures { result.now ≡ spec.closing_words closing }
-{
-    match closing {
-        CloseReason::Ended => b"its client ended it",
-        CloseReason::Fault(code) => fault_words(code),
-        CloseReason::QueueFull => b"a reply does not fit its queue",
-        CloseReason::LinkFailed => b"its connection failed, or it sent nothing for too long",
     }
 }
 
@@ -205,7 +173,7 @@ fn log_closed<W: Sink>(writer: &mut WatchedWriter<W>, moment: u64, closed: (u16,
         LinePart::Text(b" closed "),
         LinePart::Number(u64::from(closing.code())),
         LinePart::Text(b": "),
-        LinePart::Text(closing_words(closing)),
+        LinePart::Text(closing.words().as_bytes()),
         LinePart::Text(b"\n"),
     ]);
 }

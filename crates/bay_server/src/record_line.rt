@@ -11,7 +11,8 @@ use bay_server_turn::record::RecordEnd;
 // About how many octets come into a record in a minute without clients.
 const IDLE: u32 = 120_000;
 
-// And beside an operator's panel and a station's page that read the bay.
+// About how many octets come into a record in a minute beside an operator's panel and a station's
+// page that read the bay.
 const BUSY: u32 = 500_000;
 
 /// Logs how many octets a record has room for, and about how long it lasts, if the session is

@@ -27,7 +27,8 @@ is_close_reported Leaving = true
 is_close_reported LeavingFull = true
 is_close_reported Gone = true
 
--- its queue accepts replies: none does after a reply that did not fit
+-- its queue accepts replies: that of an open association, or of one that is closed and whose queue
+-- will be offered once more, until a reply does not fit
 abbrev pub accepts_replies : AssociationState → Bool → Bool
 accepts_replies Steady is_open = is_open
 accepts_replies Full is_open = false

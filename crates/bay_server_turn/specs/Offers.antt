@@ -14,11 +14,11 @@ pub record Offered : Type 0 where
   pub failed : Bool
   pub calls : List Call
 
--- the same after one more call
+-- an outcome with this call before its calls
 abbrev pub after_call : Call → Offered → Offered
 after_call call o = record { left = o.left; failed = o.failed; calls = call ∷ o.calls }
 
--- the same after these calls
+-- an outcome with these calls before its calls
 abbrev pub after_calls : List Call → Offered → Offered
 after_calls calls o = record { left = o.left; failed = o.failed; calls = calls ++ o.calls }
 

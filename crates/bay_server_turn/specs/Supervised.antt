@@ -20,6 +20,7 @@ text_without_end end text =
 abbrev pub alive_at : ℕ → TimedLine
 alive_at moment = record { moment = moment; event = None }
 
+-- a line with this event at this moment
 abbrev pub happened_at : ℕ → ProcessEvent → TimedLine
 happened_at moment event = record { moment = moment; event = Some event }
 
@@ -30,6 +31,7 @@ timed_event s (Some blank) = None
 timed_event s (Some (at_moment moment named)) =
     option_map (happened_at moment) (process_event s named)
 
+-- the moment and the event of a line, given the text before ` alive`, if the line ends so
 abbrev pub timed_by : State → List ℕ → Option (List ℕ) → Option TimedLine
 timed_by s line (Some digits) = option_map alive_at (read_number digits)
 timed_by s line None = timed_event s (trace_line_of line)

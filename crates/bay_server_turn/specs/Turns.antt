@@ -51,6 +51,7 @@ turn_state server noted = record { server = server; noted = noted }
 
 -- ---- its parts
 
+-- the queue of an association
 abbrev pub queue_at : ℕ → ServerData → List ℕ
 queue_at place h = slice_index_or h.queues place []
 
@@ -71,10 +72,12 @@ state_in place n = slice_index_or n.standings place Steady
 abbrev pub state_at : ℕ → TurnState → AssociationState
 state_at place s = state_in place s.noted
 
+-- the state with another device
 abbrev pub with_device : State → TurnState → TurnState
 with_device device s =
     record { server = record { device = device; queues = s.server.queues }; noted = s.noted }
 
+-- a server with another queue of an association
 abbrev pub put_queue : ℕ → List ℕ → ServerData → ServerData
 put_queue place queue h = record { device = h.device; queues = slice_set h.queues place queue }
 
@@ -85,6 +88,7 @@ with_queue place queue s = record { server = put_queue place queue s.server; not
 abbrev pub with_state : ℕ → AssociationState → TurnData → TurnData
 with_state place standing n = record n { standings = slice_set n.standings place standing }
 
+-- the state with other data collected
 abbrev pub with_noted : TurnData → TurnState → TurnState
 with_noted noted s = record { server = s.server; noted = noted }
 
@@ -157,7 +161,8 @@ abbrev pub put_quiet : Result Step StepFault → TurnState → TurnState
 put_quiet (Err fault) s = s
 put_quiet (Ok step) s = put_ended step.ended s
 
--- the device after it, with what it sends in the queue
+-- the state after an outcome that sends nothing but the report that an operation ended, with this
+-- report in its queue
 abbrev pub quiet_after : Outcome → TurnState → TurnState
 quiet_after o s = put_quiet o.answer (with_device o.after s)
 
@@ -213,6 +218,7 @@ calls_closing_full now s = calls_closing_some_full now associations s
 abbrev pub lowest_free_association : ServerData → Option ℕ
 lowest_free_association h = position is_none h.device.connections
 
+-- the state after an association was opened
 abbrev pub after_opening : ℕ → ℕ → TurnState → TurnState
 after_opening now place s = after_event now (Open (place + 1)) s
 
@@ -223,7 +229,7 @@ on_accept now (Some place) None s = s
 on_accept now (Some place) (Some None) s = s
 on_accept now (Some place) (Some (Some from)) s = after_closing_full now (after_opening now place s)
 
--- the calls on the link for it; if no association is free, none is made
+-- the calls on the link to accept a connection; if no association is free, none is made
 abbrev pub accept_calls_at : ℕ → Option ℕ → Option (Option SocketAddrV4) → TurnState → List Call
 accept_calls_at now None taken s = []
 accept_calls_at now (Some place) None s = Accepts (place + 1) None ∷ []
@@ -238,6 +244,7 @@ opening_at (Some place) None = None
 opening_at (Some place) (Some None) = None
 opening_at (Some place) (Some (Some from)) = Some (place + 1, from)
 
+-- the association that a turn opens, and the address of its client
 abbrev pub opening_of : Option (Option SocketAddrV4) → ServerData → Option (ℕ × SocketAddrV4)
 opening_of taken h = opening_at (lowest_free_association h) taken
 
@@ -245,6 +252,7 @@ opening_of taken h = opening_at (lowest_free_association h) taken
 abbrev pub with_accept : ℕ → Option (Option SocketAddrV4) → TurnState → TurnState
 with_accept now taken s = on_accept now (lowest_free_association s.server) taken s
 
+-- the calls on the link to accept a connection
 abbrev pub accept_calls : ℕ → Option (Option SocketAddrV4) → TurnState → List Call
 accept_calls now taken s = accept_calls_at now (lowest_free_association s.server) taken s
 
@@ -283,6 +291,7 @@ put_answer place (Ok step) s =
     (put_all step.sent (put_ended step.ended (after_device_close place step.closed s))) in
     with_noted (decides place step.decisions t.noted) t
 
+-- the state after the outcome of an association's octets
 abbrev pub answer_after : ℕ → Outcome → TurnState → TurnState
 answer_after place o s = put_answer place o.answer (with_device o.after s)
 
@@ -318,6 +327,7 @@ calls_on_read now place choice Broken s =
 abbrev pub read_one : ℕ → ℕ → Reading → TurnState → TurnState
 read_one now place r s = if is_up place s then on_read now place r.choice r.heard s else s
 
+-- the calls on the link to read an association
 abbrev pub read_calls : ℕ → ℕ → Reading → TurnState → List Call
 read_calls now place r s =
     if is_up place s
@@ -339,6 +349,7 @@ abbrev pub record_refusal : Result Step StepFault → TurnState → TurnState
 record_refusal (Err fault) s = with_noted (record s.noted { refused = Some (step_code_of fault) }) s
 record_refusal (Ok step) s = put_ended step.ended s
 
+-- the state after the outcome of an event of the process, whose refusal is reported
 abbrev pub after_reported : Outcome → TurnState → TurnState
 after_reported o s = record_refusal o.answer (with_device o.after s)
 
@@ -356,6 +367,7 @@ abbrev pub with_line : ℕ → Option ProcessEvent → TurnState → TurnState
 with_line now None s = s
 with_line now (Some event) s = after_closing_full now (after_process_event now event s)
 
+-- the calls on the link after the event of the process, if there is one
 abbrev pub line_calls : ℕ → Option ProcessEvent → TurnState → List Call
 line_calls now None s = []
 line_calls now (Some event) s = calls_closing_full now (after_process_event now event s)
@@ -364,12 +376,13 @@ line_calls now (Some event) s = calls_closing_full now (after_process_event now 
 abbrev pub after_turn_scan : ℕ → TurnState → TurnState
 after_turn_scan now s = after_closing_full now (after_event now Scan s)
 
+-- the calls on the link after the scan
 abbrev pub scan_calls : ℕ → TurnState → List Call
 scan_calls now s = calls_closing_full now (after_event now Scan s)
 
 -- ---- offering
 
--- what the link takes of a queue
+-- the outcome of offering the queue of an association
 abbrev pub offer_of : ℕ → Offer → TurnState → Offered
 offer_of place o s = offering_of (place + 1) (queue_of place s) o.takes o.fails
 
@@ -392,6 +405,7 @@ offer_one now place o s =
     if is_draining (state_at place s) then after_closing place s
     else (if is_up place s then after_offer now place (offer_of place o s) s else s)
 
+-- the calls after an offer: if a write failed, the association is closed
 abbrev pub offer_end : ℕ → ℕ → Bool → TurnState → List Call
 offer_end now place failed s =
     if failed

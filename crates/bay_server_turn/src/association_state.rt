@@ -12,7 +12,7 @@ pub enum AssociationState {
     Full,
     /// It was closed, and its queue will be offered once more.
     Leaving,
-    /// The same, and a reply did not fit its queue.
+    /// It was closed, its queue will be offered once more, and a reply did not fit this queue.
     LeavingFull,
     /// It was closed, with an empty queue.
     Gone,

@@ -77,7 +77,7 @@ impl ProcessReport {
 }
 
 impl ProcessEvent {
-    /// Returns the same as an event of a device.
+    /// Returns the event as an event of a device.
     pub(crate) fn event(self) -> Event<'static>
         ensures event { result ≡ event_of self }
         ensures quiet { IsWithoutOctets result }

@@ -1,9 +1,10 @@
 // What a turn of the server reports.
 ghost use Rattle.std.specs.Prelude.{◌≡◌};
-ghost use Rattle.bay_server_turn.specs.Code.{code_of};
+ghost use Rattle.bay_server_turn.specs.Code.{code_of, words_of};
 
 use crate::bounded_list::BoundedList;
 use bay_base::listing::Listing;
+use bay_connection::fault::fault_words;
 use bay_device::event::ASSOCIATIONS;
 use bay_mms_services::answer::{Command, ControlDecision};
 use std::net::SocketAddrV4;
@@ -32,6 +33,18 @@ impl CloseReason {
             CloseReason::Fault(code) => code,
             CloseReason::QueueFull => 130,
             CloseReason::LinkFailed => 131,
+        }
+    }
+
+    /// Returns what the reason is, in words.
+    pub fn words(self) -> &'static str
+        ensures { result.now ≡ words_of self }
+    {
+        match self {
+            CloseReason::Ended => "its client ended it",
+            CloseReason::Fault(code) => fault_words(code),
+            CloseReason::QueueFull => "a reply does not fit its queue",
+            CloseReason::LinkFailed => "its connection failed, or it sent nothing for too long",
         }
     }
 }

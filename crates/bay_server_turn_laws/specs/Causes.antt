@@ -52,6 +52,7 @@ abbrev pub reasons_of : ℕ → List (Result Step StepFault) → List Why
 reasons_of a [] = []
 reasons_of a (answer ∷ answers) = reason_in a (closed_in answer) ++ reasons_of a answers
 
+-- the device closed it for some reason
 abbrev pub has_reason : List Why → Bool
 has_reason [] = false
 has_reason (reason ∷ reasons) = true
@@ -116,7 +117,8 @@ pub record IsCaused (failed over : Bool) (reasons : List Why) (a : ℕ)
   pub queue : reports_close is_queue_full a told ≡ true
       → (failed ≡ false) × (over ≡ false) × (reasons ≡ [])
 
--- The same for one association in a turn.
+-- What a turn reports of an association is caused so, by the calls of the turn and the device's
+-- answers to its events.
 abbrev pub HasItsCause : ℕ → ProcessReport → Script → ServerData → ℕ → Type 0
 HasItsCause now given script h a =
     IsCaused (has_some (fails_for a) (turn_calls now given script h))

@@ -26,6 +26,7 @@ ChosenEvent = Option ℕ × Event
 abbrev pub surely : Event → ChosenEvent
 surely event = (None, event)
 
+-- the event that closes an association
 abbrev pub closing_of : ℕ → ChosenEvent
 closing_of place = surely (Close (place + 1))
 
@@ -69,6 +70,7 @@ heard_events now place choice Over s =
 heard_events now place choice Broken s =
     closing_of place ∷ events_closing_full now (close_at_once now closing.LinkFailed place s)
 
+-- an association is read if it is open
 abbrev pub read_events : ℕ → ℕ → Reading → TurnState → List ChosenEvent
 read_events now place r s = if is_up place s then heard_events now place r.choice r.heard s else []
 
@@ -89,6 +91,7 @@ failed_events now place failed s =
     then closing_of place ∷ events_closing_full now (close_at_once now closing.LinkFailed place s)
     else []
 
+-- the queue of an association is offered; the association is closed if a write fails
 abbrev pub offer_events : ℕ → ℕ → Offer → TurnState → List ChosenEvent
 offer_events now place o s =
     if is_draining (state_at place s) then []
@@ -116,10 +119,12 @@ turn_events now given script h =
 
 -- ---- their answers
 
+-- the choices of events
 abbrev pub choices_of : List ChosenEvent → List (Option ℕ)
 choices_of [] = []
 choices_of (e ∷ es) = e.0 ∷ choices_of es
 
+-- the events, each at this moment
 abbrev pub all_at : ℕ → List ChosenEvent → List (ℕ × Event)
 all_at now [] = []
 all_at now (e ∷ es) = (now, e.1) ∷ all_at now es
@@ -133,6 +138,7 @@ abbrev pub commands_in : Result Step StepFault → List Command
 commands_in (Err fault) = []
 commands_in (Ok step) = step.commands
 
+-- the commands of answers, in their order
 abbrev pub commands_of : List (Result Step StepFault) → List Command
 commands_of [] = []
 commands_of (answer ∷ answers) = commands_in answer ++ commands_of answers

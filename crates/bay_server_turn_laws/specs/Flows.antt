@@ -29,6 +29,7 @@ written_by_calls a (call ∷ calls) = written_by_call a call ++ written_by_calls
 
 -- ---- what the link reads
 
+-- the octets of a read
 abbrev pub octets_in : ReadOutcome → List ℕ
 octets_in (Octets octets) = octets
 octets_in Silence = []
@@ -109,6 +110,7 @@ pub record Flows (taken held sent holds : List ℕ) (up : Bool) : Type 0 where
   pub is : taken ++ rest ≡ held ++ sent
   pub kept : (holds ≡ rest) ⊎ ((holds ≡ []) × (up ≡ false))
 
+-- `Flows` holds for an association in a turn.
 abbrev pub FlowsAt : ℕ → ProcessReport → Script → ServerData → ℕ → Type 0
 FlowsAt now given script h place =
     Flows (written_by_calls (place + 1) (turn_calls now given script h)) (queue_at place h)
@@ -116,8 +118,8 @@ FlowsAt now given script h place =
     (queue_at place (after_turn now given script h).server)
     (is_up_in place (after_turn now given script h).server)
 
--- This holds for each association, and the server is tidy again; if a full queue is reported, the
--- link left more octets of this association than there is room for.
+-- `Flows` holds for each association, and the server is tidy after the turn; if a full queue is
+-- reported, the link left more octets of this association than there is room for.
 pub record LosesNothing (now : ℕ) (given : ProcessReport) (script : Script) (h : ServerData)
     : Type 0 where
   pub flows : (place : ℕ) → place < associations → FlowsAt now given script h place

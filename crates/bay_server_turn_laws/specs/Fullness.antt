@@ -24,7 +24,7 @@ IsOpenIn place script h =
     ⊎ ((lowest_free_association h ≡ Some place)
     × (from : SocketAddrV4) × (script.accepted ≡ Some (Some from)))
 
--- A turn reports a full queue of an association exactly if this holds for it.
+-- A turn reports a full queue of an association exactly if its octets have no room (`HasNoRoom`).
 abbrev pub IsReportedIfFull : ℕ → ProcessReport → Script → ServerData → ℕ → Type 0
 IsReportedIfFull now given script h place =
     (reports_close is_queue_full (place + 1) (after_turn now given script h).noted.closed ≡ true)

@@ -16,6 +16,7 @@ use Rattle.bay_server_turn_laws.specs.Events.{ChosenEvent, done_at, surely, turn
 
 -- ---- what each part of a turn does
 
+-- an association that is free is opened, if a connection was accepted
 abbrev pub open_events_at : Option ℕ → Option (Option SocketAddrV4) → List ChosenEvent
 open_events_at (Some place) (Some (Some from)) = surely (Open (place + 1)) ∷ []
 open_events_at (Some place) (Some None) = []
@@ -51,7 +52,7 @@ process_events (Some event) = surely (event_of event) ∷ []
 abbrev pub IsClosing : (ℕ → Bool) → ChosenEvent → Type 0
 IsClosing has_reason e = (a : ℕ) × (e ≡ surely (Close a)) × (has_reason a ≡ true)
 
--- Each of the events does.
+-- Each of the events closes an association for which there is a reason.
 abbrev pub AreClosings : (ℕ → Bool) → List ChosenEvent → Type 0
 AreClosings has_reason events = All (IsClosing has_reason) events
 

@@ -8,6 +8,6 @@ abbrev pub octets_of : List ℕ → Option (List ℕ)
 octets_of [] = None
 octets_of (b ∷ bs) = result_ok (decode_of (b ∷ bs))
 
--- the same for digits that are known to encode octets
+-- the octets that digits encode; none if they encode none
 abbrev pub octets_in : List ℕ → List ℕ
 octets_in digits = unwrap_or (octets_of digits) []

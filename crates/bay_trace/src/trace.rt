@@ -269,7 +269,8 @@ fn cut_long_number(text: &[u8]) -> Option<(u64, &[u8])>
     Some((number, rest?))
 }
 
-// Returns the number before the first space, and the text after that space, or `None` likewise.
+// Returns the number before the first space, and the text after that space; `None` if there is no
+// such number or no space.
 fn cut_number(text: &[u8]) -> Option<(u64, &[u8])>
     ensures { option_map (λ cut. (cut.0, slice_split is_space cut.1.now)) result
         ≡ first_number (slice_split is_space text.now) }

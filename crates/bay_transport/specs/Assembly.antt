@@ -101,7 +101,9 @@ pub record Takes (old : Assembly) (piece : List ℕ) (used : ℕ) (kind : Got) (
   pub does : run_of old.number (stream_state_of old) (take used piece) ≡ run_for kind new
   pub quiet : (run_of old.number (stream_state_of old) (take (used - 1) piece)).doings ≡ []
 
--- The same, up to the end of the TPDU that completes something, or of the piece.
+-- `used` octets of the piece are consumed, up to the end of the TPDU that completes something, or
+-- of the piece: their doings are those of the result, and the octets before the last of them
+-- complete nothing.
 pub record Reaches (old : Assembly) (piece : List ℕ) (used : ℕ) (kind : Got) (new : Assembly)
     : Type 0 where
   pub within : used ≤ length piece

@@ -27,7 +27,7 @@ FeedsFrom (Going connection rest) s piece used (Some doing) = CompletesDoing s p
 FeedsFrom Over s piece used answer = (used ≡ 0) × (answer ≡ Some Ends)
 FeedsFrom Broken s piece used answer = ⊥
 
--- The same, from the state of a stream.
+-- One `feed` of the piece to the stream consumes `used` octets, with this result.
 abbrev pub Feeds : Stream → List ℕ → ℕ → Option Doing → Type 0
 Feeds s piece used answer = FeedsFrom s.left s piece used answer
 
@@ -94,10 +94,11 @@ KeepsWithin Broken shown = shown ≡ []
 abbrev pub IsWithinLimits : Received → Type 0
 IsWithinLimits r = KeepsWithin r.stream.left r.shown
 
--- the stream after the end of its connection, and after a fault
+-- the stream after the end of its connection
 abbrev pub end_of_stream : Stream → Stream
 end_of_stream s = record { number = s.number; left = Over }
 
+-- the stream after a fault
 abbrev pub broken : Stream → Stream
 broken s = record { number = s.number; left = Broken }
 

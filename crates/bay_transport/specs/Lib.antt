@@ -14,7 +14,7 @@
 --
 -- `Feeding` relates one `feed` to this: its doing, the number of octets it consumes, and the state
 -- after it. `Assembly` and `Found`: what the code's buffers and its readers of requests represent.
--- `Code`: the numbers of the faults.
+-- `Code`: the numbers and the words of the faults.
 
 pub mod Code
 pub mod Frame

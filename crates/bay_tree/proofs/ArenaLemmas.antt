@@ -1,10 +1,10 @@
 -- What depends on the names of the rows alone, and so stays as it is when a value changes.
-use Rattle.std.proofs.Common.{◌≡◌, ◌≢◌, ℕ, ◌+◌, ◌<◌, ◌==◌, Bool, true, false, ltb, Option, Some, None, option_map, cond, List, [], ◌∷◌, ◌++◌, append-nil, ◌-◌, length, take, drop, get_or, refl, ap, sym, subst, ◌∙◌, arith}
+use Rattle.std.proofs.Common.{◌≡◌, ◌≢◌, ℕ, ◌+◌, ◌<◌, ◌≤◌, ◌==◌, Bool, ltb, Option, Some, None, cond, List, [], ◌∷◌, ◌++◌, append-nil, ◌-◌, length, take, drop, get_or, refl, ap, sym, subst, ◌∙◌, arith}
 use Rattle.std.proofs.Math.ListN.{get_or-map, set, length-set}
 use Rattle.std.proofs.Math.Seq.{map-set_same}
 use Rattle.std.proofs.lemmas.List.{drop-map, drop_all, length-drop, take_all}
 use Rattle.std.proofs.lemmas.Iterator.Adapters.{position_from-zero}
-use Rattle.std.specs.List.{position_from, position_or_len}
+use Rattle.std.specs.List.{position_from}
 use Rattle.std.specs.Str.{bytes_eq}
 use Rattle.bay_tree.specs.declared.row.Row.{Row}
 use Rattle.bay_tree.specs.declared.leaf.Leaf.{Leaf}
@@ -104,6 +104,8 @@ IsArena-set rows index links place row within leaf name arena =
     record {
       tree = IsTree-set rows place row within leaf name arena.tree;
       indexed = record {
+        longest = λ k lt. subst (λ n. length n ≤ index.longest) (sym (own k))
+            (arena.indexed.longest k (omega arith));
         some = arena.indexed.some;
         first = λ b lt. arena.indexed.first b lt
             ∙ sym (search-same (λ n. bucket_of count n == b) 0 new rows names);

@@ -191,8 +191,10 @@ pub rows_left-next : (count place : ℕ) (next : Option ℕ) → place < count
 rows_left-next count place None within later = omega arith
 rows_left-next count place (Some k) within later = omega arith
 
--- the table, as far as the rows from a place on tell
-pub record IsIndexing (start : ℕ) (rows : List Row) (first next : List (Option ℕ)) : Type 0 where
+-- the index of the rows from one row on
+pub record IsIndexing (start : ℕ) (rows : List Row) (most : ℕ) (first next : List (Option ℕ))
+    : Type 0 where
+  pub longest : (k : ℕ) → start ≤ k → k < length rows → length (name_at rows k) ≤ most
   pub count : length first ≡ length rows + 1
   pub long : length next ≡ length rows
   pub heads : (b : ℕ) → b < length rows + 1 → get_or first b None
@@ -202,9 +204,10 @@ pub record IsIndexing (start : ℕ) (rows : List Row) (first next : List (Option
       (bucket_of (length rows + 1) (name_at rows k))) (k + 1) (drop (k + 1) rows)
 
 pub indexing-none : (rows : List Row)
-    → IsIndexing (length rows) rows (replicate (length rows + 1) None)
+    → IsIndexing (length rows) rows 0 (replicate (length rows + 1) None)
     (replicate (length rows) None)
 indexing-none rows = record {
+  longest = λ k le lt. absurd (omega arith);
   count = length-replicate (length rows + 1) None;
   long = length-replicate (length rows) None;
   heads = λ b lt. get_or-replicate (length rows + 1) b None None lt
@@ -214,16 +217,23 @@ indexing-none rows = record {
 }
 
 -- a row is put before the others of its bucket
-pub indexing-put : (rows : List Row) (first next : List (Option ℕ)) (i b : ℕ) → i < length rows
+pub indexing-put : (rows : List Row) (longest longer : ℕ) (first next : List (Option ℕ)) (i b : ℕ)
+    → i < length rows
     → b ≡ bucket_of (length rows + 1) (name_at rows i) → b < length rows + 1
-    → IsIndexing (i + 1) rows first next
-    → IsIndexing i rows (set first b (Some i)) (set next i (get_or first b None))
-indexing-put rows first next i b lt own within at =
+    → longest ≤ longer → length (name_at rows i) ≤ longer
+    → IsIndexing (i + 1) rows longest first next
+    → IsIndexing i rows longer (set first b (Some i)) (set next i (get_or first b None))
+indexing-put rows longest longer first next i b lt own within more fits at =
     let count = length rows + 1 in
     let in_first : b < length first = omega (arith, at.count) in
     let in_next : i < length next = omega (arith, at.long) in
     let rest = λ (n : ℕ). position_from (is_in_bucket count n) (i + 1) (drop (i + 1) rows) in
     record {
+      longest = λ k le lt. ⊎_elim
+          (λ (here : k ≡ i). rw here fits)
+          (λ (other : k ≢ i).
+          let after = at.longest k (omega (arith, other)) lt in omega (arith, after, more))
+          (cases_eq k i);
       count = length-set first b (Some i) ∙ at.count;
       long = length-set next i (get_or first b None) ∙ at.long;
       heads = λ n in_n. ⊎_elim
@@ -248,8 +258,9 @@ indexing-put rows first next i b lt own within at =
     }
 
 pub indexing-all : (rows : List Row) (index : Index)
-    → IsIndexing 0 rows index.first.items index.next.items → IsIndex rows index
+    → IsIndexing 0 rows index.longest index.first.items index.next.items → IsIndex rows index
 indexing-all rows index at = record {
+  longest = λ k lt. at.longest k (omega arith) lt;
   some = omega (arith, at.count);
   first = λ b lt. rw at.count (at.heads b (omega (arith, at.count)));
   long = at.long;

@@ -1,11 +1,13 @@
 -- What a search by name finds, and that it misses no row.
-use Rattle.std.proofs.Common.{◌≡◌, ◌≢◌, ℕ, ◌+◌, ◌<◌, Bool, true, false, cond, Option, Some, None, List, [], ◌∷◌, length, All, get_or, refl, sym, ◌∙◌, arith, zero, suc}
+use Rattle.std.proofs.Common.{◌≡◌, ◌≢◌, ℕ, ◌+◌, ◌<◌, ◌≤◌, Bool, true, false, cond, Option, Some, None, List, [], ◌∷◌, length, All, get_or, refl, ap, sym, ◌∙◌, arith, zero, suc}
 use Rattle.std.proofs.lemmas.Iterator.Adapters.{position_from-zero}
 use Rattle.std.proofs.lemmas.List.Quantifiers.{position-Some}
 use Rattle.std.proofs.lemmas.Slice.Eq.{bytes_eq-Decides}
 use Rattle.std.specs.List.{position_from}
 use Rattle.std.specs.Str.{bytes_eq}
+use Rattle.bay_tree.specs.declared.index.Index.{Index}
 use Rattle.bay_tree.specs.declared.row.Row.{Row}
+use Rattle.bay_tree.specs.Arena.{IsIndex}
 use Rattle.bay_tree.specs.Rows.{name_at, names_of, row_index, IsHandle}
 use Rattle.bay_tree.proofs.ArenaLemmas.{place_of-same}
 
@@ -58,3 +60,20 @@ place_of-some rows name place h lacking =
 pub place_of-stays : (before after : List Row) (name : List ℕ) → names_of before ≡ names_of after
     → row_index before name ≡ row_index after name
 place_of-stays = place_of-same
+
+absent-if : (rows : List Row) (longest : ℕ) (name : List ℕ) (found : Option ℕ)
+    → row_index rows name ≡ found
+    → ((k : ℕ) → k < length rows → length (name_at rows k) ≤ longest) → longest < length name
+    → found ≡ None
+absent-if rows longest name None is fits long = refl
+absent-if rows longest name (Some place) is fits long =
+    let there = place_of-found rows name place is in
+    let short = fits place there.0 in
+    let same : length (name_at rows place) ≡ length name = ap length there.1 in
+    absurd (omega (arith, short, same, long))
+
+-- no row has a name that is longer than each row's
+pub longer-is-unknown : (rows : List Row) (index : Index) (name : List ℕ) → IsIndex rows index
+    → index.longest < length name → None ≡ row_index rows name
+longer-is-unknown rows index name indexed long =
+    sym (absent-if rows index.longest name (row_index rows name) refl indexed.longest long)

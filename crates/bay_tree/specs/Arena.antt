@@ -1,5 +1,5 @@
 -- How the index and the links of a tree correspond to the list of its rows.
-use Rattle.std.specs.Prelude.{◌≡◌, ℕ, ◌+◌, ◌*◌, ◌%◌, ◌^◌, ◌<◌, ◌==◌, Bool, None, List, length, drop, slice_index_or}
+use Rattle.std.specs.Prelude.{◌≡◌, ℕ, ◌+◌, ◌*◌, ◌%◌, ◌^◌, ◌<◌, ◌≤◌, ◌==◌, Bool, None, List, length, drop, slice_index_or}
 use Rattle.std.specs.List.{fold, position_from}
 use Rattle.bay_tree.specs.declared.index.Index.{Index}
 use Rattle.bay_tree.specs.declared.link.RowLink.{RowLink}
@@ -19,8 +19,10 @@ bucket_of count name = fold hash_with 0 name % count
 abbrev pub is_in_bucket : ℕ → ℕ → Row → Bool
 is_in_bucket count bucket row = bucket_of count row.name == bucket
 
--- the index leads to the first row of each bucket, and from each row to the next of its bucket
+-- the index leads to the first row of each bucket, and from each row to the next of its bucket; no
+-- name is longer than its longest
 pub record IsIndex (rows : List Row) (index : Index) : Type 0 where
+  pub longest : (k : ℕ) → k < length rows → length (name_at rows k) ≤ index.longest
   pub some : 0 < length index.first.items
   pub first : (b : ℕ) → b < length index.first.items → slice_index_or index.first.items b None
       ≡ position_from (is_in_bucket (length index.first.items) b) 0 rows

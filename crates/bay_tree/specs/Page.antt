@@ -1,10 +1,10 @@
 -- The names after a name, as a client reads them page by page (ISO 9506-1, GetNameList).
-use Rattle.std.specs.Prelude.{◌≢◌, ℕ, ◌+◌, Option, Some, None, option_map, List, length, take, nat_lt, All}
+use Rattle.std.specs.Prelude.{◌≢◌, ℕ, Option, Some, None, List, length, take, nat_lt, All}
 use Rattle.std.specs.List.{after_first}
 use Rattle.std.specs.Str.{bytes_eq}
 use Rattle.bay_tree.specs.declared.row.Row.{Row}
 use Rattle.bay_tree.specs.declared.page.Names.{Names}
-use Rattle.bay_tree.specs.Rows.{names_of, row_index}
+use Rattle.bay_tree.specs.Rows.{names_of}
 
 -- the rows after the row with a name; without a name, all rows
 abbrev pub rows_after : List Row → Option (List ℕ) → List Row

@@ -11,6 +11,8 @@ use std::alloc::{AllocError, Global};
 /// the rows.
 #[derive(Debug, Drop)]
 pub struct Index {
+    /// The number of octets of the longest name.
+    longest: usize,
     /// The index of the first row of each bucket.
     first: Vec<Option<usize>>,
     /// For each row, the index of the next row in the same bucket.
@@ -38,20 +40,31 @@ pub fn index_of(alloc: Global, rows: &[Row]) -> Result<Index, AllocError>
 {
     let mut first = vec![in alloc; None; rows.len() + 1]?;
     let mut next = vec![in alloc; None; rows.len()]?;
+    let mut longest = 0usize;
     for place in (0..rows.len()).rev() {
-        let bucket = bucket_of(first.len(), rows[place].name.as_str().as_bytes());
+        let name = rows[place].name.as_str().as_bytes();
+        longest = longest.max(name.len());
+        let bucket = bucket_of(first.len(), name);
         next[place] = first[bucket];
         first[bucket] = Some(place);
     }
-    Ok(Index { first, next })
+    Ok(Index {
+        longest,
+        first,
+        next,
+    })
 }
 
 impl Index {
     /// Returns the index of the first row with this name, given as octets; `None` if no row has it.
+    /// Does not read a name that is longer than each row's.
     pub fn find(&self, rows: &[Row], name: &[u8]) -> Option<usize>
         requires { IsIndex rows.now self.now }
         ensures { result ≡ row_index rows.now name.now }
     {
+        if name.len() > self.longest {
+            return None;
+        }
         let mut at = self.first[bucket_of(self.first.len(), name)];
         while let Some(place) = at {
             if rows[place].name.as_str().as_bytes() == name {

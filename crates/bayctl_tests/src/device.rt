@@ -13,7 +13,7 @@ use bay_device::load::{load, load_image};
 use bay_io::outbox::WriteFault;
 use il_image::decode::decode;
 use il_verify::verify::verify;
-use std::alloc::Global;
+use std::alloc::{AllocError, Global};
 use std::process::Abort;
 use std::test::Fail;
 
@@ -211,6 +211,87 @@ fn changed_images(rt: HostRuntime) -> Result<(), Fail> {
         let mut octets = octets_of(rt.alloc(), &[IMAGE[0], version, IMAGE[1]])?;
         let loaded = loaded_in(rt.alloc(), &bay, octets.as_mut_slice());
         assert_eq!(rt; loaded, wanted, "version {version}");
+    }
+    Ok(())
+}
+
+// The codes of an image whose scan takes more instructions than its budget, and of an image that is
+// not loaded since an allocation fails; no fault has one of them.
+const LONG_SCAN: u8 = 1;
+
+const OUT_OF_MEMORY: u8 = 2;
+
+// Returns the number of the fault with which `load_image` refuses an image; 0 if the image is
+// loaded, and a scan of its device ends within the budget that was reported.
+fn load_code(alloc: Global, octets: &[u8]) -> u8 {
+    let mut device = match load_image(alloc, session::BAY, octets) {
+        Ok(device) => device,
+        Err(LoadFault::Refused { code, line: _ }) => return code,
+        Err(LoadFault::OutOfMemory) => return OUT_OF_MEMORY,
+    };
+    let budget = device.report().budget;
+    let is_within = match device.step(1000, Event::Scan) {
+        Ok(step) => step.scan.unwrap_or(u32::MAX) <= budget,
+        Err(_) => false,
+    };
+    if is_within { 0 } else { LONG_SCAN }
+}
+
+// The number of images for each code, 0 to 100.
+type Counts = [u32; 101];
+
+// Loads an image with each bit of the octet at an index changed in turn, and counts the codes.
+fn count_at(alloc: Global, octets: &mut [u8], at: usize, counts: &mut Counts)
+    requires { at < length octets.old }
+{
+    let was = octets[at];
+    for bit in [1, 2, 4, 8, 16, 32, 64, 128] {
+        octets[at] = was ^ bit;
+        let code = usize::from(load_code(alloc, octets));
+        if let Some(count) = counts.get_mut(code) {
+            *count = count.saturating_add(1);
+        }
+    }
+    octets[at] = was;
+}
+
+// Does this with each octet, and returns the codes with their counts.
+fn counts_text(alloc: Global, octets: &mut [u8]) -> Result<String, AllocError> {
+    let mut counts = [0; 101];
+    for at in 0..octets.len() {
+        count_at(alloc, octets, at, &mut counts);
+    }
+    let mut text = String::new(alloc);
+    for (code, count) in counts.iter().enumerate() {
+        if *count > 0 {
+            write!(text, "{code}={count} ")?;
+        }
+    }
+    Ok(text)
+}
+
+// The codes of the images of each version that differ in one bit from one that is loaded, as
+// tests/repository/test_images.py counts them by the rules of docs/IMAGE.md.
+const CHANGED: [(&str, &str); 2] = [
+    (
+        "01",
+        "0=15 80=32 81=8 82=258 83=21 90=2 92=1 94=45 95=1 97=1 100=136 ",
+    ),
+    (
+        "02",
+        "0=8 80=32 81=8 82=271 83=21 90=2 92=1 94=45 95=1 97=1 100=130 ",
+    ),
+];
+
+// Each image with one bit changed goes through `load_image`: it is loaded and scanned within its
+// budget, or refused with its fault.
+// Shows P-018, P-061, P-138.
+#[test]
+fn images_with_a_changed_bit(rt: HostRuntime) -> Result<(), Fail> {
+    for (version, wanted) in CHANGED {
+        let mut octets = octets_of(rt.alloc(), &[IMAGE[0], version, IMAGE[1]])?;
+        let found = counts_text(rt.alloc(), octets.as_mut_slice())?;
+        assert_eq!(rt; found.as_str(), wanted, "version {version}");
     }
     Ok(())
 }

@@ -69,7 +69,7 @@ IsTextOf loaded (Ok rules) log text status = (log ≡ None) × Answers loaded ru
 IsTextOf loaded (Err fault) log text status =
     IsReported (refused_log fault) (refusal_text fault) 1 log text status
 
--- the same for what was loaded and a text of rules
+-- the text for what was loaded and a text of rules, with the line that is logged
 pub record IsTextFor (loaded : LoadData) (rules : List ℕ) (log : Option (List ℕ)) (text : List ℕ)
     (status : ℕ) : Type 0 where
   pub meant : Result (List Rule) RuleFault
@@ -106,7 +106,8 @@ AuditReport bay form program rules log text status =
     LoadReport bay form program rules log text status
     ⊎ LoadRefused bay form program log text status
 
--- the same, by the result of reading the rules; the text of a fault if they can't be read
+-- an audit of two files that were read, by the result of reading the rules; the text of a fault if
+-- they can't be read
 abbrev pub AuditsRules : {W : Type 0} → (W → Option (List ℕ)) → (W → WriteCall → W → Type 0)
     → Form → FilesData → Result (List ℕ) UnreadData → Writing W → Writing W → Result ℕ WriteFault
     → Type 0
@@ -115,7 +116,7 @@ AuditsRules contents asks form both (Err unread) old new answer =
 AuditsRules contents asks form both (Ok rules) old new answer =
     PrintsLogs contents asks (AuditReport both.bay form both.program rules) old new answer
 
--- the same, after reading the rules
+-- an audit of two files that were read: the rules are read, too
 abbrev pub AuditsRead : {F W : Type 0} → FileReads F → (W → Option (List ℕ))
     → (W → WriteCall → W → Type 0) → Form → FilesData → List ℕ → F → Writing W
     → Writing W → Result ℕ WriteFault → Type 0
@@ -123,7 +124,7 @@ AuditsRead reads contents asks form both rules files old new answer =
     (read : Result (List ℕ) UnreadData) × ReadsFile reads files rules read
     × AuditsRules contents asks form both read old new answer
 
--- the same, by the result of reading the bay file and the program
+-- an audit by the result of reading the bay file and the program
 abbrev pub AuditsBoth : {F W : Type 0} → FileReads F → (W → Option (List ℕ))
     → (W → WriteCall → W → Type 0) → Form → List ℕ → F → Result FilesData UnreadData → Writing W
     → Writing W → Result ℕ WriteFault → Type 0

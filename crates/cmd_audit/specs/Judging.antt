@@ -46,13 +46,13 @@ abbrev pub JudgesRead : LoadData → Result (List Rule) RuleFault → RulesVerdi
 JudgesRead loaded (Ok rules) verdict = Judges loaded rules verdict
 JudgesRead loaded (Err fault) verdict = verdict ≡ Refused fault
 
--- the same for a text
+-- the verdict on a text of rules
 pub record JudgesText (loaded : LoadData) (text : List ℕ) (verdict : RulesVerdict) : Type 0 where
   pub meant : Result (List Rule) RuleFault
   pub means : TextRead loaded.bay text meant
   pub judges : JudgesRead loaded meant verdict
 
--- the same, unless memory ran out
+-- the verdict on a text of rules, unless memory ran out
 abbrev pub IsVerdictOn : LoadData → List ℕ → RulesVerdict → Type 0
 IsVerdictOn loaded text verdict = (verdict ≡ OutOfMemory) ⊎ JudgesText loaded text verdict
 

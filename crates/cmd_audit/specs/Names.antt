@@ -45,6 +45,6 @@ pub record HasWords (bay : Bay) : Type 0 where
   pub switches : Each (λ s. IsWord s.id) bay.switches
   pub points : Each (λ p. IsWord p.name) bay.points
 
--- The same for each bay that a file spells.
+-- The ids of switches and the names of points are words, in each bay that a file spells.
 abbrev pub BaysHaveWords : Type 0
 BaysHaveWords = (file : List ℕ) (bay : Bay) → file_of file ≡ Ok bay → HasWords bay

@@ -21,9 +21,8 @@ use Rattle.bay_base.specs.declared.point.SwitchPoint.TheVariants.{Position, Open
 use Rattle.bay_base.specs.declared.switch.Operation.{Operation}
 use Rattle.bay_base.specs.declared.switch.Operation.TheVariants as operations
 use Rattle.bay_nodes.specs.declared.switch.Switch.{Switch}
-use Rattle.bay_audit_rules.specs.Code.{code_of, line_of}
+use Rattle.bay_audit_rules.specs.Code.{code_of, line_of, words_of}
 use Rattle.bay_audit_rules.specs.declared.fault.RuleFault.{RuleFault}
-use Rattle.bay_audit_rules.specs.declared.fault.RuleFault.TheVariants.{BadWord, BadLine, UnknownName, BadValue, TooMany, NoRule, OutOfMemory}
 use Rattle.bay_audit_rules.specs.declared.rule.Rule.{Rule}
 use Rattle.il_image.specs.declared.image.ImagePoint.{ImagePoint}
 use Rattle.cmd_audit.specs.Names.{Known}
@@ -275,16 +274,6 @@ refusal_text fault = numbered_text (code_of fault) (line_of fault)
 
 -- ---- the log
 
--- the meaning of a fault of rules
-abbrev pub fault_words : RuleFault → List ℕ
-fault_words (BadWord line) = codes "a word or a sign that no rule has"
-fault_words (BadLine line) = codes "a line is no rule"
-fault_words (UnknownName line) = codes "a name is unknown"
-fault_words (BadValue line) = codes "a position, a value or a time that what is named can't have"
-fault_words (TooMany line) = codes "too many rules, or too many parentheses within each other"
-fault_words NoRule = codes "a text without a rule"
-fault_words OutOfMemory = codes "out of memory"
-
 -- the log line of rules that are refused
 abbrev pub numbered_log : Option ℕ → ℕ → List ℕ → Option (List ℕ)
 numbered_log None line words = None
@@ -293,4 +282,4 @@ numbered_log (Some code) line words =
     ++ (codes " line " ++ (decimal line ++ (codes ": " ++ (words ++ codes "\n"))))))
 
 abbrev pub refused_log : RuleFault → Option (List ℕ)
-refused_log fault = numbered_log (code_of fault) (line_of fault) (fault_words fault)
+refused_log fault = numbered_log (code_of fault) (line_of fault) (words_of fault)

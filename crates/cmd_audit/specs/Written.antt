@@ -27,7 +27,7 @@ module _ {W : Type 0} (contents : W → Option (List ℕ)) (does : W → WriteCa
     pub so : passed ≡ list_all is_passed answers
     pub put : Puts contents does old (answers_text bay names (zip rules answers)) new
 
-  -- the same for the first of these rules
+  -- the lines of right answers to the first of these rules
   pub record PutsFirst (bay : Bay) (names : Known) (g : BoundProgram) (rules : List Rule)
       (old new : Writing W) : Type 0 where
     pub answered : List Rule
@@ -43,7 +43,7 @@ module _ {W : Type 0} (contents : W → Option (List ℕ)) (does : W → WriteCa
     pub is : way_of r ≡ way
     pub put : Puts contents does old (release_text bay names r) new
 
-  -- the same, or nothing
+  -- the lines of a right release of this switch and operation, or nothing
   abbrev pub PutsMaybe : Bay → Known → BoundProgram → ℕ × Operation → Writing W → Writing W
       → Type 0
   PutsMaybe bay names g way old new =
@@ -57,7 +57,7 @@ module _ {W : Type 0} (contents : W → Option (List ℕ)) (does : W → WriteCa
     pub all : map way_of releases ≡ these
     pub put : Puts contents does old (flat_map (release_text bay names) releases) new
 
-  -- the same for the first of these switches and operations
+  -- the lines of right releases of the first of these switches and operations
   pub record PutsSome (bay : Bay) (names : Known) (g : BoundProgram)
       (these : List (ℕ × Operation)) (old new : Writing W) : Type 0 where
     pub found : List (ℕ × Operation)
@@ -80,7 +80,8 @@ module _ {W : Type 0} (contents : W → Option (List ℕ)) (does : W → WriteCa
     pub put : Puts contents does old text new
     pub says : IsTextFor loaded rules log text status
 
-  -- the same without the line of a fault, before which it stopped; or nothing
+  -- the text after the line of a load, without the line of a fault, before which it stopped; or
+  -- nothing
   pub record PutsStopped (loaded : LoadData) (rules : List ℕ) (old new : Writing W)
       : Type 0 where
     pub text : List ℕ

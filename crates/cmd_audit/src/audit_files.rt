@@ -3,7 +3,6 @@ ghost use Rattle.bay_report.specs.LogLines.{LogsSome, PrintsLogs};
 ghost use Rattle.cmd_audit.specs.Auditing.{Audits, LoadedReport, log_in};
 
 use crate::loaded::write_rest;
-use crate::text::fault_words;
 use bay_audit::effort::EFFORT;
 use bay_audit_rules::fault::RuleFault;
 use bay_files::files::{FileSystem, read_file, read_files};
@@ -33,7 +32,7 @@ pub(crate) fn log_refused<W: Sink>(writer: &mut WatchedWriter<W>, refused: Optio
         LinePart::Text(b" line "),
         LinePart::Number(fault.line() as u64),
         LinePart::Text(b": "),
-        LinePart::Text(fault_words(fault)),
+        LinePart::Text(fault.words().as_bytes()),
         LinePart::Text(b"\n"),
     ]);
 }

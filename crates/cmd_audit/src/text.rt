@@ -7,7 +7,6 @@ ghost use Rattle.cmd_audit.specs.Text as spec;
 use crate::state_names::StateNames;
 use bay_audit::answer::{CaseRelease, Release, ReportedCase, RuleAnswer, StateDependencies};
 use bay_audit::case::Case;
-use bay_audit_rules::fault::RuleFault;
 use bay_audit_rules::rule::Rule;
 use bay_base::position::Dbpos;
 use bay_base::switch::Operation;
@@ -544,23 +543,6 @@ pub fn put_refused(text: &mut Vec<u8>, code: u8, line: usize) -> Result<(), Allo
     text.extend_from_slice(b" line ")?;
     put_number(text, line as u64)?;
     text.extend_from_slice(b"\n")
-}
-
-/// Returns the meaning of a fault of rules, in words.
-pub fn fault_words(fault: RuleFault) -> &'static [u8]
-    ensures { result.now ≡ spec.fault_words fault }
-{
-    match fault {
-        RuleFault::BadWord { .. } => b"a word or a sign that no rule has",
-        RuleFault::BadLine { .. } => b"a line is no rule",
-        RuleFault::UnknownName { .. } => b"a name is unknown",
-        RuleFault::BadValue { .. } => {
-            b"a position, a value or a time that what is named can't have"
-        }
-        RuleFault::TooMany { .. } => b"too many rules, or too many parentheses within each other",
-        RuleFault::NoRule => b"a text without a rule",
-        RuleFault::OutOfMemory => b"out of memory",
-    }
 }
 
 /// Returns whether a rule holds.

@@ -1,4 +1,5 @@
 pub mod AuditLemmas
+pub mod ExampleLemmas
 pub mod GuardLemmas
 pub mod HoldLemmas
 pub mod IdLemmas

@@ -35,7 +35,8 @@ AnswersRule So loaded (Ok rules) log text status says rule =
     IsAnswered So rules says.1.answers rule
 AnswersRule So loaded (Err fault) log text status says rule = ⊥
 
--- the same in the text after the line of a load, unless memory ran out for it
+-- The rule has such an answer in the text after the line of a load, unless memory ran out for this
+-- text.
 abbrev pub AnswersAfterLoad : (So : RuleAnswer → Type 0) (Memory : Type 0) (loaded : LoadData)
     (rules : List ℕ) (log : Option (List ℕ)) (text : List ℕ) (status : ℕ)
     → IsTextFor loaded rules log text status ⊎ Memory → Rule → Type 0

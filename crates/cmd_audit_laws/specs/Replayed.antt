@@ -76,7 +76,7 @@ pub record RunObeys (parts : ScenarioParts) (first : State) (text : List ℕ) (s
       → IsAudited Plainly parts.bay Logic parts.logic rules rule
       → EachPast (ScanObeysAt rule) first run.past
 
--- The same for each run of a scenario's device.
+-- Each run of a scenario's device obeys the rules so.
 abbrev pub ReplayedCommandsObey : Type 0
 ReplayedCommandsObey =
     (parts : ScenarioParts) (first : State) (text : List ℕ) (status : ℕ)

@@ -75,7 +75,7 @@ pub record ObeyAudits (form : Form) (both : FilesData) (begun : ServerData) (tur
       → IsAudited Plainly both.bay form both.program rules rule
       → EachPast (ScanObeysAt rule) begun.device (past_of turns begun [])
 
--- The same for a program's text, and for the octets of an image.
+-- Turns obey audits so, of a program's text or of the octets of an image.
 abbrev pub ObeyAuditsOf : Form → FilesData → ServerData → List DoneTurn → Type 0
 ObeyAuditsOf form both begun turns = IsFile form both.program → ObeyAudits form both begun turns
 
@@ -105,6 +105,7 @@ module _ {L H W : Type 0} (step : L → Call → L → Type 0) (acts : H → Hos
       Is ports.server goes.5.done
   OfBound Is numbers served trace host after old new answer (Err why) goes = Unit {0}
 
+  -- the statement holds for the turns that were served, if the ports could be opened
   abbrev pub OfPorts : (Is : ServerData → List DoneTurn → Type 0) (numbers : Numbers)
       (loaded : LoadedFiles) (count : ℕ)
       (before after : H) (old new : Writing W) (answer : Result ℕ WriteFault)
@@ -114,7 +115,8 @@ module _ {L H W : Type 0} (step : L → Call → L → Type 0) (acts : H → Hos
       OfBound Is numbers (served_of loaded count) loaded.trace.items ports.host after old new answer
       ports.bound ports.goes_on
 
-  -- the same, if the verdict on the rules is that each holds, and could be written
+  -- the statement holds for the turns that were served, if the verdict on the rules is that each
+  -- holds, and could be written
   abbrev pub OfVerdict : (Is : ServerData → List DoneTurn → Type 0) (numbers : Numbers)
       (loaded : LoadedFiles) (verdict : RulesVerdict)
       (before after : H) (old new : Writing W) (answer : Result ℕ WriteFault)
@@ -124,7 +126,7 @@ module _ {L H W : Type 0} (step : L → Call → L → Type 0) (acts : H → Hos
       InVerdict _ _ verdict serves.told serves.goes_on
       (λ count. OfPorts Is numbers loaded count before after serves.middle new answer)
 
-  -- the same, with rules or without
+  -- the statement holds for the turns that were served, with rules or without
   abbrev pub OfRules : (Is : ServerData → List DoneTurn → Type 0) (rules : Option (List ℕ))
       (numbers : Numbers) (loaded : LoadedFiles)
       (before after : H) (old new : Writing W) (answer : Result ℕ WriteFault)
@@ -135,7 +137,7 @@ module _ {L H W : Type 0} (step : L → Call → L → Type 0) (acts : H → Hos
   OfRules Is (Some rules) numbers loaded before after old new answer serves =
       OfVerdict Is numbers loaded serves.verdict before after old new answer serves.serves
 
-  -- the same, if the line of the load could be written
+  -- the statement holds for the turns that were served, if the line of the load could be written
   abbrev pub OfLoaded : (Is : ServerData → List DoneTurn → Type 0) (numbers : Numbers)
       (loaded : LoadedFiles)
       (before after : H) (old new : Writing W) (answer : Result ℕ WriteFault)
@@ -144,8 +146,8 @@ module _ {L H W : Type 0} (step : L → Call → L → Type 0) (acts : H → Hos
       InLater _ _ serves.told serves.goes_on
       (OfRules Is (rules_of loaded) numbers loaded before after serves.middle new answer)
 
-  -- the same, if the files could be read and loaded: with the octets of the bay file and of the
-  -- program
+  -- the statement holds for the turns that were served, if the files could be read and loaded: with
+  -- the octets of the bay file and of the program
   abbrev pub OfFiles : (Is : FilesData → ServerData → List DoneTurn → Type 0)
       (numbers : Numbers) (before after : H) (old new : Writing W)
       (answer : Result ℕ WriteFault) (loaded : Result LoadedFiles ServeStartFault)

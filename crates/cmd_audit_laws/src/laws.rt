@@ -1,13 +1,19 @@
 // Laws of audited rules, and of small runs of commands. Each function does nothing, and its
 // contract is the law.
-ghost use Rattle.std.specs.Prelude.{◌≡◌, ◌+◌, ℕ, true, false, List, [], ◌∷◌};
+ghost use Rattle.std.specs.Prelude.{◌≡◌, ◌+◌, ℕ, true, false, List, [], ◌∷◌, None};
 ghost use Rattle.std.specs.List.{Contains};
+ghost use Rattle.bay_audit_laws.specs.Examples.{at_all_times};
+ghost use Rattle.bay_audit_laws.specs.Laws.{HasWaited, IsAllowed, ScanObeysAt};
+ghost use Rattle.bay_audit_rules.specs.declared.rule.RuleKind.TheVariants.{Always, Never};
+ghost use Rattle.bay_base.specs.declared.switch.Operation.{Operation};
+ghost use Rattle.bay_base.specs.declared.switch.Operation.TheVariants.{Close};
 ghost use Rattle.bay_mms_services.specs.declared.answer.Command.{Command};
 ghost use Rattle.bay_device.specs.Device.{State};
 ghost use Rattle.bay_device.specs.Fresh.{IsSameProcess, Past};
 ghost use Rattle.bay_device.specs.declared.event.Step.{Step};
 ghost use Rattle.cmd_audit_laws.specs.Guarded.{GuardedCommandsObey};
-ghost use Rattle.cmd_audit_laws.specs.Orders.{octets_arrived, server_without_clients, contact_past, with_enable_value, lost_past, server_with_client, open_command, octets_refused, scan_past, no_octets, turn_with};
+ghost use Rattle.cmd_audit_laws.specs.Orders.{five_milliseconds, octets_arrived, scanned_at, server_without_clients, contact_past, with_enable_value, lost_past, server_with_client, open_command, octets_refused, scan_past, no_octets, turn_with};
+ghost use Rattle.cmd_replay.specs.History.{EachPast};
 ghost use Rattle.cmd_audit_laws.specs.Replayed.{ReplayedCommandsObey};
 ghost use Rattle.cmd_audit_laws.specs.Served.{ServedCommandsObey};
 ghost use Rattle.cmd_audit_laws.specs.Told.{HoldsAreAudited};
@@ -148,4 +154,49 @@ pub fn a_reported_command_needs_each_of_its_parts()
     ensures unordered { (first : State) (h : ServerData) (t : DoneTurn) (told : Turn)
         (past : List Past) (command : Command) → Contains told.commands command
         → AreOrdered first h past (t ∷ turn_with no_octets told ∷ []) → ⊥ }
+{}
+
+/// What obeys a rule, in small runs. The rule that switch 0 is never released for opening is obeyed
+/// by a scan that leaves EnaOpn FALSE and not by one that leaves it TRUE, also if a contact
+/// follows. The rule that it is always released is obeyed by the second scan and not by the first.
+/// The first rule allows no command to open switch 0, and each command of another operation or
+/// switch. If the switch must wait until a condition has held for 5 milliseconds, the command is
+/// allowed if the condition was TRUE at a scan at moment 0 and the last scan was at moment 5; not
+/// if the last scan was at 4, if the condition was FALSE at a scan since, if it was at no scan, or
+/// if the device has not scanned.
+pub fn a_rule_allows_only_what_obeys_it()
+    ensures blocked { (first s : State) (step : Step)
+        → EachPast (ScanObeysAt (at_all_times Never)) first
+        (scan_past (with_enable_value false s) step ∷ []) }
+    ensures released { (first s : State) (step : Step)
+        → EachPast (ScanObeysAt (at_all_times Never)) first
+        (scan_past (with_enable_value true s) step ∷ []) → ⊥ }
+    ensures earlier { (first s t : State) (step : Step)
+        → EachPast (ScanObeysAt (at_all_times Never)) first
+        (contact_past t step ∷ scan_past (with_enable_value true s) step ∷ []) → ⊥ }
+    ensures demanded { (first s : State) (step : Step)
+        → EachPast (ScanObeysAt (at_all_times Always)) first
+        (scan_past (with_enable_value true s) step ∷ []) }
+    ensures lacking { (first s : State) (step : Step)
+        → EachPast (ScanObeysAt (at_all_times Always)) first
+        (scan_past (with_enable_value false s) step ∷ []) → ⊥ }
+    ensures forbidden { (s : State) → IsAllowed (at_all_times Never) s open_command → ⊥ }
+    ensures closing { (s : State) (k : ℕ)
+        → IsAllowed (at_all_times Never) s (record { switch = k; operation = Close }) }
+    ensures of_another { (s : State) (k : ℕ) (operation : Operation)
+        → IsAllowed (at_all_times Never) s (record { switch = k + 1; operation = operation }) }
+    ensures waited { (s : State)
+        → HasWaited (at_all_times Never) five_milliseconds ((0, true) ∷ []) (scanned_at 5 s)
+        open_command }
+    ensures soon { (s : State)
+        → HasWaited (at_all_times Never) five_milliseconds ((0, true) ∷ []) (scanned_at 4 s)
+        open_command → ⊥ }
+    ensures interrupted { (s : State)
+        → HasWaited (at_all_times Never) five_milliseconds ((3, false) ∷ (0, true) ∷ [])
+        (scanned_at 5 s) open_command → ⊥ }
+    ensures unseen { (s : State)
+        → HasWaited (at_all_times Never) five_milliseconds [] (scanned_at 5 s) open_command → ⊥ }
+    ensures unscanned { (s : State)
+        → HasWaited (at_all_times Never) five_milliseconds ((0, true) ∷ [])
+        (record s { last_scan = None }) open_command → ⊥ }
 {}

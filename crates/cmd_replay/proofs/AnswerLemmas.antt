@@ -1,6 +1,6 @@
 -- What is done at a line of the trace.
 use Rattle.bay_io.specs.Calls.{WriteCall}
-use Rattle.std.proofs.Common.{◌≡◌, ℕ, ◌<◌, nat_lt, Bool, true, false, cond, List, Option, None, Some, option_map, is_none, if◌then◌else◌, Result, Ok, Err, IsErr, arith, refl, sym, ap, ap₂, subst, ◌∙◌}
+use Rattle.std.proofs.Common.{◌≡◌, ℕ, ◌<◌, nat_lt, Bool, true, false, cond, List, Option, None, Result, Ok, Err, IsErr, arith, refl, ap, ap₂, subst, ◌∙◌}
 use Rattle.std.proofs.lemmas.Bool.Decides.{nat_tests}
 use Rattle.bay_device.specs.Device.{State}
 use Rattle.bay_device.specs.Outcomes.{Outcome, outcome}
@@ -12,13 +12,9 @@ use Rattle.bay_io.specs.Watched.{Writing}
 use Rattle.bay_io.specs.declared.outbox.WriteFault.{WriteFault}
 use Rattle.cmd_replay.specs.Answering.{Does, FinishesLogs}
 use Rattle.cmd_replay.specs.LineAnswers.{Replaying, event_answer, memory_answer, named_answer, unread}
-use Rattle.cmd_replay.specs.Replay.{last_log}
 use Rattle.bay_report.specs.Lines.{step_text}
-use Rattle.bay_report.specs.LogLines.{unreadable_line}
 use Rattle.bay_trace.specs.Resolving.{anywhere, count_of, placed_event}
-use Rattle.bay_trace.specs.Trace.{NamedData, trace_line_of}
-use Rattle.bay_trace.specs.TraceView.{line_view}
-use Rattle.bay_trace.specs.declared.trace.TraceLine.{TraceLine}
+use Rattle.bay_trace.specs.Trace.{NamedData}
 use Rattle.bay_trace.proofs.PlacingLemmas.{same-anywhere}
 
 -- what an event comes to is told by what is taken for it
@@ -68,14 +64,7 @@ memory-said now event r lt = by_test (nat_lt r.room (count_of event)) refl
 
 -- ---- the last line of a trace
 
--- it is logged where it can't be read
-pub last-log : (k : ℕ) (line : List ℕ) (read : Option TraceLine)
-    → option_map line_view read ≡ trace_line_of line
-    → last_log k line ≡ (if is_none read then Some (unreadable_line k line) else None)
-last-log k line None e = rw (sym e) refl
-last-log k line (Some read) e = rw (sym e) refl
-
--- what is behind it could not be flushed
+-- the report could not be flushed
 pub FinishesLogs-cut : {W : Type 0} {contents : W → Option (List ℕ)}
     {asks : W → WriteCall → W → Type 0} {status : ℕ} {line : Option (List ℕ)} {old new : Writing W}
     (fault : WriteFault) (r : Result ℕ WriteFault) → IsErr r

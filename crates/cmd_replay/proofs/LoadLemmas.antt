@@ -1,5 +1,5 @@
 -- Lemmas on what is printed for a load and a trace.
-use Rattle.std.proofs.Common.{◌≡◌, ℕ, List, Option, Ok, Err, inl, inr, subst, sym}
+use Rattle.std.proofs.Common.{◌≡◌, ℕ, List, Option, Err, inl, inr, subst, sym}
 use Rattle.bay_load.specs.Loads.{MayLoadTo}
 use Rattle.bay_load.specs.declared.error.LoadError.{LoadError}
 use Rattle.bay_load.specs.declared.error.LoadError.TheVariants.{OutOfMemory}

@@ -1,6 +1,6 @@
 -- How a line of the trace is answered: with which choice, and by which steps.
 use Rattle.bay_io.specs.Calls.{WriteCall}
-use Rattle.std.specs.Prelude.{◌≡◌, ℕ, Bool, false, List, Option, Result, IfOk, MatchResult}
+use Rattle.std.specs.Prelude.{◌≡◌, ℕ, Bool, true, false, List, Option, Result, IfOk, MatchResult}
 use Rattle.bay_device.specs.Device.{State}
 use Rattle.bay_device.specs.Outcomes.{outcome}
 use Rattle.bay_device.specs.declared.event.Event.{Event}
@@ -8,8 +8,15 @@ use Rattle.bay_io.specs.Sent.{Finishes, Puts}
 use Rattle.bay_io.specs.Watched.{Writing}
 use Rattle.bay_io.specs.declared.outbox.WriteFault.{WriteFault}
 use Rattle.cmd_replay.specs.LineAnswers.{Choice, LineAnswer, Replaying}
+use Rattle.cmd_replay.specs.declared.answer.ReplayEnd.{ReplayEnd}
+use Rattle.cmd_replay.specs.declared.answer.ReplayEnd.TheVariants.{Unreadable, OutOfMemory}
 use Rattle.bay_report.specs.Lines.{step_text}
 use Rattle.bay_report.specs.LogLines.{LogsSome}
+
+-- a replay ended at a line that is not valid
+abbrev pub is_unreadable : ReplayEnd → Bool
+is_unreadable Unreadable = true
+is_unreadable OutOfMemory = false
 
 -- an event was applied, and its lines were put into the writer
 pub record Does {W : Type 0} (contents : W → Option (List ℕ)) (asks : W → WriteCall → W → Type 0)

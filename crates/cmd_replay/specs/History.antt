@@ -20,7 +20,7 @@ EachPast Does first [] = Unit {0}
 EachPast Does first (p ∷ past) =
     Does p.now p.event (device_after first past) p.answer p.after × EachPast Does first past
 
--- Each command follows such a scan among the events before it.
+-- Each command follows a fresh scan among the events before it.
 abbrev pub AllFresh : ℕ → List Past → Type 0
 AllFresh age [] = Unit {0}
 AllFresh age (p ∷ past) = IsFresh p.now age past p.answer × AllFresh age past
@@ -36,6 +36,7 @@ abbrev pub events_of : List Past → List (ℕ × Event)
 events_of [] = []
 events_of (p ∷ past) = events_of past ++ (p.now, p.event) ∷ []
 
+-- the answers to the events, in their order
 abbrev pub answers_of : List Past → List (Result Step StepFault)
 answers_of [] = []
 answers_of (p ∷ past) = answers_of past ++ p.answer ∷ []

@@ -37,7 +37,7 @@ TraceReport r k (line ∷ lines) log text status =
     ((rest : List ℕ) × (text ≡ answer.text ++ rest)
     × TraceReport answer.after (k + 1) lines log rest status))
 
--- the same for a device and its trace: the line of its load is printed, followed by the answers to
+-- the report of a device and its trace: the line of its load is printed, followed by the answers to
 -- the lines; the buffer for octets is empty at first
 abbrev pub DeviceReport : State → List (List ℕ) → Option (List ℕ) → List ℕ → ℕ → Type 0
 DeviceReport s lines log text status =
@@ -45,40 +45,40 @@ DeviceReport s lines log text status =
     × ((rest : List ℕ) × (text ≡ report_text report ++ rest)
     × TraceReport (record { device = s; room = 0 }) 1 lines log rest status)
 
--- the same for the result of a load and a trace
+-- the report of a trace on the result of a load
 abbrev pub LoadReport : Result LoadData LoadError → List ℕ → Option (List ℕ) → List ℕ → ℕ → Type 0
 LoadReport (Err error) trace log text status = Refuses error log text status
 LoadReport (Ok loaded) trace log text status =
     DeviceReport (device_of loaded) (lines_of trace) log text status
 
--- the same for a bay file, a program and a trace; memory may run out in their load
+-- the report of a bay file, a program and a trace; memory may run out in their load
 abbrev pub LoadsReport : ScenarioParts → Option (List ℕ) → List ℕ → ℕ → Type 0
 LoadsReport parts log text status =
     LoadReport (load_of parts.bay parts.logic) parts.trace log text status
     ⊎ Refuses OutOfMemory log text status
 
--- The same for parts of a scenario, stated once more by the events of the device: if the parts
+-- The report of the parts of a scenario, stated once more by the events of the device: if the parts
 -- load, the text is that of a run of the device, of which everything holds that is proved of a run.
 abbrev pub RunReport : ScenarioParts → Option (List ℕ) → List ℕ → ℕ → Type 0
 RunReport parts log text status =
     LoadsReport parts log text status × IsOfRun parts log text status
 
--- the same for a scenario's parts, if it has them
+-- the report of a scenario by its parts; a fault if a part is missing
 abbrev pub PartsReport : Option ScenarioParts → Option (List ℕ) → List ℕ → ℕ → Type 0
 PartsReport None =
     IsReported (Some (codes "bayctl: fault 120 line 0: a line %% is missing\n"))
     (codes "fault 120 line 0\n") 3
 PartsReport (Some parts) = RunReport parts
 
--- the same for a scenario
+-- the report of a scenario
 abbrev pub IsReport : List ℕ → Option (List ℕ) → List ℕ → ℕ → Type 0
 IsReport scenario = PartsReport (scenario_of scenario)
 
--- the same for an input that can't be read
+-- the report of an input that can't be read
 abbrev pub UnreadInput : ReadFault → Option (List ℕ) → List ℕ → ℕ → Type 0
 UnreadInput = UnreadReport (codes "standard input")
 
--- the same for the octets of a reader of which no read failed: the report of the scenario, or
+-- the report of the octets of a reader of which no read failed: that of the scenario, or that
 -- memory ran out; a fault if there were too many
 abbrev pub ReadReport : Option (List ℕ) → Option (List ℕ) → List ℕ → ℕ → Type 0
 ReadReport input log text status =
@@ -88,7 +88,7 @@ ReadReport input log text status =
     ⊎ (UnreadInput unread.TooLong log text status
     × IfSome input (λ octets. scenario_limit < length octets))
 
--- the same for the octets of a reader; a fault of this kind exactly if a read failed
+-- the report of the octets of a reader; that of a failed read exactly if a read failed
 abbrev pub IsReplay : Option (List ℕ) → Bool → Option (List ℕ) → List ℕ → ℕ → Type 0
 IsReplay input has_failed log text status =
     MatchBool has_failed ((kind : ErrorKind) × UnreadInput (unread.Failed kind) log text status)
@@ -107,7 +107,7 @@ pub record ReplaysReads {R W : Type 0} (does : R → ReadCall → R → Type 0)
   pub prints : PrintsLogs contents asks
       (IsReplay (Some (octets_of reads.asked.calls)) new.has_failed) before after result
 
--- The same from a source to a sink, which were not used before. The result is a fault exactly if a
+-- A source was replayed to a sink; neither was used before. The result is a fault exactly if a
 -- write or a flush failed, or a write took nothing.
 pub record Replays {R W : Type 0} (does : R → ReadCall → R → Type 0)
     (contents : W → Option (List ℕ)) (asks : W → WriteCall → W → Type 0) (reader : R) (writer : W)

@@ -1,7 +1,7 @@
 // Answers a line of the trace: applies its event, and writes the lines of the answer.
-ghost use Rattle.std.specs.Prelude.{◌≡◌, Some};
+ghost use Rattle.std.specs.Prelude.{◌≡◌, Some, IfSome, is_none, is_some};
 ghost use Rattle.bay_device.specs.declared.event.Event.TheVariants.{Scan};
-ghost use Rattle.cmd_replay.specs.Answering.{Answers, Does};
+ghost use Rattle.cmd_replay.specs.Answering.{Answers, Does, is_unreadable};
 ghost use Rattle.cmd_replay.specs.LineAnswers.{line_answer, named_answer};
 ghost use Rattle.bay_trace.specs.Resolving.{placed_event};
 ghost use Rattle.bay_trace.specs.Trace.{at_moment, contact, scan, trace_line_of};
@@ -18,6 +18,15 @@ use bay_trace::octets::LineOctets;
 use bay_trace::resolve::{decode_octets, resolve_event, resolve_switch};
 use bay_trace::trace::{NamedEvent, TraceLine, read_trace_line, scan_digits};
 use std::alloc::AllocError;
+
+/// Why a replay ends before the last line of its trace.
+#[derive(Clone, Copy)]
+pub enum ReplayEnd {
+    /// The line is not valid.
+    Unreadable,
+    /// There is no memory for the octets of the line.
+    OutOfMemory,
+}
 
 // Applies an event, and writes the lines of its answer.
 fn answer_event<W: Sink>(
@@ -123,28 +132,32 @@ fn answer_named<W: Sink>(
 }
 
 /// Applies the event of the line with this number, counted from 1, and writes the lines of its
-/// answer. Returns true if the replay ends there because the line is not valid or there is no
-/// memory for its octets.
+/// answer. Returns why the replay ends there; `None` if it goes on.
 pub fn replay_line<W: Sink>(
     writer: &mut WatchedWriter<W>,
     device: &mut Device,
     octets: &mut LineOctets,
     number: usize,
     line: &[u8],
-) -> bool
-    ensures { Answers W.contents W.does writer.old
+) -> Option<ReplayEnd>
+    ensures answers { Answers W.contents W.does writer.old
         (λ choice. line_answer choice number (trace_line_of line.now)
         (record { device = device.old; room = octets.old.room })) writer.new
-        (record { device = device.new; room = octets.new.room }) result }
+        (record { device = device.new; room = octets.new.room }) (is_some result) }
+    ensures end { IfSome result (λ end. is_unreadable end ≡ is_none (trace_line_of line.now)) }
 {
     match read_trace_line(line) {
         None => {
             put_unreadable(writer, number);
-            true
+            Some(ReplayEnd::Unreadable)
         }
-        Some(TraceLine::Blank) => false,
+        Some(TraceLine::Blank) => None,
         Some(TraceLine::At { moment, event }) => {
-            answer_named(writer, device, octets, line, moment, event)
+            if answer_named(writer, device, octets, line, moment, event) {
+                Some(ReplayEnd::OutOfMemory)
+            } else {
+                None
+            }
         }
     }
 }

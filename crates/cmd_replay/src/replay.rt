@@ -1,13 +1,14 @@
 // Reads a scenario, replays it, and writes its report.
-ghost use Rattle.std.specs.Prelude.{◌+◌, ◌≤◌, length};
-ghost use Rattle.cmd_replay.specs.Answering.{FinishesLogs};
+ghost use Rattle.std.specs.Prelude.{◌≡◌, ◌+◌, ◌≤◌, length, is_none};
+ghost use Rattle.cmd_replay.specs.Answering.{FinishesLogs, is_unreadable};
 ghost use Rattle.cmd_replay.specs.Replay.{DeviceReport, LoadsReport, IsReport, IsReplay, Replays, ReplaysReads, last_log};
 ghost use Rattle.bay_report.specs.LogLines.{PrintsLogs};
 ghost use Rattle.cmd_replay.specs.Scenario.{scenario_limit};
 ghost use Rattle.bay_report.specs.TextLines.{lines_of};
 ghost use Rattle.cmd_replay.specs.ScenarioView.{scenario_view};
+ghost use Rattle.bay_trace.specs.Trace.{trace_line_of};
 
-use crate::answer::replay_line;
+use crate::answer::{ReplayEnd, replay_line};
 use crate::scenario::{Scenario, split_scenario};
 use bay_device::device::Device;
 use bay_device::load::load_device;
@@ -22,24 +23,27 @@ use bay_report::output::{Status, finish};
 use bay_report::report::put_report;
 use bay_report::text_lines::split_line;
 use bay_trace::octets::LineOctets;
-use bay_trace::trace::read_trace_line;
 use std::alloc::Global;
 
 // The maximum number of octets in a scenario.
 const SCENARIO_LIMIT: usize = 16_777_216;
 
-// Flushes the report at its last line, with this number, and logs the line if it is not valid.
+// Flushes the report at the line with this number, at which the replay ends, and logs the line if
+// it is not valid.
 fn end_at<W: Sink>(
     writer: &mut WatchedWriter<W>,
     number: usize,
     line: &[u8],
+    end: ReplayEnd,
 ) -> Result<u8, WriteFault>
+    requires { is_unreadable end ≡ is_none (trace_line_of line.now) }
     ensures { FinishesLogs W.contents W.does 3 (last_log number line.now) writer.old writer.new
         result }
 {
     let status = finish(writer, Status::Fault)?;
-    if read_trace_line(line).is_none() {
-        log_unreadable(writer, number, line);
+    match end {
+        ReplayEnd::Unreadable => log_unreadable(writer, number, line),
+        ReplayEnd::OutOfMemory => {}
     }
     Ok(status)
 }
@@ -63,8 +67,9 @@ fn replay_device<W: Sink>(
     let mut number = 1usize;
     while !rest.is_empty() {
         let (line, after) = split_line(rest);
-        if replay_line(writer, device, &mut octets, number, line) {
-            return end_at(writer, number, line);
+        match replay_line(writer, device, &mut octets, number, line) {
+            Some(end) => return end_at(writer, number, line, end),
+            None => {}
         }
         if writer.has_failed() {
             return Err(WriteFault);
@@ -139,8 +144,8 @@ pub fn run_replay<R: OctetSource, W: Sink>(
     }
 }
 
-/// Does the same for any source and any sink, which it consumes. The contract states their calls
-/// and the results of these in terms of their own meaning.
+/// Reads a scenario from any source and writes its report to any sink, and consumes both. The
+/// contract states their calls and the results of these in terms of their own meaning.
 pub fn replay_run<R: OctetSource + Drop, W: Sink + Drop>(
     alloc: Global,
     reader: R,

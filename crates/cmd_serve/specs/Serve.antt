@@ -62,7 +62,7 @@ pub record FileNames : Type 0 where
   pub key : Option (List ℕ)
   pub rules : Option (List ℕ)
 
--- the same, as the code has them
+-- the names of the command's files, as the code has them
 abbrev pub names_of : NamedFiles → FileNames
 names_of named = record {
   bay = named.bay.now;

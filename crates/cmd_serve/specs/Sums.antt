@@ -15,6 +15,7 @@ abbrev pub sum_line : ℕ → List ℕ → List ℕ → List ℕ
 sum_line now words octets =
     concat (utc_text now ∷ words ∷ encode_lower (sha256 octets) ∷ codes "\n" ∷ [])
 
+-- the words before the sum of a program or an image
 abbrev pub program_words : Form → List ℕ
 program_words Logic = codes " program SHA-256 "
 program_words Image = codes " image SHA-256 "
@@ -26,6 +27,7 @@ rules_log now (Some rules) count =
     concat (utc_text now ∷ codes " rules SHA-256 " ∷ encode_lower (sha256 rules) ∷ codes ", "
     ∷ decimal count ∷ codes " hold\n" ∷ []) ∷ []
 
+-- the line of each file that is served
 abbrev pub sums_log : ℕ → ServedFiles → List (List ℕ)
 sums_log now served =
     sum_line now (codes " bay SHA-256 ") served.both.bay.items

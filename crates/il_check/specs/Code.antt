@@ -1,9 +1,9 @@
--- The numbers and lines of the faults.
-use Rattle.std.specs.Prelude.{ℕ, Option, Some, None}
+-- The numbers, the lines and the words of the faults.
+use Rattle.std.specs.Prelude.{ℕ, List, codes, Option, Some, None}
 use Rattle.il_check.specs.declared.fault.CheckFault.{CheckFault}
 use Rattle.il_check.specs.declared.fault.CheckFault.TheVariants.{UnknownName, DuplicateName, TypeMismatch, UnsetResult, BackwardJump, UnknownLabel, Unreachable, ReadOnly, ZeroDivisor, TooMany, OutOfMemory}
 
--- ---- own: numbers and lines of faults
+-- ---- own: numbers, lines and words of faults
 
 -- the fault's number, 70 to 79; out of memory has none
 abbrev pub code_of : CheckFault → Option ℕ
@@ -32,3 +32,17 @@ line_of (ReadOnly line) = line
 line_of (ZeroDivisor line) = line
 line_of (TooMany line) = line
 line_of OutOfMemory = 0
+
+-- what the fault is, in words
+abbrev pub words_of : CheckFault → List ℕ
+words_of (UnknownName line) = codes "the name is unknown"
+words_of (DuplicateName line) = codes "the name is declared twice"
+words_of (TypeMismatch line) = codes "the type is not the one that is needed"
+words_of (UnsetResult line) = codes "the result is not set"
+words_of (BackwardJump line) = codes "the jump goes backward"
+words_of (UnknownLabel line) = codes "the label is unknown"
+words_of (Unreachable line) = codes "the instruction can't be reached"
+words_of (ReadOnly line) = codes "the variable may only be read"
+words_of (ZeroDivisor line) = codes "the divisor is not a literal other than 0"
+words_of (TooMany line) = codes "too many names are declared, or parentheses are too deep"
+words_of OutOfMemory = codes "out of memory"

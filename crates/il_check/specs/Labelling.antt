@@ -70,7 +70,7 @@ pub record Carried : Type 0 where
   pub named : List ℕ
   pub now : Coming
 
--- such a state
+-- the state with these labels, jumps and this result
 abbrev pub carry_of : ℕ → List ℕ → Coming → Carried
 carry_of passed named now = record { passed = passed; named = named; now = now }
 

@@ -21,7 +21,8 @@
 -- `TypedProgram` defines which of them are well typed, without names; `Sound` what holds of each;
 -- `Keeping` that a check preserves the content of the text; `OwnPlaces` that a name means its own
 -- declaration. `Limits`: how many labels and parentheses there may be. `Contents` and
--- `ProgramViews` map the code's values to plain data; `Code` numbers the faults.
+-- `ProgramViews` map the code's values to plain data; `Code`: the numbers, lines and words of the
+-- faults.
 
 -- What public clauses cite of the crates below.
 pub use Rattle.bay_base.specs.Exact

@@ -1,6 +1,6 @@
 // Why a program that can be read is refused.
 ghost use Rattle.std.specs.Prelude.{◌≡◌};
-ghost use Rattle.il_check.specs.Code.{code_of, line_of};
+ghost use Rattle.il_check.specs.Code.{code_of, line_of, words_of};
 ghost use Rattle.il_check.specs.declared.fault.CheckFault.TheVariants.{OutOfMemory};
 
 use std::alloc::{AllocError, AllocFailed};
@@ -8,40 +8,30 @@ use thiserror::Error;
 
 /// Why a program is refused, with the line of the fault, counted from 1.
 #[derive(Clone, Copy, Debug, PartialEq, Eq, Error)]
+#[error("{}", self.words())]
 pub enum CheckFault {
     /// A name is not declared, or an external's name is not a point's.
-    #[error("the name is unknown")]
     UnknownName { line: usize },
     /// A name is declared twice, or two labels have the same name.
-    #[error("the name is declared twice")]
     DuplicateName { line: usize },
     /// A type is not the required one, or a name does not mean what the instruction needs.
-    #[error("the type is not the one that is needed")]
     TypeMismatch { line: usize },
     /// The current result is used but not set.
-    #[error("the result is not set")]
     UnsetResult { line: usize },
     /// A jump goes to a label above.
-    #[error("the jump goes backward")]
     BackwardJump { line: usize },
     /// A jump goes to a label that does not exist.
-    #[error("the label is unknown")]
     UnknownLabel { line: usize },
     /// An instruction is unreachable.
-    #[error("the instruction can't be reached")]
     Unreachable { line: usize },
     /// Something read-only is written.
-    #[error("the variable may only be read")]
     ReadOnly { line: usize },
     /// A divisor is not a literal, or is 0.
-    #[error("the divisor is not a literal other than 0")]
     ZeroDivisor { line: usize },
     /// More than 512 externals and variables, 64 timers or 256 labels are declared, or parentheses
     /// nest more than 16 deep.
-    #[error("too many names are declared, or parentheses are too deep")]
     TooMany { line: usize },
     /// Out of memory.
-    #[error("out of memory")]
     OutOfMemory,
 }
 
@@ -83,6 +73,27 @@ impl CheckFault {
             | CheckFault::ZeroDivisor { line }
             | CheckFault::TooMany { line } => line,
             CheckFault::OutOfMemory => 0,
+        }
+    }
+
+    /// Returns what the fault is, in words.
+    pub fn words(self) -> &'static str
+        ensures { result.now ≡ words_of self }
+    {
+        match self {
+            CheckFault::UnknownName { .. } => "the name is unknown",
+            CheckFault::DuplicateName { .. } => "the name is declared twice",
+            CheckFault::TypeMismatch { .. } => "the type is not the one that is needed",
+            CheckFault::UnsetResult { .. } => "the result is not set",
+            CheckFault::BackwardJump { .. } => "the jump goes backward",
+            CheckFault::UnknownLabel { .. } => "the label is unknown",
+            CheckFault::Unreachable { .. } => "the instruction can't be reached",
+            CheckFault::ReadOnly { .. } => "the variable may only be read",
+            CheckFault::ZeroDivisor { .. } => "the divisor is not a literal other than 0",
+            CheckFault::TooMany { .. } => {
+                "too many names are declared, or parentheses are too deep"
+            }
+            CheckFault::OutOfMemory => "out of memory",
         }
     }
 }

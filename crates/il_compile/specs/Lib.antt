@@ -10,8 +10,8 @@
 --
 -- `Code` is the list of instructions of operations, parentheses, calls and items, with the
 -- distances of jumps in octets. `Compiled` is the image, its size, and which programs are too long
--- for one. `Correct` joins the two: code does what the text means. `Faults` numbers the one fault
--- (85). `Laws`: the meaning of the items after a label.
+-- for one. `Correct` joins the two: code does what the text means. `Faults`: the numbers and the
+-- words of the faults. `Laws`: the meaning of the items after a label.
 
 -- What public clauses cite of the crates below.
 pub use Rattle.bay_base.specs.Exact

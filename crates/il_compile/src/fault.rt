@@ -1,6 +1,6 @@
 // Why a program does not compile.
 ghost use Rattle.std.specs.Prelude.{◌≡◌};
-ghost use Rattle.il_compile.specs.Faults.{code_of};
+ghost use Rattle.il_compile.specs.Faults.{code_of, words_of};
 ghost use Rattle.il_compile.specs.declared.fault.CompileFault.TheVariants.{OutOfMemory};
 
 use std::alloc::{AllocError, AllocFailed};
@@ -8,12 +8,11 @@ use thiserror::Error;
 
 /// Why a program does not compile.
 #[derive(Clone, Copy, Debug, PartialEq, Eq, Error)]
+#[error("{}", self.words())]
 pub enum CompileFault {
     /// The encoded image would have more than 65,535 octets.
-    #[error("the image of the program would have more than 65,535 octets")]
     CodeTooLong,
     /// Out of memory.
-    #[error("out of memory")]
     OutOfMemory,
 }
 
@@ -25,6 +24,18 @@ impl CompileFault {
         match self {
             CompileFault::CodeTooLong => Some(85),
             CompileFault::OutOfMemory => None,
+        }
+    }
+
+    /// Returns what the fault is, in words.
+    pub fn words(self) -> &'static str
+        ensures { result.now ≡ words_of self }
+    {
+        match self {
+            CompileFault::CodeTooLong => {
+                "the image of the program would have more than 65,535 octets"
+            }
+            CompileFault::OutOfMemory => "out of memory",
         }
     }
 }

@@ -31,7 +31,7 @@ abbrev pub below : CellKind → List CellKind → Option (List CellKind)
 below wanted [] = None
 below wanted (top ∷ rest) = if is_within top wanted then Some rest else None
 
--- the same kinds, if the top is within the wanted kind
+-- the kinds unchanged, if the top is within the wanted kind
 abbrev pub looks_at : CellKind → List CellKind → Option (List CellKind)
 looks_at wanted kinds = below wanted kinds >>= (λ rest. Some kinds)
 
@@ -83,7 +83,7 @@ widens from to (top ∷ rest) =
     else (if is_within top (Plain (type_of_width from))
     then Some (Plain (type_of_width to) ∷ rest) else None)
 
--- the same kinds, if the slot and the top are BOOLs
+-- the kinds unchanged, if the slot and the top are BOOLs
 abbrev pub with_truth : List ElementaryType → ℕ → List CellKind → Option (List CellKind)
 with_truth slots n kinds =
     slice_get slots n >>= (λ t. if same_type t elementary.Bool

@@ -10,10 +10,10 @@
 -- call.
 --
 -- `Images` defines the content of an image and its spelling in each version. `Opcodes`, `Octets`,
--- `Spelling` and `Reading` do so for one instruction, and `Codes` numbers the faults. `Decoding`
--- decodes an image from the left; it defines which octet is the first bad one, and for which octets
--- decoding may run out of memory. `Cuts` defines how truncated octets are right so far, `Growth`
--- the octets after a write that failed.
+-- `Spelling` and `Reading` do so for one instruction, and `Codes` has the numbers and the words of
+-- the faults. `Decoding` decodes an image from the left; it defines which octet is the first bad
+-- one, and for which octets decoding may run out of memory. `Cuts` defines how truncated octets are
+-- right so far, `Growth` the octets after a write that failed.
 --
 -- The rest is for the verifier. `Kinds`: what is known of a cell (nothing, a type, or a nonzero
 -- number of a width), with order and join. `Effects`: the kinds after an instruction, if it is

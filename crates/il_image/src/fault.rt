@@ -1,6 +1,6 @@
 // Why an image is refused.
 ghost use Rattle.std.specs.Prelude.{◌≡◌};
-ghost use Rattle.il_image.specs.Codes.{code_of};
+ghost use Rattle.il_image.specs.Codes.{code_of, words_of};
 ghost use Rattle.il_image.specs.declared.fault.ImageFault.TheVariants.{OutOfMemory};
 
 use std::alloc::{AllocError, AllocFailed};
@@ -8,22 +8,18 @@ use thiserror::Error;
 
 /// Why octets cannot be decoded as an image: the first fault from the left.
 #[derive(Clone, Copy, Debug, PartialEq, Eq, Error)]
+#[error("{}", self.words())]
 pub enum ImageFault {
     /// The first four octets are not the image mark.
-    #[error("this is no image")]
     BadMagic,
     /// The version is neither 1 nor 2.
-    #[error("the version of the image is not known")]
     BadVersion,
     /// An octet is outside its table, a value is outside its type, or a name does not consist of 1
     /// to 64 upper-case letters, digits and underscores.
-    #[error("an octet of the image stands for nothing")]
     BadOpcode,
     /// The octets or the code end within an item, or octets follow the code.
-    #[error("the image ends too early or too late")]
     Truncated,
     /// Out of memory.
-    #[error("out of memory")]
     OutOfMemory,
 }
 
@@ -39,6 +35,19 @@ impl ImageFault {
             ImageFault::BadOpcode => Some(82),
             ImageFault::Truncated => Some(83),
             ImageFault::OutOfMemory => None,
+        }
+    }
+
+    /// Returns what the fault is, in words.
+    pub fn words(self) -> &'static str
+        ensures { result.now ≡ words_of self }
+    {
+        match self {
+            ImageFault::BadMagic => "this is no image",
+            ImageFault::BadVersion => "the version of the image is not known",
+            ImageFault::BadOpcode => "an octet of the image stands for nothing",
+            ImageFault::Truncated => "the image ends too early or too late",
+            ImageFault::OutOfMemory => "out of memory",
         }
     }
 }

@@ -25,6 +25,7 @@ use Rattle.il_range.specs.declared.range.Range.{Range}
 use Rattle.il_range.specs.declared.range.Positions.{Positions}
 use Rattle.il_range.specs.declared.range.Range.TheVariants.{Any, No, Yes, Either, Between, Among}
 
+-- the range of this value alone
 abbrev pub value_range : Value → Range
 value_range (Truth true) = Yes
 value_range (Truth false) = No
@@ -35,6 +36,7 @@ value_range (Span n) = Between (pos n) (pos n)
 
 -- ---- sets of positions
 
+-- the positions that are not in the set
 abbrev pub other_positions : Positions → Positions
 other_positions s = record {
   intermediate = not s.intermediate;
@@ -43,6 +45,7 @@ other_positions s = record {
   bad = not s.bad;
 }
 
+-- the positions that are in both sets
 abbrev pub common_positions : Positions → Positions → Positions
 common_positions s t = record {
   intermediate = s.intermediate && t.intermediate;
@@ -51,16 +54,18 @@ common_positions s t = record {
   bad = s.bad && t.bad;
 }
 
--- two sets are the same
+-- whether two sets are equal
 abbrev pub same_positions : Positions → Positions → Bool
 same_positions s t =
     beq s.intermediate t.intermediate && (beq s.off t.off && (beq s.on t.on && beq s.bad t.bad))
 
 -- ---- ranges
 
+-- the lesser of two numbers
 abbrev pub lower : ℤ → ℤ → ℤ
 lower a b = if int_le a b then a else b
 
+-- the greater of two numbers
 abbrev pub upper : ℤ → ℤ → ℤ
 upper a b = if int_le a b then b else a
 
@@ -111,7 +116,7 @@ is_within (Between a b) (Between c d) = int_le c a && int_le b d
 is_within (Among j s) (Among k t) = j == k && same_positions s t
 is_within a b = false
 
--- the same for lists, index by index
+-- whether each range is within the other at the same index
 abbrev pub are_within : List Range → List Range → Bool
 are_within [] [] = true
 are_within [] (b ∷ others) = false
@@ -131,11 +136,13 @@ join_lists join (a ∷ items) (b ∷ others) = join a b ∷ join_lists join item
 
 -- ---- timers
 
+-- the kind, if both have the same known kind
 abbrev pub join_kind : Option TimerKind → Option TimerKind → Option TimerKind
 join_kind (Some OnDelay) (Some OnDelay) = Some OnDelay
 join_kind (Some OffDelay) (Some OffDelay) = Some OffDelay
 join_kind a b = None
 
+-- what is known of a delay that is one of either
 abbrev pub join_delay : KnownDelay → KnownDelay → KnownDelay
 join_delay Unknown b = Unknown
 join_delay (Below m) (Below n) = Below (max m n)
@@ -151,6 +158,7 @@ join_delay (AtLeast m) Begun = Begun
 join_delay (AtLeast m) Unknown = Unknown
 join_delay (AtLeast m) (Below n) = Unknown
 
+-- what is known of a timer that is one of either
 abbrev pub join_timer : KnownTimer → KnownTimer → KnownTimer
 join_timer a b =
     record {
@@ -192,6 +200,7 @@ delay_of_off Any delay = Unknown
 delay_of_off (Between l h) delay = Unknown
 delay_of_off (Among k s) delay = Unknown
 
+-- what is known of the delay after a call of a timer of this kind with this IN
 abbrev pub delay_after : Option TimerKind → Range → KnownDelay → KnownDelay
 delay_after None input delay = Unknown
 delay_after (Some OnDelay) input delay = delay_of_on input delay
@@ -236,6 +245,7 @@ elapsed_after (Some OnDelay) No preset = Between (pos 0) (pos 0)
 elapsed_after (Some OffDelay) Yes preset = Between (pos 0) (pos 0)
 elapsed_after kind input preset = up_to preset
 
+-- what is known of a timer after a call
 abbrev pub timer_after_call : KnownTimer → KnownTimer
 timer_after_call u =
     let delay = delay_after u.kind u.input u.delay in
@@ -248,14 +258,17 @@ timer_after_call u =
       delay = delay;
     }
 
+-- the timer with another IN
 abbrev pub with_input : Range → KnownTimer → KnownTimer
 with_input input u = record u { input = input }
 
+-- the timer with another PT
 abbrev pub with_preset : Range → KnownTimer → KnownTimer
 with_preset preset u = record u { preset = preset }
 
 -- ---- truths
 
+-- the range of NOT of a BOOL
 abbrev pub not_range : Range → Range
 not_range No = Yes
 not_range Yes = No
@@ -264,6 +277,7 @@ not_range Either = Either
 not_range (Between low high) = Either
 not_range (Among k s) = Among k (other_positions s)
 
+-- the range of AND of two BOOLs
 abbrev pub and_ranges : Range → Range → Range
 and_ranges No b = No
 and_ranges Yes No = No
@@ -297,9 +311,11 @@ and_ranges (Among j s) Either = Either
 and_ranges (Among j s) (Between c d) = Either
 and_ranges (Among j s) (Among k t) = if j == k then among j (common_positions s t) else Either
 
+-- the range of OR of two BOOLs
 abbrev pub or_ranges : Range → Range → Range
 or_ranges a b = not_range (and_ranges (not_range a) (not_range b))
 
+-- the range of XOR of two BOOLs
 abbrev pub xor_ranges : Range → Range → Range
 xor_ranges No No = No
 xor_ranges No Yes = Yes
@@ -307,6 +323,7 @@ xor_ranges Yes No = Yes
 xor_ranges Yes Yes = No
 xor_ranges a b = Either
 
+-- the range of a connective of two BOOLs
 abbrev pub connect_ranges : Connective → Range → Range → Range
 connect_ranges And a b = and_ranges a b
 connect_ranges Or a b = or_ranges a b
@@ -314,6 +331,7 @@ connect_ranges Xor a b = xor_ranges a b
 
 -- ---- comparisons
 
+-- the least number of a range, if it is known
 abbrev pub low_of : Range → Option ℤ
 low_of Any = None
 low_of No = Some (pos 0)
@@ -322,6 +340,7 @@ low_of Either = Some (pos 0)
 low_of (Between low high) = Some low
 low_of (Among k s) = Some (pos 0)
 
+-- the greatest number of a range, if it is known
 abbrev pub high_of : Range → Option ℤ
 high_of Any = None
 high_of No = Some (pos 0)
@@ -330,20 +349,25 @@ high_of Either = Some (pos 1)
 high_of (Between low high) = Some high
 high_of (Among k s) = Some (pos 1)
 
+-- whether both numbers are known and the test holds for them
 abbrev pub holds_if_known : (ℤ → ℤ → Bool) → Option ℤ → Option ℤ → Bool
 holds_if_known test (Some a) (Some b) = test a b
 holds_if_known test (Some a) None = false
 holds_if_known test None b = false
 
+-- whether each number of the first range is known to be less than each of the second
 abbrev pub surely_lt : Range → Range → Bool
 surely_lt a b = holds_if_known int_lt (high_of a) (low_of b)
 
+-- whether each number of the first range is known to be at most each of the second
 abbrev pub surely_le : Range → Range → Bool
 surely_le a b = holds_if_known int_le (high_of a) (low_of b)
 
+-- the range of a BOOL that is known to be TRUE, known to be FALSE, or neither
 abbrev pub bool_range : Bool → Bool → Range
 bool_range is_yes is_no = if is_yes then Yes else (if is_no then No else Either)
 
+-- the range of the result of a comparison
 abbrev pub compare_ranges : Comparison → Range → Range → Range
 compare_ranges Lt a b = bool_range (surely_lt a b) (surely_le b a)
 compare_ranges Gt a b = bool_range (surely_lt b a) (surely_le a b)
@@ -378,12 +402,15 @@ fits_in w z = int_le (least_of w) z && int_le z (greatest_of w)
 abbrev pub wrap_range : Width → ℤ → ℤ → Range
 wrap_range w low high = if fits_in w low && fits_in w high then Between low high else full_range w
 
--- the same for numbers that may not fit into 64 bits
+-- the range of the numbers between these two, wrapped to the width; none is a number that does not
+-- fit into 64 bits
 abbrev pub wrapped_of : Width → Option ℤ → Option ℤ → Range
 wrapped_of w (Some low) (Some high) = wrap_range w low high
 wrapped_of w (Some low) None = full_range w
 wrapped_of w None high = full_range w
 
+-- the range of the result of an arithmetic operation: a sum or a difference that cannot wrap is
+-- between its ends, and any other result may be each number of the width
 abbrev pub compute_range : ArithmeticOperation → Width → Range → Range → Range
 compute_range Add w (Between a b) (Between c d) = wrap_range w (a +ℤ c) (b +ℤ d)
 compute_range Sub w (Between a b) (Between c d) = wrap_range w (a -ℤ d) (b -ℤ c)
@@ -397,13 +424,16 @@ pub record Plain : Type 0 where
   pub slots : List Range
   pub timers : List KnownTimer
 
+-- the same slots and timers, with these cells
 abbrev pub with_cells : List Range → Plain → Option Plain
 with_cells cells p = Some (record { cells = cells; slots = p.slots; timers = p.timers })
 
+-- applies a function to the top and the cells below it; none if the stack is empty
 abbrev pub top_of : List Range → (Range → List Range → Option Plain) → Option Plain
 top_of [] act = None
 top_of (top ∷ below) act = act top below
 
+-- applies a function to the range of a slot; none if there is no such slot
 abbrev pub slot_of : ℕ → List Range → (Range → Option Plain) → Option Plain
 slot_of n slots act = option_and_then act (slice_get slots n)
 
@@ -417,10 +447,12 @@ slot_by change n p =
       timers = p.timers;
     })))
 
+-- replaces the two cells on top by the result of a function; none if there are fewer
 abbrev pub two_of : (Range → Range → Range) → Plain → Option Plain
 two_of f p =
     top_of p.cells (λ b rest. top_of rest (λ a below. with_cells (f a b ∷ below) p))
 
+-- applies a function to a timer; none if there is no such timer
 abbrev pub timer_of : ℕ → List KnownTimer → (KnownTimer → Option Plain) → Option Plain
 timer_of n timers act = option_and_then act (slice_get timers n)
 
@@ -429,6 +461,8 @@ abbrev pub with_timer : List Range → ℕ → KnownTimer → Plain → Option P
 with_timer cells n u p =
     Some (record { cells = cells; slots = p.slots; timers = slice_set p.timers n u })
 
+-- what is known after an instruction; none for HALT and a jump, and if a cell, a slot or a timer is
+-- missing
 abbrev pub known_after : Instr → Plain → Option Plain
 known_after Halt p = None
 known_after (Push v) p = with_cells (value_range v ∷ p.cells) p

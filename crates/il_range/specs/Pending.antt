@@ -26,6 +26,7 @@ pub record Held : Type 0 where
   pub slots : List Value
   pub timers : List TimerState
 
+-- the cells, slots and timers of a state, at a moment and in a setting
 abbrev pub held_by : ℕ → Setting → State → Held
 held_by now w s = record {
   now = now;

@@ -29,10 +29,11 @@ has_position s Off = s.off
 has_position s On = s.on
 has_position s Bad = s.bad
 
--- the set has each position, and one position at least
+-- whether the set has each position
 abbrev pub are_all : Positions → Bool
 are_all s = s.intermediate && (s.off && (s.on && s.bad))
 
+-- whether the set has a position
 abbrev pub are_any : Positions → Bool
 are_any s = s.intermediate || (s.off || (s.on || s.bad))
 
@@ -98,7 +99,7 @@ delay_start Idle = None
 delay_start Held = None
 delay_start (Since start) = Some start
 
--- the same for the timer at an index
+-- the moment at which the delay of the timer at an index began, if one runs
 abbrev pub delay_start_at : ℕ → List TimerState → Option ℕ
 delay_start_at n timers =
     option_and_then (λ (t : TimerState). delay_start t.phase) (slice_get timers n)
@@ -111,7 +112,7 @@ delay_onset OnDelay Idle = None
 delay_onset OffDelay Idle = Some 0
 delay_onset kind Held = None
 
--- the same for the timer at an index
+-- the moment at which the delay of the timer at an index began, for as long as IN stays as it is
 abbrev pub delay_onset_at : ℕ → List TimerState → Option ℕ
 delay_onset_at n timers =
     option_and_then (λ (t : TimerState). delay_onset t.kind t.phase) (slice_get timers n)

@@ -121,6 +121,7 @@ impl Dependencies {
         }
     }
 
+    // Pops what the top depends on.
     fn pop(&mut self) -> SourceSet {
         match self.cells.pop() {
             Some(set) => set,
@@ -128,6 +129,7 @@ impl Dependencies {
         }
     }
 
+    // Pushes what a value depends on.
     fn push(&mut self, set: SourceSet) -> Result<(), AllocError> {
         self.cells.push(set)?;
         Ok(())
@@ -140,6 +142,7 @@ impl Dependencies {
         self.push(first.or(second))
     }
 
+    // Applies an instruction that uses a slot.
     fn use_slot(&mut self, slot_use: SlotUse, n: usize) -> Result<(), AllocError> {
         let slot = at(self.slots.as_slice(), n);
         let top = self.top();
@@ -151,6 +154,7 @@ impl Dependencies {
         Ok(())
     }
 
+    // Applies an instruction that uses a timer.
     fn use_timer(&mut self, timer_use: TimerUse, n: usize) -> Result<(), AllocError> {
         let timer = at(self.timers.as_slice(), n);
         match timer_use {

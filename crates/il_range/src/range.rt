@@ -95,12 +95,14 @@ pub(crate) fn value_range(value: Value) -> Range
     }
 }
 
+// Returns the lesser of two numbers.
 fn lower(a: i64, b: i64) -> i64
     ensures { result ≡ spec.lower a b }
 {
     if a <= b { a } else { b }
 }
 
+// Returns the greater of two numbers.
 fn upper(a: i64, b: i64) -> i64
     ensures { result ≡ spec.upper a b }
 {

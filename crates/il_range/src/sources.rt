@@ -116,6 +116,7 @@ pub struct SlotSources {
 }
 
 impl SlotSources {
+    // Returns whether the range of a slot depends on one of these sources.
     fn meets(&self, slot: usize, sources: SourceSet) -> bool {
         slot < self.sets.len() && self.sets[slot].meets(sources)
     }

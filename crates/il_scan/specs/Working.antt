@@ -28,7 +28,7 @@ pub record Words : Type 0 where
   pub slots : List ℤ
   pub timers : List TimerState
 
--- such a record
+-- the words of this stack and of these slots, and these timers
 abbrev pub words : List ℤ → List ℤ → List TimerState → Words
 words stack slots timers = record { stack = stack; slots = slots; timers = timers }
 

@@ -61,7 +61,7 @@ fn xor(stack: &mut OperandStack)
     stack.replace_top(i64::from(first != second));
 }
 
-// AND, OR or XOR.
+// Replaces two BOOLs by the result of AND, OR or XOR.
 #[inline(always)]
 fn combine(stack: &mut OperandStack, connective: Connective)
     requires two { 1 < length stack.old }
@@ -88,8 +88,8 @@ fn calculate(stack: &mut OperandStack, operation: ArithmeticOperation, width: Wi
     stack.replace_top(compute(operation, width, first, second));
 }
 
-// ADD, SUB, MUL, DIV or MOD. Each is a separate call, so that the compiler knows the operation at
-// each opcode.
+// Replaces two numbers by the result of ADD, SUB, MUL, DIV or MOD. Each is a separate call, so that
+// the compiler knows the operation at each opcode.
 #[inline(always)]
 fn calculate_by(stack: &mut OperandStack, operation: ArithmeticOperation, width: Width)
     requires two { 1 < length stack.old }
@@ -119,7 +119,7 @@ fn relate(stack: &mut OperandStack, comparison: Comparison)
     stack.replace_top(i64::from(compare(comparison, first, second)));
 }
 
-// GT, GE, EQ, NE, LE or LT.
+// Replaces two values of the same type by the result of GT, GE, EQ, NE, LE or LT.
 #[inline(always)]
 fn relate_by(stack: &mut OperandStack, comparison: Comparison)
     requires two { 1 < length stack.old }

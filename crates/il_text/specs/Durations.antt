@@ -13,7 +13,7 @@ duration_view d = record { rest = d.rest.now; total = d.total; begun = d.begun }
 abbrev pub capped_one : Duration → Duration
 capped_one d = record { rest = d.rest; total = min d.total (2 ^ 32); begun = d.begun }
 
--- the same, if there is a duration
+-- a duration with a total of at most 2 ^ 32 milliseconds, if there is a duration
 abbrev pub capped_duration : Option Duration → Option Duration
 capped_duration = option_map capped_one
 

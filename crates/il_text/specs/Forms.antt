@@ -114,6 +114,7 @@ argument_list =
     (try_map_form (λ p. both p.0 p.1) (split_form mark.Comma argument argument))
     (map_form (λ a. a ∷ []) argument)
 
+-- `[arg {"," arg}]`: the arguments of a call, none, one or two
 unfoldable pub arguments : Form (List (Input × OperandData))
 arguments = either (no_token []) argument_list
 
@@ -191,7 +192,7 @@ tail =
 abbrev pub declared_part : List (List ℕ) → Tail → List LineContent
 declared_part ns t = declaring ns t.kind t.initial ∷ []
 
--- the same for the tokens of the names; none if they are no list of names
+-- the part that declares the names of these tokens; none if the tokens are no list of names
 abbrev pub declared_names : Tail → List Symbol → Option (List LineContent)
 declared_names t ss = option_map (λ ns. declared_part ns t) (names_from false ss)
 

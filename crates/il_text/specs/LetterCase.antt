@@ -64,7 +64,7 @@ upper_listing l =
       items = map upper_entry l.items;
     }
 
--- the same for the reading of a text; a fault is unchanged
+-- what a text is read as, with the names of its program in upper case; a fault is unchanged
 abbrev pub upper_program : Result PlainProgram TextFault → Result PlainProgram TextFault
 upper_program (Ok l) = Ok (upper_listing l)
 upper_program (Err e) = Err e

@@ -19,8 +19,8 @@
 -- and letters in either case change nothing but the spelling of names.
 --
 -- `Steps` and `Reading` read line by line, with a list of the open parentheses, as the code does.
--- `Code` numbers the faults, `Words` has the token of each reserved word, `Views` and `ItemViews`
--- map the code's values to plain data.
+-- `Code` has the numbers, lines and words of the faults, `Words` the token of each reserved word;
+-- `Views` and `ItemViews` map the code's values to plain data.
 
 pub mod Characters
 pub mod Code

@@ -29,6 +29,6 @@ reached_of l =
       parentheses = reverse (map opened_of l.parentheses.items);
     }
 
--- the same, and the number of lines with an instruction or `)`
+-- what the lines so far make, and the number of these lines with an instruction or `)`
 abbrev pub read_of : code.Draft → Read
 read_of l = record { reached = reached_of l; instructions = l.instructions }

@@ -8,6 +8,7 @@ use Rattle.il_text.specs.declared.program.VariableScope.{VariableScope}
 
 -- ---- IEC 61131-3 B.1.4.3, B.1.5.3, B.2.1: the parts of a line
 
+-- a part of a line
 pub data LineContent : Type 0 where
   -- `PROGRAM name`
   heading : List ℕ → LineContent

@@ -94,12 +94,13 @@ within_limits line last before ps s =
     then within_bounds line last before s
     else Ok (record { reached = s; instructions = before })
 
--- the same; none means that the line is not allowed here
+-- the state after a line with these parts, given the state by its parts alone; none means that the
+-- line is not allowed here
 abbrev pub after_text_line : ℕ → ℕ → ℕ → List LineContent → Option Reached → Result Read TextFault
 after_text_line line last before ps None = Err (BadLine line)
 after_text_line line last before ps (Some s) = within_limits line last before ps s
 
--- the same; none means that the line has no form
+-- the state after a line with these parts; none means that the line has no form
 abbrev pub after_parts : ℕ → ℕ → Read → Option (List LineContent) → Result Read TextFault
 after_parts line last r None = Err (BadLine line)
 after_parts line last r (Some ps) =

@@ -21,7 +21,7 @@ pub record IsRun (bytes : List ℕ) (start end : ℕ) : Type 0 where
 abbrev pub capped_number : Option ℕ → Option ℕ
 capped_number = option_map (λ n. min n (2 ^ 64 - 1))
 
--- the same for a number with its sign
+-- a number with its sign, its magnitude at most 2 ^ 64 - 1
 abbrev pub capped_signed : Option Signed → Option Signed
 capped_signed = option_map (λ z. (z.0, min z.1 (2 ^ 64 - 1)))
 

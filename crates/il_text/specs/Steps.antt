@@ -34,7 +34,7 @@ abbrev pub nothing_read : Reached
 nothing_read =
     record { place = place.Start; name = []; declarations = []; items = []; parentheses = [] }
 
--- the same at another stage of the program
+-- the state at another stage of the program
 abbrev pub at_stage : Stage → Reached → Reached
 at_stage p r =
     record {

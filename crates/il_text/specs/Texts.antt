@@ -70,14 +70,14 @@ Ends last ls (Ok program) = Derives (all_parts ls) program
 Ends last ls (Err fault) =
     ((program : PlainProgram) → Derives (all_parts ls) program → ⊥) × (fault ≡ BadLine last)
 
--- A line without a form is a bad line.
+-- A line with these parts goes on as the second argument says; one without a form is a bad line.
 abbrev pub OnParts : ℕ → (List LineContent → Type 0) → Option (List LineContent)
     → Result PlainProgram TextFault
     → Type 0
 OnParts line goes None r = r ≡ Err (BadLine line)
 OnParts line goes (Some ps) r = goes ps
 
--- A bad token or literal is the fault of its line.
+-- A line of these tokens is read by its form; a bad token or literal is the fault of its line.
 abbrev pub OnTokens : ℕ → (List LineContent → Type 0) → Result (List Symbol) TextFault
     → Result PlainProgram TextFault → Type 0
 OnTokens line goes (Err fault) r = r ≡ Err fault

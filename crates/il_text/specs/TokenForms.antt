@@ -20,7 +20,7 @@ map_form make f = record {
   Spells = λ ts y. (x : _) × f.Spells ts x × (make x ≡ y);
 }
 
--- the same with a function that may have no result
+-- applies a function to what f reads; the function may have no result
 abbrev pub try_map_form : {A B : Type 0} → (A → Option B) → Form A → Form B
 try_map_form test f = record {
   reads = λ ts. option_and_then test (f.reads ts);
@@ -31,6 +31,7 @@ try_map_form test f = record {
 abbrev pub none : {A : Type 0} → Form A
 none = record { reads = λ ts. None; Spells = λ ts x. ⊥ }
 
+-- the value x, if there is no token
 abbrev pub no_token_of : {A : Type 0} → A → List Symbol → Option A
 no_token_of x [] = Some x
 no_token_of x (t ∷ ts) = None
@@ -39,6 +40,7 @@ no_token_of x (t ∷ ts) = None
 abbrev pub no_token : {A : Type 0} → A → Form A
 no_token x = record { reads = no_token_of x; Spells = λ ts y. (ts ≡ []) × (x ≡ y) }
 
+-- what `is` reads from the token, if there is exactly one
 abbrev pub one_of : {A : Type 0} → (Symbol → Option A) → List Symbol → Option A
 one_of is [] = None
 one_of is (t ∷ []) = is t
@@ -51,6 +53,7 @@ one is = record {
   Spells = λ ts x. (t : Symbol) × (ts ≡ t ∷ []) × (is t ≡ Some x);
 }
 
+-- reads the first token with `is`, and the others with the reader that its value selects
 abbrev pub bind_form_of : {A B : Type 0} → (Symbol → Option A) → (A → List Symbol → Option B)
     → List Symbol → Option B
 bind_form_of is f [] = None
@@ -80,6 +83,7 @@ abbrev pub is_mark : Mark → Symbol → Bool
 is_mark m (mark_symbol n) = same_mark m n
 is_mark m other = false
 
+-- reads the tokens after the mark, if the first token is this mark
 abbrev pub after_mark_of : {A : Type 0} → Mark → (List Symbol → Option A) → List Symbol → Option A
 after_mark_of m f [] = None
 after_mark_of m f (t ∷ ts) = if is_mark m t then f ts else None
@@ -91,6 +95,7 @@ after_mark m f = record {
   Spells = λ ts x. (rest : List Symbol) × (ts ≡ mark_symbol m ∷ rest) × f.Spells rest x;
 }
 
+-- the first value, if there is one, or else the second
 abbrev pub or_of : {A : Type 0} → Option A → Option A → Option A
 or_of (Some x) o = Some x
 or_of None o = o
@@ -123,6 +128,7 @@ split_at_mark m (s ∷ ss) =
 abbrev pub has_mark : Mark → List Symbol → Bool
 has_mark m ts = is_some (split_at_mark m ts)
 
+-- reads both halves of split tokens, if there are two halves
 abbrev pub split_form_of : {A B : Type 0} → (List Symbol → Option A) → (List Symbol → Option B)
     → Option (List Symbol × List Symbol) → Option (A × B)
 split_form_of f g None = None

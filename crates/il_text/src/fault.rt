@@ -1,6 +1,6 @@
 // Why a text is not a program.
 ghost use Rattle.std.specs.Prelude.{◌≡◌};
-ghost use Rattle.il_text.specs.Code.{code_of, line_of};
+ghost use Rattle.il_text.specs.Code.{code_of, line_of, words_of};
 ghost use Rattle.il_text.specs.declared.fault.TextFault.TheVariants.{OutOfMemory};
 
 use std::alloc::{AllocError, AllocFailed};
@@ -8,25 +8,20 @@ use thiserror::Error;
 
 /// Why a text is not a program, with the line of the fault, counted from 1.
 #[derive(Clone, Copy, Debug, Error)]
+#[error("{}", self.words())]
 pub enum TextFault {
     /// A character that begins no token, a malformed literal, a name of more than 64 characters, or
     /// an unclosed comment.
-    #[error("a token cannot be read")]
     BadToken { line: usize },
     /// The tokens do not form a line that is allowed here, or the text ends early.
-    #[error("a line cannot be read")]
     BadLine { line: usize },
     /// More than 16 parentheses are open at once.
-    #[error("parentheses are too deep")]
     TooDeep { line: usize },
     /// A well-formed literal outside the range of its type.
-    #[error("a literal is out of range")]
     BadLiteral { line: usize },
     /// More than 4,000 lines hold an instruction or a `)`.
-    #[error("the program is too long")]
     TooLong { line: usize },
     /// Out of memory.
-    #[error("out of memory")]
     OutOfMemory,
 }
 
@@ -56,6 +51,20 @@ impl TextFault {
             | TextFault::BadLiteral { line }
             | TextFault::TooLong { line } => line,
             TextFault::OutOfMemory => 0,
+        }
+    }
+
+    /// Returns what the fault is, in words.
+    pub fn words(self) -> &'static str
+        ensures { result.now ≡ words_of self }
+    {
+        match self {
+            TextFault::BadToken { .. } => "a token cannot be read",
+            TextFault::BadLine { .. } => "a line cannot be read",
+            TextFault::TooDeep { .. } => "parentheses are too deep",
+            TextFault::BadLiteral { .. } => "a literal is out of range",
+            TextFault::TooLong { .. } => "the program is too long",
+            TextFault::OutOfMemory => "out of memory",
         }
     }
 }

@@ -38,14 +38,23 @@ pub struct Tail {
 /// The form of a line. The names of a declaration are not checked yet.
 #[derive(Clone, Copy)]
 pub(crate) enum Line<'t, 'a> {
+    /// `PROGRAM name`.
     Heading(&'a str),
+    /// `VAR` or `VAR_EXTERNAL`.
     Opening(VariableScope),
+    /// The names, the type and the initial value of variables or timers.
     Declaration { names: &'t [Token<'a>], tail: Tail },
+    /// `END_VAR`.
     Closing,
+    /// A label alone.
     Label(&'a str),
+    /// A label, and the instruction after it.
     Labelled(&'a str, Statement<'a>),
+    /// An instruction, or an operator that opens a parenthesis.
     Statement(Statement<'a>),
+    /// `)`.
     Leaving,
+    /// `END_PROGRAM`.
     Ending,
 }
 

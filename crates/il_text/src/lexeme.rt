@@ -13,10 +13,14 @@ use bay_base::names::same_letters;
 /// A lexeme of a text.
 #[derive(Clone, Copy)]
 pub(crate) enum Lexeme<'a> {
+    /// A space or a tab.
     Blank,
+    /// LF, or CR LF.
     LineEnd,
     Token(Token<'a>),
+    /// No token.
     BadToken,
+    /// A literal outside the range of its type.
     BadLiteral,
 }
 

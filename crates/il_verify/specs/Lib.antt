@@ -16,8 +16,8 @@
 --
 -- `Refusals`: the first fault of an image. The kinds at an offset are the least that include all
 -- kinds that reach it; the definition refers to all of these, while the code has one frame for each
--- offset. `Refusals` also defines for which images verifying may run out of memory. `Codes` numbers
--- the faults.
+-- offset. `Refusals` also defines for which images verifying may run out of memory. `Codes` has the
+-- numbers and the words of the faults.
 
 -- What public clauses cite of the crates below.
 pub use Rattle.il_image.specs.Images

@@ -1,6 +1,6 @@
 // Why an image is refused.
 ghost use Rattle.std.specs.Prelude.{◌≡◌};
-ghost use Rattle.il_verify.specs.Codes.{code_of};
+ghost use Rattle.il_verify.specs.Codes.{code_of, words_of};
 ghost use Rattle.il_verify.specs.declared.fault.VerifyFault.TheVariants.{OutOfMemory};
 
 use std::alloc::{AllocError, AllocFailed};
@@ -12,43 +12,32 @@ use thiserror::Error;
 /// an offset at which no instruction begins; an end without HALT or JUMP; stacks of different
 /// depths at one instruction.
 #[derive(Clone, Copy, Debug, PartialEq, Eq, Error)]
+#[error("{}", self.words())]
 pub enum VerifyFault {
     /// An instruction needs more values than are on the stack.
-    #[error("too few values lie on the stack")]
     StackEmpty,
     /// More than 32 values would be on the stack.
-    #[error("too many values lie on the stack")]
     StackFull,
     /// A value on the stack is not known to have the kind that an instruction needs.
-    #[error("a value is of a wrong kind")]
     WrongKind,
     /// A divisor is not known to be nonzero.
-    #[error("a divisor may be zero")]
     ZeroDivisor,
     /// An instruction names a slot that the image does not have.
-    #[error("there is no such slot")]
     NoSlot,
     /// An instruction names a timer that the image does not have.
-    #[error("there is no such timer")]
     NoTimer,
     /// A jump goes past the code or into the middle of an instruction.
-    #[error("a jump leads to no instruction")]
     BadTarget,
     /// Neither the instruction before this one nor a jump leads to it.
-    #[error("an instruction is not reached")]
     Unreachable,
     /// Paths to an instruction bring stacks of different depths.
-    #[error("stacks of two depths meet")]
     DepthClash,
     /// The code ends without HALT or JUMP, or is empty.
-    #[error("the code does not end at a HALT or a JUMP")]
     NoHalt,
     /// A point is not the bay's with the same type and access, or occurs twice; there are more than
     /// 512 slots or 64 timers; or a read-only point is written.
-    #[error("the image does not fit the bay")]
     BadBinding,
     /// Out of memory for the pass over the code.
-    #[error("out of memory")]
     OutOfMemory,
 }
 
@@ -71,6 +60,26 @@ impl VerifyFault {
             VerifyFault::NoHalt => Some(99),
             VerifyFault::BadBinding => Some(100),
             VerifyFault::OutOfMemory => None,
+        }
+    }
+
+    /// Returns what the fault is, in words.
+    pub fn words(self) -> &'static str
+        ensures { result.now ≡ words_of self }
+    {
+        match self {
+            VerifyFault::StackEmpty => "too few values lie on the stack",
+            VerifyFault::StackFull => "too many values lie on the stack",
+            VerifyFault::WrongKind => "a value is of a wrong kind",
+            VerifyFault::ZeroDivisor => "a divisor may be zero",
+            VerifyFault::NoSlot => "there is no such slot",
+            VerifyFault::NoTimer => "there is no such timer",
+            VerifyFault::BadTarget => "a jump leads to no instruction",
+            VerifyFault::Unreachable => "an instruction is not reached",
+            VerifyFault::DepthClash => "stacks of two depths meet",
+            VerifyFault::NoHalt => "the code does not end at a HALT or a JUMP",
+            VerifyFault::BadBinding => "the image does not fit the bay",
+            VerifyFault::OutOfMemory => "out of memory",
         }
     }
 }

@@ -46,6 +46,10 @@ PLACES = (
           "the body of `write_out_of_memory`, whose calls are held as the line is"),
     Place("cmd_audit/src/loaded.rt", "Err(Stopped) => { writer.put(NO_MEMORY);",
           "an audit stops if an allocation fails, or a write: then nothing more is written"),
+    Place("cmd_replay/src/answer.rt",
+          "if answer_named(writer, device, octets, line, moment, event)"
+          " { Some(ReplayEnd::OutOfMemory) }",
+          "the line's octets found no memory, which `answer_named` returns as true"),
     Place("bay_server/src/turns.rt",
           "for association in memory"
           " { put_closing_line(writer, moment, *association, Why::Memory); }",

@@ -6,4 +6,7 @@ use Rattle.cmd_replay.proofs.answer.replay_line.Goals as goal
 pub returns-in-Some-Blank : goal.returns-in-Some-Blank
 returns-in-Some-Blank g c =
     rw (sym c.in-Some-Blank.ensures.line, c.in-Some-Blank.field-0-is)
-    (record { choice = heard None; text = Puts-nil _; last = refl; left_is = λ e. refl })
+    (record {
+      answers = record { choice = heard None; text = Puts-nil _; last = refl; left_is = λ e. refl };
+      end = tt;
+    })

@@ -1,4 +1,4 @@
-use Rattle.std.proofs.Common.{◌≡◌, ◌∙◌, sym, ap, length, None, arith}
+use Rattle.std.proofs.Common.{◌≡◌, refl, sym, ap, length, None, arith}
 use Rattle.std.proofs.lemmas.Bool.Decides.{nat_tests}
 use Rattle.bay_io.proofs.SentLemmas.{Puts-nil}
 use Rattle.bay_report.specs.TextLines.{lines_of}
@@ -15,30 +15,30 @@ loop-rest-init g c = record {
   bound = omega arith;
 }
 
-pub returns-then-replay_line : goal.returns-then-replay_line
-returns-then-replay_line g c =
-    let said = c.replay_line.ensures in
+pub returns-in-Some : goal.returns-in-Some
+returns-in-Some g c =
+    let said = c.in-Some.ensures.answers in
     let cut = lines-cut _ _ _ c.split_line.ensures.cuts in
     Progress-logged c.loop-rest.invariant.progress _ 3 c.end_at.result
-    (Progress-fault c.loop-rest.invariant.progress said.choice _ _ cut
-    (sym said.last ∙ c.if-replay_line.true)) said.text c.end_at.ensures
+    (Progress-fault c.loop-rest.invariant.progress said.choice _ _ cut (sym said.last)) said.text
+    c.end_at.ensures
 
 pub returns-then-has_failed : goal.returns-then-has_failed
 returns-then-has_failed g c =
-    let said = c.replay_line.ensures in
+    let said = c.in-None.ensures.answers in
     let cut = lines-cut _ _ _ c.split_line.ensures.cuts in
-    Progress-cut (Progress-step c.loop-rest.invariant.progress said.choice _ _ cut
-    (sym said.last ∙ c.if-replay_line.false) said.text) _
+    Progress-cut (Progress-step c.loop-rest.invariant.progress said.choice _ _ cut (sym said.last)
+    said.text) _
     (sym c.if-has_failed.ensures)
 
 pub loop-rest-preserved : goal.loop-rest-preserved
 loop-rest-preserved g c =
-    let said = c.replay_line.ensures in
+    let said = c.in-None.ensures.answers in
     let cut = lines-cut _ _ _ c.split_line.ensures.cuts in
     record {
-      progress = rw (said.left_is c.if-replay_line.false)
-          (Progress-step c.loop-rest.invariant.progress said.choice _ _ cut
-          (sym said.last ∙ c.if-replay_line.false) said.text);
+      progress = rw (said.left_is refl)
+          (Progress-step c.loop-rest.invariant.progress said.choice _ _ cut (sym said.last)
+          said.text);
       bound = omega (arith, c.split_line.ensures.shorter, c.loop-rest.invariant.bound);
     }
 

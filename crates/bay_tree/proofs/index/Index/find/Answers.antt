@@ -5,7 +5,13 @@ use Rattle.bay_tree.specs.declared.row.Row.{Row}
 use Rattle.bay_tree.specs.Arena.{bucket_of}
 use Rattle.bay_tree.specs.Rows.{name_at}
 use Rattle.bay_tree.proofs.IndexLemmas.{IsSought, sought-first, sought-next, rows_left-next}
+use Rattle.bay_tree.proofs.SearchLemmas.{longer-is-unknown}
 use Rattle.bay_tree.proofs.index.Index.find.Goals as goal
+
+pub returns-then-name-self : goal.returns-then-name-self
+returns-then-name-self c =
+    longer-is-unknown c.args.rows.now c.args.self.now c.args.name.now c.requires
+    (omega (arith, c.if-name-self.true))
 
 pub loop-at-init : goal.loop-at-init
 loop-at-init c =
