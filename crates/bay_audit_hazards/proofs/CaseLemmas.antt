@@ -1,5 +1,5 @@
 -- What is known in a case, and whether the operation is a hazard in its processes.
-use Rattle.std.proofs.Common.{◌≡◌, ℕ, zero, suc, Bool, true, false, List, [], ◌∷◌, ◌++◌, length, Some, refl, sym, ap, subst, ◌∙◌}
+use Rattle.std.proofs.Common.{◌≡◌, ℕ, zero, suc, Bool, true, false, List, [], ◌∷◌, ◌++◌, length, Option, None, Some, refl, sym, ap, subst, ◌∙◌}
 use Rattle.std.specs.Prelude.{slice_get}
 use Rattle.bay_base.specs.declared.position.Dbpos.{Dbpos}
 use Rattle.bay_base.specs.declared.position.Dbpos.TheVariants.{Intermediate, Off, On, Bad}
@@ -16,10 +16,13 @@ use Rattle.bay_diagram.specs.declared.reading.Bound.TheVariants.{Worst, Best}
 use Rattle.bay_diagram.specs.declared.reading.InputSet.{InputSet}
 use Rattle.bay_diagram.specs.declared.reading.Known.{Known}
 use Rattle.bay_diagram.specs.declared.reading.PositionSet.{PositionSet}
+use Rattle.bay_diagram.specs.declared.shown.ShownHazard.{ShownHazard}
 use Rattle.bay_diagram.specs.Hazards.{is_hazard}
 use Rattle.bay_diagram.specs.Reading.{IsAllowed, allowed_by, has_position, has_value, reading_at, reading_in}
+use Rattle.bay_diagram.specs.Shown.{IsShownOf, is_shown}
 use Rattle.bay_diagram.proofs.GrowthLemmas.{hazards-are-bounded}
-use Rattle.bay_audit_hazards.specs.Judged.{IsHazard, is_hazard_of}
+use Rattle.bay_diagram.proofs.ShownGrowth.{shown-best}
+use Rattle.bay_audit_hazards.specs.Judged.{IsExplained, IsHazard, is_hazard_of}
 use Rattle.bay_audit_hazards.specs.Parts.{AllowInputs, AllowPositions, IsKnown}
 
 -- ---- sets of positions and of values
@@ -112,6 +115,15 @@ module _ (net : Network) (k : ℕ) (operation : Operation) (case : List TestAnsw
           (sym (ap (λ (b : Bound). is_hazard net (reading_at b (allowed_by known)) k operation)
           is.bounds) ∙ h);
     }
+
+    -- what the best shows is shown in each process of the case
+    pub explained : IsKnown Best case known → (o : Option ShownHazard)
+        → IsShownOf net (reading_in known) k operation o → IsExplained net k operation case o
+    explained is None h = tt
+    explained is (Some shown) h = λ p inside.
+        shown-best net (allowed_by known) p (is.allows p inside) k operation shown
+        (subst (λ (b : Bound). is_shown net (reading_at b (allowed_by known)) k operation shown
+        ≡ true) is.bounds h)
 
 -- a case without its example has no process
 pub no-process : (case : List TestAnswer) → is_in case (example_of case) ≡ false → (p : Process)

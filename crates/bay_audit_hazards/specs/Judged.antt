@@ -1,5 +1,5 @@
 -- Which answers to a release are right.
-use Rattle.std.specs.Prelude.{ℕ, ◌≡◌, Bool, true, false, List}
+use Rattle.std.specs.Prelude.{ℕ, ◌≡◌, Bool, true, false, List, Option, None, Some}
 use Rattle.bay_base.specs.declared.switch.Operation.{Operation}
 use Rattle.bay_audit_rules.specs.Process.{Process}
 use Rattle.bay_audit.specs.Cases.{is_in}
@@ -9,6 +9,8 @@ use Rattle.bay_audit.specs.declared.case.TestAnswer.{TestAnswer}
 use Rattle.bay_diagram.specs.declared.network.Network.{Network}
 use Rattle.bay_diagram.specs.Hazards.{is_hazard}
 use Rattle.bay_diagram.specs.Reading.{reading_of}
+use Rattle.bay_diagram.specs.Shown.{is_shown}
+use Rattle.bay_diagram.specs.declared.shown.ShownHazard.{ShownHazard}
 use Rattle.bay_audit_hazards.specs.declared.answer.HazardAnswer.{HazardAnswer}
 use Rattle.bay_audit_hazards.specs.declared.answer.HazardAnswer.TheVariants.{Holds, Broken, Open, Undecided}
 
@@ -42,3 +44,9 @@ IsJudged g net k operation (Broken case) =
     IsHazard net k operation case × IsReleased g k operation case
 IsJudged g net k operation (Open case) = IsHazard net k operation case
 IsJudged g net k operation Undecided = Unit {0}
+
+-- What is shown is a hazard of the operation in each process of the case.
+abbrev pub IsExplained : Network → ℕ → Operation → List TestAnswer → Option ShownHazard → Type 0
+IsExplained net k operation case None = Unit {0}
+IsExplained net k operation case (Some shown) =
+    (p : Process) → is_in case p ≡ true → is_shown net (reading_of p) k operation shown ≡ true

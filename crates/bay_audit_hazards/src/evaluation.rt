@@ -13,6 +13,7 @@ use bay_config::bay::Bay;
 use bay_diagram::hazard::is_hazard;
 use bay_diagram::network::Network;
 use bay_diagram::reading::{Bound, InputSet, Known, PositionSet};
+use bay_diagram::show::show;
 use std::alloc::{AllocError, Global};
 
 // Returns the positions that each of the first `switches` switches may have in the case.
@@ -45,8 +46,8 @@ fn inputs_in(alloc: Global, case: &Case, inputs: usize) -> Result<Vec<InputSet>,
     Ok(sets)
 }
 
-// Returns the worst that can be known in the case, or the best.
-fn known_in(alloc: Global, bay: &Bay, case: &Case, bound: Bound) -> Result<Known, AllocError>
+/// Returns the worst that can be known in the case, or the best. Fails only if an allocation fails.
+pub fn known_in(alloc: Global, bay: &Bay, case: &Case, bound: Bound) -> Result<Known, AllocError>
     ensures { IfOk result (spec.IsKnown bound case.now) }
 {
     let switches = bay.switches.as_slice().len();
@@ -81,7 +82,8 @@ pub fn evaluate(
     if is_hazard(network, &best, switch, operation) {
         return Ok(Evaluation::Hazard);
     }
-    match open_test(case, network) {
+    let shown = show(alloc, network, &worst, switch, operation)?;
+    match open_test(case, network, &shown) {
         Some(test) => Ok(Evaluation::Split(test)),
         None => Ok(Evaluation::Unclear),
     }

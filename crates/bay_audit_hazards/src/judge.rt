@@ -19,16 +19,22 @@ use std::alloc::{AllocError, Global};
 const MILLION: u64 = 1_000_000;
 
 // The looks at a branch or a node that take the time of one octet of code.
-const LOOKS: u64 = 4;
+const LOOKS: u64 = 16;
 
 // Returns how many passes over the program an evaluation counts for. At worst it makes some walks
 // for each disconnector, each over all branches, and looks at nodes for each of them.
 fn evaluation_cost(program: &AuditedProgram<'_>, network: &Network) -> u32 {
-    let branches = network.branches.as_slice().len() as u64;
+    let branches = network.branches.as_slice();
+    let disconnectors = branches
+        .iter()
+        .filter(|branch| branch.is_disconnector())
+        .count() as u64;
+    let count = branches.len() as u64;
     let nodes = network.nodes.as_slice().len() as u64;
-    let looks = branches
-        .saturating_mul(branches)
-        .saturating_mul(branches.saturating_add(nodes));
+    let looks = disconnectors
+        .saturating_add(1)
+        .saturating_mul(count)
+        .saturating_mul(count.saturating_add(nodes));
     let passes = u64::from(PassBudget::new(program.image(), 1, 1).passes);
     let cost = (looks / LOOKS).saturating_mul(passes) / MILLION;
     u32::try_from(cost.saturating_add(1)).unwrap_or(u32::MAX)

@@ -3,6 +3,7 @@
 use bay_audit::case::{Case, Test};
 use bay_base::position::Dbpos;
 use bay_diagram::network::{Device, Network};
+use bay_diagram::shown::{HazardKind, ShownHazard, ShownWalk};
 use il_range::range::Positions;
 
 // The positions that are not open. The part of a case with these is judged first: most hazards come
@@ -63,9 +64,67 @@ fn device_test(case: &Case, device: Device) -> Option<Test> {
     }
 }
 
-/// Returns the first test of the diagram's switches, or else of its sources, that the case leaves
-/// open.
-pub fn open_test(case: &Case, network: &Network) -> Option<Test> {
+// Returns the first test of what is known of the branch with a number.
+fn branch_test(case: &Case, network: &Network, number: usize) -> Option<Test> {
+    let branch = network
+        .branches
+        .as_slice()
+        .iter()
+        .find(|branch| branch.number == number)?;
+    device_test(case, branch.device)
+}
+
+// Returns whether the position of a branch counts in a hazard that is shown: not that of the switch
+// itself, and where a gap is wanted, only that of what is one.
+fn counts(network: &Network, shown: &ShownHazard, number: usize) -> bool {
+    let is_gap = match shown.kind {
+        HazardKind::Earths | HazardKind::Bridges => network
+            .branches
+            .as_slice()
+            .iter()
+            .any(|branch| branch.number == number && branch.isolates),
+        HazardKind::Breaks | HazardKind::Makes | HazardKind::Leaves => true,
+    };
+    number != shown.switch && is_gap
+}
+
+// Returns the first test of the switches that a walk leads over.
+fn walk_test(
+    case: &Case,
+    network: &Network,
+    shown: &ShownHazard,
+    walk: &ShownWalk,
+) -> Option<Test> {
+    for step in walk.steps.as_slice() {
+        if counts(network, shown, step.branch) {
+            let test = branch_test(case, network, step.branch);
+            if test.is_some() {
+                return test;
+            }
+        }
+    }
+    None
+}
+
+// Returns the first test of the switches that a hazard is shown by.
+fn shown_test(case: &Case, network: &Network, shown: &ShownHazard) -> Option<Test> {
+    let test = walk_test(case, network, shown, &shown.walk);
+    if test.is_some() {
+        return test;
+    }
+    match (shown.other, shown.earth, &shown.beside) {
+        (Some(other), _, Some(beside)) => {
+            branch_test(case, network, other).or(walk_test(case, network, shown, beside))
+        }
+        (Some(other), _, None) => branch_test(case, network, other),
+        (None, Some(earth), _) => branch_test(case, network, earth),
+        (None, None, _) => None,
+    }
+}
+
+// Returns the first test of the diagram's switches, or else of its sources, that the case leaves
+// open.
+fn first_test(case: &Case, network: &Network) -> Option<Test> {
     network
         .branches
         .as_slice()
@@ -78,4 +137,17 @@ pub fn open_test(case: &Case, network: &Network) -> Option<Test> {
                 .iter()
                 .find_map(|node| input_test(case, node.dead))
         })
+}
+
+/// Returns a test that the case leaves open: of the switches by which the hazard is shown, or else
+/// of the diagram's switches and sources.
+pub fn open_test(case: &Case, network: &Network, shown: &Option<ShownHazard>) -> Option<Test> {
+    let test = match shown {
+        Some(shown) => shown_test(case, network, shown),
+        None => None,
+    };
+    match test {
+        Some(test) => Some(test),
+        None => first_test(case, network),
+    }
 }

@@ -7,7 +7,7 @@ use Rattle.bay_diagram.specs.declared.network.Device.{Device}
 use Rattle.bay_diagram.specs.declared.network.Device.TheVariants.{Own, Other}
 use Rattle.bay_diagram.specs.Hazards.{is_hazard}
 use Rattle.bay_diagram.specs.Laws.{HazardsAreExact}
-use Rattle.bay_diagram.specs.Reading.{Allowed, IsAllowed, IsOnly, IsWorse, best_of, is_closed, is_open, may_be_closed, may_be_neither, may_be_open, may_say, reading_of, is_true_input, worst_of}
+use Rattle.bay_diagram.specs.Reading.{Allowed, IsOnly, IsWorse, best_of, is_closed, is_open, may_be_closed, may_be_neither, may_be_open, may_say, reading_of, is_true_input, worst_of}
 use Rattle.bay_base.specs.Positions.{same_position}
 use Rattle.bay_audit_rules.specs.Process.{Process}
 use Rattle.bay_diagram.proofs.GrowthLemmas.{hazards-grow}

@@ -26,13 +26,13 @@ use Rattle.bay_diagram.proofs.ReadingLemmas.{best-bounds, worst-bounds}
 -- ---- truth values that only become true
 
 -- the second is true where the first is
-record Le (a b : Bool) : Type 0 where
-  gives : a ≡ true → b ≡ true
+pub record Le (a b : Bool) : Type 0 where
+  pub gives : a ≡ true → b ≡ true
 
 no-yes : false ≡ true → ⊥
 no-yes h = cc
 
-same : (a : Bool) → Le a a
+pub same : (a : Bool) → Le a a
 same a = record { gives = λ h. h }
 
 le-no : (b : Bool) → Le false b
@@ -41,27 +41,27 @@ le-no b = record { gives = λ h. absurd (no-yes h) }
 le-yes : (a : Bool) → Le a true
 le-yes a = record { gives = λ h. refl }
 
-le-and : (a b c d : Bool) → Le a b → Le c d → Le (a && c) (b && d)
+pub le-and : (a b c d : Bool) → Le a b → Le c d → Le (a && c) (b && d)
 le-and true true c d p q = q
 le-and true false c d p q = absurd (no-yes (p.gives refl))
 le-and false b c d p q = le-no (b && d)
 
-le-or : (a b c d : Bool) → Le a b → Le c d → Le (a || c) (b || d)
+pub le-or : (a b c d : Bool) → Le a b → Le c d → Le (a || c) (b || d)
 le-or true true c d p q = same true
 le-or true false c d p q = absurd (no-yes (p.gives refl))
 le-or false true c d p q = le-yes c
 le-or false false c d p q = q
 
-le-not : (a b : Bool) → Le b a → Le (not a) (not b)
+pub le-not : (a b : Bool) → Le b a → Le (not a) (not b)
 le-not true b p = le-no (not b)
 le-not false true p = absurd (no-yes (p.gives refl))
 le-not false false p = same true
 
 -- with the first part as it is
-le-under : (c a b : Bool) → Le a b → Le (c && a) (c && b)
+pub le-under : (c a b : Bool) → Le a b → Le (c && a) (c && b)
 le-under c a b p = le-and c c a b (same c) p
 
-le-any : {X : Type 0} (p q : X → Bool) → ((x : X) → Le (p x) (q x)) → (xs : List X)
+pub le-any : {X : Type 0} (p q : X → Bool) → ((x : X) → Le (p x) (q x)) → (xs : List X)
     → Le (list_any p xs) (list_any q xs)
 le-any p q all [] = same false
 le-any p q all (x ∷ xs) =
@@ -89,7 +89,7 @@ module _ (p q : Branch → Bool) (more : (b : Branch) → Le (p b) (q b)) where
   joined-more bs a b = record { gives = joined-grows (filter p bs) (filter q bs) (of-more bs) a b }
 
 module _ (net : Network) where
-  leads-more : (r w : Reading) (route : Route)
+  pub leads-more : (r w : Reading) (route : Route)
       → ((b : Branch) → Le (is_over r route.over b) (is_over w route.over b))
       → (a b : ℕ) → Le (leads net r route a b) (leads net w route a b)
   leads-more r w route more a b =
@@ -99,14 +99,14 @@ module _ (net : Network) where
       net.branches a b
 
   module _ (r w : Reading) (worse : IsWorse r w) where
-    possible : (b : Branch) → Le (is_over r Possible b) (is_over w Possible b)
+    pub possible : (b : Branch) → Le (is_over r Possible b) (is_over w Possible b)
     possible b = record { gives = worse.may b.device }
 
-    gapless : (b : Branch) → Le (is_over r Gapless b) (is_over w Gapless b)
+    pub gapless : (b : Branch) → Le (is_over r Gapless b) (is_over w Gapless b)
     gapless b = le-or (not b.isolates) (not b.isolates) (r.may b.device) (w.may b.device)
         (same (not b.isolates)) (possible b)
 
-    inseparable : (b : Branch) → Le (is_over w Inseparable b) (is_over r Inseparable b)
+    pub inseparable : (b : Branch) → Le (is_over w Inseparable b) (is_over r Inseparable b)
     inseparable b = same (not b.isolates)
 
     closed : (b : Branch) → Le (is_over w Closed b) (is_over r Closed b)
@@ -124,7 +124,7 @@ module _ (net : Network) where
         (λ c. le-under (is_earth_at s x.number c) (w.sure c.device) (r.sure c.device)
         (record { gives = worse.sure c.device })) net.branches))
 
-    target-more : (s : Branch) (t : Target) (x : Node)
+    pub target-more : (s : Branch) (t : Target) (x : Node)
         → Le (is_target net r s t x) (is_target net w s t x)
     target-more s Live x = live-more s x
     target-more s Terminal x = same (is_terminal_kind x.kind)
@@ -165,7 +165,7 @@ module _ (net : Network) where
 
     -- ---- E, J, C
 
-    earths-more : (s : Branch) → Le (earths net r s) (earths net w s)
+    pub earths-more : (s : Branch) → Le (earths net r s) (earths net w s)
     earths-more s =
         le-any (λ (x : Node). x.is_source
         && (leads net r (without Gapless s avoid.Nothing) s.one x.number
@@ -198,7 +198,7 @@ module _ (net : Network) where
         (reaches-more s (without Gapless s (avoid.Node b)) gapless a Live)
         (earth-more s (without Gapless s (avoid.Node a)) gapless b)
 
-    bridges-more : (s : Branch) → Le (bridges net r s) (bridges net w s)
+    pub bridges-more : (s : Branch) → Le (bridges net r s) (bridges net w s)
     bridges-more s =
         le-or (bridges_from net r s s.one s.other) (bridges_from net w s s.one s.other)
         (bridges_from net r s s.other s.one) (bridges_from net w s s.other s.one)
@@ -217,7 +217,7 @@ module _ (net : Network) where
         (reaches_earth net r s of_b b) (reaches_earth net w s of_b b)
         (reaches-more s of_b possible b Terminal) (earth-more s of_b possible b))
 
-    breaks-more : (s : Branch) → Le (breaks net r s) (breaks net w s)
+    pub breaks-more : (s : Branch) → Le (breaks net r s) (breaks net w s)
     breaks-more s =
         le-and (breaks_from net r s s.one s.other || breaks_from net r s s.other s.one)
         (breaks_from net w s s.one s.other || breaks_from net w s s.other s.one)
@@ -267,7 +267,7 @@ module _ (net : Network) where
           (energises net r s d a b x y) (energises net w s d a b x y)
           (near-more a b x y) (energises-more a b x y))
 
-      makes-more : Le (makes net r s d) (makes net w s d)
+      pub makes-more : Le (makes net r s d) (makes net w s d)
       makes-more =
           le-or (makes_from net r s d s.one s.other d.one d.other)
           (makes_from net w s d s.one s.other d.one d.other) _ _
@@ -299,7 +299,7 @@ module _ (net : Network) where
           (reaches net r s of_y y Terminal) (reaches net w s of_y y Terminal)
           (reaches-more s of_x possible x Live) (reaches-more s of_y possible y Terminal)
 
-      leaves-more : Le (leaves net r s d) (leaves net w s d)
+      pub leaves-more : Le (leaves net r s d) (leaves net w s d)
       leaves-more =
           le-and (lies_beside net r s d s.one s.other || lies_beside net r s d s.other s.one)
           (lies_beside net w s d s.one s.other || lies_beside net w s d s.other s.one)
@@ -312,7 +312,7 @@ module _ (net : Network) where
           (feeds_from net r s d d.other d.one) (feeds_from net w s d d.other d.one)
           (feeds-more d.one d.other) (feeds-more d.other d.one))
 
-      exposed-more : Le (is_exposed net r s d) (is_exposed net w s d)
+      pub exposed-more : Le (is_exposed net r s d) (is_exposed net w s d)
       exposed-more =
           le-under (is_disconnector d.kind) _ _
           (le-under (not (d.number == s.number)) _ _
@@ -324,7 +324,7 @@ module _ (net : Network) where
           (not (has_beside net r d s)) (not (has_beside net w d s))
           (no-beside s d) (no-beside d s))))
 
-    makes-any-more : (s : Branch) → Le (makes_any net r s) (makes_any net w s)
+    pub makes-any-more : (s : Branch) → Le (makes_any net r s) (makes_any net w s)
     makes-any-more s =
         le-any (λ (d : Branch). is_exposed net r s d && makes net r s d)
         (λ (d : Branch). is_exposed net w s d && makes net w s d)
@@ -332,7 +332,7 @@ module _ (net : Network) where
         (makes net w s d)
         (exposed-more s d) (makes-more s d)) net.branches
 
-    leaves-any-more : (s : Branch) → Le (leaves_any net r s) (leaves_any net w s)
+    pub leaves-any-more : (s : Branch) → Le (leaves_any net r s) (leaves_any net w s)
     leaves-any-more s =
         le-any (λ (d : Branch). is_exposed net r s d && leaves net r s d)
         (λ (d : Branch). is_exposed net w s d && leaves net w s d)

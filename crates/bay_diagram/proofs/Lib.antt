@@ -1,5 +1,10 @@
 pub mod ExactLemmas
+pub mod FoundLemmas
 pub mod GrowthLemmas
 pub mod JoinedLemmas
+pub mod PathLemmas
 pub mod ReadingLemmas
+pub mod ShowLemmas
+pub mod ShownGrowth
+pub mod ShownLemmas
 pub mod WalkLemmas

@@ -1,5 +1,5 @@
 -- Labels of nodes in a list.
-use Rattle.std.proofs.Common.{◌≡◌, ◌⊎◌, inl, inr, ℕ, ◌<◌, ◌≤◌, ◌+◌, Bool, true, false, List, [], ◌∷◌, ◌++◌, length, get_or, slice_index, take, suc, zero, refl, ap, sym, subst, cond, ◌∙◌, arith}
+use Rattle.std.proofs.Common.{◌≡◌, ◌⊎◌, inl, inr, ℕ, ◌<◌, ◌≤◌, ◌+◌, Bool, true, false, List, [], ◌∷◌, ◌++◌, length, get_or, slice_index, take, suc, zero, refl, ap, sym, cond, ◌∙◌, arith}
 use Rattle.std.specs.Prelude.{filter}
 use Rattle.std.proofs.lemmas.List.{append-nil}
 use Rattle.std.proofs.lemmas.List.Elements.{filter_more}
@@ -88,7 +88,7 @@ next-of p branches b false n =
     ap (λ (bs : List Branch). label_of bs n) (append-nil (filter p branches))
 
 -- the labels after one branch more
-label-more : (p : Branch → Bool) (branches : List Branch) (i : ℕ) (d : Branch)
+pub label-more : (p : Branch → Bool) (branches : List Branch) (i : ℕ) (d : Branch)
     → i < length branches → (label : ℕ → ℕ)
     → ((n : ℕ) → label n ≡ label_of (filter p (take i branches)) n) → (n : ℕ)
     → label_next (p (get_or branches i d)) label (get_or branches i d) n
@@ -98,18 +98,6 @@ label-more p branches i d within label same n =
     next-same (p b) label (label_of (filter p (take i branches))) same b n
     ∙ sym (ap (λ (bs : List Branch). label_of bs n) (filter_more p branches i d within)
     ∙ next-of p (take i branches) b (p b) n)
-
--- the same of a list that is equal to that of the branches
-pub label-more-of : (p : Branch → Bool) (items branches : List Branch) → items ≡ branches
-    → (i : ℕ) (d : Branch) → i < length items → (label : ℕ → ℕ)
-    → ((n : ℕ) → label n ≡ label_of (filter p (take i branches)) n) → (n : ℕ)
-    → label_next (p (get_or items i d)) label (get_or items i d) n
-    ≡ label_of (filter p (take (i + 1) branches)) n
-label-more-of p items branches is i d within label same n =
-    subst (λ (bs : List Branch). ((m : ℕ) → label m ≡ label_of (filter p (take i bs)) m)
-    → label_next (p (get_or items i d)) label (get_or items i d) n
-    ≡ label_of (filter p (take (i + 1) bs)) n)
-    is (λ h. label-more p items i d within label h n) same
 
 -- ---- labels and walks
 

@@ -2,8 +2,10 @@
 use Rattle.std.specs.Prelude.{ℕ, ◌≡◌, true}
 use Rattle.bay_base.specs.declared.switch.Operation.{Operation}
 use Rattle.bay_diagram.specs.declared.network.Network.{Network}
+use Rattle.bay_diagram.specs.declared.shown.ShownHazard.{ShownHazard}
 use Rattle.bay_diagram.specs.Hazards.{is_hazard}
 use Rattle.bay_diagram.specs.Reading.{Allowed, IsAllowed, IsOnly, IsWorse, Reading, best_of, reading_of, worst_of}
+use Rattle.bay_diagram.specs.Shown.{is_shown}
 use Rattle.bay_audit_rules.specs.Process.{Process}
 
 -- Where less is known, each hazard is one still.
@@ -37,3 +39,23 @@ pub record IsExact (net : Network) (a : Allowed) (p : Process) (k : ℕ) (operat
 abbrev pub HazardsAreExact : Type 0
 HazardsAreExact = (net : Network) (a : Allowed) (p : Process) → IsAllowed a p → IsOnly a p
     → (k : ℕ) (operation : Operation) → IsExact net a p k operation
+
+-- A hazard that is shown is one.
+abbrev pub ShownIsHazard : Type 0
+ShownIsHazard = (net : Network) (r : Reading) (k : ℕ) (operation : Operation)
+    (shown : ShownHazard) → is_shown net r k operation shown ≡ true
+    → is_hazard net r k operation ≡ true
+
+-- Where less is known, a hazard that is shown is shown still, by the same walks.
+abbrev pub ShownGrows : Type 0
+ShownGrows = (net : Network) (r worse : Reading) → IsWorse r worse
+    → (k : ℕ) (operation : Operation) (shown : ShownHazard)
+    → is_shown net r k operation shown ≡ true → is_shown net worse k operation shown ≡ true
+
+-- A hazard that is shown by the best that can be known in a case is shown by each process of the
+-- case.
+abbrev pub ShownBest : Type 0
+ShownBest = (net : Network) (a : Allowed) (p : Process) → IsAllowed a p
+    → (k : ℕ) (operation : Operation) (shown : ShownHazard)
+    → is_shown net (best_of a) k operation shown ≡ true
+    → is_shown net (reading_of p) k operation shown ≡ true

@@ -4,10 +4,12 @@
 -- rests on. `Walks`: the branches that a walk may take. `Joined`: the nodes that branches join, and
 -- that this is a walk. `Reading`: what is known of switches and sources, of a process and of a
 -- case.
--- `Network`: kinds of nodes and branches. `Laws`: where less is known nothing becomes harmless.
+-- `Network`: kinds of nodes and branches. `Shown`: the walks that show a hazard. `Laws`: where less
+-- is known nothing becomes harmless.
 pub mod Hazards
 pub mod Joined
 pub mod Laws
 pub mod Network
 pub mod Reading
+pub mod Shown
 pub mod Walks

@@ -1,5 +1,5 @@
 -- The walks that hazards are stated by.
-use Rattle.std.specs.Prelude.{ℕ, ◌≡◌, ◌<◌, Bool, true, false, not, ◌&&◌, ◌||◌, ◌==◌, List, filter, slice_index, slice_index_or}
+use Rattle.std.specs.Prelude.{ℕ, ◌≡◌, ◌<◌, Bool, true, false, not, ◌&&◌, ◌||◌, ◌==◌, List, filter, take, slice_index, slice_index_or}
 use Rattle.bay_diagram.specs.declared.network.Branch.{Branch}
 use Rattle.bay_diagram.specs.declared.network.Network.{Network}
 use Rattle.bay_diagram.specs.declared.walk.Avoid.{Avoid}
@@ -7,7 +7,7 @@ use Rattle.bay_diagram.specs.declared.walk.Avoid.TheVariants as avoid
 use Rattle.bay_diagram.specs.declared.walk.Over.{Over}
 use Rattle.bay_diagram.specs.declared.walk.Over.TheVariants.{Possible, Closed, Gapless, Inseparable}
 use Rattle.bay_diagram.specs.declared.walk.Route.{Route}
-use Rattle.bay_diagram.specs.Joined.{joined, label_after, relabel}
+use Rattle.bay_diagram.specs.Joined.{joined, label_after, label_of, relabel}
 use Rattle.bay_diagram.specs.Network.{is_earthing, is_source, is_terminal, is_transformer}
 use Rattle.bay_diagram.specs.Reading.{Reading}
 
@@ -65,3 +65,9 @@ label_next false label b n = label n
 -- two nodes have one label
 abbrev pub joined_in : List ℕ → ℕ → ℕ → Bool
 joined_in labels a b = label_in labels a == label_in labels b
+
+-- the label of a node after the first branches of the network that a walk of the route may lead
+-- over
+abbrev pub label_within : Network → Reading → Route → ℕ → ℕ → ℕ
+label_within net r route count =
+    label_of (filter (may_lead_over net r route) (take count net.branches))

@@ -22,7 +22,7 @@ pub enum Target {
 }
 
 // Returns a route without a branch.
-fn without(over: Over, switch: &Branch, avoid: Avoid) -> Route
+pub(crate) fn without(over: Over, switch: &Branch, avoid: Avoid) -> Route
     ensures { result ≡ spec.without over switch.now avoid }
 {
     Route {
@@ -34,7 +34,7 @@ fn without(over: Over, switch: &Branch, avoid: Avoid) -> Route
 }
 
 // Returns a route without two branches.
-fn without_both(over: Over, switch: &Branch, other: &Branch, avoid: Avoid) -> Route
+pub(crate) fn without_both(over: Over, switch: &Branch, other: &Branch, avoid: Avoid) -> Route
     ensures { result ≡ spec.without_both over switch.now other.now avoid }
 {
     Route {
@@ -69,7 +69,13 @@ fn is_live(network: &Network, known: &Known, switch: &Branch, node: &Node) -> bo
 }
 
 // Returns whether a walk looks for the node.
-fn is_target(network: &Network, known: &Known, switch: &Branch, target: Target, node: &Node) -> bool
+pub(crate) fn is_target(
+    network: &Network,
+    known: &Known,
+    switch: &Branch,
+    target: Target,
+    node: &Node,
+) -> bool
     ensures { result
         ≡ spec.is_target network.now (reading_in known.now) switch.now target node.now }
 {
@@ -171,7 +177,7 @@ fn earths_by(
 }
 
 // Returns whether an earthing switch would close onto a node that is not isolated.
-fn earths(network: &Network, known: &Known, switch: &Branch) -> bool
+pub(crate) fn earths(network: &Network, known: &Known, switch: &Branch) -> bool
     ensures { result ≡ spec.earths network.now (reading_in known.now) switch.now }
 {
     let gapless = labels_of(
@@ -198,7 +204,7 @@ fn bridges_from(network: &Network, known: &Known, switch: &Branch, a: u8, b: u8)
 }
 
 // Returns whether nothing but open breakers would part a live source and an earth.
-fn bridges(network: &Network, known: &Known, switch: &Branch) -> bool
+pub(crate) fn bridges(network: &Network, known: &Known, switch: &Branch) -> bool
     ensures { result ≡ spec.bridges network.now (reading_in known.now) switch.now }
 {
     bridges_from(network, known, switch, switch.one, switch.other)
@@ -217,7 +223,7 @@ fn breaks_from(network: &Network, known: &Known, switch: &Branch, a: u8, b: u8) 
 }
 
 // Returns whether a disconnector would make or break a current.
-fn breaks(network: &Network, known: &Known, switch: &Branch) -> bool
+pub(crate) fn breaks(network: &Network, known: &Known, switch: &Branch) -> bool
     ensures { result ≡ spec.breaks network.now (reading_in known.now) switch.now }
 {
     (breaks_from(network, known, switch, switch.one, switch.other)
@@ -227,11 +233,11 @@ fn breaks(network: &Network, known: &Known, switch: &Branch) -> bool
 
 // The nodes of two switches in a path: the one leads from `b` to `a`, the other from `x` to `y`.
 #[derive(Clone, Copy)]
-struct Ends {
-    a: u8,
-    b: u8,
-    x: u8,
-    y: u8,
+pub(crate) struct Ends {
+    pub a: u8,
+    pub b: u8,
+    pub x: u8,
+    pub y: u8,
 }
 
 // Returns whether walks lead from `b` and from `y` to nodes that they look for.
@@ -316,7 +322,7 @@ fn makes_from(network: &Network, known: &Known, switch: &Branch, other: &Branch,
 
 // Returns whether the switch would close a path of a current through the other one, whichever sides
 // of the two face each other.
-fn makes(network: &Network, known: &Known, switch: &Branch, other: &Branch) -> bool
+pub(crate) fn makes(network: &Network, known: &Known, switch: &Branch, other: &Branch) -> bool
     ensures { result ≡ spec.makes network.now (reading_in known.now) switch.now other.now }
 {
     let (u, v) = (switch.one, switch.other);
@@ -350,7 +356,7 @@ fn makes(network: &Network, known: &Known, switch: &Branch, other: &Branch) -> b
 
 // Returns whether the switch lies on a path beside the other one, with its side `a` towards the
 // first node of the other.
-fn lies_beside(
+pub(crate) fn lies_beside(
     network: &Network,
     known: &Known,
     switch: &Branch,
@@ -400,7 +406,7 @@ fn feeds_from(
 
 // Returns whether the switch would take away a path beside the other one, through which a current
 // can flow.
-fn leaves(network: &Network, known: &Known, switch: &Branch, other: &Branch) -> bool
+pub(crate) fn leaves(network: &Network, known: &Known, switch: &Branch, other: &Branch) -> bool
     ensures { result ≡ spec.leaves network.now (reading_in known.now) switch.now other.now }
 {
     (lies_beside(network, known, switch, other, switch.one, switch.other)
@@ -411,7 +417,7 @@ fn leaves(network: &Network, known: &Known, switch: &Branch, other: &Branch) -> 
 
 // Returns whether a branch is a disconnector that may be on its way, other than `switch`, and no
 // surely closed path lies beside it or beside `switch`.
-fn is_exposed(network: &Network, known: &Known, switch: &Branch, other: &Branch) -> bool
+pub(crate) fn is_exposed(network: &Network, known: &Known, switch: &Branch, other: &Branch) -> bool
     ensures { result ≡ spec.is_exposed network.now (reading_in known.now) switch.now other.now }
 {
     other.is_disconnector()
@@ -422,7 +428,7 @@ fn is_exposed(network: &Network, known: &Known, switch: &Branch, other: &Branch)
 }
 
 // Returns whether the switch would make a current through a disconnector that may be on its way.
-fn makes_any(network: &Network, known: &Known, switch: &Branch) -> bool
+pub(crate) fn makes_any(network: &Network, known: &Known, switch: &Branch) -> bool
     ensures { result ≡ spec.makes_any network.now (reading_in known.now) switch.now }
 {
     network.branches.as_slice().iter().any(|other| {
@@ -431,7 +437,7 @@ fn makes_any(network: &Network, known: &Known, switch: &Branch) -> bool
 }
 
 // Returns whether the switch would leave a current to a disconnector that may be on its way.
-fn leaves_any(network: &Network, known: &Known, switch: &Branch) -> bool
+pub(crate) fn leaves_any(network: &Network, known: &Known, switch: &Branch) -> bool
     ensures { result ≡ spec.leaves_any network.now (reading_in known.now) switch.now }
 {
     network.branches.as_slice().iter().any(|other| {

@@ -1,6 +1,6 @@
 // Laws of the definitions. Each function does nothing; its contract is the law.
 ghost use Rattle.bay_diagram.specs.Joined.{JoinedGrows, JoinedIsWalk};
-ghost use Rattle.bay_diagram.specs.Laws.{HazardsAreBounded, HazardsAreExact, HazardsGrow};
+ghost use Rattle.bay_diagram.specs.Laws.{HazardsAreBounded, HazardsAreExact, HazardsGrow, ShownBest, ShownGrows, ShownIsHazard};
 ghost use Rattle.bay_diagram.specs.Reading.{ReadingsBound};
 
 /// Two nodes are joined if and only if a walk leads from one to the other, and more branches join
@@ -18,4 +18,12 @@ pub fn hazards_grow()
     ensures readings { ReadingsBound }
     ensures bounded { HazardsAreBounded }
     ensures exact { HazardsAreExact }
+{}
+
+/// A hazard that is shown is one. Where less is known, it is shown still, by the same walks: so
+/// what the best that can be known in a case shows, each process of the case shows.
+pub fn shown_is_hazard()
+    ensures hazard { ShownIsHazard }
+    ensures grows { ShownGrows }
+    ensures best { ShownBest }
 {}

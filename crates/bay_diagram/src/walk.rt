@@ -137,6 +137,24 @@ fn join_by(network: &Network, known: &Known, route: Route, branch: &Branch, labe
     relabel_all(labels, from, to);
 }
 
+/// Returns the labels of nodes by some branches of the network: two have one label if a walk of the
+/// route leads from one to the other over these branches.
+pub fn labels_among(
+    network: &Network,
+    known: &Known,
+    route: Route,
+    branches: &[Branch],
+) -> [u8; 256]
+    ensures { (n : ℕ) → spec.label_in result n ≡ label_of
+        (filter (spec.may_lead_over network.now (reading_in known.now) route) branches.now) n }
+{
+    let mut labels = own_labels();
+    for branch in branches {
+        join_by(network, known, route, branch, &mut labels);
+    }
+    labels
+}
+
 /// Returns the labels of nodes: two have one label if a walk of the route leads from one to the
 /// other.
 pub fn labels_of(network: &Network, known: &Known, route: Route) -> [u8; 256]
@@ -144,11 +162,7 @@ pub fn labels_of(network: &Network, known: &Known, route: Route) -> [u8; 256]
         (filter (spec.may_lead_over network.now (reading_in known.now) route) network.now.branches)
         n }
 {
-    let mut labels = own_labels();
-    for branch in network.branches.as_slice() {
-        join_by(network, known, route, branch, &mut labels);
-    }
-    labels
+    labels_among(network, known, route, network.branches.as_slice())
 }
 
 /// Returns whether two nodes have one label.

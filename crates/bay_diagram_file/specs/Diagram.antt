@@ -1,14 +1,16 @@
 -- The diagram of a text, for a bay, or the first refusal of the text.
 use Rattle.std.specs.Prelude.{ℕ, nat_lt, List, [], ◌∷◌, length, map, codes, Option, None, Some, Result, Err, if◌then◌else◌}
+use Rattle.std.specs.Str.{is_utf8}
 use Rattle.toml.specs.Data.{Data, Items, Members, as_array, get_member}
 use Rattle.bay_base.specs.Exact.{unless_refused}
 use Rattle.bay_config.specs.Bay.{document_of}
 use Rattle.bay_config.specs.Key.{has_unknown}
 use Rattle.bay_config.specs.declared.bay.Bay.{Bay}
 use Rattle.bay_diagram.specs.declared.network.Network.{Network}
-use Rattle.bay_diagram_file.specs.Checks.{or, tables_refusal}
+use Rattle.bay_diagram_file.specs.Checks.{name_of, or, tables_refusal}
 use Rattle.bay_diagram_file.specs.Parts.{network_of}
 use Rattle.bay_diagram_file.specs.Row.{list_of, node_row_of, switch_row_of, values_in}
+use Rattle.bay_diagram_file.specs.declared.diagram.Diagram.{Diagram}
 use Rattle.bay_diagram_file.specs.declared.fault.DiagramFault.{DiagramFault}
 use Rattle.bay_diagram_file.specs.declared.fault.FaultKind.{FaultKind}
 use Rattle.bay_diagram_file.specs.declared.fault.FaultKind.TheVariants.{BadToml, UnknownKey, MissingKey, BadValue, TooMany}
@@ -79,3 +81,32 @@ network_of_document bay (Some file) = network_in bay file
 -- the diagram of a text, or its first refusal
 abbrev pub diagram_of : Bay → List ℕ → Result Network DiagramFault
 diagram_of bay text = network_of_document bay (document_of text)
+
+-- ---- with names
+
+-- the diagram of the tables, with the names of its nodes and switches
+abbrev pub named_of : Bay → List NodeRow → List SwitchRow → Diagram
+named_of bay nodes switches = record {
+  network = network_of bay nodes switches;
+  nodes = map (λ n. n.name) nodes;
+  switches = map name_of switches;
+}
+
+-- the diagram of a file with its names, or the first refusal
+abbrev pub named_in : Bay → Members → Result Diagram DiagramFault
+named_in bay file =
+    unless_refused (file_refusal bay file) (named_of bay (node_rows file) (switch_rows file))
+
+-- a text that is not TOML is refused first
+abbrev pub named_in_document : Bay → Option Members → Result Diagram DiagramFault
+named_in_document bay None = Err (of_file BadToml)
+named_in_document bay (Some file) = named_in bay file
+
+-- the diagram of a text with its names, or the first refusal: that of `diagram_of`
+abbrev pub named_diagram_of : Bay → List ℕ → Result Diagram DiagramFault
+named_diagram_of bay text = named_in_document bay (document_of text)
+
+-- the diagram of the octets of a file, which are refused first if they are no text
+abbrev pub diagram_of_file : Bay → List ℕ → Result Diagram DiagramFault
+diagram_of_file bay octets =
+    if is_utf8 octets then named_diagram_of bay octets else Err (of_file BadToml)

@@ -70,8 +70,8 @@ fn is_switch(switches: &[Switch], id: &Option<Text>) -> bool
     }
 }
 
-// Returns the name of a switch, of the bay or of another one.
-fn name_of(row: &SwitchRow) -> &str
+/// Returns the name of a switch, of the bay or of another one.
+pub fn name_of(row: &SwitchRow) -> &str
     ensures { result.now ≡ spec.name_of row.now }
 {
     match (&row.switch, &row.name) {

@@ -1,9 +1,11 @@
 // The nodes and branches that the tables of a diagram describe.
-ghost use Rattle.std.specs.Prelude.{◌≡◌, option_and_then, IfOk};
+ghost use Rattle.std.specs.Prelude.{◌≡◌, map, option_and_then, IfOk};
 ghost use Rattle.bay_diagram_file.specs.Checks as checks;
+ghost use Rattle.bay_diagram_file.specs.Diagram.{named_of};
 ghost use Rattle.bay_diagram_file.specs.Parts as spec;
 
-use crate::checks::{input_named, is_earth_named, kind_of, node_named, switch_named};
+use crate::checks::{input_named, is_earth_named, kind_of, name_of, node_named, switch_named};
+use crate::diagram::Diagram;
 use crate::row::{NodeRow, NodeWord, SwitchRow};
 use bay_base::listing::Listing;
 use bay_base::switch::SwitchKind;
@@ -133,8 +135,8 @@ fn branches_of(
     Ok(branches)
 }
 
-/// Returns the diagram of the tables. Fails only if an allocation fails.
-pub fn network_of(
+// Returns the nodes and branches of the tables.
+fn network_of(
     alloc: Global,
     bay: &Bay,
     nodes: &[NodeRow],
@@ -145,5 +147,43 @@ pub fn network_of(
     Ok(Network {
         nodes: Listing::new(nodes_of(alloc, bay.inputs.as_slice(), nodes)?),
         branches: Listing::new(branches_of(alloc, bay, nodes, rows)?),
+    })
+}
+
+// Returns the names of the nodes.
+fn node_names(alloc: Global, rows: &[NodeRow]) -> Result<Vec<Text>, AllocError>
+    ensures { IfOk result (λ names. names.items ≡ map (λ n. n.name) rows.now) }
+{
+    let mut names = Vec::new(alloc);
+    for row in rows {
+        names.push(Text::from_str(alloc, row.name.as_str())?)?;
+    }
+    Ok(names)
+}
+
+// Returns the ids and names of the switches.
+fn switch_names(alloc: Global, rows: &[SwitchRow]) -> Result<Vec<Text>, AllocError>
+    ensures { IfOk result (λ names. names.items ≡ map checks.name_of rows.now) }
+{
+    let mut names = Vec::new(alloc);
+    for row in rows {
+        names.push(Text::from_str(alloc, name_of(row))?)?;
+    }
+    Ok(names)
+}
+
+/// Returns the diagram of the tables, with its names. Fails only if an allocation fails.
+pub fn diagram_of(
+    alloc: Global,
+    bay: &Bay,
+    nodes: &[NodeRow],
+    rows: &[SwitchRow],
+) -> Result<Diagram, AllocError>
+    ensures { IfOk result (λ diagram. diagram ≡ named_of bay.now nodes.now rows.now) }
+{
+    Ok(Diagram {
+        network: network_of(alloc, bay, nodes, rows)?,
+        nodes: Listing::new(node_names(alloc, nodes)?),
+        switches: Listing::new(switch_names(alloc, rows)?),
     })
 }

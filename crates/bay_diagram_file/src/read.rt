@@ -1,5 +1,5 @@
 // Reads a diagram from the text of its file.
-ghost use Rattle.std.specs.Prelude.{◌≡◌};
+ghost use Rattle.std.specs.Prelude.{◌≡◌, IfOk, Ok};
 ghost use Rattle.std.specs.Option.{ok_or};
 ghost use Rattle.toml.specs.Data.{get_member};
 ghost use Rattle.toml.specs.View.{table_view};
@@ -10,9 +10,10 @@ ghost use Rattle.bay_diagram_file.specs.Diagram as spec;
 ghost use Rattle.bay_diagram_file.specs.declared.fault.FaultKind.TheVariants.{BadToml};
 
 use crate::checks::{first, tables_refusal};
+use crate::diagram::Diagram;
 use crate::fault::{DiagramFault, FaultKind, Place};
 use crate::keys::{find, has_unknown_key, values_at};
-use crate::network::network_of;
+use crate::network::diagram_of;
 use crate::node_row::node_rows;
 use crate::switch_row::switch_rows;
 use bay_config::bay::Bay;
@@ -83,9 +84,8 @@ fn sections_refusal(file: &Table) -> Option<DiagramFault>
 }
 
 // Reads the diagram in the table of a file.
-fn network_from(alloc: Global, bay: &Bay, file: &Table) -> Result<Network, DiagramFault>
-    ensures { Gives out_of_memory (λ x. x) result
-        (spec.network_in bay.now (table_view file.now)) }
+fn diagram_from(alloc: Global, bay: &Bay, file: &Table) -> Result<Diagram, DiagramFault>
+    ensures { Gives out_of_memory (λ x. x) result (spec.named_in bay.now (table_view file.now)) }
 {
     if let Some(fault) = sections_refusal(file) {
         return Err(fault);
@@ -95,7 +95,7 @@ fn network_from(alloc: Global, bay: &Bay, file: &Table) -> Result<Network, Diagr
     if let Some(fault) = tables_refusal(bay, nodes.as_slice(), switches.as_slice()) {
         return Err(fault);
     }
-    Ok(network_of(alloc, bay, nodes.as_slice(), switches.as_slice())?)
+    Ok(diagram_of(alloc, bay, nodes.as_slice(), switches.as_slice())?)
 }
 
 // Parses a diagram file into its table. Does not parse a text that is too long.
@@ -119,12 +119,38 @@ fn document_at(alloc: Global, text: &str) -> Result<Table, DiagramFault>
     }
 }
 
+// Reads the diagram of a bay from the text of its file, with its names.
+fn named_diagram(alloc: Global, bay: &Bay, text: &str) -> Result<Diagram, DiagramFault>
+    ensures { Gives out_of_memory (λ x. x) result (spec.named_diagram_of bay.now text.now) }
+{
+    let file = document_at(alloc, text)?;
+    diagram_from(alloc, bay, &file)
+}
+
 /// Reads the diagram of a bay from the text of its file, or returns the first fault of the text.
 pub fn read_diagram(alloc: Global, bay: &Bay, text: &str) -> Result<Network, DiagramFault>
     // The diagram that the text describes for the bay, or its first refusal; `OutOfMemory` if an
     // allocation fails.
     ensures { Gives out_of_memory (λ x. x) result (spec.diagram_of bay.now text.now) }
 {
-    let file = document_at(alloc, text)?;
-    network_from(alloc, bay, &file)
+    match named_diagram(alloc, bay, text) {
+        Ok(diagram) => Ok(diagram.network),
+        Err(fault) => Err(fault),
+    }
+}
+
+/// Reads the diagram of a bay, with the names of its nodes and switches, from the octets of its
+/// file, or returns the first fault of the file. Octets that are not UTF-8 are not TOML.
+pub fn diagram_in(alloc: Global, bay: &Bay, octets: &[u8]) -> Result<Diagram, DiagramFault>
+    // The diagram that the file describes for the bay, or its first refusal; `OutOfMemory` if an
+    // allocation fails;
+    ensures file { Gives out_of_memory (λ x. x) result (spec.diagram_of_file bay.now octets.now) }
+    // its network is that of `diagram_of`.
+    ensures network { IfOk result
+        (λ diagram. spec.diagram_of bay.now octets.now ≡ Ok diagram.network) }
+{
+    match std::str::from_utf8(octets) {
+        Ok(text) => named_diagram(alloc, bay, text),
+        Err(_) => Err(of_file(FaultKind::BadToml)),
+    }
 }

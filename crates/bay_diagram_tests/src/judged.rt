@@ -4,6 +4,7 @@ use bay_audit::effort::{EFFORT, PassBudget};
 use bay_audit::program::AuditedProgram;
 use bay_audit::release::release;
 use bay_audit_hazards::answer::HazardAnswer;
+use bay_audit_hazards::explain::explain;
 use bay_audit_hazards::judge::judge;
 use bay_base::switch::Operation;
 use bay_config::bay::Bay;
@@ -43,13 +44,32 @@ fn verified_of(alloc: Global, bay: &Bay, text: &str) -> Result<Verified, Fail> {
     }
 }
 
-// Returns what a list has of an answer; `None` for a release that holds.
-fn word_of(answer: &HazardAnswer) -> Option<&'static str> {
+// Returns what a list has of an answer; `None` for a release that holds. A broken release has a
+// hazard with walks that show it.
+fn word_of(answer: &HazardAnswer, is_shown: bool) -> Option<&'static str> {
     match answer {
         HazardAnswer::Holds { .. } => None,
-        HazardAnswer::Broken { .. } => Some(""),
+        HazardAnswer::Broken { .. } if is_shown => Some(""),
+        HazardAnswer::Broken { .. } => Some(" is not shown"),
         HazardAnswer::Open { .. } => Some(" is not decided by the process"),
         HazardAnswer::Undecided => Some(" is not decided"),
+    }
+}
+
+// Returns whether the hazard of a broken release is shown.
+fn is_shown(
+    alloc: Global,
+    bay: &Bay,
+    network: &Network,
+    switch: usize,
+    operation: Operation,
+    answer: &HazardAnswer,
+) -> Result<bool, Fail> {
+    match answer {
+        HazardAnswer::Broken { case } => {
+            Ok(explain(alloc, bay, network, switch, operation, case)?.is_some())
+        }
+        _ => Ok(false),
     }
 }
 
@@ -90,7 +110,8 @@ fn broken_of(alloc: Global, texts: Texts, fault: Option<Fault>) -> Result<String
         for operation in [Operation::Open, Operation::Close] {
             let release = release(alloc, &bay, &program, index, operation, &mut budget)?;
             let answer = judge(alloc, &bay, &program, &network, release, &mut budget)?;
-            if let Some(word) = word_of(&answer) {
+            let is_shown = is_shown(alloc, &bay, &network, index, operation, &answer)?;
+            if let Some(word) = word_of(&answer, is_shown) {
                 put(&mut found, switch.id.as_str(), operation, word)?;
             }
         }
@@ -122,13 +143,13 @@ fn check_bay(rt: &impl Abort, alloc: Global, texts: Texts) -> Result<(), Fail> {
     Ok(())
 }
 
-// Shows P-150.
+// Shows P-150, P-152.
 #[test]
 fn releases_of_a_line_bay(rt: HostRuntime) -> Result<(), Fail> {
     check_bay(&rt, rt.alloc(), LINE)
 }
 
-// Shows P-150.
+// Shows P-150, P-152.
 #[test]
 fn releases_of_a_transformer_bay(rt: HostRuntime) -> Result<(), Fail> {
     check_bay(&rt, rt.alloc(), TRANSFORMER)

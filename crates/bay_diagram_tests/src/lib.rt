@@ -13,3 +13,5 @@ mod diagrams;
 mod judged;
 #[cfg(test)]
 mod states;
+#[cfg(test)]
+mod words;

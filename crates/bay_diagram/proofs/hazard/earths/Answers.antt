@@ -1,5 +1,5 @@
 use Rattle.std.proofs.Common.{ℕ, Bool, ap, refl, ◌∙◌}
-use Rattle.bay_diagram.specs.Hazards.{earths_by, without}
+use Rattle.bay_diagram.specs.Hazards.{earths_by}
 use Rattle.bay_diagram.specs.Reading.{reading_in}
 use Rattle.bay_diagram.specs.Walks.{joined_in, leads}
 use Rattle.bay_diagram.proofs.WalkLemmas.{labels-are-walks}

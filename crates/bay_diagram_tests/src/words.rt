@@ -1,0 +1,126 @@
+// Hazards in words: states of the line bay, the hazard that an operation is there, and the walks
+// that show it. A person found the words by the definitions.
+use crate::bays::LINE;
+use crate::diagrams::known_of;
+use bay_base::switch::Operation;
+use bay_config::read::read_bay;
+use bay_diagram::reading::Bound;
+use bay_diagram::show::show;
+use bay_diagram_file::diagram::Diagram;
+use bay_diagram_file::read::diagram_in;
+use bay_diagram_file::words::put_hazard;
+use std::alloc::Global;
+use std::process::Abort;
+use std::test::Fail;
+
+// A state of the line bay, an operation of the switch at an index, and its hazard in words; empty,
+// if it is none.
+#[derive(Clone, Copy)]
+struct Row {
+    switches: &'static str,
+    inputs: &'static str,
+    switch: usize,
+    operation: Operation,
+    words: &'static str,
+}
+
+// QA1, QB1, QB7, QB9, QC1, QC2, QC9; VT_DEAD, TA1_CLOSED, TA1_OPEN, TB1_CLOSED, TB7_CLOSED.
+const ROWS: [Row; 9] = [
+    // QC2 onto a breaker, which is no gap.
+    Row {
+        switches: "ocooooo",
+        inputs: "00000",
+        switch: 5,
+        operation: Operation::Close,
+        words: "earths BB1, which is not isolated: BB1 - QB1 - N1 - QA1 - N2 - QC2",
+    },
+    // QC9 while all disconnectors at the line are open, and it may be live.
+    Row {
+        switches: "ooooooo",
+        inputs: "00000",
+        switch: 6,
+        operation: Operation::Close,
+        words: "earths LINE, which is not isolated: LINE - QC9",
+    },
+    // QC9 while the line is dead.
+    Row {
+        switches: "ooooooo",
+        inputs: "10000",
+        switch: 6,
+        operation: Operation::Close,
+        words: "",
+    },
+    // QA1 onto an earth.
+    Row {
+        switches: "ocoooco",
+        inputs: "00000",
+        switch: 0,
+        operation: Operation::Close,
+        words: "joins BB1 to earth: BB1 - QB1 - N1 - QA1 - N2 - QC2",
+    },
+    // QB9 towards an earth, from its other side.
+    Row {
+        switches: "ooooocb",
+        inputs: "00000",
+        switch: 3,
+        operation: Operation::Close,
+        words: "joins LINE to earth: LINE - QB9 - N2 - QC2",
+    },
+    // QB9 under load.
+    Row {
+        switches: "ccocooo",
+        inputs: "00000",
+        switch: 3,
+        operation: Operation::Open,
+        words: "makes or breaks a current: BB1 - QB1 - N1 - QA1 - N2 - QB9 - LINE",
+    },
+    // QB9 breaks the current into an earth.
+    Row {
+        switches: "ooocoio",
+        inputs: "00000",
+        switch: 3,
+        operation: Operation::Open,
+        words: "makes or breaks a current: LINE - QB9 - N2 - QC2",
+    },
+    // QA1 while QB1 is on its way.
+    Row {
+        switches: "oiocooo",
+        inputs: "00000",
+        switch: 0,
+        operation: Operation::Close,
+        words: "makes a current through QB1, which may be on its way: LINE - QB9 - N2 - QA1 - N1 - QB1 - BB1",
+    },
+    // QA1 while QB7 is on its way, and the bypass is closed.
+    Row {
+        switches: "ccicooo",
+        inputs: "01011",
+        switch: 0,
+        operation: Operation::Open,
+        words: "leaves a current to QB7, which may be on its way: LINE - QB7 - BB7, beside LINE - QB9 - N2 - QA1 - N1 - QB1 - BB1 - TB1 - T1 - TA1 - T2 - TB7 - BB7",
+    },
+];
+
+// Returns the words for the hazard of a row.
+fn words_of(alloc: Global, diagram: &Diagram, row: Row) -> Result<Vec<u8>, Fail> {
+    let known = known_of(alloc, Bound::Best, row.switches, row.inputs)?;
+    let mut text = Vec::new(alloc);
+    if let Some(shown) = show(alloc, &diagram.network, &known, row.switch, row.operation)? {
+        put_hazard(&mut text, diagram, &shown)?;
+    }
+    Ok(text)
+}
+
+// Shows P-152.
+#[test]
+fn words_of_hazards(rt: HostRuntime) -> Result<(), Fail> {
+    let alloc = rt.alloc();
+    let bay = read_bay(alloc, LINE.bay)?;
+    let Ok(diagram) = diagram_in(alloc, &bay, LINE.diagram.as_bytes()) else {
+        return Err(Fail::from("the diagram is refused"));
+    };
+    for row in &ROWS {
+        let found = words_of(alloc, &diagram, *row)?;
+        assert_eq!(rt; str::from_utf8(found.as_slice())?, row.words);
+    }
+    Ok(())
+}
