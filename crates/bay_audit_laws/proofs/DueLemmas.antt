@@ -1,6 +1,6 @@
 -- A rule that requires a release after a condition has held for a time, along the events of a
 -- device.
-use Rattle.std.proofs.Common.{◌≡◌, inl, inr, ℕ, zero, suc, ◌-◌, ◌<◌, ◌≤◌, Bool, true, false, not, ◌&&◌, List, [], ◌∷◌, ◌++◌, length, None, Some, Result, Ok, Err, refl, ap, sym, subst, ◌∙◌, arith}
+use Rattle.std.proofs.Common.{◌≡◌, inl, inr, ℕ, zero, suc, ◌-◌, ◌<◌, ◌≤◌, Bool, true, false, not, ◌&&◌, List, [], ◌∷◌, ◌++◌, length, Some, Result, Ok, Err, refl, ap, sym, subst, ◌∙◌, arith}
 use Rattle.std.specs.Prelude.{IsOkAnd, IsSomeAnd, OnOk, is_some}
 use Rattle.bay_base.specs.declared.types.TimerKind.{TimerKind}
 use Rattle.bay_base.specs.declared.types.TimerKind.TheVariants.{OnDelay, OffDelay}
@@ -10,7 +10,7 @@ use Rattle.bay_audit_rules.specs.Process.{Process, after_items, holds, negate_to
 use Rattle.bay_audit_rules.specs.declared.rule.ConditionItem.{ConditionItem}
 use Rattle.bay_audit_rules.specs.declared.rule.ConditionItem.TheVariants as items
 use Rattle.bay_audit_rules.specs.declared.rule.Rule.{Rule}
-use Rattle.bay_audit_rules.specs.declared.rule.RuleKind.TheVariants.{Always, Never}
+use Rattle.bay_audit_rules.specs.declared.rule.RuleKind.TheVariants.{Always}
 use Rattle.bay_audit_rules.specs.declared.rule.Timing.{Timing}
 use Rattle.il_image.specs.Images.{Image}
 use Rattle.il_image.specs.declared.timer.TimerPhase.{TimerPhase}
@@ -28,10 +28,10 @@ use Rattle.bay_device.specs.declared.event.Event.{Event}
 use Rattle.bay_device.specs.declared.event.Event.TheVariants.{Scan}
 use Rattle.bay_device.specs.declared.event.Step.{Step}
 use Rattle.bay_device.specs.declared.fault.StepFault.{StepFault}
-use Rattle.bay_audit.specs.Rules.{IsDueByTimer, IsMet, IsRule, is_obeyed, limit_of, program_of, releases, sufficient_demand}
+use Rattle.bay_audit.specs.Rules.{IsDueByTimer, IsMet, is_obeyed, limit_of, program_of, releases, sufficient_demand}
 use Rattle.bay_audit_laws.specs.Laws.{AreOfTypes, EachAfter, HasHeld, ScanIsDueAt, ScanReleasesAt, ScansAreDue, ScansRelease, is_released, process_of, scans_after}
 use Rattle.bay_audit_laws.proofs.DeviceLemmas.{Quiet}
-use Rattle.bay_audit_laws.proofs.LawLemmas.{Obeying, Turned, halts-of, leaves, led-step, obeying-first, process-so, read, scanned-holds, scanned-releases, turned}
+use Rattle.bay_audit_laws.proofs.LawLemmas.{Standing, Turned, halts-of, leaves, led-step, process-so, read, scanned-process, scanned-releases, standing-first, turned}
 use Rattle.bay_audit_laws.proofs.MomentLemmas.{accepted-on, moment-on}
 use Rattle.bay_audit_laws.proofs.WaitLemmas.{RunsFrom, first-began, scans-refused, scans-same}
 
@@ -112,46 +112,30 @@ refused-ok P (Err other) fault e = tt
 
 module _ (bay : Bay) (image : Image) (rule : Rule) (timing : Timing) (is_bay : IsBay bay)
     (there : rule.switch < length bay.switches) where
-  -- a rule that is never asked holds
-  abbrev no_rule : Rule
-  no_rule = record {
-    line = 0;
-    kind = Never;
-    switch = rule.switch;
-    operation = rule.operation;
-    when = [];
-    timed = None;
-  }
-
-  no-rule-holds : IsRule (program_of bay image) no_rule
-  no-rule-holds p is mark machine now slots timers same kept young leaves = refl
-
-  abbrev Stands : State → Type 0
-  Stands s = Obeying bay image no_rule s
-
   -- ---- a release by the condition alone
 
   module _ (met : IsMet (program_of bay image) (sufficient_demand rule timing.condition)) where
-    scan-releases : (now : ℕ) (s : State) (o : Stands s) (steps : ℕ)
+    scan-releases : (now : ℕ) (s : State) (o : Standing bay image s) (steps : ℕ)
         → Halts now s steps (after_scan now (device_at now s))
         → holds rule.when (process_of (after_scan now (device_at now s))) ≡ true
         → holds timing.condition (process_of (after_scan now (device_at now s))) ≡ true
         → is_released (after_scan now (device_at now s)) rule.switch rule.operation ≡ true
     scan-releases now s o steps halts asked held =
-        let same = scanned-holds bay image no_rule is_bay there no-rule-holds now s o steps halts in
+        let same = scanned-process bay image is_bay now s o steps halts in
         let scanned = after_scan now (device_at now s) in
-        scanned-releases bay image no_rule is_bay there no-rule-holds now s o steps halts
+        scanned-releases bay image is_bay now s o steps halts rule.switch rule.operation there
         ∙ must-so (holds rule.when (process_of s))
         (holds (timing.condition ++ items.Not ∷ []) (process_of s))
         (releases (program_of bay image) rule.switch rule.operation scanned.machine.slots)
-        (met (process_of s) (process-so bay image no_rule is_bay there no-rule-holds s o) 0
+        (met (process_of s) (process-so bay image s o) 0
         s.machine now scanned.machine.slots scanned.machine.timers o.image_is o.reached tt
-        (read bay image no_rule is_bay there no-rule-holds now s o steps halts))
-        (sym (same rule.when) ∙ asked)
-        (not-held (process_of s) timing.condition (sym (same timing.condition) ∙ held))
+        (read bay image is_bay now s o steps halts))
+        (ap (holds rule.when) (sym same) ∙ asked)
+        (not-held (process_of s) timing.condition (ap (holds timing.condition) (sym same) ∙ held))
 
     released-step : (scans : List (ℕ × Bool)) (now : ℕ) (event : Event) (s : State)
-        (answer : Result Step StepFault) (new : State) → Stands s → Turned now event s answer new
+        (answer : Result Step StepFault) (new : State) → Standing bay image s
+        → Turned now event s answer new
         → ScanReleasesAt rule timing scans now event s answer new
     released-step scans now event s answer new o t is = elim t [
       | inl r ↦ refused-ok _ answer r.0 r.1
@@ -168,7 +152,8 @@ module _ (bay : Bay) (image : Image) (rule : Rule) (timing : Timing) (is_bay : I
     ]
 
     pub each-released : (events : List (ℕ × Event)) (scans : List (ℕ × Bool)) (s : State)
-        (answers : List (Result Step StepFault)) (last : State) → AreOfTypes events → Stands s
+        (answers : List (Result Step StepFault)) (last : State) → AreOfTypes events
+        → Standing bay image s
         → EachStep HaltsAt events s answers last
         → EachAfter (ScanReleasesAt rule timing) timing.condition events scans s answers last
     each-released [] scans s [] last typed o each = each
@@ -177,7 +162,7 @@ module _ (bay : Bay) (image : Image) (rule : Rule) (timing : Timing) (is_bay : I
     each-released (e ∷ es) scans s (answer ∷ answers) last typed o each =
         let t = turned e.0 e.1 s answer each.0 typed.0 each.1 each.2 in
         let on =
-        led-step bay image no_rule is_bay there no-rule-holds e.0 e.1 s answer each.0 o t in (
+        led-step bay image is_bay e.0 e.1 s answer each.0 o t in (
           each.0,
           each.1,
           released-step scans e.0 e.1 s answer each.0 o t,
@@ -206,8 +191,8 @@ module _ (bay : Bay) (image : Image) (rule : Rule) (timing : Timing) (is_bay : I
           (subst (λ m. delay_start_at n m.timers ≡ Some start) q.machine is));
     }
 
-    module _ (now : ℕ) (s : State) (o : Stands s) (scans : List (ℕ × Bool)) (w : Lasting scans s)
-        (later : s.moment ≤ now) (steps : ℕ)
+    module _ (now : ℕ) (s : State) (o : Standing bay image s) (scans : List (ℕ × Bool))
+        (w : Lasting scans s) (later : s.moment ≤ now) (steps : ℕ)
         (halts : Halts now s steps (after_scan now (device_at now s))) where
       abbrev scanned : State
       scanned = after_scan now (device_at now s)
@@ -219,7 +204,7 @@ module _ (bay : Bay) (image : Image) (rule : Rule) (timing : Timing) (is_bay : I
       past-on start is =
           elim (delays-continue s.machine (inputs_of s) now scanned.machine.slots
           scanned.machine.timers
-          (leaves bay image no_rule is_bay there no-rule-holds now s o steps halts) n start is) [
+          (leaves bay image is_bay now s o steps halts) n start is) [
             | inl new ↦ omega (arith, new)
             | inr old ↦ (let before = w.past start old in omega (arith, before, later))
           ]
@@ -229,19 +214,19 @@ module _ (bay : Bay) (image : Image) (rule : Rule) (timing : Timing) (is_bay : I
           begun-by now n scanned.machine.timers past-on
           (must-so held false (is_some (delay_onset_at n scanned.machine.timers))
           (due.begun_so (process_of s)
-          (process-so bay image no_rule is_bay there no-rule-holds s o) 0 s.machine now
+          (process-so bay image s o) 0 s.machine now
           scanned.machine.slots scanned.machine.timers o.image_is o.reached tt
-          (read bay image no_rule is_bay there no-rule-holds now s o steps halts)) so refl)
+          (read bay image is_bay now s o steps halts)) so refl)
 
       lasts-on : held ≡ true → (start : ℕ) → RunsFrom start scans
           → is_by start (delay_onset_at n scanned.machine.timers) ≡ true
       lasts-on so start runs =
           must-so held false (is_by start (delay_onset_at n scanned.machine.timers))
           (due.lasts_so (process_of s)
-          (process-so bay image no_rule is_bay there no-rule-holds s o) start s.machine now
+          (process-so bay image s o) start s.machine now
           scanned.machine.slots scanned.machine.timers o.image_is o.reached
           (by-limit start now 0 n s.machine.timers (w.lasts start runs) (omega arith))
-          (read bay image no_rule is_bay there no-rule-holds now s o steps halts)) so refl
+          (read bay image is_bay now s o steps halts)) so refl
 
       lasting-scanned : Lasting ((now, held) ∷ scans) scanned
       lasting-scanned = record {
@@ -262,20 +247,20 @@ module _ (bay : Bay) (image : Image) (rule : Rule) (timing : Timing) (is_bay : I
           (holds (timing.condition ++ items.Not ∷ []) (process_of s))
           (releases (program_of bay image) rule.switch rule.operation scanned.machine.slots)
           (due.due_so (process_of s)
-          (process-so bay image no_rule is_bay there no-rule-holds s o) r.start s.machine now
+          (process-so bay image s o) r.start s.machine now
           scanned.machine.slots scanned.machine.timers o.image_is o.reached
           (by-limit r.start now timing.time n s.machine.timers (w.lasts r.start r.runs) r.far)
-          (read bay image no_rule is_bay there no-rule-holds now s o steps halts)) asked
+          (read bay image is_bay now s o steps halts)) asked
           (not-held (process_of s) timing.condition so)
 
       scan-due : holds rule.when (process_of scanned) ≡ true
           → HasHeld timing.time now ((now, held) ∷ scans)
           → is_released scanned rule.switch rule.operation ≡ true
       scan-due asked has =
-          scanned-releases bay image no_rule is_bay there no-rule-holds now s o steps halts
+          scanned-releases bay image is_bay now s o steps halts rule.switch rule.operation there
           ∙ released
-          (sym (scanned-holds bay image no_rule is_bay there no-rule-holds now s o steps halts
-          rule.when) ∙ asked)
+          (ap (holds rule.when) (sym (scanned-process bay image is_bay now s o steps halts))
+          ∙ asked)
           has.0
           (elim has.1 [
             | inl none ↦ absurd (let long = due.long in omega (arith, none, long))
@@ -314,7 +299,8 @@ module _ (bay : Bay) (image : Image) (rule : Rule) (timing : Timing) (is_bay : I
     }
 
     led-scan : (scans : List (ℕ × Bool)) (now : ℕ) (s : State) (answer : Result Step StepFault)
-        (new : State) → Stands s → Lasting scans s → new ≡ after_scan now (device_at now s)
+        (new : State) → Standing bay image s → Lasting scans s
+        → new ≡ after_scan now (device_at now s)
         → IsOkAnd answer (λ step. IsSomeAnd step.scan (λ n. Halts now s n new))
         → Steps now Scan s answer new → Led scans now Scan s answer new
     led-scan scans now s (Err fault) new o w left halts steps = absurd halts
@@ -330,7 +316,7 @@ module _ (bay : Bay) (image : Image) (rule : Rule) (timing : Timing) (is_bay : I
         })
 
     led-due : (scans : List (ℕ × Bool)) (now : ℕ) (event : Event) (s : State)
-        (answer : Result Step StepFault) (new : State) → Stands s → Lasting scans s
+        (answer : Result Step StepFault) (new : State) → Standing bay image s → Lasting scans s
         → Steps now event s answer new → Turned now event s answer new
         → Led scans now event s answer new
     led-due scans now event s answer new o w steps t = elim t [
@@ -347,7 +333,8 @@ module _ (bay : Bay) (image : Image) (rule : Rule) (timing : Timing) (is_bay : I
     -- ---- runs
 
     each-due : (events : List (ℕ × Event)) (scans : List (ℕ × Bool)) (s : State)
-        (answers : List (Result Step StepFault)) (last : State) → AreOfTypes events → Stands s
+        (answers : List (Result Step StepFault)) (last : State) → AreOfTypes events
+        → Standing bay image s
         → Lasting scans s → EachStep HaltsAt events s answers last
         → EachAfter (ScanIsDueAt rule timing) timing.condition events scans s answers last
     each-due [] scans s [] last typed o w each = each
@@ -357,7 +344,7 @@ module _ (bay : Bay) (image : Image) (rule : Rule) (timing : Timing) (is_bay : I
         let t = turned e.0 e.1 s answer each.0 typed.0 each.1 each.2 in
         let led = led-due scans e.0 e.1 s answer each.0 o w each.1 t in
         let on =
-        led-step bay image no_rule is_bay there no-rule-holds e.0 e.1 s answer each.0 o t in (
+        led-step bay image is_bay e.0 e.1 s answer each.0 o t in (
           each.0,
           each.1,
           led.is_due,
@@ -371,16 +358,13 @@ module _ (bay : Bay) (image : Image) (rule : Rule) (timing : Timing) (is_bay : I
       past = λ start is. absurd (first-began image.timers n start is);
     }
 
-  stands-first : Stands (initial_device bay image)
-  stands-first = obeying-first bay image no_rule is_bay there no-rule-holds
-
 pub scans-are-due : ScansAreDue
 scans-are-due n bay image rule timing is_bay there due events answers last typed each =
     each-due bay image rule timing is_bay there n due events [] (initial_device bay image) answers
-    last typed (stands-first bay image rule timing is_bay there)
+    last typed (standing-first bay image is_bay)
     (lasting-first bay image rule timing is_bay there n due) each
 
 pub scans-release : ScansRelease
 scans-release bay image rule timing is_bay there met events answers last typed each =
     each-released bay image rule timing is_bay there met events [] (initial_device bay image)
-    answers last typed (stands-first bay image rule timing is_bay there) each
+    answers last typed (standing-first bay image is_bay) each

@@ -1,12 +1,15 @@
 -- A program of HALT alone releases no switch.
-use Rattle.std.proofs.Common.{◌≡◌, ℤ, pos, true, false, List, [], refl, arith}
+use Rattle.std.proofs.Common.{◌≡◌, ℕ, pos, true, false, [], refl, arith}
 use Rattle.std.proofs.lemmas.Int.{ints}
 use Rattle.bay_audit.specs.Process.{IsProcess}
 use Rattle.bay_audit.specs.Rules.{IsRule}
+use Rattle.bay_audit_hazards.specs.Judged.{IsHarmless}
 use Rattle.bay_audit_laws.specs.Examples.{at_all_times, halting_program}
 use Rattle.bay_audit_rules.specs.Process.{Process}
 use Rattle.bay_audit_rules.specs.declared.rule.RuleKind.TheVariants.{Always, Never}
 use Rattle.bay_base.specs.declared.position.Dbpos.TheVariants.{Bad}
+use Rattle.bay_base.specs.declared.switch.Operation.{Operation}
+use Rattle.bay_diagram.specs.declared.network.Network.{Network}
 use Rattle.il_image.specs.Machine.{act, run_from}
 use Rattle.il_image.specs.Opcodes.{opcode_of}
 use Rattle.il_image.specs.Offsets.{is_instruction_offset}
@@ -35,3 +38,7 @@ breaks-always h =
     tt
     (record { most = 1; steps = 1; halts = refl }) in
     absurd cc
+
+pub harmless-anywhere : (net : Network) (k : ℕ) (operation : Operation)
+    → IsHarmless halting_program net k operation
+harmless-anywhere net k operation p is danger machine now slots timers image reached leaves = refl

@@ -1,5 +1,5 @@
--- A rule that holds, along the events of a device.
-use Rattle.std.proofs.Common.{◌≡◌, ◌⊎◌, inl, inr, ℕ, ◌<◌, Bool, true, false, not, cond, nat_lt, List, [], ◌∷◌, length, map, slice_get, Option, None, Some, Result, Ok, Err, IfOk, OnOk, refl, ap, ap₂, sym, subst, ◌∙◌, arith}
+-- A rule that holds, and a release that is harmless, along the events of a device.
+use Rattle.std.proofs.Common.{All, ◌≡◌, ◌⊎◌, inl, inr, ℕ, ◌<◌, Bool, true, false, not, ◌&&◌, cond, nat_lt, List, [], ◌∷◌, length, map, slice_get, Option, None, Some, Result, Ok, Err, IfOk, OnOk, refl, ap, ap₂, sym, subst, ◌∙◌, arith}
 use Rattle.std.specs.Prelude.{◌||◌, unwrap_or, IsOkAnd, IsSomeAnd}
 use Rattle.std.proofs.lemmas.Bool.{and_parts}
 use Rattle.std.proofs.Math.Bool.{and-true}
@@ -16,7 +16,6 @@ use Rattle.bay_process.specs.Values.{is_truth, measure_leaf, number_of_leaf, out
 use Rattle.bay_process.specs.Names.{field_names}
 use Rattle.bay_process.proofs.ToldLemmas.{Keeps, field-away}
 use Rattle.bay_audit_rules.specs.Process.{Process, holds}
-use Rattle.bay_audit_rules.specs.declared.rule.ConditionItem.{ConditionItem}
 use Rattle.bay_audit_rules.specs.declared.rule.Rule.{Rule}
 use Rattle.bay_audit_rules.specs.declared.rule.RuleKind.TheVariants.{Never}
 use Rattle.bay_mms_services.specs.Controls.{dbpos_of}
@@ -26,6 +25,7 @@ use Rattle.bay_tree.specs.Rows.{leaf_of}
 use Rattle.bay_tree.specs.declared.leaf.Leaf.TheVariants as leaf
 use Rattle.bay_tree.specs.declared.row.Row.{Row}
 use Rattle.il_image.specs.Images.{Image}
+use Rattle.il_image.specs.declared.timer.TimerState.{TimerState}
 use Rattle.il_image.specs.declared.value.Value.{Value}
 use Rattle.il_range.specs.Foretold.{IsReached, First, Next, Leaves}
 use Rattle.il_scan.specs.Scans.{MachineData, outputs_of}
@@ -42,12 +42,13 @@ use Rattle.bay_device.specs.declared.fault.StepFault.{StepFault}
 use Rattle.bay_device.specs.declared.fault.StepFault.TheVariants.{MomentTooLarge, TimeWentBack}
 use Rattle.bay_device.proofs.CommandLemmas.{step-commanded}
 use Rattle.bay_audit.specs.Process.{IsProcess, process_value}
-use Rattle.bay_audit.specs.Rules.{IsRule, is_obeyed, program_of, releases, releasing_point}
-use Rattle.bay_audit_laws.specs.Laws.{AreOfTypes, CommandsObey, IsOfType, CommandsObeyAt, IsAllowed, RowsObey, ScanObeysAt, ScansObey, is_released, process_of}
+use Rattle.bay_audit.specs.Rules.{BoundProgram, Gives, IsRule, is_obeyed, program_of, releases, releasing_point}
+use Rattle.bay_audit_hazards.specs.Judged.{is_hazard_of}
+use Rattle.bay_audit_laws.specs.Laws.{AreOfTypes, CommandsAreHarmless, CommandsAreHarmlessAt, CommandsObey, IsOfType, CommandsObeyAt, IsAllowed, IsOutside, RowsObey, ScanObeysAt, ScansObey, is_released, process_of}
 use Rattle.bay_audit_laws.proofs.DeviceLemmas.{Quiet, quiet-event}
 use Rattle.bay_audit_laws.proofs.LoadLemmas.{first-both, first-fits}
 use Rattle.bay_audit_laws.proofs.MeasureLemmas.{AllFit, Fits, leaf-number}
-use Rattle.bay_audit_laws.proofs.ProcessLemmas.{IsAlike, holds-alike, inputs-read, scan-alike}
+use Rattle.bay_audit_laws.proofs.ProcessLemmas.{inputs-read, scan-alike}
 use Rattle.bay_audit_laws.proofs.RowLemmas.{away-outputs, AllBoth, AreBoth, outputs-told, told-both, told_by}
 
 -- ---- releases
@@ -161,9 +162,23 @@ halts-of now s new (Err fault) h = absurd h
 
 -- ---- what is kept along the events
 
+-- The device is as a scan of its program left it, from a state that the program can reach and with
+-- the process that the device has: each interlocking value is the release of this scan.
+pub record IsScanned (bay : Bay) (image : Image) (s : State) : Type 0 where
+  pub machine : MachineData
+  pub now : ℕ
+  pub slots : List Value
+  pub timers : List TimerState
+  pub image_is : machine.image ≡ image
+  pub reached : IsReached machine
+  pub leaves : Leaves machine (map (process_value (process_of s)) (program_of bay image).reads) now
+      slots timers
+  pub released : (k : ℕ) (operation : Operation) → k < length bay.switches
+      → is_released s k operation ≡ releases (program_of bay image) k operation slots
+
 -- A device has a bay and a program on it, is one that scans reach, and has rows for the
--- interlocking values; where its last scan is not stale they obey the rule.
-pub record Obeying (bay : Bay) (image : Image) (rule : Rule) (s : State) : Type 0 where
+-- interlocking values; where its last scan is not stale, it is as that scan left it.
+pub record Standing (bay : Bay) (image : Image) (s : State) : Type 0 where
   pub switches : s.switches ≡ bay.switches
   pub reads : s.reads ≡ (program_of bay image).reads
   pub writes : s.writes ≡ (program_of bay image).writes
@@ -172,295 +187,361 @@ pub record Obeying (bay : Bay) (image : Image) (rule : Rule) (s : State) : Type 
   pub both : AllBoth s.rows (length bay.switches)
   pub meters : s.meters ≡ bay.meters
   pub fits : AllFit (length bay.meters) s.rows
-  pub obeyed : (m : ℕ) → s.last_scan ≡ Some m → s.is_stale ≡ false → RowsObey rule s
+  pub scanned : (m : ℕ) → s.last_scan ≡ Some m → s.is_stale ≡ false → IsScanned bay image s
 
-module _ (bay : Bay) (image : Image) (rule : Rule) (is_bay : IsBay bay)
-    (there : rule.switch < length bay.switches) (holds_so : IsRule (program_of bay image) rule)
-  where
-    -- its process is one of 32 bits
-    pub process-so : (s : State) → Obeying bay image rule s → IsProcess (process_of s)
-    process-so s o =
-        let fits : AllFit (length s.meters) s.rows =
-        subst (λ n. AllFit n s.rows) (sym (ap length o.meters)) o.fits in
-        record {
-          least = λ k field. (leaf-number s.meters s.rows fits k field (slice_get s.meters k)
-              refl).least;
-          greatest = λ k field.
-              (leaf-number s.meters s.rows fits k field (slice_get s.meters k) refl).greatest;
-        }
-
-    -- ---- no scan
-
-    -- the process of a device with the same parts
-    abbrev process_by : List Switch → List Row → List Bool → List (List ℕ) → Process
-    process_by switches rows inputs meters = record {
-      position = λ k. dbpos_of (position_leaf switches rows k (slice_get switches k));
-      input = λ k. unwrap_or (slice_get inputs k) false;
-      measure = λ k field. number_of_leaf (measure_leaf rows k field (slice_get meters k));
+-- its process is one of 32 bits
+pub process-so : (bay : Bay) (image : Image) (s : State) → Standing bay image s
+    → IsProcess (process_of s)
+process-so bay image s o =
+    let fits : AllFit (length s.meters) s.rows =
+    subst (λ n. AllFit n s.rows) (sym (ap length o.meters)) o.fits in
+    record {
+      least = λ k field. (leaf-number s.meters s.rows fits k field (slice_get s.meters k)
+          refl).least;
+      greatest = λ k field.
+          (leaf-number s.meters s.rows fits k field (slice_get s.meters k) refl).greatest;
     }
 
-    pub process-same : (s t : State) → t.switches ≡ s.switches → t.rows ≡ s.rows
-        → t.input_values ≡ s.input_values → t.meters ≡ s.meters → process_of t ≡ process_of s
-    process-same s t a b c d =
-        ap (λ x. process_by x t.rows t.input_values t.meters) a
-        ∙ ap (λ x. process_by s.switches x t.input_values t.meters) b
-        ∙ ap (λ x. process_by s.switches s.rows x t.meters) c
-        ∙ ap (λ x. process_by s.switches s.rows s.input_values x) d
+-- ---- no scan
 
-    both-kept : (s t : State) (count : ℕ) → Keeps s.rows t.rows → AllBoth s.rows count
-        → AllBoth t.rows count
-    both-kept s t count keeps all k lt =
-        let own : AreBoth s.rows k = all k lt in
-        record {
-          opening = record {
-            value_there = λ none. own.opening.value_there (sym (keeps k _) ∙ none);
-            quality_there = λ none. own.opening.quality_there (sym (keeps k _) ∙ none);
-          };
-          closing = record {
-            value_there = λ none. own.closing.value_there (sym (keeps k _) ∙ none);
-            quality_there = λ none. own.closing.quality_there (sym (keeps k _) ∙ none);
-          };
-        }
+-- the process of a device with the same parts
+abbrev process_by : List Switch → List Row → List Bool → List (List ℕ) → Process
+process_by switches rows inputs meters = record {
+  position = λ k. dbpos_of (position_leaf switches rows k (slice_get switches k));
+  input = λ k. unwrap_or (slice_get inputs k) false;
+  measure = λ k field. number_of_leaf (measure_leaf rows k field (slice_get meters k));
+}
 
-    obeying-quiet : (s t : State) → Obeying bay image rule s → Quiet s t → Obeying bay image rule t
-    obeying-quiet s t o q = record {
-      switches = q.switches ∙ o.switches;
-      reads = q.reads ∙ o.reads;
-      writes = q.writes ∙ o.writes;
-      image_is = ap (λ (h : MachineData). h.image) q.machine ∙ o.image_is;
-      reached = subst IsReached (sym q.machine) o.reached;
-      both = both-kept s t (length bay.switches) q.keeps o.both;
-      meters = q.meters ∙ o.meters;
-      fits = q.fits (length bay.meters) o.fits;
-      obeyed = λ m scans fresh.
-          let same : process_of t ≡ process_of s =
-          process-same s t q.switches (q.rows fresh) (q.inputs fresh) q.meters in
-          let before : RowsObey rule s =
-          o.obeyed m (sym q.scans ∙ scans) (q.stale fresh) in
-          ap₂ (is_obeyed rule.kind) (ap (holds rule.when) same)
-          (ap (λ rows. is_truth true (leaf_of (enable_name rule.switch rule.operation) rows))
-          (q.rows fresh))
-          ∙ before;
+pub process-same : (s t : State) → Quiet s t → t.is_stale ≡ false → process_of t ≡ process_of s
+process-same s t q fresh =
+    ap (λ x. process_by x t.rows t.input_values t.meters) q.switches
+    ∙ ap (λ x. process_by s.switches x t.input_values t.meters) (q.rows fresh)
+    ∙ ap (λ x. process_by s.switches s.rows x t.meters) (q.inputs fresh)
+    ∙ ap (λ x. process_by s.switches s.rows s.input_values x) q.meters
+
+pub released-same : (s t : State) (k : ℕ) (operation : Operation) → Quiet s t
+    → t.is_stale ≡ false → is_released t k operation ≡ is_released s k operation
+released-same s t k operation q fresh =
+    ap (λ rows. is_truth true (leaf_of (enable_name k operation) rows)) (q.rows fresh)
+
+both-kept : (s t : State) (count : ℕ) → Keeps s.rows t.rows → AllBoth s.rows count
+    → AllBoth t.rows count
+both-kept s t count keeps all k lt =
+    let own : AreBoth s.rows k = all k lt in
+    record {
+      opening = record {
+        value_there = λ none. own.opening.value_there (sym (keeps k _) ∙ none);
+        quality_there = λ none. own.opening.quality_there (sym (keeps k _) ∙ none);
+      };
+      closing = record {
+        value_there = λ none. own.closing.value_there (sym (keeps k _) ∙ none);
+        quality_there = λ none. own.closing.quality_there (sym (keeps k _) ∙ none);
+      };
     }
 
-    -- ---- a scan
+module _ (bay : Bay) (image : Image) where
+  scanned-quiet : (s t : State) → Quiet s t → t.is_stale ≡ false → IsScanned bay image s
+      → IsScanned bay image t
+  scanned-quiet s t q fresh is = record {
+    machine = is.machine;
+    now = is.now;
+    slots = is.slots;
+    timers = is.timers;
+    image_is = is.image_is;
+    reached = is.reached;
+    leaves = subst (λ p. Leaves is.machine (map (process_value p) (program_of bay image).reads)
+        is.now is.slots is.timers) (sym (process-same s t q fresh)) is.leaves;
+    released = λ k operation lt. released-same s t k operation q fresh ∙ is.released k operation lt;
+  }
 
-    module _ (now : ℕ) (s : State) (o : Obeying bay image rule s) (steps : ℕ)
-        (halts : Halts now s steps (after_scan now (device_at now s))) where
-      abbrev pub scanned : State
-      scanned = after_scan now (device_at now s)
+  standing-quiet : (s t : State) → Standing bay image s → Quiet s t → Standing bay image t
+  standing-quiet s t o q = record {
+    switches = q.switches ∙ o.switches;
+    reads = q.reads ∙ o.reads;
+    writes = q.writes ∙ o.writes;
+    image_is = ap (λ (h : MachineData). h.image) q.machine ∙ o.image_is;
+    reached = subst IsReached (sym q.machine) o.reached;
+    both = both-kept s t (length bay.switches) q.keeps o.both;
+    meters = q.meters ∙ o.meters;
+    fits = q.fits (length bay.meters) o.fits;
+    scanned = λ m scans fresh.
+        scanned-quiet s t q fresh (o.scanned m (sym q.scans ∙ scans) (q.stale fresh));
+  }
 
-      abbrev pub outputs : List Value
-      outputs = outputs_of s.machine.image.points scanned.machine.slots
+module _ (bay : Bay) (image : Image) (is_bay : IsBay bay) where
+  -- ---- a scan
 
-      pub leaves : Leaves s.machine (inputs_of s) now scanned.machine.slots scanned.machine.timers
-      leaves = record { most = length s.machine.image.code; steps = steps; halts = halts.halts }
+  module _ (now : ℕ) (s : State) (o : Standing bay image s) (steps : ℕ)
+      (halts : Halts now s steps (after_scan now (device_at now s))) where
+    abbrev scanned : State
+    scanned = after_scan now (device_at now s)
 
-      pub scanned-told : (k : ℕ) → k < length bay.switches
-          → HoldsRelease scanned.rows k (told_by s.writes outputs k)
-      scanned-told k lt =
-          let sized : length s.switches ≡ length bay.switches = ap length o.switches in
-          outputs-told s.switches s.writes outputs now (length bay.switches) is_bay.few_switches 0
-          s.switches s.rows o.both (omega (arith, sized)) k lt
-          (λ below. absurd (omega (arith, below)))
-          (omega (arith, lt, sized))
+    abbrev outputs : List Value
+    outputs = outputs_of s.machine.image.points scanned.machine.slots
 
-      pub alike : IsAlike (process_of scanned) (process_of s)
-      alike = scan-alike s scanned s.writes outputs now refl refl refl refl
+    pub leaves : Leaves s.machine (inputs_of s) now scanned.machine.slots scanned.machine.timers
+    leaves = record { most = length s.machine.image.code; steps = steps; halts = halts.halts }
 
-      -- the run is one from what the process reports
-      pub read : Leaves s.machine (map (process_value (process_of s)) (program_of bay image).reads)
-          now scanned.machine.slots scanned.machine.timers
-      read =
-          subst (λ inputs. Leaves s.machine inputs now scanned.machine.slots scanned.machine.timers)
-          (inputs-read s (program_of bay image).reads o.reads) leaves
+    scanned-told : (k : ℕ) → k < length bay.switches
+        → HoldsRelease scanned.rows k (told_by s.writes outputs k)
+    scanned-told k lt =
+        let sized : length s.switches ≡ length bay.switches = ap length o.switches in
+        outputs-told s.switches s.writes outputs now (length bay.switches) is_bay.few_switches 0
+        s.switches s.rows o.both (omega (arith, sized)) k lt
+        (λ below. absurd (omega (arith, below)))
+        (omega (arith, lt, sized))
 
-      -- the interlocking values tell what the slots release
-      pub scanned-releases : is_released scanned rule.switch rule.operation
-          ≡ releases (program_of bay image) rule.switch rule.operation scanned.machine.slots
-      scanned-releases =
-          released-told scanned s.writes outputs rule.switch rule.operation
-          (scanned-told rule.switch there)
-          ∙ ap₂ (λ w i. output_of rule.switch (releasing_point rule.operation) w
-          (outputs_of i.points scanned.machine.slots)) o.writes o.image_is
+    -- the process is the same after the scan
+    pub scanned-process : process_of scanned ≡ process_of s
+    scanned-process = scan-alike s scanned s.writes outputs now refl refl refl refl
 
-      -- the condition holds after the scan where it did before
-      pub scanned-holds : (is : List ConditionItem)
-          → holds is (process_of scanned) ≡ holds is (process_of s)
-      scanned-holds is = holds-alike (process_of scanned) (process_of s) alike is
+    -- the run is one from what the process reports
+    pub read : Leaves s.machine (map (process_value (process_of s)) (program_of bay image).reads)
+        now scanned.machine.slots scanned.machine.timers
+    read =
+        subst (λ inputs. Leaves s.machine inputs now scanned.machine.slots scanned.machine.timers)
+        (inputs-read s (program_of bay image).reads o.reads) leaves
 
-      scanned-obeys : RowsObey rule scanned
-      scanned-obeys =
-          ap₂ (is_obeyed rule.kind) (scanned-holds rule.when ∙ sym (and-true _)) scanned-releases
-          ∙ holds_so (process_of s) (process-so s o) 0 s.machine now scanned.machine.slots
-          scanned.machine.timers
-          o.image_is o.reached tt read
+    -- the interlocking values tell what the slots release
+    pub scanned-releases : (k : ℕ) (operation : Operation) → k < length bay.switches
+        → is_released scanned k operation
+        ≡ releases (program_of bay image) k operation scanned.machine.slots
+    scanned-releases k operation lt =
+        released-told scanned s.writes outputs k operation (scanned-told k lt)
+        ∙ ap₂ (λ w i. output_of k (releasing_point operation) w
+        (outputs_of i.points scanned.machine.slots)) o.writes o.image_is
 
-      obeying-scanned : Obeying bay image rule scanned
-      obeying-scanned = record {
-        switches = o.switches;
-        reads = o.reads;
-        writes = o.writes;
-        image_is = o.image_is;
-        reached = Next s.machine (inputs_of s) now scanned.machine.slots scanned.machine.timers
-            o.reached leaves;
-        both = λ k lt. told-both scanned.rows k (told_by s.writes outputs k) (scanned-told k lt);
-        meters = o.meters;
-        fits = λ k field lt. subst Fits
-            (sym (away-outputs (field_names field (meter_names k)).value
-            (field-away k field).value_away
-            s.switches s.writes outputs now 0 s.switches s.rows)) (o.fits k field lt);
-        obeyed = λ m scans fresh. scanned-obeys;
+    is-scanned : IsScanned bay image scanned
+    is-scanned = record {
+      machine = s.machine;
+      now = now;
+      slots = scanned.machine.slots;
+      timers = scanned.machine.timers;
+      image_is = o.image_is;
+      reached = o.reached;
+      leaves = subst (λ p. Leaves s.machine (map (process_value p) (program_of bay image).reads)
+          now scanned.machine.slots scanned.machine.timers) (sym scanned-process) read;
+      released = scanned-releases;
+    }
+
+    standing-scanned : Standing bay image scanned
+    standing-scanned = record {
+      switches = o.switches;
+      reads = o.reads;
+      writes = o.writes;
+      image_is = o.image_is;
+      reached = Next s.machine (inputs_of s) now scanned.machine.slots scanned.machine.timers
+          o.reached leaves;
+      both = λ k lt. told-both scanned.rows k (told_by s.writes outputs k) (scanned-told k lt);
+      meters = o.meters;
+      fits = λ k field lt. subst Fits
+          (sym (away-outputs (field_names field (meter_names k)).value
+          (field-away k field).value_away
+          s.switches s.writes outputs now 0 s.switches s.rows)) (o.fits k field lt);
+      scanned = λ m scans fresh. is-scanned;
+    }
+
+  -- ---- a step
+
+  -- what an event leaves: after a scan that was accepted, the device is as this scan left it
+  pub record Led (event : Event) (answer : Result Step StepFault) (new : State) : Type 0 where
+    pub goes_on : Standing bay image new
+    pub scanned : event ≡ Scan → OnOk answer (IsScanned bay image new)
+
+  on-ok : (P : Type 0) (answer : Result Step StepFault) → P → OnOk answer P
+  on-ok P (Ok step) p = p
+  on-ok P (Err fault) p = tt
+
+  led-scan : (now : ℕ) (s : State) (answer : Result Step StepFault) (new : State)
+      → Standing bay image s → new ≡ after_scan now (device_at now s)
+      → (n : ℕ) × Halts now s n new → Led Scan answer new
+  led-scan now s answer new o left w =
+      let halts : Halts now s w.0 (after_scan now (device_at now s)) =
+      subst (Halts now s w.0) left w.1 in
+      subst (Led Scan answer) (sym left) (record {
+        goes_on = standing-scanned now s o w.0 halts;
+        scanned = λ is. on-ok _ answer (is-scanned now s o w.0 halts);
+      })
+
+  pub led-step : (now : ℕ) (event : Event) (s : State) (answer : Result Step StepFault)
+      (new : State) → Standing bay image s → Turned now event s answer new → Led event answer new
+  led-step now event s answer new o t = elim t [
+    | inl r ↦ record {
+      goes_on = subst (Standing bay image) (sym r.2) o;
+      scanned = λ is. subst (λ a. OnOk a (IsScanned bay image new)) (sym r.1) tt;
+    }
+    | inr more ↦ elim more [
+      | inl quiet ↦ record {
+        goes_on = standing-quiet bay image s new o quiet.1;
+        scanned = λ is. absurd (quiet.0 is);
       }
-
-    -- ---- a step
-
-    -- what an event leaves, and what a scan leaves of its rows
-    pub record Led (event : Event) (s : State) (answer : Result Step StepFault) (new : State)
-        : Type 0 where
-      pub goes_on : Obeying bay image rule new
-      pub scan_obeys : event ≡ Scan → OnOk answer (RowsObey rule new)
-
-    led-same : (event : Event) (s : State) (fault : StepFault) (answer : Result Step StepFault)
-        (new : State) → Obeying bay image rule s → answer ≡ Err fault → new ≡ s
-        → Led event s answer new
-    led-same event s fault answer new o refused same = record {
-      goes_on = subst (Obeying bay image rule) (sym same) o;
-      scan_obeys = λ is. subst (λ r. OnOk r (RowsObey rule new))
-          (sym refused) tt;
-    }
-
-    led-quiet : (event : Event) (s : State) (answer : Result Step StepFault) (new : State)
-        → Obeying bay image rule s → (event ≡ Scan → ⊥) → Quiet s new → Led event s answer new
-    led-quiet event s answer new o other q = record {
-      goes_on = obeying-quiet s new o q;
-      scan_obeys = λ is. absurd (other is);
-    }
-
-    on-ok : (P : Type 0) (answer : Result Step StepFault) → P → OnOk answer P
-    on-ok P (Ok step) p = p
-    on-ok P (Err fault) p = tt
-
-    led-scan : (now : ℕ) (s : State) (answer : Result Step StepFault) (new : State)
-        → Obeying bay image rule s → new ≡ after_scan now (device_at now s)
-        → (n : ℕ) × Halts now s n new → Led Scan s answer new
-    led-scan now s answer new o left w =
-        let halts : Halts now s w.0 (after_scan now (device_at now s)) =
-        subst (Halts now s w.0) left w.1 in
-        record {
-          goes_on = subst (Obeying bay image rule) (sym left) (obeying-scanned now s o w.0 halts);
-          scan_obeys = λ is. on-ok _ answer (subst (RowsObey rule) (sym left)
-              (scanned-obeys now s o w.0 halts));
-        }
-
-    pub led-step : (now : ℕ) (event : Event) (s : State) (answer : Result Step StepFault)
-        (new : State) → Obeying bay image rule s → Turned now event s answer new
-        → Led event s answer new
-    led-step now event s answer new o t = elim t [
-      | inl r ↦ led-same event s r.0 answer new o r.1 r.2
-      | inr more ↦ elim more [
-        | inl quiet ↦ led-quiet event s answer new o quiet.0 quiet.1
-        | inr scan ↦
-            subst (λ (e : Event). Led e s answer new) (sym scan.0)
-            (led-scan now s answer new o scan.1 (halts-of now s new answer scan.2))
-      ]
+      | inr scan ↦
+          subst (λ (e : Event). Led e answer new) (sym scan.0)
+          (led-scan now s answer new o scan.1 (halts-of now s new answer scan.2))
     ]
+  ]
 
-    -- ---- commands
+  -- ---- runs
 
-    pub recent-at : (now age : ℕ) (o : Option ℕ) → is_recent now age o ≡ true
-        → (m : ℕ) × (o ≡ Some m)
-    recent-at now age None h = absurd cc
-    recent-at now age (Some m) h = (m, refl)
+  -- what each event of a standing device does is done in each run
+  each-step : (Does : ℕ → Event → State → Result Step StepFault → State → Type 0)
+      → ((now : ℕ) (event : Event) (s : State) (answer : Result Step StepFault) (new : State)
+      → Standing bay image s → Steps now event s answer new → Led event answer new
+      → Does now event s answer new)
+      → (events : List (ℕ × Event)) (s : State) (answers : List (Result Step StepFault))
+      (last : State) → AreOfTypes events → Standing bay image s
+      → EachStep HaltsAt events s answers last → EachStep Does events s answers last
+  each-step Does does [] s [] last typed o each = each
+  each-step Does does [] s (answer ∷ answers) last typed o each = absurd each
+  each-step Does does (e ∷ es) s [] last typed o each = absurd each
+  each-step Does does (e ∷ es) s (answer ∷ answers) last typed o each =
+      let led = led-step e.0 e.1 s answer each.0 o
+      (turned e.0 e.1 s answer each.0 typed.0 each.1 each.2) in (
+        each.0,
+        each.1,
+        does e.0 e.1 s answer each.0 o each.1 led,
+        each-step Does does es each.0 answers last typed.1 led.goes_on each.3,
+      )
 
-    pub not-true : (b : Bool) → not b ≡ true → b ≡ false
-    not-true true h = absurd cc
-    not-true false h = refl
+  -- ---- load
 
-    not-while : (c : Bool) → is_obeyed Never c true ≡ true → c ≡ false
-    not-while true h = absurd cc
-    not-while false h = refl
+  pub standing-first : Standing bay image (initial_device bay image)
+  standing-first = record {
+    switches = refl;
+    reads = refl;
+    writes = refl;
+    image_is = refl;
+    reached = First image;
+    both = λ k lt. first-both bay is_bay k lt;
+    meters = refl;
+    fits = first-fits bay is_bay;
+    scanned = λ m scans fresh. absurd cc;
+  }
 
-    -- a command that is released is one that the rule allows
-    pub allowed : (now : ℕ) (s : State) (command : Command) → Obeying bay image rule s
-        → IsReleasedAt now s command → IsAllowed rule s command
-    allowed now s command o released never at on =
-        let parts =
-        and_parts (is_recent now s.scan_max_age_ms s.last_scan) (not s.is_stale) released.fresh in
-        let scan = recent-at now s.scan_max_age_ms s.last_scan parts.0 in
-        let rows : RowsObey rule s = o.obeyed scan.0 scan.1 (not-true s.is_stale parts.1) in
-        let way_open : is_released s rule.switch rule.operation ≡ true =
-        ap₂ (is_released s) (sym at) (sym on) ∙ released.enabled in
-        not-while (holds rule.when (process_of s))
-        (sym (ap₂ (λ kind r. is_obeyed kind (holds rule.when (process_of s)) r) never way_open)
-        ∙ rows)
+-- ---- what a program gives
 
-    pub commands-obey : (now : ℕ) (event : Event) (s : State) (answer : Result Step StepFault)
-        (new : State) → Obeying bay image rule s → IfOk answer (AreCommanded now s)
-        → CommandsObeyAt rule now event s answer new
-    commands-obey now event s (Ok step) new o commanded =
-        λ k d lt. allowed now s _ o (commanded.released k d lt)
-    commands-obey now event s (Err fault) new o commanded = tt
+-- While the process is in a set, the switch is not released, in any state that the program can
+-- reach.
+abbrev pub IsRefusedWhere : BoundProgram → (Process → Bool) → ℕ → Operation → Type 0
+IsRefusedWhere g set k operation =
+    (p : Process) → IsProcess p → set p ≡ true → Gives false g k operation p
 
-    -- ---- runs
+-- a rule that holds and forbids is such a set
+pub rule-refuses : (g : BoundProgram) (rule : Rule) → IsRule g rule → rule.kind ≡ Never
+    → IsRefusedWhere g (holds rule.when) rule.switch rule.operation
+rule-refuses g rule holds_so never p is asked machine now slots timers image reached leaves =
+    must-not (releases g rule.switch rule.operation slots)
+    (sym (ap₂ (λ kind b. is_obeyed kind (b && true)
+    (releases g rule.switch rule.operation slots)) never asked)
+    ∙ holds_so p is 0 machine now slots timers image reached tt leaves)
+  where
+    must-not : (b : Bool) → not b ≡ true → b ≡ false
+    must-not true h = absurd cc
+    must-not false h = refl
 
-    each-scan : (events : List (ℕ × Event)) (s : State) (answers : List (Result Step StepFault))
-        (last : State) → AreOfTypes events → Obeying bay image rule s
-        → EachStep HaltsAt events s answers last
-        → EachStep (ScanObeysAt rule) events s answers last
-    each-scan [] s [] last typed o each = each
-    each-scan [] s (answer ∷ answers) last typed o each = absurd each
-    each-scan (e ∷ es) s [] last typed o each = absurd each
-    each-scan (e ∷ es) s (answer ∷ answers) last typed o each =
-        let led : Led e.1 s answer each.0 =
-        led-step e.0 e.1 s answer each.0 o
-        (turned e.0 e.1 s answer each.0 typed.0 each.1 each.2) in (
-          each.0,
-          each.1,
-          led.scan_obeys,
-          each-scan es each.0 answers last typed.1 led.goes_on each.3,
-        )
+pub recent-at : (now age : ℕ) (o : Option ℕ) → is_recent now age o ≡ true
+    → (m : ℕ) × (o ≡ Some m)
+recent-at now age None h = absurd cc
+recent-at now age (Some m) h = (m, refl)
 
-    each-command : (events : List (ℕ × Event)) (s : State) (answers : List (Result Step StepFault))
-        (last : State) → AreOfTypes events → Obeying bay image rule s
-        → EachStep HaltsAt events s answers last
-        → EachStep (CommandsObeyAt rule) events s answers last
-    each-command [] s [] last typed o each = each
-    each-command [] s (answer ∷ answers) last typed o each = absurd each
-    each-command (e ∷ es) s [] last typed o each = absurd each
-    each-command (e ∷ es) s (answer ∷ answers) last typed o each =
-        let led : Led e.1 s answer each.0 =
-        led-step e.0 e.1 s answer each.0 o
-        (turned e.0 e.1 s answer each.0 typed.0 each.1 each.2) in (
-          each.0,
-          each.1,
-          commands-obey e.0 e.1 s answer each.0 o (step-commanded e.0 e.1 s answer each.0 each.1),
-          each-command es each.0 answers last typed.1 led.goes_on each.3,
-        )
+pub not-true : (b : Bool) → not b ≡ true → b ≡ false
+not-true true h = absurd cc
+not-true false h = refl
 
-    -- ---- load
+not-yes : (b : Bool) → (b ≡ true → ⊥) → b ≡ false
+not-yes true h = absurd (h refl)
+not-yes false h = refl
 
-    pub obeying-first : Obeying bay image rule (initial_device bay image)
-    obeying-first = record {
-      switches = refl;
-      reads = refl;
-      writes = refl;
-      image_is = refl;
-      reached = First image;
-      both = λ k lt. first-both bay is_bay k lt;
-      meters = refl;
-      fits = first-fits bay is_bay;
-      obeyed = λ m scans fresh. absurd cc;
-    }
+module _ (bay : Bay) (image : Image) where
+  -- the interlocking values of a scan obey a rule that holds
+  scanned-obeys : (rule : Rule) → rule.switch < length bay.switches
+      → IsRule (program_of bay image) rule → (s : State) → IsProcess (process_of s)
+      → IsScanned bay image s → RowsObey rule s
+  scanned-obeys rule there holds_so s is scan =
+      ap₂ (is_obeyed rule.kind) (sym (and-true (holds rule.when (process_of s))))
+      (scan.released rule.switch rule.operation there)
+      ∙ holds_so (process_of s) is 0 scan.machine scan.now scan.slots scan.timers scan.image_is
+      scan.reached tt scan.leaves
+
+  ok-obeys : (rule : Rule) → rule.switch < length bay.switches
+      → IsRule (program_of bay image) rule → (answer : Result Step StepFault) (s : State)
+      → IsProcess (process_of s) → OnOk answer (IsScanned bay image s)
+      → OnOk answer (RowsObey rule s)
+  ok-obeys rule there holds_so (Ok step) s is scan = scanned-obeys rule there holds_so s is scan
+  ok-obeys rule there holds_so (Err fault) s is scan = tt
+
+  -- so does each scan
+  pub scan-obeys : (rule : Rule) → rule.switch < length bay.switches
+      → IsRule (program_of bay image) rule → (is_bay : IsBay bay) (now : ℕ) (event : Event)
+      (old : State) (answer : Result Step StepFault) (new : State)
+      → Led bay image is_bay event answer new → ScanObeysAt rule now event old answer new
+  scan-obeys rule there holds_so is_bay now event old answer new led is =
+      ok-obeys rule there holds_so answer new (process-so bay image new led.goes_on)
+      (led.scanned is)
+
+  -- ---- commands
+
+  -- a command that is released is issued only while its release is not refused
+  pub outside : (set : Process → Bool) (k : ℕ) (operation : Operation)
+      → k < length bay.switches → IsRefusedWhere (program_of bay image) set k operation
+      → (now : ℕ) (s : State) (command : Command) → Standing bay image s
+      → IsReleasedAt now s command → IsOutside set k operation s command
+  outside set k operation there refused now s command o released at on =
+      let parts =
+      and_parts (is_recent now s.scan_max_age_ms s.last_scan) (not s.is_stale) released.fresh in
+      let last = recent-at now s.scan_max_age_ms s.last_scan parts.0 in
+      let scan = o.scanned last.0 last.1 (not-true s.is_stale parts.1) in
+      not-yes (set (process_of s)) (λ in_set.
+      let none : is_released s k operation ≡ false =
+      scan.released k operation there
+      ∙ refused (process_of s) (process-so bay image s o) in_set scan.machine scan.now scan.slots
+      scan.timers scan.image_is scan.reached scan.leaves in
+      let given : is_released s k operation ≡ true =
+      ap₂ (is_released s) (sym at) (sym on) ∙ released.enabled in
+      let no : true ≡ false = sym given ∙ none in
+      absurd cc)
+
+  -- so are all commands of an event
+  pub commands-outside : (Is : State → Command → Type 0)
+      → ((now : ℕ) (s : State) (command : Command) → Standing bay image s
+      → IsReleasedAt now s command → Is s command)
+      → (now : ℕ) (s : State) (answer : Result Step StepFault) → Standing bay image s
+      → IfOk answer (AreCommanded now s) → IfOk answer (λ step. All (Is s) step.commands)
+  commands-outside Is is now s (Ok step) o commanded =
+      λ k d lt. is now s _ o (commanded.released k d lt)
+  commands-outside Is is now s (Err fault) o commanded = tt
+
+  -- a rule that holds allows each command that is released
+  pub allowed : (rule : Rule) → rule.switch < length bay.switches
+      → IsRule (program_of bay image) rule → (now : ℕ) (s : State) (command : Command)
+      → Standing bay image s → IsReleasedAt now s command → IsAllowed rule s command
+  allowed rule there holds_so now s command o released never =
+      outside (holds rule.when) rule.switch rule.operation there
+      (rule-refuses (program_of bay image) rule holds_so never) now s command o released
+
+-- ---- the laws
 
 pub scans-obey : ScansObey
 scans-obey bay image rule is_bay there holds_so events answers last typed each =
-    each-scan bay image rule is_bay there holds_so events (initial_device bay image) answers last
-    typed
-    (obeying-first bay image rule is_bay there holds_so) each
+    each-step bay image is_bay (ScanObeysAt rule)
+    (λ now event s answer new o steps led.
+    scan-obeys bay image rule there holds_so is_bay now event s answer new led) events
+    (initial_device bay image) answers last typed (standing-first bay image is_bay) each
 
 pub commands-obey-all : CommandsObey
 commands-obey-all bay image rule is_bay there holds_so events answers last typed each =
-    each-command bay image rule is_bay there holds_so events (initial_device bay image) answers last
-    typed
-    (obeying-first bay image rule is_bay there holds_so) each
+    each-step bay image is_bay (CommandsObeyAt rule)
+    (λ now event s answer new o steps led.
+    commands-outside bay image (IsAllowed rule) (allowed bay image rule there holds_so) now s
+    answer o (step-commanded now event s answer new steps)) events (initial_device bay image)
+    answers last typed (standing-first bay image is_bay) each
+
+pub commands-are-harmless : CommandsAreHarmless
+commands-are-harmless bay image net k operation is_bay there harmless events answers last typed
+    each =
+    each-step bay image is_bay (CommandsAreHarmlessAt net k operation)
+    (λ now event s answer new o steps led.
+    commands-outside bay image (IsOutside (is_hazard_of net k operation) k operation)
+    (outside bay image (is_hazard_of net k operation) k operation there harmless) now s answer o
+    (step-commanded now event s answer new steps)) events (initial_device bay image) answers last
+    typed (standing-first bay image is_bay) each

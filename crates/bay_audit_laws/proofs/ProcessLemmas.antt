@@ -1,5 +1,6 @@
 -- What the process reports, and what goes by it.
-use Rattle.std.proofs.Common.{◌≡◌, ℕ, Bool, false, List, [], ◌∷◌, map, slice_get, unwrap_or, Option, Some, None, refl, ap, ap₂, ◌∙◌}
+use Rattle.std.proofs.Math.Path.{fun_ext}
+use Rattle.std.proofs.Common.{◌≡◌, ℕ, ℤ, Bool, false, List, [], ◌∷◌, map, slice_get, unwrap_or, Option, Some, None, refl, ap, ap₂, ◌∙◌}
 use Rattle.bay_base.specs.declared.point.MeterField.{MeterField}
 use Rattle.bay_base.specs.declared.point.Source.{Source}
 use Rattle.bay_base.specs.declared.point.Source.TheVariants as source
@@ -11,10 +12,8 @@ use Rattle.bay_nodes.specs.declared.switch.Switch.{Switch}
 use Rattle.bay_process.specs.Names.{field_names}
 use Rattle.bay_process.specs.Values.{measure_leaf, number_of_leaf, position_leaf, position_value, with_outputs}
 use Rattle.bay_process.proofs.ToldLemmas.{IsAway, away-position, field-away}
-use Rattle.bay_base.specs.Positions.{same_position}
-use Rattle.bay_audit_rules.specs.Process.{Process, after_item, after_items, holds, has_relation, top}
-use Rattle.bay_audit_rules.specs.declared.rule.ConditionItem.{ConditionItem}
-use Rattle.bay_audit_rules.specs.declared.rule.ConditionItem.TheVariants as items
+use Rattle.bay_base.specs.declared.position.Dbpos.{Dbpos}
+use Rattle.bay_audit_rules.specs.Process.{Process}
 use Rattle.bay_mms_services.specs.Controls.{dbpos_of}
 use Rattle.bay_tree.specs.Rows.{leaf_of}
 use Rattle.bay_tree.specs.declared.leaf.Leaf.{Leaf}
@@ -25,34 +24,16 @@ use Rattle.bay_audit.specs.Process.{process_value}
 use Rattle.bay_audit_laws.specs.Laws.{process_of}
 use Rattle.bay_audit_laws.proofs.RowLemmas.{away-outputs}
 
--- ---- conditions
-
--- Two processes report the same.
-pub record IsAlike (p q : Process) : Type 0 where
-  pub position : (k : ℕ) → p.position k ≡ q.position k
-  pub input : (k : ℕ) → p.input k ≡ q.input k
-  pub measure : (k : ℕ) (field : MeterField) → p.measure k field ≡ q.measure k field
-
-module _ (p q : Process) (alike : IsAlike p q) where
-  item-alike : (i : ConditionItem) (stack : List Bool) → after_item p i stack ≡ after_item q i stack
-  item-alike items.True stack = refl
-  item-alike (items.Position k position) stack =
-      ap (λ d. same_position d position ∷ stack) (alike.position k)
-  item-alike (items.Input k) stack = ap (λ (b : Bool). b ∷ stack) (alike.input k)
-  item-alike (items.Measure k field relation value) stack =
-      ap (λ z. has_relation relation z value ∷ stack) (alike.measure k field)
-  item-alike items.Not stack = refl
-  item-alike items.And stack = refl
-  item-alike items.Or stack = refl
-
-  items-alike : (is : List ConditionItem) (stack : List Bool)
-      → after_items p is stack ≡ after_items q is stack
-  items-alike [] stack = refl
-  items-alike (i ∷ is) stack =
-      items-alike is (after_item p i stack) ∙ ap (after_items q is) (item-alike i stack)
-
-  pub holds-alike : (is : List ConditionItem) → holds is p ≡ holds is q
-  holds-alike is = ap top (items-alike is [])
+-- two processes that report the same
+process-alike : (p q : Process) → ((k : ℕ) → p.position k ≡ q.position k)
+    → ((k : ℕ) → p.input k ≡ q.input k)
+    → ((k : ℕ) (field : MeterField) → p.measure k field ≡ q.measure k field) → p ≡ q
+process-alike p q positions inputs measures =
+    let process : (ℕ → Dbpos) → (ℕ → Bool) → (ℕ → MeterField → ℤ) → Process =
+    λ x y z. record { position = x; input = y; measure = z } in
+    ap (λ x. process x p.input p.measure) (fun_ext positions)
+    ∙ ap (λ y. process q.position y p.measure) (fun_ext inputs)
+    ∙ ap (process q.position q.input) (fun_ext (λ k. fun_ext (measures k)))
 
 -- ---- what a program reads
 
@@ -134,12 +115,11 @@ module _ (s t : State) (writes : List Source) (outputs : List Value) (now : ℕ)
   measure-kept k field (Some id) =
       name-kept (field_names field (meter_names k)).value (field-away k field).value_away
 
-  pub scan-alike : IsAlike (process_of t) (process_of s)
-  scan-alike = record {
-    position = λ k. ap (λ ss. dbpos_of (position_leaf ss t.rows k (slice_get ss k))) switches
-        ∙ ap dbpos_of (position-kept k (slice_get s.switches k));
-    input = λ k. ap (λ vs. unwrap_or (slice_get vs k) false) inputs;
-    measure = λ k field.
-        ap (λ ms. number_of_leaf (measure_leaf t.rows k field (slice_get ms k))) meters
-        ∙ ap number_of_leaf (measure-kept k field (slice_get s.meters k));
-  }
+  pub scan-alike : process_of t ≡ process_of s
+  scan-alike =
+      process-alike (process_of t) (process_of s)
+      (λ k. ap (λ ss. dbpos_of (position_leaf ss t.rows k (slice_get ss k))) switches
+      ∙ ap dbpos_of (position-kept k (slice_get s.switches k)))
+      (λ k. ap (λ vs. unwrap_or (slice_get vs k) false) inputs)
+      (λ k field. ap (λ ms. number_of_leaf (measure_leaf t.rows k field (slice_get ms k))) meters
+      ∙ ap number_of_leaf (measure-kept k field (slice_get s.meters k)))

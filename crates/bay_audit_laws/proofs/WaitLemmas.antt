@@ -9,10 +9,7 @@ use Rattle.bay_audit_rules.specs.declared.rule.ConditionItem.{ConditionItem}
 use Rattle.bay_audit_rules.specs.declared.rule.Rule.{Rule}
 use Rattle.bay_audit_rules.specs.declared.rule.RuleKind.TheVariants.{Always, Never}
 use Rattle.bay_audit_rules.specs.declared.rule.Timing.{Timing}
-use Rattle.bay_process.specs.Values.{is_truth}
-use Rattle.bay_mms_services.specs.Released.{enable_name}
 use Rattle.bay_mms_services.specs.declared.answer.Command.{Command}
-use Rattle.bay_tree.specs.Rows.{leaf_of}
 use Rattle.il_image.specs.Images.{Image}
 use Rattle.il_image.specs.declared.timer.TimerPhase.{TimerPhase}
 use Rattle.il_image.specs.declared.timer.TimerPhase.TheVariants.{Idle, Held, Since}
@@ -33,10 +30,10 @@ use Rattle.bay_device.specs.declared.event.Event.TheVariants.{Open, Recv, Close,
 use Rattle.bay_device.specs.declared.event.Step.{Step}
 use Rattle.bay_device.specs.declared.fault.StepFault.{StepFault}
 use Rattle.bay_device.proofs.CommandLemmas.{step-commanded}
-use Rattle.bay_audit.specs.Rules.{IsByTimer, IsRule, is_obeyed, limit_of, program_of, releases}
+use Rattle.bay_audit.specs.Rules.{IsByTimer, is_obeyed, limit_of, program_of, releases}
 use Rattle.bay_audit_laws.specs.Laws.{AreOfTypes, CommandsWait, CommandsWaitAt, EachAfter, HasHeld, HasWaited, ScanWaitsAt, ScansWait, is_released, process_of, scans_after}
 use Rattle.bay_audit_laws.proofs.DeviceLemmas.{Quiet}
-use Rattle.bay_audit_laws.proofs.LawLemmas.{Obeying, Turned, halts-of, leaves, led-step, not-true, obeying-first, process-same, process-so, read, recent-at, scanned-holds, scanned-releases, turned}
+use Rattle.bay_audit_laws.proofs.LawLemmas.{Standing, Turned, halts-of, leaves, led-step, not-true, process-same, process-so, read, recent-at, released-same, scanned-process, scanned-releases, standing-first, turned}
 
 -- ---- timers
 
@@ -134,23 +131,6 @@ scans-refused condition now Scan s fault scans = refl
 module _ (bay : Bay) (image : Image) (rule : Rule) (timing : Timing) (n : ℕ) (is_bay : IsBay bay)
     (there : rule.switch < length bay.switches)
     (bears : IsByTimer (program_of bay image) rule timing n) where
-  -- a rule that is never asked holds
-  abbrev pub no_rule : Rule
-  no_rule = record {
-    line = 0;
-    kind = Never;
-    switch = rule.switch;
-    operation = rule.operation;
-    when = [];
-    timed = None;
-  }
-
-  pub no-rule-holds : IsRule (program_of bay image) no_rule
-  no-rule-holds p is mark machine now slots timers same kept young leaves = refl
-
-  abbrev pub Stands : State → Type 0
-  Stands s = Obeying bay image no_rule s
-
   -- A delay that runs began at a scan since which the condition has held; where the last scan is
   -- not stale and releases the switch, the condition has held for the time.
   pub record Waiting (scans : List (ℕ × Bool)) (s : State) : Type 0 where
@@ -168,18 +148,17 @@ module _ (bay : Bay) (image : Image) (rule : Rule) (timing : Timing) (n : ℕ) (
         (subst (λ m. delay_start_at n m.timers ≡ Some start) q.machine is);
     waits = λ m last fresh asked released.
         let same : process_of t ≡ process_of s =
-        process-same bay image no_rule is_bay there no-rule-holds s t q.switches (q.rows fresh)
-        (q.inputs fresh) q.meters in
+        process-same s t q fresh in
         w.waits m (sym q.scans ∙ last) (q.stale fresh)
         (ap (holds rule.when) (sym same) ∙ asked)
-        (ap (λ rows. is_truth true (leaf_of (enable_name rule.switch rule.operation) rows))
-        (sym (q.rows fresh)) ∙ released);
+        (sym (released-same s t rule.switch rule.operation q fresh) ∙ released);
   }
 
   -- ---- a scan
 
-  module _ (now : ℕ) (s : State) (o : Stands s) (scans : List (ℕ × Bool)) (w : Waiting scans s)
-      (steps : ℕ) (halts : Halts now s steps (after_scan now (device_at now s))) where
+  module _ (now : ℕ) (s : State) (o : Standing bay image s) (scans : List (ℕ × Bool))
+      (w : Waiting scans s) (steps : ℕ)
+      (halts : Halts now s steps (after_scan now (device_at now s))) where
     abbrev scanned : State
     scanned = after_scan now (device_at now s)
 
@@ -192,9 +171,9 @@ module _ (bay : Bay) (image : Image) (rule : Rule) (timing : Timing) (n : ℕ) (
         let none_runs : is_none (delay_start_at n scanned.machine.timers) ≡ true =
         always-so (not held) (is_none (delay_start_at n scanned.machine.timers))
         (bears.idle_so (process_of s)
-        (process-so bay image no_rule is_bay there no-rule-holds s o) 0 s.machine now
+        (process-so bay image s o) 0 s.machine now
         scanned.machine.slots scanned.machine.timers o.image_is o.reached tt
-        (read bay image no_rule is_bay there no-rule-holds now s o steps halts)) (ap not none) in
+        (read bay image is_bay now s o steps halts)) (ap not none) in
         none-some (delay_start_at n scanned.machine.timers) start none_runs is
 
     held-while : (start : ℕ) → delay_start_at n scanned.machine.timers ≡ Some start → held ≡ true
@@ -210,7 +189,7 @@ module _ (bay : Bay) (image : Image) (rule : Rule) (timing : Timing) (n : ℕ) (
       held-while start is,
       elim (delays-continue s.machine (inputs_of s) now scanned.machine.slots
           scanned.machine.timers
-          (leaves bay image no_rule is_bay there no-rule-holds now s o steps halts) n start is) [
+          (leaves bay image is_bay now s o steps halts) n start is) [
             | inl new ↦ inl (sym new)
             | inr old ↦ inr (w.runs start old)
           ],
@@ -229,9 +208,9 @@ module _ (bay : Bay) (image : Image) (rule : Rule) (timing : Timing) (n : ℕ) (
             (let none : g_releases ≡ false =
             never-so (holds rule.when (process_of s)) (not held) g_releases
             (bears.there_so (process_of s)
-            (process-so bay image no_rule is_bay there no-rule-holds s o) 0 s.machine now
+            (process-so bay image s o) 0 s.machine now
             scanned.machine.slots scanned.machine.timers o.image_is o.reached tt
-            (read bay image no_rule is_bay there no-rule-holds now s o steps halts)) asked
+            (read bay image is_bay now s o steps halts)) asked
             (ap not e) in
             cc)
 
@@ -242,9 +221,9 @@ module _ (bay : Bay) (image : Image) (rule : Rule) (timing : Timing) (n : ℕ) (
         let none : g_releases ≡ false =
         never-so (holds rule.when (process_of s)) true g_releases
         (bears.late_so (process_of s)
-        (process-so bay image no_rule is_bay there no-rule-holds s o) 0 s.machine now
+        (process-so bay image s o) 0 s.machine now
         scanned.machine.slots scanned.machine.timers o.image_is o.reached young
-        (read bay image no_rule is_bay there no-rule-holds now s o steps halts)) asked refl in
+        (read bay image is_bay now s o steps halts)) asked refl in
         absurd (cc)
 
     waits-on : holds rule.when (process_of s) ≡ true → g_releases ≡ true
@@ -272,9 +251,9 @@ module _ (bay : Bay) (image : Image) (rule : Rule) (timing : Timing) (n : ℕ) (
         → HasHeld timing.time now ((now, held) ∷ scans)
     scan-waits asked released =
         waits-on
-        (sym (scanned-holds bay image no_rule is_bay there no-rule-holds now s o steps halts
-        rule.when) ∙ asked)
-        (sym (scanned-releases bay image no_rule is_bay there no-rule-holds now s o steps halts)
+        (ap (holds rule.when) (sym (scanned-process bay image is_bay now s o steps halts)) ∙ asked)
+        (sym (scanned-releases bay image is_bay now s o steps halts rule.switch rule.operation
+        there)
         ∙ released)
 
     waiting-scanned : Waiting ((now, held) ∷ scans) scanned
@@ -317,7 +296,8 @@ module _ (bay : Bay) (image : Image) (rule : Rule) (timing : Timing) (n : ℕ) (
   }
 
   led-scan : (scans : List (ℕ × Bool)) (now : ℕ) (s : State) (answer : Result Step StepFault)
-      (new : State) → Stands s → Waiting scans s → new ≡ after_scan now (device_at now s)
+      (new : State) → Standing bay image s → Waiting scans s
+      → new ≡ after_scan now (device_at now s)
       → IsOkAnd answer (λ step. IsSomeAnd step.scan (λ n. Halts now s n new))
       → Led scans now Scan s answer new
   led-scan scans now s (Err fault) new o w left halts = absurd halts
@@ -333,7 +313,7 @@ module _ (bay : Bay) (image : Image) (rule : Rule) (timing : Timing) (n : ℕ) (
       })
 
   pub led-step-wait : (scans : List (ℕ × Bool)) (now : ℕ) (event : Event) (s : State)
-      (answer : Result Step StepFault) (new : State) → Stands s → Waiting scans s
+      (answer : Result Step StepFault) (new : State) → Standing bay image s → Waiting scans s
       → Turned now event s answer new → Led scans now event s answer new
   led-step-wait scans now event s answer new o w t = elim t [
     | inl r ↦ led-refused scans now event s r.0 answer new w r.1 r.2
@@ -356,11 +336,11 @@ module _ (bay : Bay) (image : Image) (rule : Rule) (timing : Timing) (n : ℕ) (
   has-waited scans now s command w released at on asked =
       let parts =
       and_parts (is_recent now s.scan_max_age_ms s.last_scan) (not s.is_stale) released.fresh in
-      let scan = recent-at bay image no_rule is_bay there no-rule-holds now s.scan_max_age_ms
+      let scan = recent-at now s.scan_max_age_ms
       s.last_scan parts.0 in
       some-and (λ m. HasHeld timing.time m scans) s.last_scan scan.0 scan.1
       (w.waits scan.0 scan.1
-      (not-true bay image no_rule is_bay there no-rule-holds s.is_stale parts.1) asked
+      (not-true s.is_stale parts.1) asked
       (ap₂ (is_released s) (sym at) (sym on) ∙ released.enabled))
 
   pub commands-wait : (scans : List (ℕ × Bool)) (now : ℕ) (event : Event) (s : State)
@@ -373,7 +353,8 @@ module _ (bay : Bay) (image : Image) (rule : Rule) (timing : Timing) (n : ℕ) (
   -- ---- runs
 
   each-wait : (events : List (ℕ × Event)) (scans : List (ℕ × Bool)) (s : State)
-      (answers : List (Result Step StepFault)) (last : State) → AreOfTypes events → Stands s
+      (answers : List (Result Step StepFault)) (last : State) → AreOfTypes events
+      → Standing bay image s
       → Waiting scans s → EachStep HaltsAt events s answers last
       → EachAfter (ScanWaitsAt rule timing) timing.condition events scans s answers last
   each-wait [] scans s [] last typed o w each = each
@@ -383,7 +364,7 @@ module _ (bay : Bay) (image : Image) (rule : Rule) (timing : Timing) (n : ℕ) (
       let t = turned e.0 e.1 s answer each.0 typed.0 each.1 each.2 in
       let led = led-step-wait scans e.0 e.1 s answer each.0 o w t in
       let on =
-      led-step bay image no_rule is_bay there no-rule-holds e.0 e.1 s answer each.0 o t in (
+      led-step bay image is_bay e.0 e.1 s answer each.0 o t in (
         each.0,
         each.1,
         led.scan_waits,
@@ -392,7 +373,8 @@ module _ (bay : Bay) (image : Image) (rule : Rule) (timing : Timing) (n : ℕ) (
       )
 
   each-command-wait : (events : List (ℕ × Event)) (scans : List (ℕ × Bool)) (s : State)
-      (answers : List (Result Step StepFault)) (last : State) → AreOfTypes events → Stands s
+      (answers : List (Result Step StepFault)) (last : State) → AreOfTypes events
+      → Standing bay image s
       → Waiting scans s → EachStep HaltsAt events s answers last
       → EachAfter (CommandsWaitAt rule timing) timing.condition events scans s answers last
   each-command-wait [] scans s [] last typed o w each = each
@@ -402,7 +384,7 @@ module _ (bay : Bay) (image : Image) (rule : Rule) (timing : Timing) (n : ℕ) (
       let t = turned e.0 e.1 s answer each.0 typed.0 each.1 each.2 in
       let led = led-step-wait scans e.0 e.1 s answer each.0 o w t in
       let on =
-      led-step bay image no_rule is_bay there no-rule-holds e.0 e.1 s answer each.0 o t in (
+      led-step bay image is_bay e.0 e.1 s answer each.0 o t in (
         each.0,
         each.1,
         commands-wait scans e.0 e.1 s answer each.0 w
@@ -419,18 +401,15 @@ module _ (bay : Bay) (image : Image) (rule : Rule) (timing : Timing) (n : ℕ) (
     waits = λ m last fresh asked released. absurd cc;
   }
 
-  pub stands-first : Stands (initial_device bay image)
-  stands-first = obeying-first bay image no_rule is_bay there no-rule-holds
-
 pub scans-wait : ScansWait
 scans-wait n bay image rule timing is_bay there bears events answers last typed each =
     each-wait bay image rule timing n is_bay there bears events [] (initial_device bay image)
-    answers last typed (stands-first bay image rule timing n is_bay there bears)
+    answers last typed (standing-first bay image is_bay)
     (waiting-first bay image rule timing n is_bay there bears) each
 
 pub commands-wait-all : CommandsWait
 commands-wait-all n bay image rule timing is_bay there bears events answers last typed each =
     each-command-wait bay image rule timing n is_bay there bears events []
     (initial_device bay image) answers last typed
-    (stands-first bay image rule timing n is_bay there bears)
+    (standing-first bay image is_bay)
     (waiting-first bay image rule timing n is_bay there bears) each

@@ -1,5 +1,5 @@
 -- A program of HALT alone, and rules about the first switch.
-use Rattle.std.specs.Prelude.{List, [], ◌∷◌, None}
+use Rattle.std.specs.Prelude.{[], ◌∷◌, None}
 use Rattle.bay_audit.specs.Rules.{BoundProgram, program}
 use Rattle.bay_base.specs.declared.switch.Operation.TheVariants.{Open}
 use Rattle.bay_audit_rules.specs.declared.rule.ConditionItem.TheVariants as items

@@ -1,4 +1,4 @@
--- The scans and the commands of a device, if a rule holds of its program.
+-- The scans and the commands of a device, if a rule holds of its program, or releases are harmless.
 use Rattle.std.specs.Prelude.{ℕ, ℤ, ◌-◌, ◌≤◌, ◌≤ℤ◌, negsuc, pos, [], ◌∷◌, ◌≡◌, ◌<◌, ◌⊎◌, Bool, true, false, All, List, length, slice_get, unwrap_or, Result, Ok, Err, IfOk, IsSomeAnd, OnOk}
 use Rattle.bay_config.specs.Laws.{IsBay}
 use Rattle.bay_config.specs.declared.bay.Bay.{Bay}
@@ -23,6 +23,8 @@ use Rattle.bay_device.specs.declared.event.Event.TheVariants.{Open, Recv, Close,
 use Rattle.bay_device.specs.declared.event.Step.{Step}
 use Rattle.bay_device.specs.declared.fault.StepFault.{StepFault}
 use Rattle.bay_audit.specs.Rules.{BoundProgram, IsByTimer, IsDueByTimer, IsMet, IsRule, is_obeyed, program_of, sufficient_demand}
+use Rattle.bay_audit_hazards.specs.Judged.{IsHarmless, is_hazard_of}
+use Rattle.bay_diagram.specs.declared.network.Network.{Network}
 
 -- ---- a device
 
@@ -74,29 +76,52 @@ abbrev pub ScanObeysAt : Rule → ℕ → Event → State → Result Step StepFa
 ScanObeysAt rule now event old answer new =
     event ≡ Scan → OnOk answer (RowsObey rule new)
 
+-- A command of this switch and operation is issued only while the values that the process last
+-- reported are not in a set.
+abbrev pub IsOutside : (Process → Bool) → ℕ → Operation → State → Command → Type 0
+IsOutside set k operation s command =
+    command.switch ≡ k → command.operation ≡ operation → set (process_of s) ≡ false
+
 -- If a rule forbids a command while its condition is TRUE, the command is issued only while the
 -- condition is FALSE for the values that the process last reported.
 abbrev pub IsAllowed : Rule → State → Command → Type 0
 IsAllowed rule s command =
-    rule.kind ≡ Never → command.switch ≡ rule.switch → command.operation ≡ rule.operation
-    → holds rule.when (process_of s) ≡ false
+    rule.kind ≡ Never → IsOutside (holds rule.when) rule.switch rule.operation s command
 
 -- Each command of an accepted event obeys a rule.
 abbrev pub CommandsObeyAt : Rule → ℕ → Event → State → Result Step StepFault → State → Type 0
 CommandsObeyAt rule now event old answer new =
     IfOk answer (λ step. All (IsAllowed rule old) step.commands)
 
+-- Each command of an accepted event is issued so.
+abbrev pub CommandsOutsideAt : (Process → Bool) → ℕ → Operation → ℕ → Event → State
+    → Result Step StepFault → State → Type 0
+CommandsOutsideAt set k operation now event old answer new =
+    IfOk answer (λ step. All (IsOutside set k operation old) step.commands)
+
+-- Each command of this switch and operation is issued by an accepted event only while the operation
+-- is no hazard in a network, by the values that the process last reported.
+abbrev pub CommandsAreHarmlessAt : Network → ℕ → Operation → ℕ → Event → State
+    → Result Step StepFault → State → Type 0
+CommandsAreHarmlessAt net k operation now event old answer new =
+    CommandsOutsideAt (is_hazard_of net k operation) k operation now event old answer new
+
 -- ---- the laws
 
--- `Does` is true for each event in each run of a device, from load of a bay and an image on, if a
--- rule holds of that program.
+-- `Does` is true for each event in each run of a device, from load of a bay and an image on.
+abbrev pub InEachRun : Bay → Image → (ℕ → Event → State → Result Step StepFault → State → Type 0)
+    → Type 0
+InEachRun bay image Does =
+    (events : List (ℕ × Event)) (answers : List (Result Step StepFault)) (last : State)
+    → AreOfTypes events → EachStep HaltsAt events (initial_device bay image) answers last
+    → EachStep Does events (initial_device bay image) answers last
+
+-- `Does` is true in each run, if a rule holds of the program.
 abbrev pub Always : (Rule → ℕ → Event → State → Result Step StepFault → State → Type 0) → Type 0
 Always Does =
     (bay : Bay) (image : Image) (rule : Rule) → IsBay bay
     → rule.switch < length bay.switches → IsRule (program_of bay image) rule
-    → (events : List (ℕ × Event)) (answers : List (Result Step StepFault)) (last : State)
-    → AreOfTypes events → EachStep HaltsAt events (initial_device bay image) answers last
-    → EachStep (Does rule) events (initial_device bay image) answers last
+    → InEachRun bay image (Does rule)
 
 -- Each scan of a device obeys each rule that holds of its program.
 abbrev pub ScansObey : Type 0
@@ -105,6 +130,14 @@ ScansObey = Always ScanObeysAt
 -- Each command of a device obeys each rule that holds of its program.
 abbrev pub CommandsObey : Type 0
 CommandsObey = Always CommandsObeyAt
+
+-- No command of a device is a hazard in a network, if the release of its switch and operation is
+-- harmless in this network.
+abbrev pub CommandsAreHarmless : Type 0
+CommandsAreHarmless =
+    (bay : Bay) (image : Image) (net : Network) (k : ℕ) (operation : Operation) → IsBay bay
+    → k < length bay.switches → IsHarmless (program_of bay image) net k operation
+    → InEachRun bay image (CommandsAreHarmlessAt net k operation)
 
 -- ---- rules with a time
 

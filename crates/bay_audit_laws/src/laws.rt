@@ -1,10 +1,14 @@
-// Laws of a device for a rule that holds of its program. Each function does nothing; its contract
-// is the law.
+// Laws of a device for a rule that holds of its program, and for a release that is harmless. Each
+// function does nothing; its contract is the law.
+ghost use Rattle.std.specs.Prelude.{ℕ};
 ghost use Rattle.bay_audit.specs.Rules.{IsRule};
+ghost use Rattle.bay_audit_hazards.specs.Judged.{IsHarmless};
 ghost use Rattle.bay_audit_laws.specs.Examples.{at_all_times, halting_program};
-ghost use Rattle.bay_audit_laws.specs.Laws.{CommandsObey, CommandsWait, ScansAreDue, ScansObey, ScansRelease, ScansWait};
+ghost use Rattle.bay_audit_laws.specs.Laws.{CommandsAreHarmless, CommandsObey, CommandsWait, ScansAreDue, ScansObey, ScansRelease, ScansWait};
 ghost use Rattle.bay_audit_laws.specs.Lost.{LostIsBlind};
 ghost use Rattle.bay_audit_rules.specs.declared.rule.RuleKind.TheVariants.{Always, Never};
+ghost use Rattle.bay_base.specs.declared.switch.Operation.{Operation};
+ghost use Rattle.bay_diagram.specs.declared.network.Network.{Network};
 
 /// If a rule holds of a program, each scan of a device with this program leaves EnaOpn and EnaCls
 /// so that they obey the rule, for the positions, the inputs and the measured values of the device,
@@ -19,6 +23,14 @@ pub fn each_scan_obeys()
 /// on, whatever its clients request and its process reports.
 pub fn no_command_breaks_a_rule()
     ensures { CommandsObey }
+{}
+
+/// If a release of a switch in a direction is harmless in a single line diagram, as an audit
+/// answers it, no device with this program ever issues a command to move the switch in this
+/// direction while that is a hazard in the diagram by the values that the process last reported: in
+/// each run of events from load on, whatever its clients request and its process reports.
+pub fn no_command_is_a_hazard()
+    ensures { CommandsAreHarmless }
 {}
 
 /// If a timer establishes the rule that a switch is not released in a direction until a condition
@@ -52,8 +64,10 @@ pub fn a_lost_process_releases_only_what_lost_does()
 
 /// An example of a rule that holds and of one that does not: a program of HALT alone releases no
 /// switch, so the rule holds of it that a switch is never released, and not the rule that a switch
-/// is always released.
+/// is always released. Each of its releases is harmless in any diagram.
 pub fn a_program_that_releases_nothing()
     ensures never { IsRule halting_program (at_all_times Never) }
     ensures always { IsRule halting_program (at_all_times Always) → ⊥ }
+    ensures harmless { (net : Network) (k : ℕ) (operation : Operation)
+        → IsHarmless halting_program net k operation }
 {}
