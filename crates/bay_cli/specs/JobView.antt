@@ -18,13 +18,15 @@ program_view (Image name) = Image name.now
 abbrev pub task_view : Task (Bor (List ℕ)) → Task (List ℕ)
 task_view (Check bay program) = Check bay.now (program_view program)
 task_view Replay = Replay
-task_view (Serve bay program port turns trace process tells limit key file most idle rules) =
+task_view
+    (Serve bay program port turns trace process tells limit key file most idle rules diagram) =
     Serve bay.now (program_view program) port turns (option_map (λ name. name.now) trace) process
     tells limit (option_map (λ name. name.now) key) (option_map (λ name. name.now) file) most idle
-    (option_map (λ name. name.now) rules)
+    (option_map (λ name. name.now) rules) (option_map (λ name. name.now) diagram)
 task_view (Compile bay logic out) = Compile bay.now logic.now out.now
-task_view (Audit bay program rules effort) =
-    Audit bay.now (program_view program) rules.now effort
+task_view (Audit bay program rules diagram effort) =
+    Audit bay.now (program_view program) (option_map (λ name. name.now) rules)
+    (option_map (λ name. name.now) diagram) effort
 
 -- the view of a task, with whether the log is written
 abbrev pub invoked_view : Invoked (Bor (List ℕ)) → Invoked (List ℕ)
@@ -40,6 +42,7 @@ job_view job = record {
   out = option_map (λ name. name.now) job.out;
   trace = option_map (λ name. name.now) job.trace;
   rules = option_map (λ name. name.now) job.rules;
+  diagram = option_map (λ name. name.now) job.diagram;
   port = job.port;
   turns = job.turns;
   process = job.process;

@@ -45,19 +45,20 @@ check_app =
 
 -- `serve --bay F [--logic F] [--image F] --port N --turns N [--trace F] [--process P]
 -- [--tell WHAT] [--supervise MS] [--key F] [--record F] [--record-most OCTETS] [--idle S]
--- [--rules F] [--log]`, with ports from 1 to 65535, turns below 2 ^ 32, from 100 to 60000
--- milliseconds, up to 2 ^ 24 octets, and from 10 to 3600 seconds
+-- [--rules F] [--diagram F] [--log]`, with ports from 1 to 65535, turns below 2 ^ 32, from 100 to
+-- 60000 milliseconds, up to 2 ^ 24 octets, and from 10 to 3600 seconds
 abbrev pub serve_app : App
 serve_app =
     let named = with_program (with_rule (new_app (codes "serve")) (needed_rule (codes "bay"))) in
     with_rule (with_rule (with_rule (with_rule (with_rule (with_rule (with_rule (with_rule
-    (with_rule (with_rule (with_rule (with_rule named
+    (with_rule (with_rule (with_rule (with_rule (with_rule named
     (number_rule (codes "port") 1 65535 true)) (number_rule (codes "turns") 0 4294967295 true))
     (text_rule (codes "trace"))) (number_rule (codes "process") 1 65535 false))
     (text_rule (codes "tell"))) (number_rule (codes "supervise") 100 60000 false))
     (text_rule (codes "key"))) (text_rule (codes "record")))
     (number_rule (codes "record-most") 1 16777216 false))
-    (number_rule (codes "idle") 10 3600 false)) (text_rule (codes "rules"))) log_rule
+    (number_rule (codes "idle") 10 3600 false)) (text_rule (codes "rules")))
+    (text_rule (codes "diagram"))) log_rule
 
 -- `replay [--log]`
 abbrev pub replay_app : App
@@ -70,12 +71,12 @@ compile_app =
     (needed_rule (codes "bay"))) (needed_rule (codes "logic"))) (needed_rule (codes "out")))
     log_rule
 
--- `audit --bay F [--logic F] [--image F] --rules F [--effort N] [--log]`, with an effort from 1 to
--- 100000
+-- `audit --bay F [--logic F] [--image F] [--rules F] [--diagram F] [--effort N] [--log]`, with an
+-- effort from 1 to 100000
 abbrev pub audit_app : App
 audit_app =
-    with_rule (with_rule (with_rule (with_program (with_rule (new_app (codes "audit"))
-    (needed_rule (codes "bay")))) (needed_rule (codes "rules")))
+    with_rule (with_rule (with_rule (with_rule (with_program (with_rule (new_app (codes "audit"))
+    (needed_rule (codes "bay")))) (text_rule (codes "rules"))) (text_rule (codes "diagram")))
     (number_rule (codes "effort") 1 100000 false)) log_rule
 
 -- the program: a subcommand is required; without any word the result is the help
@@ -176,22 +177,24 @@ is_recordable file most = is_some file || is_none most
 
 -- the task of `serve` with these values, if they fit together
 abbrev pub serve_task : Text → ProgramFile Text → ℕ → ℕ → Option Text → Option ℕ → Option ℕ
-    → Option Text → Option Text → Option ℕ → Option ℕ → Option Text → Bool → Option (Task Text)
-serve_task bay program port turns trace process limit key file most idle rules tells =
+    → Option Text → Option Text → Option ℕ → Option ℕ → Option Text → Option Text → Bool
+    → Option (Task Text)
+serve_task bay program port turns trace process limit key file most idle rules diagram tells =
     if is_apart port process && is_supervisable process trace limit key && is_recordable file most
-    then Some (Serve bay program port turns trace process tells limit key file most idle rules)
+    then Some (Serve bay program port turns trace process tells limit key file most idle rules
+    diagram)
     else None
 
 -- the task of `serve`: a bay and a program, both numbers, a trace and a process, if they were
 -- named, whether releases are sent to the process, how it is supervised, how the session is
--- recorded, how long a client may send nothing, and rules, if they were named
+-- recorded, how long a client may send nothing, and rules and a diagram, if they were named
 abbrev pub serve_in : List Row → Option (Task Text)
 serve_in rows =
     option_and_then (λ bay. option_and_then (λ program. option_and_then (λ port. option_and_then
     (λ turns. option_and_then
     (serve_task bay program port turns (first_of (codes "trace") rows) (process_in rows)
     (limit_in rows) (first_of (codes "key") rows) (first_of (codes "record") rows) (most_in rows)
-    (idle_in rows) (first_of (codes "rules") rows))
+    (idle_in rows) (first_of (codes "rules") rows) (first_of (codes "diagram") rows))
     (sends_releases (process_in rows) (first_of (codes "tell") rows))) (turns_in rows))
     (port_in rows))
     (program_in rows)) (first_of (codes "bay") rows)
@@ -202,12 +205,20 @@ compile_in rows =
     option_and_then (λ bay. option_and_then (λ logic. option_map (λ out. Compile bay logic out)
     (first_of (codes "out") rows)) (first_of (codes "logic") rows)) (first_of (codes "bay") rows)
 
--- the task of `audit`: a bay, a program, rules, and the effort, if it was given
+-- the task of `audit` with these values, if rules or a diagram were named
+abbrev pub audit_task : Text → ProgramFile Text → Option Text → Option Text → Option ℕ
+    → Option (Task Text)
+audit_task bay program rules diagram effort =
+    if is_some rules || is_some diagram then Some (Audit bay program rules diagram effort) else None
+
+-- the task of `audit`: a bay, a program, rules and a diagram, if they were named, and the effort,
+-- if it was given
 abbrev pub audit_in : List Row → Option (Task Text)
 audit_in rows =
     option_and_then (λ bay. option_and_then
-    (λ program. option_map (λ rules. Audit bay program rules (effort_in rows))
-    (first_of (codes "rules") rows)) (program_in rows)) (first_of (codes "bay") rows)
+    (λ program. audit_task bay program (first_of (codes "rules") rows)
+    (first_of (codes "diagram") rows) (effort_in rows))
+    (program_in rows)) (first_of (codes "bay") rows)
 
 -- the task of a subcommand with these values
 abbrev pub named_task : Text → List Row → Option (Task Text)
@@ -257,6 +268,7 @@ pub record JobData : Type 0 where
   pub out : Option Text
   pub trace : Option Text
   pub rules : Option Text
+  pub diagram : Option Text
   pub port : Option ℕ
   pub turns : Option ℕ
   pub process : Option ℕ
@@ -273,10 +285,10 @@ pub record JobData : Type 0 where
 abbrev pub verb_of : Task Text → Verb
 verb_of (Check bay program) = verb.Check
 verb_of Replay = verb.Replay
-verb_of (Serve bay program port turns trace process tells limit key file most idle rules) =
+verb_of (Serve bay program port turns trace process tells limit key file most idle rules diagram) =
     verb.Serve
 verb_of (Compile bay logic out) = verb.Compile
-verb_of (Audit bay program rules effort) = verb.Audit
+verb_of (Audit bay program rules diagram effort) = verb.Audit
 
 -- the job of a verb with the values of its options
 abbrev pub with_options : List Row → Verb → JobData
@@ -288,6 +300,7 @@ with_options rows verb = record {
   out = first_of (codes "out") rows;
   trace = first_of (codes "trace") rows;
   rules = first_of (codes "rules") rows;
+  diagram = first_of (codes "diagram") rows;
   port = port_in rows;
   turns = turns_in rows;
   process = process_in rows;

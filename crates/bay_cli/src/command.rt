@@ -11,10 +11,14 @@ use std::alloc::{AllocError, Global};
 
 // The version of the program, of its formats and of its fault numbers. CHANGELOG.md lists the
 // changes of each version.
-const VERSION: &str = "1.11.0";
+const VERSION: &str = "1.12.0";
 
 // The note below the options in the help of a command with a program.
 const WANTED: &str = "Exactly one of --logic and --image is needed.";
+
+// The note below the options in the help of `audit`.
+const WANTED_OF_AUDIT: &str =
+    "Exactly one of --logic and --image is needed, and --rules or --diagram, or both.";
 
 // The value of an option: none, a text, or a number from the least to the greatest. The text is the
 // name of the value in help.
@@ -162,6 +166,12 @@ const ENTRIES: [Entry; 5] = [
                 required: false,
                 help: "Rules file: serve only if each rule holds",
             },
+            OptionSpec {
+                id: "diagram",
+                value: OptionValue::Text("F"),
+                required: false,
+                help: "Diagram file: serve only if no release is a hazard in it",
+            },
             LOG,
         ],
     },
@@ -188,8 +198,8 @@ const ENTRIES: [Entry; 5] = [
     },
     Entry {
         name: "audit",
-        about: "Prove or refute rules of a bay and a program",
-        note: Some(WANTED),
+        about: "Prove or refute rules of a bay and a program, and that no release is a hazard",
+        note: Some(WANTED_OF_AUDIT),
         options: &[
             BAY,
             LOGIC,
@@ -197,14 +207,20 @@ const ENTRIES: [Entry; 5] = [
             OptionSpec {
                 id: "rules",
                 value: OptionValue::Text("F"),
-                required: true,
+                required: false,
                 help: "Rules file, one rule per line",
+            },
+            OptionSpec {
+                id: "diagram",
+                value: OptionValue::Text("F"),
+                required: false,
+                help: "Diagram file, the bay's single line diagram",
             },
             OptionSpec {
                 id: "effort",
                 value: OptionValue::Number("N", 1, 100_000),
                 required: false,
-                help: "Most work, in millions of octets of code, or 60",
+                help: "Most work for each of the two, in millions of octets of code, or 60",
             },
             LOG,
         ],

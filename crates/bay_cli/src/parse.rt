@@ -24,7 +24,7 @@ pub enum Verb {
     Serve,
     /// Compiles a program to an image.
     Compile,
-    /// Audits rules.
+    /// Audits rules and a diagram.
     Audit,
 }
 
@@ -44,6 +44,8 @@ pub struct Job<'a> {
     pub trace: Option<&'a str>,
     /// The rules to audit; for `serve`, those that must hold.
     pub rules: Option<&'a str>,
+    /// The single line diagram to audit; for `serve`, that in which no release may be a hazard.
+    pub diagram: Option<&'a str>,
     /// The port of 127.0.0.1 on which clients are served, 1 to 65,535.
     pub port: Option<u16>,
     /// The number of turns to serve.
@@ -237,6 +239,7 @@ fn serve_from<'a>(found: &ArgMatches<'a>) -> Option<Task<&'a str>>
     let record_most = most_in(found);
     let idle_s = idle_in(found);
     let rules = value_of(found, "rules");
+    let diagram = value_of(found, "diagram");
     if !is_apart(port, process)
         || !is_supervisable(process, trace, limit_ms, key)
         || record_file.is_none() && record_most.is_some()
@@ -257,6 +260,7 @@ fn serve_from<'a>(found: &ArgMatches<'a>) -> Option<Task<&'a str>>
         record_most,
         idle_s,
         rules,
+        diagram,
     })
 }
 
@@ -266,11 +270,15 @@ fn audit_from<'a>(found: &ArgMatches<'a>) -> Option<Task<&'a str>>
 {
     let bay = value_of(found, "bay")?;
     let program = program_from(found)?;
-    let rules = value_of(found, "rules")?;
+    let (rules, diagram) = (value_of(found, "rules"), value_of(found, "diagram"));
+    if rules.is_none() && diagram.is_none() {
+        return None;
+    }
     Some(Task::Audit {
         bay,
         program,
         rules,
+        diagram,
         effort: effort_in(found),
     })
 }
@@ -344,6 +352,7 @@ fn with_options<'a>(found: &ArgMatches<'a>, verb: Verb) -> Job<'a>
         out: value_of(found, "out"),
         trace: value_of(found, "trace"),
         rules: value_of(found, "rules"),
+        diagram: value_of(found, "diagram"),
         port: port_in(found, "port"),
         turns: turns_in(found),
         process: port_in(found, "process"),
@@ -371,18 +380,22 @@ fn job_from<'a>(matches: &ArgMatches<'a>) -> Option<Job<'a>>
 fn usage_of(name: &str) -> &'static str {
     match name {
         "serve" => {
-            "bayctl serve --bay <F> <--logic <F>|--image <F>> --port <N> --turns <N> [--trace <F>] [--process <P>] [--tell <WHAT>] [--supervise <MS>] [--key <F>] [--record <F>] [--record-most <OCTETS>] [--idle <S>] [--rules <F>] [--log]"
+            "bayctl serve --bay <F> <--logic <F>|--image <F>> --port <N> --turns <N> [--trace <F>] [--process <P>] [--tell <WHAT>] [--supervise <MS>] [--key <F>] [--record <F>] [--record-most <OCTETS>] [--idle <S>] [--rules <F>] [--diagram <F>] [--log]"
         }
-        "audit" =>
-            "bayctl audit --bay <F> <--logic <F>|--image <F>> --rules <F> [--effort <N>] [--log]",
+        "audit" => {
+            "bayctl audit --bay <F> <--logic <F>|--image <F>> [--rules <F>] [--diagram <F>] [--effort <N>] [--log]"
+        }
         _ => "bayctl check --bay <F> <--logic <F>|--image <F>> [--log]",
     }
 }
 
 // Returns what is wrong with the options of a command, if `clap` accepts each of them.
-fn wrong_options(found: &ArgMatches<'_>) -> &'static str {
+fn wrong_options(name: &str, found: &ArgMatches<'_>) -> &'static str {
     if program_from(found).is_none() {
         return "exactly one of --logic and --image is needed";
+    }
+    if matches!(name, "audit") {
+        return "--rules or --diagram, or both, are needed";
     }
     let tell = value_of(found, "tell");
     if matches!(tell, Some(word) if !is_releases(word)) {
@@ -404,12 +417,12 @@ fn wrong_options(found: &ArgMatches<'_>) -> &'static str {
 }
 
 // Makes the refusal of a command whose options `clap` accepts one by one: both or neither of a
-// program and an image, one port for both the clients and the process, a report other than
-// `releases`, supervision or a report without a process, a key without supervision, supervision
-// after a trace, or a size without a record.
+// program and an image, an audit of nothing, one port for both the clients and the process, a
+// report other than `releases`, supervision or a report without a process, a key without
+// supervision, supervision after a trace, or a size without a record.
 fn refused_options(alloc: Global, matches: &ArgMatches<'_>) -> WordsFault {
     let (wrong, usage) = match matches.subcommand() {
-        Some((name, found)) => (wrong_options(found), usage_of(name)),
+        Some((name, found)) => (wrong_options(name, found), usage_of(name)),
         None => ("a command is needed", "bayctl <COMMAND>"),
     };
     match format!(in alloc;
@@ -455,10 +468,10 @@ fn matches_of<'a>(alloc: Global, words: &'a [&'a str]) -> Result<ArgMatches<'a>,
 /// either a program or an image; `replay` takes nothing. `serve` takes what `check` takes, a port
 /// and a number of turns. It may have a trace, and a process on another port, to which releases may
 /// be reported. Without a trace, the process may be supervised, with a key or without one. The
-/// session may be recorded, in a file of limited size. It may have rules. `compile` takes a bay
-/// file, a program and the file for the image; `audit` takes what `check` takes, and rules, and may
-/// have an effort. Each may request the log. Fails with `Refused` if the words spell no task or
-/// request help, and with `OutOfMemory`.
+/// session may be recorded, in a file of limited size. It may have rules and a diagram. `compile`
+/// takes a bay file, a program and the file for the image; `audit` takes what `check` takes, and
+/// rules, a diagram or both, and may have an effort. Each may request the log. Fails with `Refused`
+/// if the words spell no task or request help, and with `OutOfMemory`.
 pub fn task_of<'a>(alloc: Global, words: &'a [&'a str]) -> Result<Invoked<&'a str>, WordsFault>
     ensures ok { IfOk result
         (λ t. task_in (map (λ w. w.now) words.entry.now) ≡ Some (invoked_view t)) }

@@ -33,7 +33,7 @@ pub enum Task<T> {
     /// given is recorded in a new file, if one is named, in at most `record_most` octets, from 1 to
     /// 16,777,216, if that is given. If `idle_s` is given, from 10 to 3,600, a client that has sent
     /// nothing for this many seconds has failed. If rules are named, nothing is served unless each
-    /// of them holds.
+    /// of them holds. If a diagram is named, nothing is served unless no release is a hazard in it.
     Serve {
         bay: T,
         program: ProgramFile<T>,
@@ -48,13 +48,16 @@ pub enum Task<T> {
         record_most: Option<u32>,
         idle_s: Option<u32>,
         rules: Option<T>,
+        diagram: Option<T>,
     },
-    /// Audits rules for a bay with a program, with an effort from 1 to 100,000, if it is given: the
-    /// millions of octets of code that the audit looks at.
+    /// Audits rules, a diagram, or both, for a bay with a program, with an effort from 1 to
+    /// 100,000, if it is given: the millions of octets of code that the audit looks at for each of
+    /// the two.
     Audit {
         bay: T,
         program: ProgramFile<T>,
-        rules: T,
+        rules: Option<T>,
+        diagram: Option<T>,
         effort: Option<u32>,
     },
     /// Compiles a program to a file.

@@ -206,15 +206,22 @@ module _ {F L H R W : Type 0} (reads : FileReads F) (guards : FileGuards F) (wri
       Compiles reads writes same contents asks bay logic out old.files new.files old.writer
       new.writer
       answer × (new.host ≡ old.host) × (new.reader ≡ old.reader)
-  DoesTask (Audit bay program rules effort) old new answer =
-      Audits reads contents asks bay (form_of program) (name_of program) rules old.files old.writer
-      new.writer answer × (new.files ≡ old.files) × (new.host ≡ old.host)
+  DoesTask (Audit bay program rules diagram effort) old new answer =
+      Audits reads contents asks
+      (record {
+        bay = bay;
+        form = form_of program;
+        program = name_of program;
+        rules = rules;
+        diagram = diagram;
+      }) old.files old.writer new.writer answer × (new.files ≡ old.files) × (new.host ≡ old.host)
       × (new.reader ≡ old.reader)
   DoesTask Replay old new answer =
       PrintsLogs contents asks (IsReplay (remaining old.reader.inner) new.reader.has_failed)
       old.writer new.writer answer × (new.files ≡ old.files) × (new.host ≡ old.host)
-  DoesTask (Serve bay program port turns trace process tells limit key file most idle rules) old new
-      answer =
+  DoesTask
+      (Serve bay program port turns trace process tells limit key file most idle rules diagram) old
+      new answer =
       ServesFiles step acts contents asks reads guards old.files
       (record {
         bay = bay;
@@ -223,6 +230,7 @@ module _ {F L H R W : Type 0} (reads : FileReads F) (guards : FileGuards F) (wri
         trace = trace;
         key = key;
         rules = rules;
+        diagram = diagram;
       })
       (record {
         port = port;

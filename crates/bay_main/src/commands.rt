@@ -21,7 +21,7 @@ use bay_report::log::{log_unwritten, report_load_refusal, report_unread};
 use bay_report::output::{NO_MEMORY, Status, write_report, write_text};
 use bay_server::host::Host;
 use bay_server_turn::link::Link;
-use cmd_audit::audit_files::audit_files;
+use cmd_audit::audit_files::{AuditedFiles, audit_files};
 use cmd_replay::replay::run_replay;
 use cmd_serve::serve::{NamedFiles, Numbers, serve};
 use il_image::encode::encode;
@@ -211,6 +211,7 @@ fn do_task<F: FileSystem, L: Link + Drop, H: Host<L>, R: OctetSource, W: Sink>(
             record_most,
             idle_s,
             rules,
+            diagram,
         } => {
             let (form, program) = form_of(program);
             let named = NamedFiles {
@@ -220,6 +221,7 @@ fn do_task<F: FileSystem, L: Link + Drop, H: Host<L>, R: OctetSource, W: Sink>(
                 trace,
                 key,
                 rules,
+                diagram,
             };
             let numbers = Numbers {
                 port,
@@ -237,10 +239,18 @@ fn do_task<F: FileSystem, L: Link + Drop, H: Host<L>, R: OctetSource, W: Sink>(
             bay,
             program,
             rules,
+            diagram,
             effort,
         } => {
             let (form, program) = form_of(program);
-            audit_files(alloc, bay, form, program, rules, effort, files, writer)
+            let named = AuditedFiles {
+                bay,
+                form,
+                program,
+                rules,
+                diagram,
+            };
+            audit_files(alloc, named, effort, files, writer)
         }
     }
 }

@@ -13,35 +13,39 @@ use Rattle.bay_report.specs.Report.{Prints, report_text}
 use Rattle.bay_report.proofs.ReportLemmas.{Prints-last}
 use Rattle.cmd_audit.specs.Auditing.{LoadedReport}
 use Rattle.cmd_audit.specs.Written.{PutsRest}
+use Rattle.cmd_audit.specs.declared.loaded.AuditTexts.{AuditTexts}
 use Rattle.cmd_audit.proofs.WrittenLemmas.{put-flushed}
 
 module _ {W : Type 0} {contents : W → Option (List ℕ)} {does : W → WriteCall → W → Type 0}
-    (loaded : LoadData) (rules : List ℕ) (report : Report) (is : IsReport loaded.image report)
+    (loaded : LoadData) (texts : AuditTexts) (report : Report) (is : IsReport loaded.image report)
     (log : Option (List ℕ)) (status : ℕ) where
   -- the line of a load was put and written out, and then the rest
   pub device-prints : {X E : Type 0} {old first begun mid : Writing W} (early : Result X E)
       (between : Writing W) (r : Result ℕ WriteFault)
       → Puts contents does old (report_text report) first
       → Finishes contents does first begun early
-      → PutsRest contents does loaded rules log status begun mid
+      → PutsRest contents does loaded texts log status begun mid
       → Finishes contents does mid between r → IfOk r (λ n. n ≡ status)
-      → Prints contents does (LoadedReport loaded rules log) old between r
+      → Prints contents does (LoadedReport loaded texts.rules texts.diagram log) old between r
   device-prints {X} {E} {old} {first} {begun} {mid} early between r put flushed p f ends =
-      Prints-last (LoadedReport loaded rules log) between status r
+      Prints-last (LoadedReport loaded texts.rules texts.diagram log) between status r
       (record { report = report; is = is; rest = p.rest; whole = refl; says = p.says })
       (Puts-then (put-flushed {X = X} {E = E} (report_text report) early put flushed) p.put) f ends
 
   pub device-told : {old between new : Writing W} (answered : ℕ)
-      → Prints contents does (LoadedReport loaded rules log) old between (Ok answered)
+      → Prints contents does (LoadedReport loaded texts.rules texts.diagram log) old between
+      (Ok answered)
       → LogsSome contents does between log new
-      → PrintsLogs contents does (LoadedReport loaded rules) old new (Ok answered)
+      → PrintsLogs contents does (LoadedReport loaded texts.rules texts.diagram) old new
+      (Ok answered)
   device-told {old} {between} {new} answered p logged =
       record { line = log; between = between; printed = p; logged = logged }
 
   pub device-cut : {old between : Writing W} (fault : WriteFault) (r : Result ℕ WriteFault)
       → IsErr r
-      → Prints contents does (LoadedReport loaded rules log) old between (Err fault)
-      → PrintsLogs contents does (LoadedReport loaded rules) old between r
+      → Prints contents does (LoadedReport loaded texts.rules texts.diagram log) old between
+      (Err fault)
+      → PrintsLogs contents does (LoadedReport loaded texts.rules texts.diagram) old between r
   device-cut fault (Ok answered) wrong p = absurd cc
   device-cut {old} {between} fault (Err f) wrong p =
       record { line = log; between = between; printed = p; logged = refl }

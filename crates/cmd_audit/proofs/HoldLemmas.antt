@@ -1,5 +1,5 @@
 -- The lines of a whole audit, or of one for which memory ran out, are read back.
-use Rattle.std.proofs.Common.{◌≡◌, ◌⊎◌, inl, inr, ℕ, List, [], ◌∷◌, ◌++◌, codes, zip, None, refl, sym, subst}
+use Rattle.std.proofs.Common.{◌≡◌, ◌⊎◌, inl, inr, ℕ, List, [], ◌∷◌, ◌++◌, codes, zip, refl, sym, subst}
 use Rattle.bay_config.specs.declared.bay.Bay.{Bay}
 use Rattle.bay_audit_rules.specs.declared.rule.Rule.{Rule}
 use Rattle.bay_audit.specs.Rules.{AreRight, BoundProgram, program_of}

@@ -1,5 +1,6 @@
 pub mod BayNameLemmas
 pub mod DeviceLemmas
+pub mod HazardLemmas
 pub mod HoldLemmas
 pub mod JudgeLemmas
 pub mod LoadedLemmas

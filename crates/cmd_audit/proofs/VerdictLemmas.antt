@@ -30,7 +30,7 @@ use Rattle.bay_audit.specs.declared.case.TestAnswer.{TestAnswer}
 use Rattle.il_image.specs.Images.{Each}
 use Rattle.il_image.specs.declared.image.ImagePoint.{ImagePoint}
 use Rattle.bay_replay_laws.specs.Printed.{words_in}
-use Rattle.bay_replay_laws.proofs.LineLemmas.{AreLines, decimal-free, each-line, free, free-append, map-lines, more-lines, no-lines, one-line, split-at}
+use Rattle.bay_replay_laws.proofs.LineLemmas.{AreLines, decimal-free, free, free-append, map-lines, more-lines, no-lines, one-line, split-at}
 use Rattle.bay_replay_laws.proofs.ReadLemmas.{no-end, no-space}
 use Rattle.cmd_audit.specs.Names.{AreWords, HasWords, IsWord, Known}
 use Rattle.cmd_audit.specs.Text as spec

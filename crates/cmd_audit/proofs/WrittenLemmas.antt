@@ -1,10 +1,10 @@
 -- Lemmas on what was written so far.
-use Rattle.std.proofs.Common.{◌≡◌, ◌∙◌, ◌⊎◌, inl, inr, ℕ, zero, suc, ◌+◌, ◌-◌, ◌≤◌, Bool, true, false, ◌&&◌, cond, List, [], ◌∷◌, ◌++◌, codes, length, map, take, drop, take-append-drop, zip, Option, None, Some, Result, Ok, Err, IsErr, MatchOption, MatchResult, refl, sym, ap, ap₂, subst, append-nil, append_assoc, arith}
+use Rattle.std.proofs.Common.{◌≡◌, ◌∙◌, inl, inr, ℕ, zero, suc, ◌+◌, ◌-◌, ◌≤◌, Bool, true, false, ◌&&◌, List, [], ◌∷◌, ◌++◌, codes, length, map, take, drop, take-append-drop, zip, Option, None, Some, Result, Ok, Err, IsErr, MatchOption, MatchResult, refl, sym, ap, ap₂, subst, append-nil, append_assoc, arith}
 use Rattle.std.specs.List.{flat_map, list_all}
 use Rattle.std.proofs.lemmas.Grind.{flat_map-append}
 use Rattle.std.proofs.lemmas.List.{map-append}
 use Rattle.std.proofs.lemmas.List.Folds.{list_all-append}
-use Rattle.bay_audit.specs.Rules.{AreReleases, AreRight, BoundProgram, IsAnswer, IsRelease, IsRight, IsTimely, plain_demand, program_of, way_of, ways}
+use Rattle.bay_audit.specs.Rules.{AreRight, BoundProgram, IsAnswer, IsRight, IsTimely, plain_demand, program_of, way_of, ways}
 use Rattle.bay_audit.specs.declared.answer.Release.{Release}
 use Rattle.bay_audit.specs.declared.answer.RuleAnswer.{RuleAnswer}
 use Rattle.bay_audit.specs.declared.answer.RuleAnswer.TheVariants.{TooMany}
@@ -22,12 +22,11 @@ use Rattle.std.specs.Io.KnownBytes.{Appends}
 use Rattle.bay_io.specs.Sent.{Finishes, Puts, SendsPart}
 use Rattle.bay_io.specs.Watched.{Writing}
 use Rattle.bay_io.proofs.SentLemmas.{Puts-as, Puts-nil, Puts-out, Puts-then}
-use Rattle.cmd_audit.specs.Auditing.{Answers}
+use Rattle.cmd_audit.specs.Auditing.{Answers, status_of}
 use Rattle.bay_load.specs.Loads.{LoadData}
 use Rattle.cmd_audit.specs.Names.{Known, known_of}
 use Rattle.cmd_audit.specs.Text.{answer_text, answers_text, is_passed, release_text, states_text}
 use Rattle.cmd_audit.specs.Written.{PutsAnswers, PutsFirst, PutsMaybe, PutsRelease, PutsReleases, PutsSome, PutsText}
-use Rattle.il_image.specs.Images.{Image}
 
 -- what is known if a result is an error
 pub when-err : {A E : Type 0} {P : Type 0} (F : A → Type 0) (r : Result A E) → IsErr r → P
@@ -265,7 +264,7 @@ module _ {W : Type 0} {contents : W → Option (List ℕ)} {does : W → WriteCa
     pub cut-answers : {old new : Writing W}
         → PutsFirst contents does loaded.bay (known_of loaded) (program_of loaded.bay loaded.image)
         rules old new
-        → PutsText contents does loaded rules (codes "fault memory\n") 3 old new
+        → PutsText contents does (Answers loaded rules) (codes "fault memory\n") 3 old new
     cut-answers {old} {new} p =
         let many = map too_many p.others in
         record {
@@ -299,7 +298,7 @@ module _ {W : Type 0} {contents : W → Option (List ℕ)} {does : W → WriteCa
         }
 
     pub cut-none : (w : Writing W)
-        → PutsText contents does loaded rules (codes "fault memory\n") 3 w w
+        → PutsText contents does (Answers loaded rules) (codes "fault memory\n") 3 w w
     cut-none w =
         cut-answers (first-of loaded.bay (known_of loaded) (program_of loaded.bay loaded.image)
         rules [] rules true refl
@@ -311,7 +310,7 @@ module _ {W : Type 0} {contents : W → Option (List ℕ)} {does : W → WriteCa
         → PutsSome contents does loaded.bay (known_of loaded) (program_of loaded.bay loaded.image)
         (ways (length loaded.bay.switches)) mid
         new
-        → PutsText contents does loaded rules (codes "fault memory\n") 3 old new
+        → PutsText contents does (Answers loaded rules) (codes "fault memory\n") 3 old new
     cut-releases passed {old} {mid} {new} a s =
         let pairs = zip rules a.answers in
         let said = answers_text loaded.bay (known_of loaded) pairs in
@@ -337,17 +336,15 @@ module _ {W : Type 0} {contents : W → Option (List ℕ)} {does : W → WriteCa
           };
         }
 
-    pub whole-text : (passed : Bool) (releases : List Release) (status : ℕ)
-        {old mid last new : Writing W}
+    pub whole-text : (passed : Bool) (releases : List Release) {old mid last new : Writing W}
         → PutsAnswers contents does loaded.bay (known_of loaded)
         (program_of loaded.bay loaded.image) rules passed old mid
         → PutsReleases contents does loaded.bay (known_of loaded)
         (program_of loaded.bay loaded.image) (ways (length loaded.bay.switches))
         releases mid last
         → Puts contents does last (states_text loaded.bay (known_of loaded) releases) new
-        → status ≡ cond passed 0 4
-        → PutsText contents does loaded rules [] status old new
-    whole-text passed releases status {old} {mid} {last} {new} a r lost ends =
+        → PutsText contents does (Answers loaded rules) [] (status_of passed) old new
+    whole-text passed releases {old} {mid} {last} {new} a r lost =
         let said = answers_text loaded.bay (known_of loaded) (zip rules a.answers) in
         let lines = flat_map (release_text loaded.bay (known_of loaded)) releases in
         let lasts = states_text loaded.bay (known_of loaded) releases in
@@ -362,7 +359,7 @@ module _ {W : Type 0} {contents : W → Option (List ℕ)} {does : W → WriteCa
             said = inl (record {
               all = r.all;
               said = append-nil (said ++ (lines ++ lasts));
-              ends = ends ∙ ap (λ b. cond b 0 4) a.so;
+              ends = ap status_of a.so;
             });
           };
         }
@@ -374,7 +371,7 @@ module _ {W : Type 0} {contents : W → Option (List ℕ)} {does : W → WriteCa
       where
         pub stopped-answers : {old new : Writing W}
             → PutsFirst contents does loaded.bay these g rules old new
-            → PutsText contents does loaded rules (codes "fault memory\n") 3 old new
+            → PutsText contents does (Answers loaded rules) (codes "fault memory\n") 3 old new
         stopped-answers {old} {new} p =
             cut-answers
             (subst (λ (n : Known). PutsFirst contents does loaded.bay n
@@ -386,7 +383,7 @@ module _ {W : Type 0} {contents : W → Option (List ℕ)} {does : W → WriteCa
         pub stopped-releases : (passed : Bool) {old mid new : Writing W}
             → PutsAnswers contents does loaded.bay these g rules passed old mid
             → PutsSome contents does loaded.bay these g (ways (length loaded.bay.switches)) mid new
-            → PutsText contents does loaded rules (codes "fault memory\n") 3 old new
+            → PutsText contents does (Answers loaded rules) (codes "fault memory\n") 3 old new
         stopped-releases passed {old} {mid} {new} a s =
             cut-releases passed
             (subst (λ (n : Known). PutsAnswers contents does loaded.bay n
@@ -402,17 +399,16 @@ module _ {W : Type 0} {contents : W → Option (List ℕ)} {does : W → WriteCa
             (subst (λ (h : BoundProgram). PutsSome contents does loaded.bay these h
             (ways (length loaded.bay.switches)) mid new) f s))
 
-        pub whole : (passed : Bool) (releases : List Release) (status : ℕ) (text : List ℕ)
+        pub whole : (passed : Bool) (releases : List Release) (text : List ℕ)
             {old mid last new : Writing W}
             → PutsAnswers contents does loaded.bay these g rules passed old mid
             → PutsReleases contents does loaded.bay these g (ways (length loaded.bay.switches))
             releases mid last
             → text ≡ states_text loaded.bay these releases
             → Puts contents does last text new
-            → status ≡ cond passed 0 4
-            → PutsText contents does loaded rules [] status old new
-        whole passed releases status text {old} {mid} {last} {new} a r is put ends =
-            whole-text passed releases status
+            → PutsText contents does (Answers loaded rules) [] (status_of passed) old new
+        whole passed releases text {old} {mid} {last} {new} a r is put =
+            whole-text passed releases
             (subst (λ (n : Known). PutsAnswers contents does loaded.bay n
             (program_of loaded.bay loaded.image)
             rules passed old mid) e
@@ -427,4 +423,3 @@ module _ {W : Type 0} {contents : W → Option (List ℕ)} {does : W → WriteCa
             (ways (length loaded.bay.switches)) releases mid last) f r))
             (Puts-as (states_text loaded.bay (known_of loaded) releases)
             (is ∙ ap (λ (n : Known). states_text loaded.bay n releases) e) put)
-            ends

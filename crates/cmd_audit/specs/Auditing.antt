@@ -1,11 +1,14 @@
 -- What an audit of files prints, with which status, and which line is logged then, if any.
-use Rattle.std.specs.Prelude.{◌≡◌, ℕ, List, [], ◌++◌, codes, length, flat_map, map, zip, Option, None, Some, option_and_then, Result, Ok, Err, ◌⊎◌, if◌then◌else◌}
+use Rattle.std.specs.Prelude.{◌≡◌, ℕ, ◌==◌, Bool, List, [], ◌++◌, codes, length, flat_map, map, zip, Option, None, Some, option_map, Result, Ok, Err, ◌⊎◌, if◌then◌else◌}
 use Rattle.std.specs.List.{list_all}
 use Rattle.bay_audit.specs.Rules.{AreReleases, AreRight, program_of, way_of, ways}
 use Rattle.bay_audit.specs.declared.answer.RuleAnswer.{RuleAnswer}
 use Rattle.bay_audit.specs.declared.answer.Release.{Release}
 use Rattle.bay_base.specs.declared.switch.Operation.{Operation}
 use Rattle.bay_config.specs.declared.bay.Bay.{Bay}
+use Rattle.bay_diagram_file.specs.Diagram.{diagram_of_file}
+use Rattle.bay_diagram_file.specs.declared.diagram.Diagram.{Diagram}
+use Rattle.bay_diagram_file.specs.declared.fault.DiagramFault.{DiagramFault}
 use Rattle.bay_files.specs.Files.{FileReads, FilesData, ReadsBoth, ReadsFile, UnreadData}
 use Rattle.bay_io.specs.Calls.{WriteCall}
 use Rattle.bay_io.specs.Watched.{Writing}
@@ -20,8 +23,20 @@ use Rattle.bay_report.specs.Report.{report_text}
 use Rattle.bay_audit_rules.specs.Meaning.{TextRead}
 use Rattle.bay_audit_rules.specs.declared.fault.RuleFault.{RuleFault}
 use Rattle.bay_audit_rules.specs.declared.rule.Rule.{Rule}
+use Rattle.cmd_audit.specs.HazardText.{hazard_lines}
+use Rattle.cmd_audit.specs.Judged.{AreJudged, is_safe, judged_way}
 use Rattle.cmd_audit.specs.Names.{Known, known_of}
+use Rattle.cmd_audit.specs.Refusals.{diagram_log, diagram_refusal}
 use Rattle.cmd_audit.specs.Text.{answers_text, is_passed, refusal_text, refused_log, release_text, releases_text}
+use Rattle.cmd_audit.specs.declared.audit_files.AuditContents.{AuditContents}
+use Rattle.cmd_audit.specs.declared.audit_files.AuditedFiles.{AuditedFiles}
+use Rattle.cmd_audit.specs.declared.judged.JudgedRelease.{JudgedRelease}
+
+-- the status of answers: 0 if each of them holds, 4 if not
+abbrev pub status_of : Bool → ℕ
+status_of passed = if passed then 0 else 4
+
+-- ---- rules
 
 -- The text has the lines of all answers and releases: there is a release for each switch and
 -- operation, also while the process is lost.
@@ -30,7 +45,7 @@ pub record IsWhole (bay : Bay) (names : Known) (rules : List Rule) (answers : Li
   pub all : map way_of releases ≡ ways (length bay.switches)
   pub said : text
       ≡ answers_text bay names (zip rules answers) ++ releases_text bay names releases
-  pub ends : status ≡ (if list_all is_passed answers then 0 else 4)
+  pub ends : status ≡ status_of (list_all is_passed answers)
 
 -- Memory ran out: the text has the lines of the first answers, then, if these are all answers,
 -- those of the first releases, and then the line of the fault.
@@ -58,85 +73,212 @@ pub record Answers (loaded : LoadData) (rules : List Rule) (text : List ℕ) (st
   pub said : IsWhole loaded.bay (known_of loaded) rules answers releases text status
       ⊎ IsCut loaded.bay (known_of loaded) rules answers releases text status
 
--- the log line, if rules are refused
-abbrev pub log_in : Option RuleFault → Option (List ℕ)
-log_in refused = option_and_then refused_log refused
+-- ---- a single line diagram
 
--- the text for rules; or for a text that has a fault, with the line that is logged then
-abbrev pub IsTextOf : LoadData → Result (List Rule) RuleFault → Option (List ℕ) → List ℕ → ℕ
-    → Type 0
-IsTextOf loaded (Ok rules) log text status = (log ≡ None) × Answers loaded rules text status
-IsTextOf loaded (Err fault) log text status =
+-- The text has the line of each release.
+pub record AreAllJudged (bay : Bay) (d : Diagram) (releases : List JudgedRelease) (text : List ℕ)
+    (status : ℕ) : Type 0 where
+  pub all : map judged_way releases ≡ ways (length bay.switches)
+  pub said : text ≡ hazard_lines bay d releases
+  pub ends : status ≡ status_of (list_all is_safe releases)
+
+-- Memory ran out: the text has the lines of the first releases, and then the line of the fault.
+pub record AreSomeJudged (bay : Bay) (d : Diagram) (releases : List JudgedRelease) (text : List ℕ)
+    (status : ℕ) : Type 0 where
+  pub later : List (ℕ × Operation)
+  pub first : map judged_way releases ++ later ≡ ways (length bay.switches)
+  pub said : text ≡ hazard_lines bay d releases ++ codes "fault memory\n"
+  pub ends : status ≡ 3
+
+-- There are judged releases of switches, opening and closing of each. Each is right, and the text
+-- has their lines; or only the first of these lines, because memory ran out.
+pub record Judgements (loaded : LoadData) (d : Diagram) (text : List ℕ) (status : ℕ) : Type 0 where
+  pub releases : List JudgedRelease
+  pub right : AreJudged (program_of loaded.bay loaded.image) d.network releases
+  pub said : AreAllJudged loaded.bay d releases text status
+      ⊎ AreSomeJudged loaded.bay d releases text status
+
+-- ---- rules and a diagram
+
+-- the text for rules, if there are some; else none, and the status of a text that holds
+abbrev pub AnswersIf : LoadData → Option (List Rule) → List ℕ → ℕ → Type 0
+AnswersIf loaded None text status = (text ≡ []) × (status ≡ 0)
+AnswersIf loaded (Some rules) text status = Answers loaded rules text status
+
+-- the text for a diagram, if there is one
+abbrev pub JudgementsIf : LoadData → Option Diagram → List ℕ → ℕ → Type 0
+JudgementsIf loaded None text status = (text ≡ []) × (status ≡ 0)
+JudgementsIf loaded (Some d) text status = Judgements loaded d text status
+
+-- The text for rules, to its end, and then that for a diagram. The status is that of the second,
+-- but if this is 0, that of the first.
+pub record AnswersThenJudgements (loaded : LoadData) (rules : Option (List Rule))
+    (d : Option Diagram) (text : List ℕ) (status : ℕ) : Type 0 where
+  pub passed : Bool
+  pub answered : List ℕ
+  pub answers : AnswersIf loaded rules answered (status_of passed)
+  pub judged : List ℕ
+  pub ended : ℕ
+  pub judgements : JudgementsIf loaded d judged ended
+  pub whole : text ≡ answered ++ judged
+  pub ends : status ≡ (if ended == 0 then status_of passed else ended)
+
+-- the text for rules and for a diagram; or only that for rules, because memory ran out in it
+abbrev pub AreAnswered : LoadData → Option (List Rule) → Option Diagram → List ℕ → ℕ → Type 0
+AreAnswered loaded rules d text status =
+    AnswersThenJudgements loaded rules d text status
+    ⊎ ((status ≡ 3) × AnswersIf loaded rules text 3)
+
+-- ---- texts that have a fault
+
+-- what a text of rules means, if there is one
+abbrev pub RulesRead : Bay → Option (List ℕ) → Result (Option (List Rule)) RuleFault → Type 0
+RulesRead bay None meant = meant ≡ Ok None
+RulesRead bay (Some text) (Ok None) = ⊥
+RulesRead bay (Some text) (Ok (Some rules)) = TextRead bay text (Ok rules)
+RulesRead bay (Some text) (Err fault) = TextRead bay text (Err fault)
+
+-- what the text of a diagram file means, if there is one
+abbrev pub DiagramRead : Bay → Option (List ℕ) → Result (Option Diagram) DiagramFault → Type 0
+DiagramRead bay None meant = meant ≡ Ok None
+DiagramRead bay (Some text) (Ok None) = ⊥
+DiagramRead bay (Some text) (Ok (Some d)) = diagram_of_file bay text ≡ Ok d
+DiagramRead bay (Some text) (Err fault) = diagram_of_file bay text ≡ Err fault
+
+-- the text for rules and a diagram; or for a diagram file that has a fault, with the line that is
+-- logged then
+abbrev pub IsTextWith : LoadData → Option (List Rule) → Result (Option Diagram) DiagramFault
+    → Option (List ℕ) → List ℕ → ℕ → Type 0
+IsTextWith loaded rules (Ok d) log text status =
+    (log ≡ None) × AreAnswered loaded rules d text status
+IsTextWith loaded rules (Err fault) log text status =
+    IsReported (diagram_log fault) (diagram_refusal fault) 1 log text status
+
+-- the text for rules that were read and the text of a diagram file
+pub record IsTextBy (loaded : LoadData) (rules : Option (List Rule)) (diagram : Option (List ℕ))
+    (log : Option (List ℕ)) (text : List ℕ) (status : ℕ) : Type 0 where
+  pub meant : Result (Option Diagram) DiagramFault
+  pub means : DiagramRead loaded.bay diagram meant
+  pub says : IsTextWith loaded rules meant log text status
+
+-- the text for rules that were read; or for a text of rules that has a fault, with the line that is
+-- logged then: the diagram file is not looked at
+abbrev pub IsTextOf : LoadData → Result (Option (List Rule)) RuleFault → Option (List ℕ)
+    → Option (List ℕ) → List ℕ → ℕ → Type 0
+IsTextOf loaded (Ok rules) diagram log text status = IsTextBy loaded rules diagram log text status
+IsTextOf loaded (Err fault) diagram log text status =
     IsReported (refused_log fault) (refusal_text fault) 1 log text status
 
--- the text for what was loaded and a text of rules, with the line that is logged
-pub record IsTextFor (loaded : LoadData) (rules : List ℕ) (log : Option (List ℕ)) (text : List ℕ)
-    (status : ℕ) : Type 0 where
-  pub meant : Result (List Rule) RuleFault
-  pub means : TextRead loaded.bay rules meant
-  pub says : IsTextOf loaded meant log text status
-
--- the line of a load, and the text for rules, unless memory runs out before they are read
-pub record LoadedReport (loaded : LoadData) (rules : List ℕ) (log : Option (List ℕ))
+-- the text for what was loaded, a text of rules and the text of a diagram file, with the line that
+-- is logged
+pub record IsTextFor (loaded : LoadData) (rules diagram : Option (List ℕ)) (log : Option (List ℕ))
     (text : List ℕ) (status : ℕ) : Type 0 where
+  pub meant : Result (Option (List Rule)) RuleFault
+  pub means : RulesRead loaded.bay rules meant
+  pub says : IsTextOf loaded meant diagram log text status
+
+-- the line of a load, and the text for rules and a diagram, unless memory runs out before they are
+-- read
+pub record LoadedReport (loaded : LoadData) (rules diagram : Option (List ℕ))
+    (log : Option (List ℕ)) (text : List ℕ) (status : ℕ) : Type 0 where
   pub report : Report
   pub is : IsReport loaded.image report
   pub rest : List ℕ
   pub whole : text ≡ report_text report ++ rest
-  pub says : IsTextFor loaded rules log rest status
+  pub says : IsTextFor loaded rules diagram log rest status
       ⊎ IsReported None (codes "fault memory\n") 3 log rest status
 
+-- ---- the load
+
+-- the octets of the files of an audit: the bay, a program or an image, and rules and a diagram, if
+-- they were named
+pub record AuditOctets : Type 0 where
+  pub both : FilesData
+  pub rules : Option (List ℕ)
+  pub diagram : Option (List ℕ)
+
 -- the bay file and the program are loaded
-pub record LoadReport (bay : List ℕ) (form : Form) (program rules : List ℕ)
-    (log : Option (List ℕ)) (text : List ℕ) (status : ℕ) : Type 0 where
+pub record LoadReport (form : Form) (octets : AuditOctets) (log : Option (List ℕ)) (text : List ℕ)
+    (status : ℕ) : Type 0 where
   pub loaded : LoadData
-  pub loads : LoadsTo bay form program (Ok loaded)
-  pub tells : LoadedReport loaded rules log text status
+  pub loads : LoadsTo octets.both.bay form octets.both.program (Ok loaded)
+  pub tells : LoadedReport loaded octets.rules octets.diagram log text status
 
 -- the load is refused
-pub record LoadRefused (bay : List ℕ) (form : Form) (program : List ℕ)
-    (log : Option (List ℕ)) (text : List ℕ) (status : ℕ) : Type 0 where
+pub record LoadRefused (form : Form) (octets : AuditOctets) (log : Option (List ℕ))
+    (text : List ℕ) (status : ℕ) : Type 0 where
   pub error : LoadError
-  pub refused : MayLoadTo bay form program (Err error)
+  pub refused : MayLoadTo octets.both.bay form octets.both.program (Err error)
   pub tells : Refuses error log text status
 
 -- an audit of these octets
-abbrev pub AuditReport : List ℕ → Form → List ℕ → List ℕ → Option (List ℕ) → List ℕ → ℕ → Type 0
-AuditReport bay form program rules log text status =
-    LoadReport bay form program rules log text status
-    ⊎ LoadRefused bay form program log text status
+abbrev pub AuditReport : Form → AuditOctets → Option (List ℕ) → List ℕ → ℕ → Type 0
+AuditReport form octets log text status =
+    LoadReport form octets log text status ⊎ LoadRefused form octets log text status
 
--- an audit of two files that were read, by the result of reading the rules; the text of a fault if
--- they can't be read
-abbrev pub AuditsRules : {W : Type 0} → (W → Option (List ℕ)) → (W → WriteCall → W → Type 0)
-    → Form → FilesData → Result (List ℕ) UnreadData → Writing W → Writing W → Result ℕ WriteFault
+-- ---- files
+
+-- the names of the files of an audit
+pub record AuditNames : Type 0 where
+  pub bay : List ℕ
+  pub form : Form
+  pub program : List ℕ
+  pub rules : Option (List ℕ)
+  pub diagram : Option (List ℕ)
+
+-- the names of the files, as the code has them
+abbrev pub names_of : AuditedFiles → AuditNames
+names_of named = record {
+  bay = named.bay.now;
+  form = named.form;
+  program = named.program.now;
+  rules = option_map (λ name. name.now) named.rules;
+  diagram = option_map (λ name. name.now) named.diagram;
+}
+
+-- the octets of the files, as the code has them
+abbrev pub octets_of : AuditContents → AuditOctets
+octets_of contents = record {
+  both = record { bay = contents.both.bay.items; program = contents.both.program.items };
+  rules = contents.texts.rules;
+  diagram = contents.texts.diagram;
+}
+
+-- a file was read, if it was named
+abbrev pub ReadsOptional : {F : Type 0} → FileReads F → F → Option (List ℕ)
+    → Result (Option (List ℕ)) UnreadData → Type 0
+ReadsOptional reads files None read = read ≡ Ok None
+ReadsOptional reads files (Some name) (Ok None) = ⊥
+ReadsOptional reads files (Some name) (Ok (Some octets)) = ReadsFile reads files name (Ok octets)
+ReadsOptional reads files (Some name) (Err unread) = ReadsFile reads files name (Err unread)
+
+-- The files were read: the bay, the program or the image, and the rules and the diagram, if they
+-- were named; or the first of them that could not be read.
+abbrev pub ReadsAll : {F : Type 0} → FileReads F → F → AuditNames → Result AuditOctets UnreadData
     → Type 0
-AuditsRules contents asks form both (Err unread) old new answer =
+ReadsAll reads files named (Ok octets) =
+    ReadsBoth reads files named.bay named.program (Ok octets.both)
+    × ReadsOptional reads files named.rules (Ok octets.rules)
+    × ReadsOptional reads files named.diagram (Ok octets.diagram)
+ReadsAll reads files named (Err unread) =
+    ReadsBoth reads files named.bay named.program (Err unread)
+    ⊎ ((both : FilesData) × ReadsBoth reads files named.bay named.program (Ok both)
+    × (ReadsOptional reads files named.rules (Err unread)
+    ⊎ ((rules : Option (List ℕ)) × ReadsOptional reads files named.rules (Ok rules)
+    × ReadsOptional reads files named.diagram (Err unread))))
+
+-- an audit by the result of reading its files; the text of a fault if one can't be read
+abbrev pub AuditsRead : {W : Type 0} → (W → Option (List ℕ)) → (W → WriteCall → W → Type 0) → Form
+    → Result AuditOctets UnreadData → Writing W → Writing W → Result ℕ WriteFault → Type 0
+AuditsRead contents asks form (Err unread) old new answer =
     PrintsLogs contents asks (UnreadReport unread.name unread.fault) old new answer
-AuditsRules contents asks form both (Ok rules) old new answer =
-    PrintsLogs contents asks (AuditReport both.bay form both.program rules) old new answer
+AuditsRead contents asks form (Ok octets) old new answer =
+    PrintsLogs contents asks (AuditReport form octets) old new answer
 
--- an audit of two files that were read: the rules are read, too
-abbrev pub AuditsRead : {F W : Type 0} → FileReads F → (W → Option (List ℕ))
-    → (W → WriteCall → W → Type 0) → Form → FilesData → List ℕ → F → Writing W
-    → Writing W → Result ℕ WriteFault → Type 0
-AuditsRead reads contents asks form both rules files old new answer =
-    (read : Result (List ℕ) UnreadData) × ReadsFile reads files rules read
-    × AuditsRules contents asks form both read old new answer
-
--- an audit by the result of reading the bay file and the program
-abbrev pub AuditsBoth : {F W : Type 0} → FileReads F → (W → Option (List ℕ))
-    → (W → WriteCall → W → Type 0) → Form → List ℕ → F → Result FilesData UnreadData → Writing W
-    → Writing W → Result ℕ WriteFault → Type 0
-AuditsBoth reads contents asks form rules files (Err unread) old new answer =
-    PrintsLogs contents asks (UnreadReport unread.name unread.fault) old new answer
-AuditsBoth reads contents asks form rules files (Ok both) old new answer =
-    AuditsRead reads contents asks form both rules files old new answer
-
--- an audit of a bay file, a program or an image, and rules, by their names
+-- an audit of a bay file, a program or an image, and rules, a diagram or both, by their names
 pub record Audits {F W : Type 0} (reads : FileReads F) (contents : W → Option (List ℕ))
-    (asks : W → WriteCall → W → Type 0) (bay : List ℕ) (form : Form) (program rules : List ℕ)
-    (files : F) (old new : Writing W) (answer : Result ℕ WriteFault) : Type 0 where
-  pub read : Result FilesData UnreadData
-  pub is_read : ReadsBoth reads files bay program read
-  pub does : AuditsBoth reads contents asks form rules files read old new answer
+    (asks : W → WriteCall → W → Type 0) (named : AuditNames) (files : F) (old new : Writing W)
+    (answer : Result ℕ WriteFault) : Type 0 where
+  pub read : Result AuditOctets UnreadData
+  pub is_read : ReadsAll reads files named read
+  pub does : AuditsRead contents asks named.form read old new answer

@@ -1,5 +1,5 @@
 -- Whether each rule of a text holds for a loaded program, and what is printed and logged then.
-use Rattle.std.specs.Prelude.{◌≡◌, ◌⊎◌, ℕ, Bool, true, false, List, ◌++◌, codes, length, zip, flat_map, Option, None, Result, Ok, Err, if◌then◌else◌, []}
+use Rattle.std.specs.Prelude.{◌≡◌, ◌⊎◌, ℕ, true, false, List, ◌++◌, codes, length, zip, flat_map, Option, None, Result, Ok, Err, if◌then◌else◌, []}
 use Rattle.std.specs.Fmt.{decimal}
 use Rattle.std.specs.List.{list_all}
 use Rattle.bay_audit.specs.Rules.{AreRight, program_of}

@@ -1,7 +1,7 @@
 -- Inner: what was put into a writer so far.
-use Rattle.std.specs.Prelude.{◌≡◌, ℕ, Bool, List, [], ◌∷◌, ◌++◌, ◌⊎◌, codes, flat_map, length, map, zip, Option, None}
+use Rattle.std.specs.Prelude.{◌≡◌, ℕ, Bool, List, [], ◌++◌, ◌⊎◌, codes, flat_map, map, zip, Option, None}
 use Rattle.std.specs.List.{list_all}
-use Rattle.bay_audit.specs.Rules.{AreReleases, AreRight, IsRelease, BoundProgram, way_of, ways}
+use Rattle.bay_audit.specs.Rules.{AreReleases, AreRight, IsRelease, BoundProgram, way_of}
 use Rattle.bay_audit.specs.declared.answer.Release.{Release}
 use Rattle.bay_audit.specs.declared.answer.RuleAnswer.{RuleAnswer}
 use Rattle.bay_audit_rules.specs.declared.rule.Rule.{Rule}
@@ -12,11 +12,14 @@ use Rattle.bay_io.specs.Sent.{Puts}
 use Rattle.bay_io.specs.Watched.{Writing}
 use Rattle.bay_load.specs.Loads.{LoadData}
 use Rattle.bay_report.specs.LogLines.{IsReported}
-use Rattle.bay_report.specs.Report.{code_of}
-use Rattle.bay_report.specs.declared.output.Status.{Status}
-use Rattle.cmd_audit.specs.Auditing.{Answers, IsTextFor}
+use Rattle.bay_diagram_file.specs.declared.diagram.Diagram.{Diagram}
+use Rattle.cmd_audit.specs.Auditing.{IsTextFor}
+use Rattle.cmd_audit.specs.HazardText.{hazard_lines}
+use Rattle.cmd_audit.specs.Judged.{AreJudged, is_safe, judged_way}
 use Rattle.cmd_audit.specs.Names.{Known}
 use Rattle.cmd_audit.specs.Text.{answers_text, is_passed, release_text}
+use Rattle.cmd_audit.specs.declared.judged.JudgedRelease.{JudgedRelease}
+use Rattle.cmd_audit.specs.declared.loaded.AuditTexts.{AuditTexts}
 
 module _ {W : Type 0} (contents : W → Option (List ℕ)) (does : W → WriteCall → W → Type 0) where
   -- the lines of right answers to these rules, and whether each holds
@@ -66,32 +69,52 @@ module _ {W : Type 0} (contents : W → Option (List ℕ)) (does : W → WriteCa
     pub releases : List Release
     pub put : PutsReleases bay names g found releases old new
 
-  -- the text of an audit, up to the line of a fault if it stopped
-  pub record PutsText (loaded : LoadData) (rules : List Rule) (fault : List ℕ) (status : ℕ)
+  -- a text, up to the line of a fault if it stopped, which is such a text with this status
+  pub record PutsText (Says : List ℕ → ℕ → Type 0) (fault : List ℕ) (status : ℕ)
       (old new : Writing W) : Type 0 where
     pub text : List ℕ
     pub put : Puts contents does old text new
-    pub says : Answers loaded rules (text ++ fault) status
+    pub says : Says (text ++ fault) status
+
+  -- the lines of judged releases, which are right and are those of these switches and operations,
+  -- and whether each of them holds
+  pub record PutsJudged (bay : Bay) (d : Diagram) (g : BoundProgram)
+      (these : List (ℕ × Operation)) (passed : Bool) (old new : Writing W) : Type 0 where
+    pub releases : List JudgedRelease
+    pub right : AreJudged g d.network releases
+    pub all : map judged_way releases ≡ these
+    pub so : passed ≡ list_all is_safe releases
+    pub put : Puts contents does old (hazard_lines bay d releases) new
+
+  -- the lines of judged releases of the first of these switches and operations
+  pub record PutsFirstJudged (bay : Bay) (d : Diagram) (g : BoundProgram)
+      (these : List (ℕ × Operation)) (old new : Writing W) : Type 0 where
+    pub found : List (ℕ × Operation)
+    pub later : List (ℕ × Operation)
+    pub parts : these ≡ found ++ later
+    pub passed : Bool
+    pub put : PutsJudged bay d g found passed old new
 
   -- the text after the line of a load
-  pub record PutsSaid (loaded : LoadData) (rules : List ℕ) (log : Option (List ℕ)) (status : ℕ)
+  pub record PutsSaid (loaded : LoadData) (texts : AuditTexts) (log : Option (List ℕ)) (status : ℕ)
       (old new : Writing W) : Type 0 where
     pub text : List ℕ
     pub put : Puts contents does old text new
-    pub says : IsTextFor loaded rules log text status
+    pub says : IsTextFor loaded texts.rules texts.diagram log text status
 
   -- the text after the line of a load, without the line of a fault, before which it stopped; or
   -- nothing
-  pub record PutsStopped (loaded : LoadData) (rules : List ℕ) (old new : Writing W)
+  pub record PutsStopped (loaded : LoadData) (texts : AuditTexts) (old new : Writing W)
       : Type 0 where
     pub text : List ℕ
     pub put : Puts contents does old text new
-    pub says : IsTextFor loaded rules None (text ++ codes "fault memory\n") 3 ⊎ (text ≡ [])
+    pub says : IsTextFor loaded texts.rules texts.diagram None (text ++ codes "fault memory\n") 3
+        ⊎ (text ≡ [])
 
   -- the text after the line of a load, also if it stopped
-  pub record PutsRest (loaded : LoadData) (rules : List ℕ) (log : Option (List ℕ)) (status : ℕ)
+  pub record PutsRest (loaded : LoadData) (texts : AuditTexts) (log : Option (List ℕ)) (status : ℕ)
       (old new : Writing W) : Type 0 where
     pub rest : List ℕ
     pub put : Puts contents does old rest new
-    pub says : IsTextFor loaded rules log rest status
+    pub says : IsTextFor loaded texts.rules texts.diagram log rest status
         ⊎ IsReported None (codes "fault memory\n") 3 log rest status

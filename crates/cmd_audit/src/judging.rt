@@ -1,11 +1,9 @@
 // Whether each rule of a text holds for a loaded program.
 ghost use Rattle.std.specs.Prelude.{◌≡◌, ◌≢◌, ◌++◌, IfOk, OnOk, zip};
-ghost use Rattle.bay_io.specs.Sent.{Puts};
-ghost use Rattle.bay_report.specs.LogLines.{IsReported, PrintsLogs};
+ghost use Rattle.bay_report.specs.LogLines.{PrintsLogs};
 ghost use Rattle.cmd_audit.specs.Judging.{IsVerdictOn, Judges, JudgesText, VerdictReport, unproved_line, unproved_text};
-ghost use Rattle.cmd_audit.specs.Text.{refusal_text, refused_log};
 
-use crate::audit_files::log_refused;
+use crate::refusal::{Refusal, write_refusal};
 use crate::state_names::StateNames;
 use crate::text::{are_passed, is_passed, put_answer};
 use bay_audit::answer::RuleAnswer;
@@ -136,31 +134,6 @@ fn write_count<W: Sink>(writer: &mut WatchedWriter<W>, count: usize) -> Result<u
     finish(writer, Status::Clean)
 }
 
-// Puts the line of a fault of rules, if it has one.
-fn put_fault<W: Sink>(writer: &mut WatchedWriter<W>, fault: RuleFault)
-    ensures { Puts W.contents W.does writer.old (refusal_text fault) writer.new }
-{
-    let Some(code) = fault.code() else {
-        return;
-    };
-    writer.put(b"rules refused ");
-    writer.put_number(u64::from(code));
-    writer.put(b" line ");
-    writer.put_number(fault.line() as u64);
-    writer.put(b"\n");
-}
-
-// Writes the line of a text of rules that is refused, and then logs why.
-fn write_refused<W: Sink>(writer: &mut WatchedWriter<W>, fault: RuleFault) -> Result<u8, WriteFault>
-    ensures { PrintsLogs W.contents W.does (IsReported (refused_log fault) (refusal_text fault) 1)
-        writer.old writer.new result }
-{
-    put_fault(writer, fault);
-    let status = finish(writer, Status::Refused)?;
-    log_refused(writer, Some(fault));
-    Ok(status)
-}
-
 /// Writes and flushes what is printed of a verdict: `rules COUNT`, the lines of the rules that do
 /// not hold, the line of the text's fault, which is then logged, or `fault memory`. Returns the
 /// status: 0 if each rule holds, 4 if one does not, 1 if the text is refused, and 3 if memory ran
@@ -175,7 +148,7 @@ pub fn write_verdict<W: Sink>(
     match verdict {
         RulesVerdict::Hold(count) => write_count(writer, *count),
         RulesVerdict::Unproved(text) => write_text(writer, text.as_slice(), Status::Unproved),
-        RulesVerdict::Refused(fault) => write_refused(writer, *fault),
+        RulesVerdict::Refused(fault) => write_refusal(writer, Refusal::Rules(*fault)),
         RulesVerdict::OutOfMemory => write_out_of_memory(writer),
     }
 }

@@ -270,14 +270,22 @@ fn put_way(
     text.extend_from_slice(operation)
 }
 
-// Adds the switch and the operation of a rule.
-fn put_rule_way(text: &mut Vec<u8>, bay: &Bay, rule: &Rule) -> Result<(), AllocError>
-    ensures { OnOk result (text.new.items
-        ≡ text.old.items ++ spec.rule_operation_text bay.now rule.now) }
+/// Adds a word, the id of the switch at an index, if the bay has it, and an operation. Fails only
+/// if an allocation fails.
+pub fn put_switch_operation(
+    text: &mut Vec<u8>,
+    bay: &Bay,
+    word: &[u8],
+    switch: usize,
+    operation: Operation,
+) -> Result<(), AllocError>
+    ensures { OnOk result (text.new.items ≡ text.old.items
+        ++ spec.switch_operation_text word.now (spec.id_of (slice_get bay.now.switches switch))
+        operation) }
 {
-    match bay.switches.as_slice().get(rule.switch) {
-        Some(found) => put_way(text, b" ", found.id.as_str(), rule.operation),
-        None => put_way(text, b" ", "", rule.operation),
+    match bay.switches.as_slice().get(switch) {
+        Some(found) => put_way(text, word, found.id.as_str(), operation),
+        None => put_way(text, word, "", operation),
     }
 }
 
@@ -288,11 +296,11 @@ fn put_rule_head(text: &mut Vec<u8>, bay: &Bay, rule: &Rule) -> Result<(), Alloc
 {
     text.extend_from_slice(b"rule ")?;
     put_number(text, rule.line as u64)?;
-    put_rule_way(text, bay, rule)
+    put_switch_operation(text, bay, b" ", rule.switch, rule.operation)
 }
 
-// Adds that a rule holds, and by how many cases.
-fn put_held(text: &mut Vec<u8>, cases: u32) -> Result<(), AllocError>
+/// Adds that a rule or a release holds, and by how many cases. Fails only if an allocation fails.
+pub fn put_held(text: &mut Vec<u8>, cases: u32) -> Result<(), AllocError>
     ensures { OnOk result (text.new.items ≡ text.old.items ++ spec.holds_text cases) }
 {
     text.extend_from_slice(b" holds cases=")?;
@@ -531,18 +539,6 @@ pub fn put_states(
         put_start_of(text, bay, names, release)?;
     }
     Ok(())
-}
-
-/// Adds the line of rules that are refused, with the number of the fault and the line of the text
-/// of rules. Fails only if an allocation fails.
-pub fn put_refused(text: &mut Vec<u8>, code: u8, line: usize) -> Result<(), AllocError>
-    ensures { OnOk result (text.new.items ≡ text.old.items ++ spec.refused_text code line) }
-{
-    text.extend_from_slice(b"rules refused ")?;
-    put_number(text, u64::from(code))?;
-    text.extend_from_slice(b" line ")?;
-    put_number(text, line as u64)?;
-    text.extend_from_slice(b"\n")
 }
 
 /// Returns whether a rule holds.

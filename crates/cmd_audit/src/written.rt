@@ -1,8 +1,8 @@
 // Answers rules and finds releases, and writes the lines of each as soon as it is known.
-ghost use Rattle.std.specs.Prelude.{◌≡◌, ◌&&◌, [], codes, length, if◌then◌else◌, MatchResult};
+ghost use Rattle.std.specs.Prelude.{◌≡◌, ◌&&◌, [], codes, length, MatchResult};
 ghost use Rattle.bay_audit.specs.Rules.{ways};
 ghost use Rattle.bay_io.specs.Sent.{Puts};
-ghost use Rattle.bay_report.specs.Report.{code_of};
+ghost use Rattle.cmd_audit.specs.Auditing.{Answers, status_of};
 ghost use Rattle.cmd_audit.specs.Written.{PutsAnswers, PutsFirst, PutsMaybe, PutsRelease, PutsReleases, PutsSome, PutsText};
 
 use crate::state_names::StateNames;
@@ -19,11 +19,10 @@ use bay_config::bay::Bay;
 use bay_io::calls::Sink;
 use bay_io::writer::WatchedWriter;
 use bay_load::loaded::Loaded;
-use bay_report::output::Status;
 use std::alloc::Global;
 
-// Writes a text and flushes it.
-fn write_now<W: Sink>(writer: &mut WatchedWriter<W>, text: &[u8]) -> Result<(), Stopped>
+/// Writes a text and flushes it.
+pub(crate) fn write_now<W: Sink>(writer: &mut WatchedWriter<W>, text: &[u8]) -> Result<(), Stopped>
     ensures { Puts W.contents W.does writer.old text.now writer.new }
 {
     writer.put(text);
@@ -31,8 +30,8 @@ fn write_now<W: Sink>(writer: &mut WatchedWriter<W>, text: &[u8]) -> Result<(), 
     Ok(())
 }
 
-// Returns whether both are TRUE.
-fn both(one: bool, other: bool) -> bool
+/// Returns whether both are TRUE.
+pub(crate) fn both(one: bool, other: bool) -> bool
     ensures { result ≡ (one && other) }
 {
     one && other
@@ -116,33 +115,22 @@ fn write_releases<W: Sink>(
     Ok(releases)
 }
 
-// Returns the exit status of an audit, by whether each rule holds.
-fn status_of(passed: bool) -> Status
-    ensures { code_of result ≡ if passed then 0 else 4 }
-{
-    if passed {
-        Status::Clean
-    } else {
-        Status::Unproved
-    }
-}
-
 /// Answers rules and finds the releases of a bay's program, with an effort in millions of octets of
 /// code, and writes the lines of each as soon as it is known. The last lines, those of the releases
-/// while the process is lost and by the first scan, are not flushed. Returns the exit status: 0 if
-/// each rule holds, 4 if not. Stops if an allocation or a write fails.
+/// while the process is lost and by the first scan, are not flushed. Returns whether each rule
+/// holds. Stops if an allocation or a write fails.
 pub(crate) fn write_audit<W: Sink>(
     alloc: Global,
     writer: &mut WatchedWriter<W>,
     loaded: &Loaded,
     rules: &[Rule],
     effort: u32,
-) -> Result<Status, Stopped>
+) -> Result<bool, Stopped>
     ensures { MatchResult result
-        (λ status. PutsText W.contents W.does loaded.now rules.now [] (code_of status) writer.old
-        writer.new)
-        (λ _. PutsText W.contents W.does loaded.now rules.now (codes "fault memory\n") 3 writer.old
-        writer.new) }
+        (λ passed. PutsText W.contents W.does (Answers loaded.now rules.now) [] (status_of passed)
+        writer.old writer.new)
+        (λ _. PutsText W.contents W.does (Answers loaded.now rules.now) (codes "fault memory\n") 3
+        writer.old writer.new) }
 {
     let bay = loaded.bay();
     let names = StateNames::of(loaded);
@@ -154,5 +142,5 @@ pub(crate) fn write_audit<W: Sink>(
     let mut text = Vec::new(alloc);
     put_states(&mut text, bay, &names, releases.as_slice())?;
     writer.put(text.as_slice());
-    Ok(status_of(passed))
+    Ok(passed)
 }

@@ -3,4 +3,4 @@ use Rattle.cmd_audit.proofs.loaded.write_rest.Goals as goal
 
 pub returns-in-Err : goal.returns-in-Err
 returns-in-Err g c =
-    rest-stopped c.args.loaded.now c.args.rules.now c.in-Err.ensures c.put.ensures
+    rest-stopped c.args.loaded.now c.args.texts.now c.in-Err.ensures c.put.ensures

@@ -7,9 +7,9 @@ use Rattle.cmd_audit.proofs.text.put_rule_head.Goals as goal
 pub returns : goal.returns
 returns c =
     let line = decimal c.args.rule.now.line in
-    after-ok c.put_rule_way.result c.args.text.now.items c.put_number.new.text.items
-    c.put_rule_way.new.text.items (codes "rule " ++ line)
+    after-ok c.put_switch_operation.result c.args.text.now.items c.put_number.new.text.items
+    c.put_switch_operation.new.text.items (codes "rule " ++ line)
     (rule_operation_text c.args.bay.now c.args.rule.now)
     (after c.args.text.now.items c.extend_from_slice.new.self.items c.put_number.new.text.items
     (codes "rule ") line c.in_ok-extend_from_slice.ensures.items c.in_ok-put_number.ensures)
-    c.put_rule_way.ensures
+    c.put_switch_operation.ensures

@@ -1,4 +1,4 @@
-use Rattle.std.proofs.Common.{◌≡◌, ◌∙◌, ◌++◌, [], List, ℕ, ap, append-nil, length, sym}
+use Rattle.std.proofs.Common.{◌∙◌, ◌++◌, [], List, ℕ, ap, append-nil, length, sym}
 use Rattle.bay_audit.specs.Rules.{ways}
 use Rattle.cmd_audit.specs.Text.{states_text}
 use Rattle.cmd_audit.proofs.WrittenLemmas.{cut-none, some-of, stopped-answers, stopped-releases, when-err, whole}
@@ -41,11 +41,11 @@ returns g c =
     let bay = c.args.loaded.now.bay in
     let f = rw (c.bay-bay.ensures, c.verified.ensures) at c.in_ok-program.ensures in
     whole c.args.loaded.now c.args.rules.now c.of-names.result c.in_ok-program.program
-    c.of-names.ensures f c.in_ok-passed.passed c.in_ok-releases.releases.items _
+    c.of-names.ensures f c.in_ok-passed.passed c.in_ok-releases.releases.items
     c.as_slice-2.result.now (rw c.bay-bay.ensures at c.in_ok-passed.ensures)
     (rw c.bay-bay.ensures at c.in_ok-releases.ensures)
     (c.as_slice-2.ensures.value ∙ (rw c.bay-bay.ensures at c.in_ok-put_states.ensures)
     ∙ ap (λ (t : List ℕ). t ++ states_text bay c.of-names.result c.as_slice.result.now)
     c.new-text.ensures.items
     ∙ ap (states_text bay c.of-names.result) c.as_slice.ensures.value)
-    c.put.ensures c.status_of.ensures
+    c.put.ensures

@@ -1,4 +1,4 @@
-use Rattle.std.proofs.Common.{◌≡◌, ◌≤◌, ◌∙◌, ◌+◌, ◌++◌, ◌∷◌, [], List, arith, ap, append_assoc, length, subst, sym}
+use Rattle.std.proofs.Common.{◌≤◌, ◌∙◌, ◌+◌, ◌++◌, ◌∷◌, [], List, arith, ap, append_assoc, length, subst, sym}
 use Rattle.bay_audit.specs.Rules.{ways}
 use Rattle.bay_audit.specs.declared.answer.Release.{Release}
 use Rattle.bay_base.specs.declared.switch.Operation.TheVariants.{Open, Close}

@@ -1,8 +1,8 @@
 use Rattle.std.proofs.Common.{sym}
-use Rattle.cmd_audit.proofs.audit_files.log_refused.Goals as goal
+use Rattle.cmd_audit.proofs.refusal.log_rule_fault.Goals as goal
 
 pub returns : goal.returns
 returns g c =
-    rw (c.in-Some.is, sym c.in-Some-code.ensures)
+    rw (sym c.in-Some.ensures)
     (rw (c.from.ensures, c.line.ensures, c.as_bytes.ensures.value, c.words.ensures)
     at c.log.ensures)

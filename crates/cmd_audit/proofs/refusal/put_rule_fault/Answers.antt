@@ -1,7 +1,7 @@
 use Rattle.std.proofs.Common.{◌∙◌, ap, sym}
 use Rattle.std.specs.Fmt.{decimal}
 use Rattle.bay_io.proofs.SentLemmas.{Puts-as, Puts-nil, Puts-then}
-use Rattle.cmd_audit.proofs.judging.put_fault.Goals as goal
+use Rattle.cmd_audit.proofs.refusal.put_rule_fault.Goals as goal
 
 pub returns-in_default : goal.returns-in_default
 returns-in_default g c = rw (sym c.code.ensures ∙ c.in_default.is) (Puts-nil _)

@@ -1,0 +1,42 @@
+-- The releases of a bay's switches, judged by the hazards in its single line diagram.
+use Rattle.std.specs.Prelude.{ℕ, ◌≡◌, Bool, true, false, List, [], ◌∷◌, Option, None}
+use Rattle.bay_audit.specs.Rules.{BoundProgram}
+use Rattle.bay_audit_hazards.specs.Judged.{IsExplained, IsJudged}
+use Rattle.bay_audit_hazards.specs.declared.answer.HazardAnswer.{HazardAnswer}
+use Rattle.bay_audit_hazards.specs.declared.answer.HazardAnswer.TheVariants.{Holds, Broken, Open, Undecided}
+use Rattle.bay_base.specs.declared.switch.Operation.{Operation}
+use Rattle.bay_diagram.specs.declared.network.Network.{Network}
+use Rattle.bay_diagram.specs.declared.shown.ShownHazard.{ShownHazard}
+use Rattle.cmd_audit.specs.declared.judged.JudgedRelease.{JudgedRelease}
+
+-- the program never releases the switch while the operation is a hazard
+abbrev pub is_harmless : HazardAnswer → Bool
+is_harmless (Holds cases) = true
+is_harmless (Broken case) = false
+is_harmless (Open case) = false
+is_harmless Undecided = false
+
+-- Whatever is shown of an answer is a hazard of the operation in the answer's case.
+abbrev pub IsShown : Network → ℕ → Operation → HazardAnswer → Option ShownHazard → Type 0
+IsShown net k operation (Holds cases) shown = shown ≡ None
+IsShown net k operation (Broken case) shown = IsExplained net k operation case shown
+IsShown net k operation (Open case) shown = IsExplained net k operation case shown
+IsShown net k operation Undecided shown = shown ≡ None
+
+-- The answer to the release is right, and so is what is shown of it.
+pub record IsJudgedRelease (g : BoundProgram) (net : Network) (r : JudgedRelease) : Type 0 where
+  pub right : IsJudged g net r.switch r.operation r.answer
+  pub shown : IsShown net r.switch r.operation r.answer r.shown
+
+-- Each of the releases is judged so.
+abbrev pub AreJudged : BoundProgram → Network → List JudgedRelease → Type 0
+AreJudged g net [] = Unit {0}
+AreJudged g net (r ∷ releases) = IsJudgedRelease g net r × AreJudged g net releases
+
+-- the switch of a release and its direction
+abbrev pub judged_way : JudgedRelease → ℕ × Operation
+judged_way r = (r.switch, r.operation)
+
+-- the release holds
+abbrev pub is_safe : JudgedRelease → Bool
+is_safe r = is_harmless r.answer
