@@ -4,11 +4,16 @@ use Rattle.std.specs.Prelude.{MatchOption, slice_get}
 use Rattle.bay_audit.specs.Rules.{AreRight, BoundProgram, IsAnswer, IsByTimer, IsRight, IsRule, IsTimely, IsUntil, plain_demand, program_of}
 use Rattle.bay_audit.specs.declared.answer.RuleAnswer.{RuleAnswer}
 use Rattle.bay_audit.specs.declared.answer.RuleAnswer.TheVariants.{Broken, Holds, Open, Since, TooMany}
-use Rattle.cmd_audit.specs.Auditing.{AuditReport, IsTextFor, IsTextOf}
+use Rattle.cmd_audit.specs.Auditing.{AnswersIf, AreAnswered, AuditOctets, AuditReport, DiagramRead, IsTextFor, IsTextOf, IsTextWith, JudgementsIf, RulesRead, status_of}
+use Rattle.bay_audit_hazards.specs.Judged.{IsHarmless}
+use Rattle.bay_base.specs.declared.switch.Operation.{Operation}
 use Rattle.bay_config.specs.Laws.{IsBay}
 use Rattle.bay_config.specs.declared.bay.Bay.{Bay}
 use Rattle.bay_config.specs.declared.fault.BayFault.{BayFault}
 use Rattle.bay_device.specs.Device.{State}
+use Rattle.bay_diagram.specs.declared.network.Network.{Network}
+use Rattle.bay_diagram_file.specs.declared.diagram.Diagram.{Diagram}
+use Rattle.bay_diagram_file.specs.declared.fault.DiagramFault.{DiagramFault}
 use Rattle.bay_device.specs.Load.{IsLoaded, LoadsDevice, initial_device}
 use Rattle.bay_device.specs.Meaning.{Runs}
 use Rattle.bay_device.proofs.LoadedLemmas.{device-loaded, file-sound, loaded-runs}
@@ -16,7 +21,6 @@ use Rattle.bay_load.specs.Loads.{IsCompiled, IsImageOf, LoadData, LoadsTo, file_
 use Rattle.bay_load.specs.declared.load.Form.{Form}
 use Rattle.bay_load.specs.declared.load.Form.TheVariants as form
 use Rattle.bay_load.proofs.LoadLemmas.{load-made}
-use Rattle.bay_audit_rules.specs.Meaning.{TextRead}
 use Rattle.bay_audit_rules.specs.declared.fault.RuleFault.{RuleFault}
 use Rattle.bay_audit_rules.specs.declared.rule.Rule.{Rule}
 use Rattle.bay_audit_rules.specs.declared.rule.RuleKind.{RuleKind}
@@ -30,8 +34,9 @@ use Rattle.il_image.specs.Octets.{AreOctets}
 use Rattle.il_verify.specs.Verdicts.{IsVerified}
 use Rattle.il_text.specs.Listing.{PlainProgram}
 use Rattle.il_text.specs.declared.fault.TextFault.{TextFault}
-use Rattle.cmd_audit_laws.specs.Audited.{AuditAnswers, ByTimer, IsAudited, Plainly, AnswersAfterLoad, AnswersRule}
+use Rattle.cmd_audit_laws.specs.Audited.{AfterLoad, AnswersRule, AnswersRuleIn, ByTimer, IfDrawn, IfRead, InAudit, IsAudited, IsHeldByAudit, JudgesRelease, JudgesReleaseIn, OnAnswers, Plainly, octets_with}
 use Rattle.cmd_audit_laws.specs.Served.{IsFile}
+use Rattle.cmd_audit_laws.proofs.HarmlessLemmas.{held-harmless, judged-there, said-ways}
 use Rattle.cmd_audit_laws.proofs.RuleLemmas.{rule-there}
 use Rattle.cmd_audit_laws.proofs.SoundLemmas.{Steady, image-sound}
 
@@ -111,52 +116,157 @@ pub record OfOctets (So : RuleAnswer → Type 0) (bay : List ℕ) (form : Form) 
   pub so : So answer
   pub right : IsRight (program_of own image) rule answer
 
+-- A release of a switch of the bay is harmless in a network, of the program that octets come to on
+-- it.
+pub record HarmlessOfOctets (bay : List ℕ) (form : Form) (program : List ℕ) (net : Network)
+    (k : ℕ) (operation : Operation) : Type 0 where
+  pub own : Bay
+  pub read : file_of bay ≡ Ok own
+  pub image : Image
+  pub made : IsImageOf form program own image
+  pub there : k < length own.switches
+  pub harmless : IsHarmless (program_of own image) net k operation
+
 pub same-bay : (file : Result Bay BayFault) (a b : Bay) → file ≡ Ok a → file ≡ Ok b → a ≡ b
 same-bay file a b e f = let both : Ok a ≡ Ok b = sym e ∙ f in cc
 
-module _ (So : RuleAnswer → Type 0) (bay : List ℕ) (f : Form) (program : List ℕ) (rule : Rule) where
-  of-rules : (l : LoadData) → LoadsTo bay f program (Ok l)
-      → (rules : List ℕ) (meant : Result (List Rule) RuleFault) → TextRead l.bay rules meant
+-- what an audit of octets answers, where its texts are not refused, and memory did not run out for
+-- it
+pub record Within (Is : OnAnswers) (f : Form) (octets : AuditOctets) : Type 0 where
+  pub loaded : LoadData
+  pub loads : LoadsTo octets.both.bay f octets.both.program (Ok loaded)
+  pub rules : Option (List Rule)
+  pub means : RulesRead loaded.bay octets.rules (Ok rules)
+  pub drawn : Option Diagram
+  pub draws : DiagramRead loaded.bay octets.diagram (Ok drawn)
+  pub text : List ℕ
+  pub status : ℕ
+  pub says : AreAnswered loaded rules drawn text status
+  pub is : Is loaded rules drawn text status says
+
+module _ (Is : OnAnswers) (f : Form) (octets : AuditOctets) where
+  within-drawn : (l : LoadData) → LoadsTo octets.both.bay f octets.both.program (Ok l)
+      → (rules : Option (List Rule)) → RulesRead l.bay octets.rules (Ok rules)
+      → (meant : Result (Option Diagram) DiagramFault) → DiagramRead l.bay octets.diagram meant
       → (log : Option (List ℕ)) (text : List ℕ) (status : ℕ)
-      (says : IsTextOf l meant log text status)
-      → AnswersRule So l meant log text status says rule
-      → OfOctets So bay f program rule
-  of-rules l loads rules (Ok rs) means log text status says h =
-      let made = load-made bay f program l loads in
-      record {
-        own = l.bay;
-        read = made.read;
-        image = l.image;
-        made = made.made;
-        there = rule-there l.bay rules rs means h.place rule h.here;
-        answer = h.answer;
-        so = h.so;
-        right = right-at (program_of l.bay l.image) rs says.1.answers h.place rule h.answer
-            says.1.right h.here h.told;
-      }
-  of-rules l loads rules (Err fault) means log text status says h = absurd h
+      (says : IsTextWith l rules meant log text status)
+      → IfDrawn Is l rules meant log text status says → Within Is f octets
+  within-drawn l loads rules means (Err fault) draws log text status says h = absurd h
+  within-drawn l loads rules means (Ok d) draws log text status says h = record {
+    loaded = l;
+    loads = loads;
+    rules = rules;
+    means = means;
+    drawn = d;
+    draws = draws;
+    text = text;
+    status = status;
+    says = says.1;
+    is = h;
+  }
 
-  of-load : (l : LoadData) → LoadsTo bay f program (Ok l)
-      → (Memory : Type 0) (rules : List ℕ) (log : Option (List ℕ)) (text : List ℕ) (status : ℕ)
-      (says : IsTextFor l rules log text status ⊎ Memory)
-      → AnswersAfterLoad So Memory l rules log text status says rule
-      → OfOctets So bay f program rule
-  of-load l loads Memory rules log text status (inr memory) h = absurd h
-  of-load l loads Memory rules log text status (inl says) h =
-      of-rules l loads rules says.meant says.means log text status says.says h
+  within-read : (l : LoadData) → LoadsTo octets.both.bay f octets.both.program (Ok l)
+      → (meant : Result (Option (List Rule)) RuleFault) → RulesRead l.bay octets.rules meant
+      → (log : Option (List ℕ)) (text : List ℕ) (status : ℕ)
+      (says : IsTextOf l meant octets.diagram log text status)
+      → IfRead Is l meant octets.diagram log text status says → Within Is f octets
+  within-read l loads (Err fault) means log text status says h = absurd h
+  within-read l loads (Ok rules) means log text status says h =
+      within-drawn l loads rules means says.meant says.means log text status says.says h
 
-  of-audit : (rules : List ℕ) (log : Option (List ℕ)) (text : List ℕ) (status : ℕ)
-      (audit : AuditReport bay f program rules log text status)
-      → AuditAnswers So bay f program rules log text status audit rule
-      → OfOctets So bay f program rule
-  of-audit rules log text status (inr refused) h = absurd h
-  of-audit rules log text status (inl load) h =
-      of-load load.loaded load.loads _ rules log load.tells.rest status load.tells.says h
+  within-load : (l : LoadData) → LoadsTo octets.both.bay f octets.both.program (Ok l)
+      → (Memory : Type 0) (log : Option (List ℕ)) (text : List ℕ) (status : ℕ)
+      (says : IsTextFor l octets.rules octets.diagram log text status ⊎ Memory)
+      → AfterLoad Is Memory l octets.rules octets.diagram log text status says
+      → Within Is f octets
+  within-load l loads Memory log text status (inr memory) h = absurd h
+  within-load l loads Memory log text status (inl says) h =
+      within-read l loads says.meant says.means log text status says.says h
 
-  -- What is answered of a rule is right.
-  pub audited : (rules : List ℕ) → IsAudited So bay f program rules rule
-      → OfOctets So bay f program rule
-  audited rules is = of-audit rules is.log is.text is.status is.audit is.says
+  within : (log : Option (List ℕ)) (text : List ℕ) (status : ℕ)
+      (audit : AuditReport f octets log text status) → InAudit Is f octets log text status audit
+      → Within Is f octets
+  within log text status (inr refused) h = absurd h
+  within log text status (inl load) h =
+      within-load load.loaded load.loads _ log load.tells.rest status load.tells.says h
+
+module _ (bay : List ℕ) (f : Form) (program : List ℕ) where
+  module _ (So : RuleAnswer → Type 0) (rule : Rule) where
+    of-answers : (l : LoadData) → LoadsTo bay f program (Ok l) → (rules : List ℕ)
+        (meant : Option (List Rule)) → RulesRead l.bay (Some rules) (Ok meant) → (text : List ℕ)
+        (status : ℕ) (says : AnswersIf l meant text status)
+        → AnswersRule So rule l meant text status says → OfOctets So bay f program rule
+    of-answers l loads rules None means text status says h = absurd means
+    of-answers l loads rules (Some rs) means text status says h =
+        let made = load-made bay f program l loads in
+        record {
+          own = l.bay;
+          read = made.read;
+          image = l.image;
+          made = made.made;
+          there = rule-there l.bay rules rs means h.place rule h.here;
+          answer = h.answer;
+          so = h.so;
+          right = right-at (program_of l.bay l.image) rs says.answers h.place rule h.answer
+              says.right h.here h.told;
+        }
+
+    of-both : (l : LoadData) → LoadsTo bay f program (Ok l) → (rules : List ℕ)
+        (meant : Option (List Rule)) → RulesRead l.bay (Some rules) (Ok meant)
+        → (d : Option Diagram) (text : List ℕ) (status : ℕ)
+        (says : AreAnswered l meant d text status)
+        → AnswersRuleIn So rule l meant d text status says → OfOctets So bay f program rule
+    of-both l loads rules meant means d text status (inl both) h =
+        of-answers l loads rules meant means both.answered (status_of both.passed) both.answers h
+    of-both l loads rules meant means d text status (inr cut) h =
+        of-answers l loads rules meant means text 3 cut.1 h
+
+    -- What is answered of a rule is right.
+    pub audited : (rules : List ℕ) → IsAudited So bay f program rules rule
+        → OfOctets So bay f program rule
+    audited rules is =
+        let w = within (AnswersRuleIn So rule) f
+        (octets_with bay program (Some rules) is.diagram) is.log is.text is.status is.audit is.says
+        in
+        of-both w.loaded w.loads rules w.rules w.means w.drawn w.text w.status w.says w.is
+
+  module _ (net : Network) (k : ℕ) (operation : Operation) where
+    of-judgements : (l : LoadData) → LoadsTo bay f program (Ok l) → (d : Option Diagram)
+        (text : List ℕ) (status : ℕ) (says : JudgementsIf l d text status)
+        → JudgesRelease net k operation l d text status says
+        → HarmlessOfOctets bay f program net k operation
+    of-judgements l loads None text status says h = absurd h
+    of-judgements l loads (Some d) text status says h =
+        let made = load-made bay f program l loads in
+        record {
+          own = l.bay;
+          read = made.read;
+          image = l.image;
+          made = made.made;
+          there = judged-there (length l.bay.switches) says.releases k operation
+              (said-ways l.bay d says.releases text status says.said) h.1;
+          harmless = subst (λ n. IsHarmless (program_of l.bay l.image) n k operation) h.0
+              (held-harmless (program_of l.bay l.image) d.network says.releases says.right k
+              operation h.1);
+        }
+
+    of-drawn : (l : LoadData) → LoadsTo bay f program (Ok l) → (rules : Option (List Rule))
+        (d : Option Diagram) (text : List ℕ) (status : ℕ)
+        (says : AreAnswered l rules d text status)
+        → JudgesReleaseIn net k operation l rules d text status says
+        → HarmlessOfOctets bay f program net k operation
+    of-drawn l loads rules d text status (inl both) h =
+        of-judgements l loads d both.judged both.ended both.judgements h
+    of-drawn l loads rules d text status (inr cut) h = absurd h
+
+    -- What is judged of a release is right.
+    pub held : (diagram : List ℕ) → IsHeldByAudit bay f program diagram net k operation
+        → HarmlessOfOctets bay f program net k operation
+    held diagram is =
+        let w = within (JudgesReleaseIn net k operation) f
+        (octets_with bay program is.rules (Some diagram)) is.log is.text is.status is.audit is.says
+        in
+        of-drawn w.loaded w.loads w.rules w.drawn w.text w.status w.says w.is
 
 -- ---- a device that octets load to
 

@@ -1,5 +1,5 @@
 -- What obeys a rule in small runs.
-use Rattle.std.proofs.Common.{◌≡◌, ◌+◌, ⊎_elim, ℕ, Bool, true, false, not, List, [], ◌∷◌, None, inl, refl, ap, sym, ◌∙◌, arith}
+use Rattle.std.proofs.Common.{◌≡◌, ◌+◌, ⊎_elim, ℕ, Bool, true, false, not, [], ◌∷◌, None, inl, refl, ap, sym, ◌∙◌, arith}
 use Rattle.bay_audit_laws.specs.Examples.{at_all_times}
 use Rattle.bay_audit_laws.specs.Laws.{HasWaited, IsAllowed, RowsObey, ScanObeysAt}
 use Rattle.bay_audit_rules.specs.declared.rule.RuleKind.TheVariants.{Always, Never}

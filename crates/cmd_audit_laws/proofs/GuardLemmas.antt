@@ -1,26 +1,26 @@
 -- The turns of a service that was started with rules.
-use Rattle.std.proofs.Common.{◌≡◌, ◌∙◌, ◌⊎◌, ◌&&◌, ◌<◌, ℕ, zero, suc, Bool, true, false, List, [], ◌∷◌, length, Option, Some, None, Result, Ok, Err, inl, inr, ap, sym, subst, refl}
-use Rattle.std.specs.Prelude.{MatchOption, MatchResult, slice_get}
+use Rattle.std.proofs.Common.{◌≡◌, ◌∙◌, ◌<◌, ℕ, zero, suc, Bool, true, false, List, [], ◌∷◌, length, Option, Some, None, Result, Ok, Err, inl, inr, sym, subst, refl}
+use Rattle.std.specs.Prelude.{MatchOption, slice_get}
 use Rattle.std.specs.List.{list_all}
 use Rattle.std.proofs.lemmas.Bool.{and_parts}
 use Rattle.bay_audit.specs.Rules.{AreRight, BoundProgram, IsAnswer, IsRight, IsUntil, plain_demand, program_of}
 use Rattle.bay_audit.specs.declared.answer.RuleAnswer.{RuleAnswer}
 use Rattle.bay_audit.specs.declared.answer.RuleAnswer.TheVariants.{Broken, Holds, Open, Since, TooMany}
-use Rattle.bay_audit_laws.specs.Laws.{HasWaited, IsAllowed}
 use Rattle.bay_audit_rules.specs.Meaning.{TextRead}
 use Rattle.bay_audit_rules.specs.declared.fault.RuleFault.{RuleFault}
 use Rattle.bay_audit_rules.specs.declared.rule.Rule.{Rule}
 use Rattle.bay_audit_rules.specs.declared.rule.RuleKind.TheVariants.{Never}
 use Rattle.bay_audit_rules.specs.declared.rule.Timing.{Timing}
+use Rattle.bay_audit_hazards.specs.Judged.{is_hazard_of}
 use Rattle.bay_config.specs.declared.bay.Bay.{Bay}
+use Rattle.bay_diagram_file.specs.Diagram.{diagram_of_file}
+use Rattle.bay_diagram_file.specs.declared.diagram.Diagram.{Diagram}
+use Rattle.bay_diagram_file.specs.declared.fault.DiagramFault.{DiagramFault}
 use Rattle.bay_device.specs.Device.{State}
 use Rattle.bay_device.specs.Fresh.{Past}
 use Rattle.bay_device.specs.Load.{LoadsDevice, device_of}
-use Rattle.bay_files.specs.Files.{FileGuards, FileReads, FilesData}
+use Rattle.bay_files.specs.Files.{FileGuards, FileReads, FilesData, ReadsFile}
 use Rattle.bay_io.specs.Calls.{WriteCall}
-use Rattle.bay_io.specs.Watched.{Writing}
-use Rattle.bay_io.specs.declared.outbox.WriteFault.{WriteFault}
-use Rattle.bay_mms_services.specs.declared.answer.Command.{Command}
 use Rattle.bay_load.specs.Loads.{IsImageOf, LoadData, LoadsTo, file_of}
 use Rattle.bay_load.proofs.LoadLemmas.{load-made}
 use Rattle.bay_load.specs.declared.load.Form.{Form}
@@ -28,27 +28,24 @@ use Rattle.bay_server_turn.specs.Calls.{Call}
 use Rattle.bay_server_turn.specs.Turns.{ServerData}
 use Rattle.bay_server_turn_laws.specs.Events.{turn_events}
 use Rattle.bay_server.specs.Host.{HostCall}
-use Rattle.cmd_audit.specs.Judging.{IsVerdictOn, JudgesText, JudgesRead}
-use Rattle.cmd_audit.specs.Names.{known_of}
+use Rattle.cmd_audit.specs.Judging.{IsVerdictOn, JudgesRead}
 use Rattle.cmd_audit.specs.Text.{is_passed}
-use Rattle.cmd_audit.specs.declared.judging.RulesVerdict.{RulesVerdict}
+use Rattle.cmd_audit.specs.Auditing.{ReadsOptional}
+use Rattle.cmd_audit.specs.JudgingDiagram.{IsDiagramVerdictOn, JudgesDiagramRead}
 use Rattle.cmd_audit.specs.declared.judging.RulesVerdict.TheVariants as judged
-use Rattle.cmd_serve.specs.Orders.{IsOrdered}
-use Rattle.cmd_serve.specs.Serve.{EndsUnserved, FileNames, LoadsFiles, ReadsRules, ServesLoaded, ServesRules, ServesVerdict, data_of, made_of, rules_of}
+use Rattle.cmd_audit.specs.declared.judging_diagram.DiagramVerdict.TheVariants as drawn
+use Rattle.cmd_serve.specs.Serve.{data_of, made_of}
 use Rattle.cmd_serve.specs.Service.{AreTurns, DoneTurn, server_after, past_after}
-use Rattle.cmd_serve.specs.declared.serve.LoadedFiles.{LoadedFiles}
-use Rattle.cmd_serve.specs.declared.serve.Numbers.{Numbers}
-use Rattle.cmd_serve.specs.declared.serve.ServeStartFault.{ServeStartFault}
-use Rattle.il_text.specs.Listing.{Declared}
 use Rattle.il_image.specs.Images.{Image}
 use Rattle.cmd_audit_laws.specs.Audited.{ByTimer, Plainly}
-use Rattle.cmd_audit_laws.specs.Guarded.{GuardedCommandsObey, ObeyFile, ObeyRules, TurnsObey}
-use Rattle.cmd_audit_laws.specs.Served.{IsFile, OfFiles, OfRules, OfVerdict, OrdersObey}
+use Rattle.cmd_audit_laws.specs.Guarded.{GuardedCommandsAreHarmless, GuardedCommandsObey, ObeyDiagram, ObeyFile, ObeyRules, TurnsObey}
+use Rattle.cmd_audit_laws.specs.Served.{IsFile, OrdersObey}
 use Rattle.cmd_audit_laws.specs.Waits.{OrdersWait, scans_after_events}
-use Rattle.cmd_audit_laws.proofs.AuditLemmas.{OfOctets, same-bay}
+use Rattle.cmd_audit_laws.proofs.AuditLemmas.{OfOctets}
+use Rattle.cmd_audit_laws.proofs.HarmlessLemmas.{all-harmless}
 use Rattle.cmd_audit_laws.proofs.ObeyLemmas.{AreGiven}
 use Rattle.cmd_audit_laws.proofs.RuleLemmas.{rule-there}
-use Rattle.cmd_audit_laws.proofs.ServeLemmas.{later-is, orders-obey, orders-wait, ports-is, scans-obey}
+use Rattle.cmd_audit_laws.proofs.ServeLemmas.{DiagramHolds, RulesHold, files-is, orders-avoid, orders-obey, orders-wait, scans-obey}
 
 -- ---- the answers to rules, each of which holds
 
@@ -88,7 +85,7 @@ waits-so : (rule : Rule) (timing : Timing) → rule.kind ≡ Never → (first : 
 waits-so rule timing never first h scans past [] obeys = tt
 waits-so rule timing never first h scans past (t ∷ ts) obeys = (
   λ command o switch operation so.
-      let both : false ≡ true = sym (obeys.0 command o never switch operation) ∙ so in absurd cc,
+      let both : false ≡ true = sym (obeys.0 command o switch operation) ∙ so in absurd cc,
   waits-so rule timing never first (server_after t h)
       (scans_after_events timing.condition t.now (turn_events t.now t.given t.script h) h.device
       scans)
@@ -181,64 +178,73 @@ module _ (f : Form) (both : FilesData) (l : LoadData)
   holds-obeys file ts are given (inr judges) =
       read-obeys file ts are given judges.meant judges.means judges.judges
 
+-- a diagram in which each release is judged to hold
+module _ (f : Form) (both : FilesData) (l : LoadData)
+    (loads : LoadsTo both.bay f both.program (Ok l)) (text : List ℕ) (count : ℕ)
+    (file : IsFile f both.program) (ts : List DoneTurn) (are : AreTurns (made_of (device_of l)) ts)
+    (given : AreGiven ts) where
+  drawn-obeys : (meant : Result Diagram DiagramFault) → diagram_of_file l.bay text ≡ meant
+      → JudgesDiagramRead l meant (drawn.Hold count)
+      → ObeyDiagram both.bay text (made_of (device_of l)) ts
+  drawn-obeys (Err fault) means judges = absurd cc
+  drawn-obeys (Ok d) means judges =
+      let made = load-made both.bay f both.program l loads in
+      record {
+        own = l.bay;
+        read = made.read;
+        drawn = d;
+        means = means;
+        obeyed = λ k operation there.
+            orders-avoid f both (device_of l) (l, loads, refl) ts are given file l.bay l.image
+            made.read made.made (is_hazard_of d.network k operation) k operation there
+            (all-harmless (program_of l.bay l.image) d.network (length l.bay.switches)
+            judges.releases judges.right judges.judged.0 judges.all k operation there);
+      }
+
+  diagram-obeys : IsDiagramVerdictOn l text (drawn.Hold count)
+      → ObeyDiagram both.bay text (made_of (device_of l)) ts
+  diagram-obeys (inl memory) = absurd cc
+  diagram-obeys (inr judges) = drawn-obeys (diagram_of_file l.bay text) refl judges
+
 -- ---- the turns of a service
+
+-- a file that was named was read
+read-text : {F : Type 0} (reads : FileReads F) (files : F) (named : Option (List ℕ)) (name : List ℕ)
+    → named ≡ Some name → (octets : Option (List ℕ)) → ReadsOptional reads files named (Ok octets)
+    → (text : List ℕ) × ReadsFile reads files name (Ok text) × (octets ≡ Some text)
+read-text reads files named name is octets read =
+    by-octets octets (subst (λ n. ReadsOptional reads files n (Ok octets)) is read)
+  where
+    by-octets : (octets : Option (List ℕ)) → ReadsOptional reads files (Some name) (Ok octets)
+        → (text : List ℕ) × ReadsFile reads files name (Ok text) × (octets ≡ Some text)
+    by-octets None read = absurd read
+    by-octets (Some text) read = (text, read, refl)
 
 module _ {F L H W : Type 0} (step : L → Call → L → Type 0) (acts : H → HostCall L → H → Type 0)
     (contents : W → Option (List ℕ)) (asks : W → WriteCall → W → Type 0) (reads : FileReads F)
     (guards : FileGuards F) where
-  -- files that were loaded, with the octets of their rules
-  module _ (files : F) (name : List ℕ) (form : Form) (loaded : LoadedFiles)
-      (loads : LoadsTo loaded.both.bay.items form loaded.both.program.items (Ok loaded.load))
-      (numbers : Numbers) where
-    verdict-obeys : (text : List ℕ) → ReadsRules reads files (Some name) (Ok (Some text))
-        → (verdict : RulesVerdict) → IsVerdictOn loaded.load text verdict
-        → (before after : H) (old new : Writing W) (answer : Result ℕ WriteFault)
-        (serves : ServesVerdict step acts contents asks numbers loaded verdict before after old new
-        answer)
-        → OfVerdict step acts contents asks (ObeyFile reads files name form (data_of loaded))
-        numbers loaded verdict before after old new answer serves
-    verdict-obeys text read (judged.Hold count) is before after old new answer serves =
-        later-is step acts contents asks _ _ serves.told serves.goes_on _
-        (ports-is step acts contents asks (ObeyFile reads files name form (data_of loaded)) loaded
-        (λ ts are given file. (
-          text,
-          read,
-          holds-obeys form (data_of loaded) loaded.load loads text count file ts are given is,
-        )) numbers count before after serves.middle new answer)
-    verdict-obeys text read (judged.Unproved lines) is before after old new answer serves =
-        tt
-    verdict-obeys text read (judged.Refused fault) is before after old new answer serves =
-        tt
-    verdict-obeys text read judged.OutOfMemory is before after old new answer serves = tt
-
-    rules-obey : (rules : Option (List ℕ)) → ReadsRules reads files (Some name) (Ok rules)
-        → (before after : H) (old new : Writing W) (answer : Result ℕ WriteFault)
-        (serves : ServesRules step acts contents asks rules numbers loaded before after old new
-        answer)
-        → OfRules step acts contents asks (ObeyFile reads files name form (data_of loaded)) rules
-        numbers loaded before after old new answer serves
-    rules-obey None read before after old new answer serves = absurd read
-    rules-obey (Some text) read before after old new answer serves =
-        verdict-obeys text read serves.verdict serves.is before after old new answer serves.serves
-
-  files-guarded : (files : F) (named : FileNames) (name : List ℕ) → named.rules ≡ Some name
-      → (numbers : Numbers) (before after : H)
-      (old new : Writing W) (answer : Result ℕ WriteFault)
-      (loaded : Result LoadedFiles ServeStartFault)
-      → LoadsFiles reads guards files named loaded
-      → (goes : MatchResult loaded
-      (λ all. ServesLoaded step acts contents asks numbers all before after old new answer)
-      (λ why. EndsUnserved contents asks why old new answer × (after ≡ before)))
-      → OfFiles step acts contents asks (ObeyFile reads files name named.form) numbers before after
-      old new answer loaded goes
-  files-guarded files named name is numbers before after old new answer (Ok loaded) loads goes =
-      later-is step acts contents asks _ _ goes.told goes.goes_on _
-      (rules-obey files name named.form loaded loads.5 numbers (rules_of loaded)
-      (subst (λ (n : Option (List ℕ)). ReadsRules reads files n (Ok (rules_of loaded))) is loads.3)
-      before after goes.middle new answer)
-  files-guarded files named name is numbers before after old new answer (Err why) loads goes = tt
-
   pub guarded-obey : GuardedCommandsObey step acts contents asks reads guards
   guarded-obey files named numbers before after old new answer serves name is =
-      files-guarded files named name is numbers before after old new answer serves.loaded
-      serves.loads serves.goes_on
+      files-is step acts contents asks reads guards files named
+      (ObeyFile reads ObeyRules files name named.form)
+      (λ loaded loads rules diagram ts are given file.
+      let read = read-text reads files named.rules name is loaded.rules loads.3 in
+      let hold = subst (RulesHold loaded.load) read.2 rules in (
+        read.0,
+        read.1,
+        holds-obeys named.form (data_of loaded) loaded.load loads.6 read.0 hold.0 file ts are given
+            hold.1,
+      )) numbers before after old new answer serves.loaded serves.loads serves.goes_on
+
+  pub guarded-harmless : GuardedCommandsAreHarmless step acts contents asks reads guards
+  guarded-harmless files named numbers before after old new answer serves name is =
+      files-is step acts contents asks reads guards files named
+      (ObeyFile reads ObeyDiagram files name named.form)
+      (λ loaded loads rules diagram ts are given file.
+      let read = read-text reads files named.diagram name is loaded.diagram loads.4 in
+      let hold = subst (DiagramHolds loaded.load) read.2 diagram in (
+        read.0,
+        read.1,
+        diagram-obeys named.form (data_of loaded) loaded.load loads.6 read.0 hold.0 file ts are
+            given hold.1,
+      )) numbers before after old new answer serves.loaded serves.loads serves.goes_on

@@ -1,5 +1,5 @@
 -- A line of an audit that says that a rule holds is of a rule that it answers so.
-use Rattle.std.proofs.Common.{◌≡◌, ◌⊎◌, ◌==◌, ℕ, zero, suc, nat_le, Bool, true, false, cond, List, [], ◌∷◌, ◌++◌, append_assoc, codes, slice_get, zip, Option, Some, None, Result, Ok, Err, inl, inr, refl, ap, sym, subst, ◌∙◌, arith}
+use Rattle.std.proofs.Common.{◌≡◌, ◌⊎◌, ◌==◌, ℕ, zero, suc, nat_le, Bool, true, false, cond, List, [], ◌∷◌, ◌++◌, append-nil, append_assoc, codes, slice_get, zip, Option, Some, None, Result, Ok, Err, inl, inr, refl, ap, sym, subst, ◌∙◌, arith}
 use Rattle.std.proofs.lemmas.Bool.Decides.{nat_tests}
 use Rattle.std.proofs.lemmas.List.Elements.{Contains-append_cases}
 use Rattle.std.specs.Fmt.{decimal}
@@ -7,7 +7,7 @@ use Rattle.std.specs.List.{Contains}
 use Rattle.std.specs.Str.{bytes_eq}
 use Rattle.bay_audit.specs.declared.answer.RuleAnswer.{RuleAnswer}
 use Rattle.bay_audit.specs.declared.answer.RuleAnswer.TheVariants.{Broken, Holds, Open, Since, TooMany}
-use Rattle.cmd_audit.specs.Auditing.{AuditReport, IsTextFor, IsTextOf}
+use Rattle.cmd_audit.specs.Auditing.{Answers, AreAnswered, AuditReport, IsTextFor, IsTextOf, IsTextWith, RulesRead, status_of}
 use Rattle.cmd_audit.specs.Names.{AreWords, known_of}
 use Rattle.cmd_audit.specs.Text.{is_passed, numbered_text}
 use Rattle.cmd_audit.specs.Verdicts.{PrintedHold, hold_in, printed_hold}
@@ -16,6 +16,8 @@ use Rattle.cmd_audit.proofs.NameLemmas.{names-are-words}
 use Rattle.cmd_audit.proofs.HoldLemmas.{holds-are-read}
 use Rattle.bay_config.specs.declared.bay.Bay.{Bay}
 use Rattle.bay_device.proofs.LoadLemmas.{image-is}
+use Rattle.bay_diagram_file.specs.declared.diagram.Diagram.{Diagram}
+use Rattle.bay_diagram_file.specs.declared.fault.DiagramFault.{DiagramFault}
 use Rattle.bay_load.specs.declared.report.Report.{Report}
 use Rattle.bay_load.specs.Errors as error_code
 use Rattle.bay_load.specs.Loads.{IsImageOf, LoadData, LoadsTo}
@@ -40,7 +42,7 @@ use Rattle.il_compile.proofs.CompiledLemmas.{is-image}
 use Rattle.il_check.specs.Program.{Checked}
 use Rattle.il_image.specs.Images.{Image, IsImage}
 use Rattle.il_image.proofs.ImageLemmas.{spelled-image}
-use Rattle.cmd_audit_laws.specs.Audited.{ByTimer, IsAudited, Plainly, AnswersAfterLoad, AnswersRule}
+use Rattle.cmd_audit_laws.specs.Audited.{AfterLoad, AnswersRuleIn, ByTimer, IfDrawn, IfRead, IsAnswered, IsAudited, Plainly, octets_with}
 use Rattle.cmd_audit_laws.specs.Served.{IsFile}
 use Rattle.cmd_audit_laws.specs.Told.{HoldsAreAudited, IsOfRule}
 
@@ -156,25 +158,18 @@ no-line text line hold are at e =
 module _ (bay : List ℕ) (f : Form) (program rules : List ℕ) (log : Option (List ℕ))
     (whole : List ℕ) (status : ℕ) (file : IsFile f program) (line : List ℕ) (hold : PrintedHold)
     (e : printed_hold line ≡ Some hold) where
-  of-rules : (l : LoadData) → LoadsTo bay f program (Ok l)
-      → (meant : Result (List Rule) RuleFault) (text : List ℕ)
-      (says : IsTextOf l meant log text status)
-      → Contains (lines_in text) line
-      → ((So : RuleAnswer → Type 0) (rule : Rule)
-      → AnswersRule So l meant log text status says rule → IsAudited So bay f program rules rule)
-      → IsOfRule bay f program rules hold
-  of-rules l loads (Err fault) text says at more =
-      absurd (no-line text line hold
-      (subst (AreLines SaysNone) (sym says.1.0) (rules-lines (code_of fault) (line_of fault))) at e)
-  of-rules l loads (Ok rs) text says at more =
+  of-answers : (l : LoadData) → LoadsTo bay f program (Ok l) → (rs : List Rule)
+      (text : List ℕ) (ended : ℕ) (said : Answers l rs text ended) → Contains (lines_in text) line
+      → ((So : RuleAnswer → Type 0) (rule : Rule) → IsAnswered So rs said.answers rule
+      → IsAudited So bay f program rules rule) → IsOfRule bay f program rules hold
+  of-answers l loads rs text ended said at more =
       let made = load-made bay f program l loads in
       let kept : IsImage l.image = image-kept f program l.bay l.image file made.made in
       let known : AreWords (known_of l) = names-are-words bay f program l loads kept in
       let h =
-      holds-are-read l rs text status (bays-have-words bay l.bay made.read) known says.1 line hold
-      at
-      e in
-      let place = zip-at rs says.1.answers h.pair h.among in
+      holds-are-read l rs text ended (bays-have-words bay l.bay made.read) known said line hold at e
+      in
+      let place = zip-at rs said.answers h.pair h.among in
       record {
         own = l.bay;
         read = made.read;
@@ -199,6 +194,42 @@ module _ (bay : List ℕ) (f : Form) (program rules : List ℕ) (log : Option (L
           }))
         ];
       }
+
+  of-both : (l : LoadData) → LoadsTo bay f program (Ok l) → (rs : List Rule) (text : List ℕ)
+      (says : AreAnswered l (Some rs) None text status) → Contains (lines_in text) line
+      → ((So : RuleAnswer → Type 0) (rule : Rule)
+      → AnswersRuleIn So rule l (Some rs) None text status says
+      → IsAudited So bay f program rules rule) → IsOfRule bay f program rules hold
+  of-both l loads rs text (inl both) at more =
+      of-answers l loads rs both.answered (status_of both.passed) both.answers
+      (subst (λ t. Contains (lines_in t) line)
+      (both.whole ∙ ap (λ j. both.answered ++ j) both.judgements.0 ∙ append-nil both.answered) at)
+      more
+  of-both l loads rs text (inr cut) at more = of-answers l loads rs text 3 cut.1 at more
+
+  of-drawn : (l : LoadData) → LoadsTo bay f program (Ok l) → (rs : List Rule)
+      (meant : Result (Option Diagram) DiagramFault) → meant ≡ Ok None → (text : List ℕ)
+      (says : IsTextWith l (Some rs) meant log text status) → Contains (lines_in text) line
+      → ((So : RuleAnswer → Type 0) (rule : Rule)
+      → IfDrawn (AnswersRuleIn So rule) l (Some rs) meant log text status says
+      → IsAudited So bay f program rules rule) → IsOfRule bay f program rules hold
+  of-drawn l loads rs (Ok None) none text says at more = of-both l loads rs text says.1 at more
+  of-drawn l loads rs (Ok (Some d)) none text says at more = absurd cc
+  of-drawn l loads rs (Err fault) none text says at more = absurd cc
+
+  of-rules : (l : LoadData) → LoadsTo bay f program (Ok l)
+      → (meant : Result (Option (List Rule)) RuleFault) → RulesRead l.bay (Some rules) meant
+      → (text : List ℕ) (says : IsTextOf l meant None log text status)
+      → Contains (lines_in text) line
+      → ((So : RuleAnswer → Type 0) (rule : Rule)
+      → IfRead (AnswersRuleIn So rule) l meant None log text status says
+      → IsAudited So bay f program rules rule) → IsOfRule bay f program rules hold
+  of-rules l loads (Err fault) means text says at more =
+      absurd (no-line text line hold
+      (subst (AreLines SaysNone) (sym says.1.0) (rules-lines (code_of fault) (line_of fault))) at e)
+  of-rules l loads (Ok None) means text says at more = absurd means
+  of-rules l loads (Ok (Some rs)) means text says at more =
+      of-drawn l loads rs says.meant says.means text says.says at more
 
   of-load : (report : Report) (rest : List ℕ) → whole ≡ report_text report ++ rest
       → Contains (lines_in whole) line → Contains (lines_in rest) line
@@ -225,7 +256,7 @@ module _ (bay : List ℕ) (f : Form) (program rules : List ℕ) (log : Option (L
           absurd (let bad : None ≡ Some hold = sym none ∙ ap printed_hold same ∙ e in cc)
       by-case first none (inl (suc k, low, same)) = absurd (omega (arith, low))
 
-  of-audit : (audit : AuditReport bay f program rules log whole status)
+  of-audit : (audit : AuditReport f (octets_with bay program (Some rules) None) log whole status)
       → Contains (lines_in whole) line → IsOfRule bay f program rules hold
   of-audit (inr refused) at =
       absurd (no-line whole line hold
@@ -233,6 +264,7 @@ module _ (bay : List ℕ) (f : Form) (program rules : List ℕ) (log : Option (L
   of-audit (inl load) at =
       of-says load.tells.says (of-load load.tells.report load.tells.rest load.tells.whole at)
       (λ So rule says. record {
+        diagram = None;
         log = log;
         text = whole;
         status = status;
@@ -240,11 +272,12 @@ module _ (bay : List ℕ) (f : Form) (program rules : List ℕ) (log : Option (L
         says = says;
       })
     where
-      of-says : (says : IsTextFor load.loaded rules log load.tells.rest status
+      of-says : (says : IsTextFor load.loaded (Some rules) None log load.tells.rest status
           ⊎ IsReported None (codes "fault memory\n") 3 log load.tells.rest status)
           → Contains (lines_in load.tells.rest) line
           → ((So : RuleAnswer → Type 0) (rule : Rule)
-          → AnswersAfterLoad So _ load.loaded rules log load.tells.rest status says rule
+          → AfterLoad (AnswersRuleIn So rule) _ load.loaded (Some rules) None log load.tells.rest
+          status says
           → IsAudited So bay f program rules rule)
           → IsOfRule bay f program rules hold
       of-says (inr memory) there more =
@@ -252,7 +285,7 @@ module _ (bay : List ℕ) (f : Form) (program rules : List ℕ) (log : Option (L
           (subst (AreLines SaysNone) (sym memory.1.0) (one-line (codes "fault memory") refl refl))
           there e)
       of-says (inl says) there more =
-          of-rules load.loaded load.loads says.meant load.tells.rest says.says there more
+          of-rules load.loaded load.loads says.meant says.means load.tells.rest says.says there more
 
 pub holds-audited : HoldsAreAudited
 holds-audited bay f program rules log text status file audit line hold at e =

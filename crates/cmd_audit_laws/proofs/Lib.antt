@@ -1,6 +1,7 @@
 pub mod AuditLemmas
 pub mod ExampleLemmas
 pub mod GuardLemmas
+pub mod HarmlessLemmas
 pub mod HoldLemmas
 pub mod IdLemmas
 pub mod ObeyLemmas

@@ -1,11 +1,13 @@
--- A rule that holds, along the turns of a server and the events of a replay.
+-- Releases that are refused in a set of processes, and rules that hold, along the turns of a server
+-- and the events of a replay.
 use Rattle.std.proofs.Common.{◌≡◌, ◌+◌, ℕ, ◌<◌, Bool, true, false, cond, All, List, [], ◌∷◌, length, position, is_none, is_some, Option, Some, None, Result, refl, sym, subst, slice_get, ap, ◌∙◌}
 use Rattle.std.specs.Prelude.{IfSome}
 use Rattle.std.proofs.lemmas.List.Elements.{All-cons, All-head, All-nil, All-tail, All-weaker}
 use Rattle.std.specs.declared.net.socket_addr.SocketAddrV4.{SocketAddrV4}
 use Rattle.bay_audit.specs.Rules.{IsRule, program_of}
-use Rattle.bay_audit_laws.specs.Laws.{CommandsObeyAt, IsAllowed, IsOfType, ScanObeysAt, process_of}
-use Rattle.bay_audit_laws.proofs.LawLemmas.{Led, Obeying, Turned, allowed, commands-obey, led-step, obeying-first, process-so, turned}
+use Rattle.bay_audit_laws.specs.Laws.{CommandsOutsideAt, IsOfType, IsOutside, ScanObeysAt, process_of}
+use Rattle.bay_audit_laws.proofs.LawLemmas.{IsRefusedWhere, Led, Standing, Turned, commands-outside, led-step, outside, process-so, scan-obeys, standing-first, turned}
+use Rattle.bay_base.specs.declared.switch.Operation.{Operation}
 use Rattle.bay_config.specs.Laws.{IsBay}
 use Rattle.bay_config.specs.declared.bay.Bay.{Bay}
 use Rattle.bay_device.specs.Device.{State}
@@ -20,9 +22,8 @@ use Rattle.bay_device.specs.declared.fault.StepFault.{StepFault}
 use Rattle.bay_device.proofs.CommandLemmas.{step-commanded}
 use Rattle.cmd_replay.specs.History.{EachPast, device_after}
 use Rattle.bay_nodes.specs.declared.switch.Switch.{Switch}
-use Rattle.bay_audit_rules.specs.Process.{holds}
+use Rattle.bay_audit_rules.specs.Process.{Process}
 use Rattle.bay_audit_rules.specs.declared.rule.Rule.{Rule}
-use Rattle.bay_audit_rules.specs.declared.rule.RuleKind.TheVariants.{Never}
 use Rattle.bay_mms_services.specs.declared.answer.Command.{Command}
 use Rattle.il_image.specs.Images.{Image}
 use Rattle.bay_server_turn.specs.Calls.{ReadOutcome, Octets, Silence, Over, Broken}
@@ -37,7 +38,7 @@ use Rattle.bay_server_turn_laws.proofs.PartLemmas.{Part-turn}
 use Rattle.cmd_serve.specs.Orders.{IsOrdered}
 use Rattle.cmd_serve.specs.Service.{AreTurns, DoneTurn, server_after, past_after, past_of}
 use Rattle.cmd_serve.proofs.FrontLemmas.{Begins, Behind, Reads, closings-all, reads-all, then-all, why_closed}
-use Rattle.cmd_audit_laws.specs.Served.{OrdersObey}
+use Rattle.cmd_audit_laws.specs.Served.{OrdersAvoid}
 use Rattle.cmd_audit_laws.proofs.IdLemmas.{ids-apart}
 use Rattle.cmd_audit_laws.proofs.SoundLemmas.{Steady, steady-halts, steady-on}
 use Rattle.cmd_audit_laws.proofs.TypeLemmas.{EventFits}
@@ -151,109 +152,127 @@ turns-typed first (t ∷ ts) h past are given before =
 
 -- ---- a device whose scans halt
 
-module _ (bay : Bay) (image : Image) (rule : Rule) (is_bay : IsBay bay)
-    (there : rule.switch < length bay.switches) (holds_so : IsRule (program_of bay image) rule)
-  where
-    -- what is kept along the events
-    abbrev pub Good : State → Type 0
-    Good s = Obeying bay image rule s × Steady s
+module _ (bay : Bay) (image : Image) (is_bay : IsBay bay) where
+  -- what is kept along the events
+  abbrev pub Good : State → Type 0
+  Good s = Standing bay image s × Steady s
 
-    turn-of : (now : ℕ) (event : Event) (old : State) (answer : Result Step StepFault)
-        (new : State) → IsOfType event → Steps now event old answer new → Good old
-        → Turned now event old answer new
-    turn-of now event old answer new typed steps g =
-        turned now event old answer new typed steps
-        (steady-halts now event old answer new
-        (process-so bay image rule is_bay there holds_so old g.0) g.1 steps)
+  turn-of : (now : ℕ) (event : Event) (old : State) (answer : Result Step StepFault)
+      (new : State) → IsOfType event → Steps now event old answer new → Good old
+      → Turned now event old answer new
+  turn-of now event old answer new typed steps g =
+      turned now event old answer new typed steps
+      (steady-halts now event old answer new (process-so bay image old g.0) g.1 steps)
 
-    led : (now : ℕ) (event : Event) (old : State) (answer : Result Step StepFault) (new : State)
-        → IsOfType event → Steps now event old answer new → Good old
-        → Led bay image rule is_bay there holds_so event old answer new
-    led now event old answer new typed steps g =
-        led-step bay image rule is_bay there holds_so now event old answer new g.0
-        (turn-of now event old answer new typed steps g)
+  led : (now : ℕ) (event : Event) (old : State) (answer : Result Step StepFault) (new : State)
+      → IsOfType event → Steps now event old answer new → Good old
+      → Led bay image is_bay event answer new
+  led now event old answer new typed steps g =
+      led-step bay image is_bay now event old answer new g.0
+      (turn-of now event old answer new typed steps g)
 
-    good-step : (now : ℕ) (event : Event) (old : State) (answer : Result Step StepFault)
-        (new : State) → IsOfType event → Steps now event old answer new → Good old → Good new
-    good-step now event old answer new typed steps g = (
-      (led now event old answer new typed steps g).goes_on,
-      steady-on now event old answer new
-          (process-so bay image rule is_bay there holds_so old g.0) g.1 steps
-          (turn-of now event old answer new typed steps g),
-    )
+  good-step : (now : ℕ) (event : Event) (old : State) (answer : Result Step StepFault)
+      (new : State) → IsOfType event → Steps now event old answer new → Good old → Good new
+  good-step now event old answer new typed steps g = (
+    (led now event old answer new typed steps g).goes_on,
+    steady-on now event old answer new (process-so bay image old g.0) g.1 steps
+        (turn-of now event old answer new typed steps g),
+  )
 
-    good-events : (now : ℕ) (es : List ChosenEvent) (s : State) → AreTyped es → Good s
-        → Good (done_at now es s).after
-    good-events now [] s typed g = g
-    good-events now (e ∷ es) s typed g =
-        let o = outcome e.0 now e.1 s in
-        good-events now es o.after (All-tail IsTyped e es typed)
-        (good-step now e.1 s o.answer o.after (All-head IsTyped e es typed)
-        (record { choice = e.0; answered = refl; left = refl }) g)
+  good-events : (now : ℕ) (es : List ChosenEvent) (s : State) → AreTyped es → Good s
+      → Good (done_at now es s).after
+  good-events now [] s typed g = g
+  good-events now (e ∷ es) s typed g =
+      let o = outcome e.0 now e.1 s in
+      good-events now es o.after (All-tail IsTyped e es typed)
+      (good-step now e.1 s o.answer o.after (All-head IsTyped e es typed)
+      (record { choice = e.0; answered = refl; left = refl }) g)
 
-    -- ---- turns
+  -- a device as it is loaded
+  pub good-first : Steady (initial_device bay image) → Good (initial_device bay image)
+  good-first steady = (standing-first bay image is_bay, steady)
 
-    -- a command to the switch with the id of the rule's, of its operation, is not issued while the
-    -- condition holds
-    pub by-id : (s : State) (command : Command) (named switch : Switch) → rule.kind ≡ Never
-        → IsAllowed rule s command → slice_get bay.switches command.switch ≡ Some named
-        → slice_get bay.switches rule.switch ≡ Some switch → named.id ≡ switch.id
-        → command.operation ≡ rule.operation → holds rule.when (process_of s) ≡ false
-    by-id s command named switch never allow here own same on =
-        allow never
-        (ids-apart bay is_bay command.switch rule.switch named switch here own same) on
+  -- ---- turns
 
-    pub turns-obey : (first : State) → first.switches ≡ bay.switches → rule.kind ≡ Never
-        → (ts : List DoneTurn) (h : ServerData) (past : List Past) → AreTurns h ts → AreGiven ts
-        → Good h.device → OrdersObey rule first h past ts
-    turns-obey first of_bay never [] h past are given g = tt
-    turns-obey first of_bay never (t ∷ ts) h past are given g =
+  module _ (set : Process → Bool) (k : ℕ) (operation : Operation) (there : k < length bay.switches)
+      (refused : IsRefusedWhere (program_of bay image) set k operation) where
+    -- a command to the switch with the id of this one, of this operation, is not issued in the set
+    by-id : (s : State) (command : Command) (named switch : Switch)
+        → IsOutside set k operation s command → slice_get bay.switches command.switch ≡ Some named
+        → slice_get bay.switches k ≡ Some switch → named.id ≡ switch.id
+        → command.operation ≡ operation → set (process_of s) ≡ false
+    by-id s command named switch outside here own same on =
+        outside (ids-apart bay is_bay command.switch k named switch here own same) on
+
+    pub turns-avoid : (first : State) → first.switches ≡ bay.switches → (ts : List DoneTurn)
+        (h : ServerData) (past : List Past) → AreTurns h ts → AreGiven ts → Good h.device
+        → OrdersAvoid set k operation first h past ts
+    turns-avoid first of_bay [] h past are given g = tt
+    turns-avoid first of_bay (t ∷ ts) h past are given g =
         let events = turn_events t.now t.given t.script h in
         let typed : AreTyped events =
         events-typed t.now t.given t.script h are.0.all_read are.0.all_offered given.0 in
-        let obeys : (command : Command) (o : IsOrdered first h t past command)
-        → IsAllowed rule (done_at t.now o.heard.front h.device).after command =
+        let avoids : (command : Command) (o : IsOrdered first h t past command)
+        → IsOutside set k operation (done_at t.now o.heard.front h.device).after command =
         λ command o.
-        allowed bay image rule is_bay there holds_so t.now
+        outside bay image set k operation there refused t.now
         (done_at t.now o.heard.front h.device).after command
         (good-events t.now o.heard.front h.device
         (All-weaker (λ (e : ChosenEvent). OfAssociation e.1) IsTyped (λ e of. of-typed e.1 of)
         o.heard.front o.heard.first) g).0 o.allowed in (
-          obeys,
+          avoids,
           λ printed p switch here named on.
               by-id (done_at t.now p.ordered.heard.front h.device).after p.command p.switch switch
-              never (obeys p.command p.ordered)
+              (avoids p.command p.ordered)
               (ap (λ ss. slice_get ss p.command.switch) (sym of_bay) ∙ p.here)
-              (ap (λ ss. slice_get ss rule.switch) (sym of_bay) ∙ here) (sym p.named ∙ named)
+              (ap (λ ss. slice_get ss k) (sym of_bay) ∙ here) (sym p.named ∙ named)
               (sym p.operation ∙ on),
-          turns-obey first of_bay never ts (server_after t h)
+          turns-avoid first of_bay ts (server_after t h)
               (past_after t.now events h.device past) are.1 given.1
               (subst Good (sym (Part-turn t.now t.given t.script h).device)
               (good-events t.now events h.device typed g)),
         )
 
-    -- ---- a history
+  -- ---- a history
 
-    pub past-obeys : (first : State) (past : List Past) → EachPast Steps first past
+  -- what each event of a good device does is done in each history
+  module _ (Does : ℕ → Event → State → Result Step StepFault → State → Type 0)
+      (does : (now : ℕ) (event : Event) (old : State) (answer : Result Step StepFault) (new : State)
+      → Standing bay image old → Steps now event old answer new
+      → Led bay image is_bay event answer new
+      → Does now event old answer new) where
+    past-goes : (first : State) (past : List Past) → EachPast Steps first past
         → AreTypedPast first past → Good first
-        → EachPast (CommandsObeyAt rule) first past × EachPast (ScanObeysAt rule) first past
-        × Good (device_after first past)
-    past-obeys first [] steps typed g = (tt, tt, g)
-    past-obeys first (p ∷ past) steps typed g =
-        let before = past-obeys first past steps.1 typed.1 g in
+        → EachPast Does first past × Good (device_after first past)
+    past-goes first [] steps typed g = (tt, g)
+    past-goes first (p ∷ past) steps typed g =
+        let before = past-goes first past steps.1 typed.1 g in
         let old : State = device_after first past in (
           (
-            commands-obey bay image rule is_bay there holds_so p.now p.event old p.answer p.after
-                before.2.0 (step-commanded p.now p.event old p.answer p.after steps.0),
+            does p.now p.event old p.answer p.after before.1.0 steps.0
+                (led p.now p.event old p.answer p.after typed.0 steps.0 before.1),
             before.0,
           ),
-          (
-            (led p.now p.event old p.answer p.after typed.0 steps.0 before.2).scan_obeys,
-            before.1,
-          ),
-          good-step p.now p.event old p.answer p.after typed.0 steps.0 before.2,
+          good-step p.now p.event old p.answer p.after typed.0 steps.0 before.1,
         )
 
-    -- a device as it is loaded
-    pub good-first : Steady (initial_device bay image) → Good (initial_device bay image)
-    good-first steady = (obeying-first bay image rule is_bay there holds_so, steady)
+  pub past-scans : (rule : Rule) → rule.switch < length bay.switches
+      → IsRule (program_of bay image) rule → (first : State) (past : List Past)
+      → EachPast Steps first past → AreTypedPast first past → Good first
+      → EachPast (ScanObeysAt rule) first past
+  past-scans rule there holds_so first past steps typed g =
+      (past-goes (ScanObeysAt rule) (λ now event old answer new o steps led.
+      scan-obeys bay image rule there holds_so is_bay now event old answer new led) first past steps
+      typed g).0
+
+  -- each command of a history is issued outside a set in which its release is refused
+  pub past-avoids : (set : Process → Bool) (k : ℕ) (operation : Operation)
+      → k < length bay.switches → IsRefusedWhere (program_of bay image) set k operation
+      → (first : State) (past : List Past) → EachPast Steps first past → AreTypedPast first past
+      → Good first → EachPast (CommandsOutsideAt set k operation) first past
+  past-avoids set k operation there refused first past steps typed g =
+      (past-goes (CommandsOutsideAt set k operation)
+      (λ now event old answer new o steps led.
+      commands-outside bay image (IsOutside set k operation)
+      (outside bay image set k operation there refused) now old answer o
+      (step-commanded now event old answer new steps)) first past steps typed g).0

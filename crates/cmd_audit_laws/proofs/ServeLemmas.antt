@@ -1,5 +1,5 @@
 -- The turns that files are served by, and what they are given.
-use Rattle.std.proofs.Common.{◌≡◌, ℕ, zero, suc, Bool, List, [], Option, Some, None, Result, Ok, Err, inl, inr, ap, sym, subst, refl}
+use Rattle.std.proofs.Common.{◌≡◌, ◌∙◌, ◌<◌, ℕ, zero, suc, Bool, List, [], length, Option, Some, None, Result, Ok, Err, inl, inr, ap, sym, subst, refl}
 use Rattle.std.specs.Prelude.{MatchResult, is_some, slice_get}
 use Rattle.bay_audit.specs.Rules.{program_of}
 use Rattle.bay_device.specs.Device.{State}
@@ -18,9 +18,14 @@ use Rattle.bay_server.specs.Clock.{jump_of}
 use Rattle.bay_server.specs.ServeReport.{AfterTurn, ProcessData, Serving, ServesTurns, moment_of}
 use Rattle.bay_server.specs.declared.host.BindFault.{BindFault}
 use Rattle.cmd_serve.specs.Live.{InLater}
+use Rattle.cmd_audit.specs.Judging.{IsVerdictOn}
+use Rattle.cmd_audit.specs.JudgingDiagram.{IsDiagramVerdictOn}
 use Rattle.cmd_audit.specs.declared.judging.RulesVerdict.{RulesVerdict}
-use Rattle.cmd_audit.specs.declared.judging.RulesVerdict.TheVariants.{Hold, Unproved, Refused, OutOfMemory}
-use Rattle.cmd_serve.specs.Serve.{AfterVerdict, BindsPorts, BindsProcess, EndsUnserved, FileNames, IsBound, IsRecordFault, LoadsFiles, ServesBound, ServesLoaded, ServesPorts, ServesRules, ServesVerdict, data_of, made_of, rules_of, served_of, state_of}
+use Rattle.cmd_audit.specs.declared.judging.RulesVerdict.TheVariants as judged
+use Rattle.cmd_audit.specs.declared.judging_diagram.DiagramVerdict.{DiagramVerdict}
+use Rattle.cmd_audit.specs.declared.judging_diagram.DiagramVerdict.TheVariants as drawn
+use Rattle.cmd_serve.specs.Permits.{AfterPermit, WritesOnDiagram, WritesOnRules, permit_of, releases_held, rules_held}
+use Rattle.cmd_serve.specs.Serve.{BindsPorts, BindsProcess, EndsUnserved, FileNames, IsBound, LoadsFiles, ServesBound, ServesLoaded, ServesPorts, ServesRules, data_of, made_of, served_of, state_of}
 use Rattle.cmd_serve.specs.Service.{AreTurns, DoneTurn, later_turns, past_of, turns_in}
 use Rattle.cmd_serve.proofs.HistoryLemmas.{stands-first}
 use Rattle.cmd_serve.proofs.TurnLemmas.{stands-turns}
@@ -29,17 +34,27 @@ use Rattle.cmd_serve.specs.declared.serve.LoadedFiles.{LoadedFiles}
 use Rattle.cmd_serve.specs.declared.serve.Numbers.{Numbers}
 use Rattle.cmd_serve.specs.declared.serve.ServeStartFault.{ServeStartFault}
 use Rattle.cmd_serve.specs.declared.serve.ServeStartFault.TheVariants as unserved
+use Rattle.cmd_serve.specs.declared.permit.Permit.{Permit}
+use Rattle.cmd_serve.specs.declared.permit.Permit.TheVariants.{Granted, Denied}
+use Rattle.cmd_serve.specs.declared.sums.HeldCounts.{HeldCounts}
 use Rattle.cmd_serve.specs.declared.sums.ServedFiles.{ServedFiles}
 use Rattle.cmd_audit_laws.specs.Audited.{ByTimer, Plainly}
+use Rattle.bay_audit_hazards.specs.Judged.{is_hazard_of}
 use Rattle.bay_audit_laws.specs.Laws.{ScanObeysAt}
+use Rattle.bay_audit_laws.proofs.LawLemmas.{IsRefusedWhere, rule-refuses}
+use Rattle.bay_audit_rules.specs.Process.{Process, holds}
+use Rattle.bay_base.specs.declared.switch.Operation.{Operation}
+use Rattle.bay_config.specs.declared.bay.Bay.{Bay}
+use Rattle.bay_load.specs.Loads.{IsImageOf, LoadData, file_of}
+use Rattle.il_image.specs.Images.{Image}
 use Rattle.bay_audit_rules.specs.declared.rule.Rule.{Rule}
 use Rattle.bay_audit_rules.specs.declared.rule.RuleKind.TheVariants.{Never}
 use Rattle.bay_audit_rules.specs.declared.rule.Timing.{Timing}
 use Rattle.cmd_replay.specs.History.{EachPast}
-use Rattle.cmd_audit_laws.specs.Served.{InVerdict, IsFile, ObeyAuditsOf, OfBound, OfFiles, OfPorts, OfRules, OfVerdict, OrdersObey, ServedCommandsObey}
+use Rattle.cmd_audit_laws.specs.Served.{InPermit, IsFile, ObeyAuditsOf, OfBound, OfFiles, OfPorts, OfRules, OrdersAvoid, OrdersObey, ServedCommandsObey}
 use Rattle.cmd_audit_laws.specs.Waits.{OrdersWait}
-use Rattle.cmd_audit_laws.proofs.AuditLemmas.{OfOctets, audited, begins, plain-rule, right-rule, right-timer}
-use Rattle.cmd_audit_laws.proofs.ObeyLemmas.{AreGiven, Good, good-first, past-obeys, turns-obey, turns-typed}
+use Rattle.cmd_audit_laws.proofs.AuditLemmas.{OfOctets, audited, begins, held, plain-rule, right-rule, right-timer}
+use Rattle.cmd_audit_laws.proofs.ObeyLemmas.{AreGiven, Good, good-first, past-scans, turns-avoid, turns-typed}
 use Rattle.cmd_audit_laws.proofs.TypeLemmas.{choice-fits}
 use Rattle.cmd_audit_laws.proofs.WaitLemmas.{Ready, ready-first, turns-wait}
 
@@ -122,65 +137,137 @@ module _ {L H : Type 0} (acts : H → HostCall L → H → Type 0) where
 
 -- ---- the rules that are answered to hold
 
--- a server of a device that these octets load to obeys such rules in its turns
+-- a server of a device that these octets load to, in its turns
 module _ (f : Form) (both : FilesData) (device : State)
     (loads : LoadsDevice both.bay f both.program device) (ts : List DoneTurn)
-    (are : AreTurns (made_of device) ts) (given : AreGiven ts) (file : IsFile f both.program)
-    (rule : Rule) where
-  pub orders-obey : rule.kind ≡ Never → OfOctets Plainly both.bay f both.program rule
-      → OrdersObey rule device (made_of device) [] ts
-  orders-obey never own =
-      let b = begins both.bay f both.program device loads file own.own own.image own.read own.made
-      in
-      let rule_so = right-rule (program_of own.own own.image) rule own.answer never own.so own.right
-      in
-      turns-obey own.own own.image rule b.sound own.there rule_so device
-      (ap (λ (s : State). s.switches) b.is) never ts (made_of device) [] are given
-      (subst (Good own.own own.image rule b.sound own.there rule_so) (sym b.is)
-      (good-first own.own own.image rule b.sound own.there rule_so b.steady))
+    (are : AreTurns (made_of device) ts) (given : AreGiven ts) (file : IsFile f both.program) where
+  -- avoids a set in which a release of the program is refused
+  pub orders-avoid : (own : Bay) (image : Image) → file_of both.bay ≡ Ok own
+      → IsImageOf f both.program own image → (set : Process → Bool) (k : ℕ) (operation : Operation)
+      → k < length own.switches → IsRefusedWhere (program_of own image) set k operation
+      → OrdersAvoid set k operation device (made_of device) [] ts
+  orders-avoid own image read made set k operation there refused =
+      let b = begins both.bay f both.program device loads file own image read made in
+      turns-avoid own image b.sound set k operation there refused device
+      (ap (λ (s : State). s.switches) b.is) ts (made_of device) [] are given
+      (subst (Good own image b.sound) (sym b.is) (good-first own image b.sound b.steady))
 
-  pub orders-wait : (timing : Timing) → rule.kind ≡ Never → rule.timed ≡ Some timing
-      → OfOctets ByTimer both.bay f both.program rule
-      → OrdersWait rule timing device (made_of device) [] [] ts
-  orders-wait timing never timed own =
-      let b = begins both.bay f both.program device loads file own.own own.image own.read own.made
-      in
-      let borne = right-timer (program_of own.own own.image) rule timing own.answer never timed
-      own.so own.right in
-      turns-wait own.own own.image rule timing borne.timer b.sound own.there borne.bears device ts
-      (made_of device) [] [] are given
-      (subst (Ready own.own own.image rule timing borne.timer b.sound own.there borne.bears [])
-      (sym b.is)
-      (ready-first own.own own.image rule timing borne.timer b.sound own.there borne.bears
-      b.steady))
+  -- and obeys rules that are answered to hold
+  module _ (rule : Rule) where
+    pub orders-obey : rule.kind ≡ Never → OfOctets Plainly both.bay f both.program rule
+        → OrdersObey rule device (made_of device) [] ts
+    orders-obey never own =
+        orders-avoid own.own own.image own.read own.made (holds rule.when) rule.switch
+        rule.operation own.there
+        (rule-refuses (program_of own.own own.image) rule
+        (right-rule (program_of own.own own.image) rule own.answer never own.so own.right) never)
 
-  pub scans-obey : rule.timed ≡ None → OfOctets Plainly both.bay f both.program rule
-      → EachPast (ScanObeysAt rule) device (past_of ts (made_of device) [])
-  scans-obey plain own =
-      let b = begins both.bay f both.program device loads file own.own own.image own.read own.made
-      in
-      let rule_so = plain-rule (program_of own.own own.image) rule own.answer plain own.so own.right
-      in
-      let stands =
-      stands-turns device ts (made_of device) []
-      (stands-first device (own.own, own.image, b.is)) in
-      (past-obeys own.own own.image rule b.sound own.there rule_so device
-      (past_of ts (made_of device) []) stands.steps
-      (turns-typed device ts (made_of device) [] are given tt)
-      (subst (Good own.own own.image rule b.sound own.there rule_so) (sym b.is)
-      (good-first own.own own.image rule b.sound own.there rule_so b.steady))).1
+    pub orders-wait : (timing : Timing) → rule.kind ≡ Never → rule.timed ≡ Some timing
+        → OfOctets ByTimer both.bay f both.program rule
+        → OrdersWait rule timing device (made_of device) [] [] ts
+    orders-wait timing never timed own =
+        let b = begins both.bay f both.program device loads file own.own own.image own.read own.made
+        in
+        let borne = right-timer (program_of own.own own.image) rule timing own.answer never timed
+        own.so own.right in
+        turns-wait own.own own.image rule timing borne.timer b.sound own.there borne.bears device ts
+        (made_of device) [] [] are given
+        (subst (Ready own.own own.image rule timing borne.timer b.sound own.there borne.bears [])
+        (sym b.is)
+        (ready-first own.own own.image rule timing borne.timer b.sound own.there borne.bears
+        b.steady))
+
+    pub scans-obey : rule.timed ≡ None → OfOctets Plainly both.bay f both.program rule
+        → EachPast (ScanObeysAt rule) device (past_of ts (made_of device) [])
+    scans-obey plain own =
+        let b = begins both.bay f both.program device loads file own.own own.image own.read own.made
+        in
+        let stands =
+        stands-turns device ts (made_of device) []
+        (stands-first device (own.own, own.image, b.is)) in
+        past-scans own.own own.image b.sound rule own.there
+        (plain-rule (program_of own.own own.image) rule own.answer plain own.so own.right) device
+        (past_of ts (made_of device) []) stands.steps
+        (turns-typed device ts (made_of device) [] are given tt)
+        (subst (Good own.own own.image b.sound) (sym b.is)
+        (good-first own.own own.image b.sound b.steady))
 
 loaded-obeys : (f : Form) (both : FilesData) (device : State)
     → LoadsDevice both.bay f both.program device → (ts : List DoneTurn)
     → AreTurns (made_of device) ts → AreGiven ts → ObeyAuditsOf f both (made_of device) ts
 loaded-obeys f both device loads ts are given file = record {
   obey = λ rules rule never is. orders-obey f both device loads ts are given file rule never
-      (audited Plainly both.bay f both.program rule rules is);
+      (audited both.bay f both.program Plainly rule rules is);
   wait = λ rules rule timing never timed is. orders-wait f both device loads ts are given file
-      rule timing never timed (audited ByTimer both.bay f both.program rule rules is);
+      rule timing never timed (audited both.bay f both.program ByTimer rule rules is);
   scans = λ rules rule plain is. scans-obey f both device loads ts are given file rule plain
-      (audited Plainly both.bay f both.program rule rules is);
+      (audited both.bay f both.program Plainly rule rules is);
+  harmless = λ diagram net k operation is.
+      let o = held both.bay f both.program net k operation diagram is in
+      orders-avoid f both device loads ts are given file o.own o.image o.read o.made
+      (is_hazard_of net k operation) k operation o.there o.harmless;
 }
+
+-- ---- rules and a diagram that hold
+
+-- the rules hold, if there are some
+abbrev pub RulesHold : LoadData → Option (List ℕ) → Type 0
+RulesHold loaded None = Unit {0}
+RulesHold loaded (Some text) = (count : ℕ) × IsVerdictOn loaded text (judged.Hold count)
+
+-- the releases hold by the diagram, if there is one
+abbrev pub DiagramHolds : LoadData → Option (List ℕ) → Type 0
+DiagramHolds loaded None = Unit {0}
+DiagramHolds loaded (Some text) = (count : ℕ) × IsDiagramVerdictOn loaded text (drawn.Hold count)
+
+-- a permit is granted only if there is a number of what holds
+held-of : (status : Result ℕ WriteFault) (held : Option ℕ) (count : ℕ)
+    → permit_of status held ≡ Ok (Granted count) → held ≡ Some count
+held-of (Ok status) (Some n) count granted =
+    let same : n ≡ count = cc in ap (λ (x : ℕ). Some x) same
+held-of (Ok status) None count granted = absurd cc
+held-of (Err fault) held count granted = absurd cc
+
+rules-of : (verdict : RulesVerdict) (count : ℕ) → rules_held verdict ≡ Some count
+    → verdict ≡ judged.Hold count
+rules-of (judged.Hold n) count held = let same : n ≡ count = cc in ap judged.Hold same
+rules-of (judged.Unproved text) count held = absurd cc
+rules-of (judged.Refused fault) count held = absurd cc
+rules-of judged.OutOfMemory count held = absurd cc
+
+releases-of : (verdict : DiagramVerdict) (count : ℕ) → releases_held verdict ≡ Some count
+    → verdict ≡ drawn.Hold count
+releases-of (drawn.Hold n) count held = let same : n ≡ count = cc in ap drawn.Hold same
+releases-of (drawn.Unproved text) count held = absurd cc
+releases-of (drawn.Refused fault) count held = absurd cc
+releases-of drawn.OutOfMemory count held = absurd cc
+
+module _ {W : Type 0} (contents : W → Option (List ℕ)) (asks : W → WriteCall → W → Type 0)
+    (loaded : LoadData) where
+  rules-hold : (rules : Option (List ℕ)) (old new : Writing W) (permit : Result Permit WriteFault)
+      → WritesOnRules contents asks loaded rules old new permit → (count : ℕ)
+      → permit ≡ Ok (Granted count) → RulesHold loaded rules
+  rules-hold None old new permit writes count granted = tt
+  rules-hold (Some text) old new permit writes count granted = (
+    count,
+    subst (IsVerdictOn loaded text)
+        (rules-of writes.verdict count
+        (held-of writes.status (rules_held writes.verdict) count (sym writes.permits ∙ granted)))
+        writes.is,
+  )
+
+  diagram-holds : (diagram : Option (List ℕ)) (old new : Writing W)
+      (permit : Result Permit WriteFault)
+      → WritesOnDiagram contents asks loaded diagram old new permit → (count : ℕ)
+      → permit ≡ Ok (Granted count) → DiagramHolds loaded diagram
+  diagram-holds None old new permit writes count granted = tt
+  diagram-holds (Some text) old new permit writes count granted = (
+    count,
+    subst (IsDiagramVerdictOn loaded text)
+        (releases-of writes.verdict count
+        (held-of writes.status (releases_held writes.verdict) count
+        (sym writes.permits ∙ granted))) writes.is,
+  )
 
 -- ---- the turns of a service
 
@@ -216,65 +303,67 @@ module _ {L H W : Type 0} (step : L → Call → L → Type 0) (acts : H → Hos
         (each run.done (subst (λ (h : ServerData). AreTurns h run.done) made run.run.are) given)
     bound-is served duties before host after old new answer (Err why) binds goes = tt
 
-    pub ports-is : (count : ℕ) (before after : H) (old new : Writing W)
+    pub ports-is : (held : HeldCounts) (before after : H) (old new : Writing W)
         (answer : Result ℕ WriteFault)
-        (ports : ServesPorts step acts contents asks numbers loaded count before after old new
+        (ports : ServesPorts step acts contents asks numbers loaded held before after old new
         answer)
-        → OfPorts step acts contents asks Is numbers loaded count before after old new answer ports
-    ports-is count before after old new answer ports =
-        bound-is (served_of loaded count) _ before ports.host after old new answer ports.bound
+        → OfPorts step acts contents asks Is numbers loaded held before after old new answer ports
+    ports-is held before after old new answer ports =
+        bound-is (served_of loaded held) _ before ports.host after old new answer ports.bound
         ports.binds ports.goes_on
 
-    in-verdict : (Ends : Type 0) (Goes : ℕ → Type 0) (verdict : RulesVerdict)
-        (told : Result ℕ WriteFault) (goes : AfterVerdict verdict told Ends Goes)
-        (More : (count : ℕ) → Goes count → Type 0)
-        → ((count : ℕ) (goes : Goes count) → More count goes)
-        → InVerdict Ends Goes verdict told goes More
-    in-verdict Ends Goes (Hold count) told goes More more =
-        later-is Ends (Goes count) told goes (More count) (more count)
-    in-verdict Ends Goes (Unproved text) told goes More more = tt
-    in-verdict Ends Goes (Refused fault) told goes More more = tt
-    in-verdict Ends Goes OutOfMemory told goes More more = tt
+  in-permit : (Ends : Result ℕ WriteFault → Type 0) (Goes : ℕ → Type 0)
+      (permit : Result Permit WriteFault) (goes : AfterPermit permit Ends Goes)
+      (More : (count : ℕ) → Goes count → Type 0)
+      → ((count : ℕ) → permit ≡ Ok (Granted count) → (goes : Goes count) → More count goes)
+      → InPermit Ends Goes permit goes More
+  in-permit Ends Goes (Ok (Granted count)) goes More more = more count refl goes
+  in-permit Ends Goes (Ok (Denied status)) goes More more = tt
+  in-permit Ends Goes (Err fault) goes More more = tt
 
-    pub verdict-is : (verdict : RulesVerdict) (before after : H) (old new : Writing W)
-        (answer : Result ℕ WriteFault)
-        (serves : ServesVerdict step acts contents asks numbers loaded verdict before after old new
-        answer)
-        → OfVerdict step acts contents asks Is numbers loaded verdict before after old new answer
-        serves
-    verdict-is verdict before after old new answer serves =
-        in-verdict _ _ verdict serves.told serves.goes_on _
-        (λ count ports. ports-is count before after serves.middle new answer ports)
+  -- what is so of all turns of a server of what was loaded, if its rules and its diagram hold
+  module _ (Is : ServerData → List DoneTurn → Type 0) (loaded : LoadedFiles)
+      (each : RulesHold loaded.load loaded.rules → DiagramHolds loaded.load loaded.diagram
+      → (ts : List DoneTurn) → AreTurns (made_of (state_of loaded)) ts → AreGiven ts
+      → Is (made_of (state_of loaded)) ts) (numbers : Numbers) where
+    rules-is : (before after : H) (old new : Writing W) (answer : Result ℕ WriteFault)
+        (serves : ServesRules step acts contents asks numbers loaded before after old new answer)
+        → OfRules step acts contents asks Is numbers loaded before after old new answer serves
+    rules-is before after old new answer serves =
+        in-permit _ _ serves.permit serves.goes_on _
+        (λ rules granted drawn. in-permit _ _ drawn.permit drawn.goes_on _
+        (λ releases let_go ports. ports-is Is loaded
+        (each
+        (rules-hold contents asks loaded.load loaded.rules old serves.middle serves.permit
+        serves.writes rules granted)
+        (diagram-holds contents asks loaded.load loaded.diagram serves.middle drawn.middle
+        drawn.permit drawn.writes releases let_go)) numbers
+        (record { rules = rules; releases = releases }) before after drawn.middle new answer ports))
 
-    pub rules-is : (rules : Option (List ℕ)) (before after : H) (old new : Writing W)
-        (answer : Result ℕ WriteFault)
-        (serves : ServesRules step acts contents asks rules numbers loaded before after old new
-        answer)
-        → OfRules step acts contents asks Is rules numbers loaded before after old new answer serves
-    rules-is None before after old new answer serves =
-        ports-is 0 before after old new answer serves
-    rules-is (Some rules) before after old new answer serves =
-        verdict-is serves.verdict before after old new answer serves.serves
-
-  module _ {F : Type 0} (reads : FileReads F) (guards : FileGuards F) where
-    files-obey : (files : F) (named : FileNames) (numbers : Numbers) (before after : H)
+  module _ {F : Type 0} (reads : FileReads F) (guards : FileGuards F) (files : F)
+      (named : FileNames) (Is : FilesData → ServerData → List DoneTurn → Type 0)
+      (each : (loaded : LoadedFiles) → LoadsFiles reads guards files named (Ok loaded)
+      → RulesHold loaded.load loaded.rules → DiagramHolds loaded.load loaded.diagram
+      → (ts : List DoneTurn) → AreTurns (made_of (state_of loaded)) ts → AreGiven ts
+      → Is (data_of loaded) (made_of (state_of loaded)) ts) where
+    pub files-is : (numbers : Numbers) (before after : H)
         (old new : Writing W) (answer : Result ℕ WriteFault)
         (loaded : Result LoadedFiles ServeStartFault)
         → LoadsFiles reads guards files named loaded
         → (goes : MatchResult loaded
         (λ all. ServesLoaded step acts contents asks numbers all before after old new answer)
         (λ why. EndsUnserved contents asks why old new answer × (after ≡ before)))
-        → OfFiles step acts contents asks (ObeyAuditsOf named.form) numbers before after old new
-        answer loaded goes
-    files-obey files named numbers before after old new answer (Ok loaded) loads goes =
+        → OfFiles step acts contents asks Is numbers before after old new answer loaded goes
+    files-is numbers before after old new answer (Ok loaded) loads goes =
         later-is _ _ goes.told goes.goes_on _
-        (rules-is (ObeyAuditsOf named.form (data_of loaded)) loaded
-        (loaded-obeys named.form (data_of loaded) (state_of loaded) (loaded.load, loads.5, refl))
-        numbers (rules_of loaded)
-        before after goes.middle new answer)
-    files-obey files named numbers before after old new answer (Err why) loads goes = tt
+        (rules-is (Is (data_of loaded)) loaded (each loaded loads) numbers before after goes.middle
+        new answer)
+    files-is numbers before after old new answer (Err why) loads goes = tt
 
-    pub served-obey : ServedCommandsObey step acts contents asks reads guards
-    served-obey files named numbers before after old new answer serves =
-        files-obey files named numbers before after old new answer serves.loaded serves.loads
-        serves.goes_on
+  pub served-obey : {F : Type 0} (reads : FileReads F) (guards : FileGuards F)
+      → ServedCommandsObey step acts contents asks reads guards
+  served-obey reads guards files named numbers before after old new answer serves =
+      files-is reads guards files named (ObeyAuditsOf named.form)
+      (λ loaded loads rules diagram. loaded-obeys named.form (data_of loaded) (state_of loaded)
+      (loaded.load, loads.6, refl)) numbers before after old new answer serves.loaded serves.loads
+      serves.goes_on

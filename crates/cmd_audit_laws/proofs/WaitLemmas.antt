@@ -4,8 +4,8 @@ use Rattle.std.proofs.lemmas.List.Elements.{All-head, All-tail, All-weaker}
 use Rattle.bay_audit.specs.Process.{IsProcess}
 use Rattle.bay_audit.specs.Rules.{IsByTimer, program_of}
 use Rattle.bay_audit_laws.specs.Laws.{IsOfType, process_of, scans_after}
-use Rattle.bay_audit_laws.proofs.LawLemmas.{Turned, led-step, process-so, turned}
-use Rattle.bay_audit_laws.proofs.WaitLemmas.{Stands, Waiting, commands-wait, has-waited, led-step-wait, no-rule-holds, no_rule, stands-first, waiting-first}
+use Rattle.bay_audit_laws.proofs.LawLemmas.{Standing, Turned, led-step, process-so, standing-first, turned}
+use Rattle.bay_audit_laws.proofs.WaitLemmas.{Waiting, commands-wait, has-waited, led-step-wait, waiting-first}
 use Rattle.bay_config.specs.Laws.{IsBay}
 use Rattle.bay_config.specs.declared.bay.Bay.{Bay}
 use Rattle.bay_device.specs.Device.{State}
@@ -34,7 +34,7 @@ module _ (bay : Bay) (image : Image) (rule : Rule) (timing : Timing) (n : ℕ) (
     (bears : IsByTimer (program_of bay image) rule timing n) where
   -- a device that waits, and whose scans halt
   pub record Ready (scans : List (ℕ × Bool)) (s : State) : Type 0 where
-    pub stands : Stands bay image rule timing n is_bay there bears s
+    pub stands : Standing bay image s
     pub steady : Steady s
     pub waiting : Waiting bay image rule timing n is_bay there bears scans s
 
@@ -42,17 +42,13 @@ module _ (bay : Bay) (image : Image) (rule : Rule) (timing : Timing) (n : ℕ) (
       (new : State) (scans : List (ℕ × Bool)) → IsOfType event → Steps now event old answer new
       → Ready scans old → Ready (scans_after timing.condition now event old answer scans) new
   ready-step now event old answer new scans typed steps r =
-      let none = no_rule bay image rule timing n is_bay there bears in
-      let holds_so = no-rule-holds bay image rule timing n is_bay there bears in
-      let is : IsProcess (process_of old) =
-      process-so bay image none is_bay there holds_so old r.stands in
+      let is : IsProcess (process_of old) = process-so bay image old r.stands in
       let turn : Turned now event old answer new =
       turned now event old answer new typed steps
       (steady-halts now event old answer new is r.steady steps) in
       record {
         stands =
-            (led-step bay image none is_bay there holds_so now event old answer new r.stands
-            turn).goes_on;
+            (led-step bay image is_bay now event old answer new r.stands turn).goes_on;
         steady = steady-on now event old answer new is r.steady steps turn;
         waiting = (led-step-wait bay image rule timing n is_bay there bears scans now event old
             answer new r.stands r.waiting turn).goes_on;
@@ -112,7 +108,7 @@ module _ (bay : Bay) (image : Image) (rule : Rule) (timing : Timing) (n : ℕ) (
   -- a device as it is loaded
   pub ready-first : Steady (initial_device bay image) → Ready [] (initial_device bay image)
   ready-first steady = record {
-    stands = stands-first bay image rule timing n is_bay there bears;
+    stands = standing-first bay image is_bay;
     steady = steady;
     waiting = waiting-first bay image rule timing n is_bay there bears;
   }

@@ -1,8 +1,11 @@
--- What a service implies that was started with rules: each of its commands and scans obeys each
--- rule.
-use Rattle.std.specs.Prelude.{ℕ, ◌≡◌, slice_get, List, [], Option, None, Some, Result, Ok}
+-- What a service implies that was started with rules or with a diagram: each of its commands and
+-- scans obeys each rule, and no command is a hazard.
+use Rattle.std.specs.Prelude.{ℕ, ◌≡◌, ◌<◌, length, slice_get, List, [], Option, None, Some, Result, Ok}
 use Rattle.bay_audit_laws.specs.Laws.{ScanObeysAt}
+use Rattle.bay_base.specs.declared.switch.Operation.{Operation}
 use Rattle.bay_config.specs.declared.bay.Bay.{Bay}
+use Rattle.bay_diagram_file.specs.Diagram.{diagram_of_file}
+use Rattle.bay_diagram_file.specs.declared.diagram.Diagram.{Diagram}
 use Rattle.bay_files.specs.Files.{FileGuards, FileReads, FilesData, ReadsFile}
 use Rattle.bay_io.specs.Calls.{WriteCall}
 use Rattle.bay_io.specs.Watched.{Writing}
@@ -20,7 +23,7 @@ use Rattle.bay_server.specs.Host.{HostCall}
 use Rattle.cmd_serve.specs.Serve.{FileNames, ServesFiles}
 use Rattle.cmd_serve.specs.Service.{DoneTurn, past_of}
 use Rattle.cmd_serve.specs.declared.serve.Numbers.{Numbers}
-use Rattle.cmd_audit_laws.specs.Served.{IsFile, OfFiles, OrdersObey}
+use Rattle.cmd_audit_laws.specs.Served.{IsFile, OfFiles, OrdersAreHarmless, OrdersObey}
 use Rattle.cmd_audit_laws.specs.Waits.{OrdersWait}
 
 -- Turns of a server, from its first on, obey a rule. Each scan in them obeys a rule without a time;
@@ -42,23 +45,44 @@ pub record ObeyRules (bay text : List ℕ) (begun : ServerData) (turns : List Do
   pub obeyed : (place : ℕ) (rule : Rule) → slice_get rules place ≡ Some rule
       → TurnsObey rule begun turns
 
+-- The text is that of a diagram of the bay that the file spells, and no command of the turns is a
+-- hazard in it.
+pub record ObeyDiagram (bay text : List ℕ) (begun : ServerData) (turns : List DoneTurn)
+    : Type 0 where
+  pub own : Bay
+  pub read : file_of bay ≡ Ok own
+  pub drawn : Diagram
+  pub means : diagram_of_file own text ≡ Ok drawn
+  pub obeyed : (k : ℕ) (operation : Operation) → k < length own.switches
+      → OrdersAreHarmless drawn.network k operation begun.device begun [] turns
+
 module _ {F : Type 0} (reads : FileReads F) where
-  -- The octets that were read from the file of this name are such a text.
-  abbrev pub ObeyFile : F → List ℕ → Form → FilesData → ServerData → List DoneTurn → Type 0
-  ObeyFile files name form both begun turns =
+  -- The turns obey the octets that were read from the file of this name.
+  abbrev pub ObeyFile : (Obey : List ℕ → List ℕ → ServerData → List DoneTurn → Type 0) → F
+      → List ℕ → Form → FilesData → ServerData → List DoneTurn → Type 0
+  ObeyFile Obey files name form both begun turns =
       IsFile form both.program
       → (text : List ℕ) × ReadsFile reads files name (Ok text)
-      × ObeyRules both.bay text begun turns
+      × Obey both.bay text begun turns
 
 module _ {F L H W : Type 0} (step : L → Call → L → Type 0) (acts : H → HostCall L → H → Type 0)
     (contents : W → Option (List ℕ)) (asks : W → WriteCall → W → Type 0) (reads : FileReads F)
     (guards : FileGuards F) where
-  -- The turns of each service with rules obey the rules in their file.
-  abbrev pub GuardedCommandsObey : Type 0
-  GuardedCommandsObey =
+  -- The turns of each service with a file of this kind obey it.
+  abbrev pub GuardedObey : (FileNames → Option (List ℕ))
+      → (List ℕ → List ℕ → ServerData → List DoneTurn → Type 0) → Type 0
+  GuardedObey file_in Obey =
       (files : F) (named : FileNames) (numbers : Numbers) (before after : H) (old new : Writing W)
       (answer : Result ℕ WriteFault)
       (serves : ServesFiles step acts contents asks reads guards files named numbers before after
-      old new answer) (name : List ℕ) → named.rules ≡ Some name
-      → OfFiles step acts contents asks (ObeyFile reads files name named.form) numbers before after
-      old new answer serves.loaded serves.goes_on
+      old new answer) (name : List ℕ) → file_in named ≡ Some name
+      → OfFiles step acts contents asks (ObeyFile reads Obey files name named.form) numbers before
+      after old new answer serves.loaded serves.goes_on
+
+  -- The turns of each service with rules obey the rules in their file.
+  abbrev pub GuardedCommandsObey : Type 0
+  GuardedCommandsObey = GuardedObey (λ named. named.rules) ObeyRules
+
+  -- No command of a service with a diagram is a hazard in the diagram of its file.
+  abbrev pub GuardedCommandsAreHarmless : Type 0
+  GuardedCommandsAreHarmless = GuardedObey (λ named. named.diagram) ObeyDiagram

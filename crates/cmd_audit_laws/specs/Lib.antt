@@ -1,10 +1,12 @@
--- What an audited rule implies for the commands of a service and of a replay.
+-- What an audited rule, and a release that holds by a diagram, imply for the commands of a service
+-- and of a replay.
 --
 -- `Served` is the main file: the turns of each service obey the answers of an audit of the same
--- octets; `Guarded`: the turns of a service with rules obey each of them; `Replayed`: the events of
--- each replay obey an audit. `Audited`: how an audit answers a rule; `Told`: the line of an audit
--- for a rule that holds. `Waits`: what a rule with a time implies. `Orders`: small runs that
--- `IsReleasedBy`, `IsHeard`, `IsOrdered` and what obeys a rule distinguish.
+-- octets; `Guarded`: the turns of a service with rules obey each of them, and no command of one with
+-- a diagram is a hazard in it; `Replayed`: the events of each replay obey an audit. `Audited`: how
+-- an audit answers a rule and judges a release; `Told`: the line of an audit for a rule that holds.
+-- `Waits`: what a rule with a time implies. `Orders`: small runs that `IsReleasedBy`, `IsHeard`,
+-- `IsOrdered` and what obeys a rule distinguish.
 pub mod Audited
 pub mod Guarded
 pub mod Orders

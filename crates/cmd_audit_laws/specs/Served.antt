@@ -1,7 +1,11 @@
--- What an audited rule implies for the commands of a service.
-use Rattle.std.specs.Prelude.{ℕ, ◌≡◌, false, slice_get, List, [], ◌∷◌, Option, None, Some, Result, Ok, Err, MatchResult}
-use Rattle.bay_audit_laws.specs.Laws.{IsAllowed, ScanObeysAt, process_of}
+-- What an audited rule, and a release that an audit holds for harmless, imply for the commands of a
+-- service.
+use Rattle.std.specs.Prelude.{ℕ, ◌≡◌, Bool, false, slice_get, List, [], ◌∷◌, Option, None, Some, Result, Ok, Err, MatchResult}
+use Rattle.bay_audit_hazards.specs.Judged.{is_hazard_of}
+use Rattle.bay_audit_laws.specs.Laws.{IsOutside, ScanObeysAt, process_of}
+use Rattle.bay_base.specs.declared.switch.Operation.{Operation}
 use Rattle.bay_device.specs.Device.{State}
+use Rattle.bay_diagram.specs.declared.network.Network.{Network}
 use Rattle.bay_device.specs.Fresh.{Past}
 use Rattle.bay_files.specs.Files.{FileGuards, FileReads, FilesData}
 use Rattle.bay_io.specs.Calls.{WriteCall}
@@ -12,7 +16,7 @@ use Rattle.cmd_replay.specs.History.{EachPast}
 use Rattle.bay_load.specs.declared.load.Form.{Form}
 use Rattle.bay_load.specs.declared.load.Form.TheVariants.{Logic, Image}
 use Rattle.bay_replay_laws.specs.Printed.{PrintedCommand}
-use Rattle.bay_audit_rules.specs.Process.{holds}
+use Rattle.bay_audit_rules.specs.Process.{Process, holds}
 use Rattle.bay_audit_rules.specs.declared.rule.Rule.{Rule}
 use Rattle.bay_audit_rules.specs.declared.rule.RuleKind.TheVariants.{Never}
 use Rattle.bay_audit_rules.specs.declared.rule.Timing.{Timing}
@@ -23,37 +27,50 @@ use Rattle.bay_server_turn_laws.specs.Events.{done_at, turn_events}
 use Rattle.bay_server.specs.Host.{HostCall}
 use Rattle.cmd_serve.specs.Live.{InLater}
 use Rattle.cmd_serve.specs.Orders.{IsOrdered}
-use Rattle.cmd_audit.specs.declared.judging.RulesVerdict.{RulesVerdict}
-use Rattle.cmd_audit.specs.declared.judging.RulesVerdict.TheVariants.{Hold, Unproved, Refused, OutOfMemory}
-use Rattle.cmd_serve.specs.Serve.{AfterVerdict, EndsUnserved, FileNames, ServesBound, ServesFiles, ServesLoaded, ServesPorts, ServesRules, ServesVerdict, data_of, rules_of, served_of}
+use Rattle.cmd_serve.specs.Permits.{AfterPermit}
+use Rattle.cmd_serve.specs.Serve.{EndsUnserved, FileNames, ServesBound, ServesDiagram, ServesFiles, ServesLoaded, ServesPorts, ServesRules, data_of, served_of}
 use Rattle.cmd_serve.specs.Service.{DoneTurn, server_after, past_after, past_of}
 use Rattle.cmd_serve.specs.Texts.{IsPrintedFor}
 use Rattle.cmd_serve.specs.declared.serve.Bound.{Bound}
 use Rattle.cmd_serve.specs.declared.serve.LoadedFiles.{LoadedFiles}
 use Rattle.cmd_serve.specs.declared.serve.Numbers.{Numbers}
 use Rattle.cmd_serve.specs.declared.serve.ServeStartFault.{ServeStartFault}
+use Rattle.cmd_serve.specs.declared.permit.Permit.{Permit}
+use Rattle.cmd_serve.specs.declared.permit.Permit.TheVariants.{Granted, Denied}
+use Rattle.cmd_serve.specs.declared.sums.HeldCounts.{HeldCounts}
 use Rattle.cmd_serve.specs.declared.sums.ServedFiles.{ServedFiles}
 use Rattle.il_image.specs.Octets.{AreOctets}
-use Rattle.cmd_audit_laws.specs.Audited.{ByTimer, IsAudited, Plainly}
+use Rattle.cmd_audit_laws.specs.Audited.{ByTimer, IsAudited, IsHeldByAudit, Plainly}
 use Rattle.cmd_audit_laws.specs.Waits.{OrdersWait}
 
 -- ---- turns
 
--- For each command of one of the turns, however it was ordered: if the rule forbids it while its
--- condition holds, the condition does not hold for what the process had last reported, at the
--- device just before the client's octets. The same for each line that reads as a command, if it
--- names the switch of the rule, and its operation.
-abbrev pub OrdersObey : Rule → State → ServerData → List Past → List DoneTurn → Type 0
-OrdersObey rule first h past [] = Unit {0}
-OrdersObey rule first h past (t ∷ ts) =
+-- For each command of this switch and operation of one of the turns, however it was ordered: what
+-- the process had last reported, at the device just before the client's octets, is not in a set.
+-- The same for each line that reads as a command, if it names the switch and the operation.
+abbrev pub OrdersAvoid : (Process → Bool) → ℕ → Operation → State → ServerData → List Past
+    → List DoneTurn → Type 0
+OrdersAvoid set k operation first h past [] = Unit {0}
+OrdersAvoid set k operation first h past (t ∷ ts) =
     ((command : Command) (o : IsOrdered first h t past command)
-    → IsAllowed rule (done_at t.now o.heard.front h.device).after command)
+    → IsOutside set k operation (done_at t.now o.heard.front h.device).after command)
     × ((printed : PrintedCommand) (p : IsPrintedFor first h t past printed) (switch : Switch)
-    → slice_get first.switches rule.switch ≡ Some switch → printed.id ≡ switch.id
-    → printed.operation ≡ rule.operation
-    → holds rule.when (process_of (done_at t.now p.ordered.heard.front h.device).after) ≡ false)
-    × OrdersObey rule first (server_after t h)
+    → slice_get first.switches k ≡ Some switch → printed.id ≡ switch.id
+    → printed.operation ≡ operation
+    → set (process_of (done_at t.now p.ordered.heard.front h.device).after) ≡ false)
+    × OrdersAvoid set k operation first (server_after t h)
     (past_after t.now (turn_events t.now t.given t.script h) h.device past) ts
+
+-- The commands that a rule forbids while its condition holds come only while it does not hold.
+abbrev pub OrdersObey : Rule → State → ServerData → List Past → List DoneTurn → Type 0
+OrdersObey rule first h past turns =
+    OrdersAvoid (holds rule.when) rule.switch rule.operation first h past turns
+
+-- The commands of this switch and operation come only while that is no hazard in the network.
+abbrev pub OrdersAreHarmless : Network → ℕ → Operation → State → ServerData → List Past
+    → List DoneTurn → Type 0
+OrdersAreHarmless net k operation first h past turns =
+    OrdersAvoid (is_hazard_of net k operation) k operation first h past turns
 
 -- the requirement on an image, whoever wrote it: it is a list of octets
 abbrev pub IsFile : Form → List ℕ → Type 0
@@ -62,7 +79,8 @@ IsFile Image program = AreOctets program
 
 -- Turns of a server, from its first on, obey each rule that forbids, if an audit of the same octets
 -- answers that it holds, and wait for each with a time, if the audit answers that a timer
--- establishes it. Each scan in them obeys each rule without a time that holds.
+-- establishes it. Each scan in them obeys each rule without a time that holds. No command is a
+-- hazard in a diagram, if the audit answers that the release of its switch and operation holds.
 pub record ObeyAudits (form : Form) (both : FilesData) (begun : ServerData) (turns : List DoneTurn)
     : Type 0 where
   pub obey : (rules : List ℕ) (rule : Rule) → rule.kind ≡ Never
@@ -74,6 +92,9 @@ pub record ObeyAudits (form : Form) (both : FilesData) (begun : ServerData) (tur
   pub scans : (rules : List ℕ) (rule : Rule) → rule.timed ≡ None
       → IsAudited Plainly both.bay form both.program rules rule
       → EachPast (ScanObeysAt rule) begun.device (past_of turns begun [])
+  pub harmless : (diagram : List ℕ) (net : Network) (k : ℕ) (operation : Operation)
+      → IsHeldByAudit both.bay form both.program diagram net k operation
+      → OrdersAreHarmless net k operation begun.device begun [] turns
 
 -- Turns obey audits so, of a program's text or of the octets of an image.
 abbrev pub ObeyAuditsOf : Form → FilesData → ServerData → List DoneTurn → Type 0
@@ -81,14 +102,13 @@ ObeyAuditsOf form both begun turns = IsFile form both.program → ObeyAudits for
 
 -- ---- the turns of a service
 
--- a statement on what follows a verdict on rules, if each rule holds, with their number
-abbrev pub InVerdict : (Ends : Type 0) (Goes : ℕ → Type 0) (verdict : RulesVerdict)
-    (told : Result ℕ WriteFault) → AfterVerdict verdict told Ends Goes
+-- a statement on what follows a permit, if it is granted, with the number of what holds
+abbrev pub InPermit : (Ends : Result ℕ WriteFault → Type 0) (Goes : ℕ → Type 0)
+    (permit : Result Permit WriteFault) → AfterPermit permit Ends Goes
     → ((count : ℕ) → Goes count → Type 0) → Type 0
-InVerdict Ends Goes (Hold count) told goes more = InLater Ends (Goes count) told goes (more count)
-InVerdict Ends Goes (Unproved text) told goes more = Unit {0}
-InVerdict Ends Goes (Refused fault) told goes more = Unit {0}
-InVerdict Ends Goes OutOfMemory told goes more = Unit {0}
+InPermit Ends Goes (Ok (Granted count)) goes more = more count goes
+InPermit Ends Goes (Ok (Denied status)) goes more = Unit {0}
+InPermit Ends Goes (Err fault) goes more = Unit {0}
 
 module _ {L H W : Type 0} (step : L → Call → L → Type 0) (acts : H → HostCall L → H → Type 0)
     (contents : W → Option (List ℕ)) (asks : W → WriteCall → W → Type 0) where
@@ -107,35 +127,34 @@ module _ {L H W : Type 0} (step : L → Call → L → Type 0) (acts : H → Hos
 
   -- the statement holds for the turns that were served, if the ports could be opened
   abbrev pub OfPorts : (Is : ServerData → List DoneTurn → Type 0) (numbers : Numbers)
-      (loaded : LoadedFiles) (count : ℕ)
+      (loaded : LoadedFiles) (held : HeldCounts)
       (before after : H) (old new : Writing W) (answer : Result ℕ WriteFault)
-      → ServesPorts step acts contents asks numbers loaded count before after old new answer
+      → ServesPorts step acts contents asks numbers loaded held before after old new answer
       → Type 0
-  OfPorts Is numbers loaded count before after old new answer ports =
-      OfBound Is numbers (served_of loaded count) loaded.trace.items ports.host after old new answer
+  OfPorts Is numbers loaded held before after old new answer ports =
+      OfBound Is numbers (served_of loaded held) loaded.trace.items ports.host after old new answer
       ports.bound ports.goes_on
 
-  -- the statement holds for the turns that were served, if the verdict on the rules is that each
-  -- holds, and could be written
-  abbrev pub OfVerdict : (Is : ServerData → List DoneTurn → Type 0) (numbers : Numbers)
-      (loaded : LoadedFiles) (verdict : RulesVerdict)
+  -- the statement holds for the turns that were served, if the releases hold by the diagram, or
+  -- there is none
+  abbrev pub OfDiagram : (Is : ServerData → List DoneTurn → Type 0) (numbers : Numbers)
+      (loaded : LoadedFiles) (rules : ℕ)
       (before after : H) (old new : Writing W) (answer : Result ℕ WriteFault)
-      → ServesVerdict step acts contents asks numbers loaded verdict before after old new answer
+      → ServesDiagram step acts contents asks numbers loaded rules before after old new answer
       → Type 0
-  OfVerdict Is numbers loaded verdict before after old new answer serves =
-      InVerdict _ _ verdict serves.told serves.goes_on
-      (λ count. OfPorts Is numbers loaded count before after serves.middle new answer)
+  OfDiagram Is numbers loaded rules before after old new answer serves =
+      InPermit _ _ serves.permit serves.goes_on
+      (λ releases. OfPorts Is numbers loaded (record { rules = rules; releases = releases }) before
+      after serves.middle new answer)
 
-  -- the statement holds for the turns that were served, with rules or without
-  abbrev pub OfRules : (Is : ServerData → List DoneTurn → Type 0) (rules : Option (List ℕ))
-      (numbers : Numbers) (loaded : LoadedFiles)
+  -- the statement holds for the turns that were served, if the rules hold, or there are none
+  abbrev pub OfRules : (Is : ServerData → List DoneTurn → Type 0) (numbers : Numbers)
+      (loaded : LoadedFiles)
       (before after : H) (old new : Writing W) (answer : Result ℕ WriteFault)
-      → ServesRules step acts contents asks rules numbers loaded before after old new answer
-      → Type 0
-  OfRules Is None numbers loaded before after old new answer serves =
-      OfPorts Is numbers loaded 0 before after old new answer serves
-  OfRules Is (Some rules) numbers loaded before after old new answer serves =
-      OfVerdict Is numbers loaded serves.verdict before after old new answer serves.serves
+      → ServesRules step acts contents asks numbers loaded before after old new answer → Type 0
+  OfRules Is numbers loaded before after old new answer serves =
+      InPermit _ _ serves.permit serves.goes_on
+      (λ rules. OfDiagram Is numbers loaded rules before after serves.middle new answer)
 
   -- the statement holds for the turns that were served, if the line of the load could be written
   abbrev pub OfLoaded : (Is : ServerData → List DoneTurn → Type 0) (numbers : Numbers)
@@ -144,7 +163,7 @@ module _ {L H W : Type 0} (step : L → Call → L → Type 0) (acts : H → Hos
       → ServesLoaded step acts contents asks numbers loaded before after old new answer → Type 0
   OfLoaded Is numbers loaded before after old new answer serves =
       InLater _ _ serves.told serves.goes_on
-      (OfRules Is (rules_of loaded) numbers loaded before after serves.middle new answer)
+      (OfRules Is numbers loaded before after serves.middle new answer)
 
   -- the statement holds for the turns that were served, if the files could be read and loaded: with
   -- the octets of the bay file and of the program

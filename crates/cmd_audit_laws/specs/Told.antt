@@ -1,7 +1,7 @@
 -- The line of an audit for a rule that holds.
 use Rattle.std.specs.Fmt.{decimal}
 use Rattle.std.specs.List.{Contains}
-use Rattle.std.specs.Prelude.{ℕ, ◌≡◌, ◌⊎◌, List, slice_get, Option, Some, Ok}
+use Rattle.std.specs.Prelude.{ℕ, ◌≡◌, ◌⊎◌, List, slice_get, Option, None, Some, Ok}
 use Rattle.cmd_audit.specs.Auditing.{AuditReport}
 use Rattle.cmd_audit.specs.Text.{id_of}
 use Rattle.cmd_audit.specs.Verdicts.{PrintedHold, printed_hold}
@@ -10,7 +10,7 @@ use Rattle.bay_load.specs.Loads.{file_of}
 use Rattle.bay_load.specs.declared.load.Form.{Form}
 use Rattle.bay_replay_laws.specs.Printed.{lines_in}
 use Rattle.bay_audit_rules.specs.declared.rule.Rule.{Rule}
-use Rattle.cmd_audit_laws.specs.Audited.{ByTimer, IsAudited, Plainly}
+use Rattle.cmd_audit_laws.specs.Audited.{ByTimer, IsAudited, Plainly, octets_with}
 use Rattle.cmd_audit_laws.specs.Served.{IsFile}
 
 -- The line is that of a rule with this line in the text of rules, for this operation of the switch
@@ -26,11 +26,12 @@ pub record IsOfRule (bay : List ℕ) (form : Form) (program rules : List ℕ) (h
   pub audited : IsAudited Plainly bay form program rules rule
       ⊎ IsAudited ByTimer bay form program rules rule
 
--- Each such line of the text of an audit is that of such a rule.
+-- Each such line of the text of an audit without a diagram is that of such a rule.
 abbrev pub HoldsAreAudited : Type 0
 HoldsAreAudited =
     (bay : List ℕ) (form : Form) (program rules : List ℕ) (log : Option (List ℕ))
     (text : List ℕ) (status : ℕ) → IsFile form program
-    → AuditReport bay form program rules log text status → (line : List ℕ) (hold : PrintedHold)
+    → AuditReport form (octets_with bay program (Some rules) None) log text status
+    → (line : List ℕ) (hold : PrintedHold)
     → Contains (lines_in text) line → printed_hold line ≡ Some hold
     → IsOfRule bay form program rules hold

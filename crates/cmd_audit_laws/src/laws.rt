@@ -1,5 +1,5 @@
-// Laws of audited rules, and of small runs of commands. Each function does nothing, and its
-// contract is the law.
+// Laws of audited rules and diagrams, and of small runs of commands. Each function does nothing, and
+// its contract is the law.
 ghost use Rattle.std.specs.Prelude.{◌≡◌, ◌+◌, ℕ, true, false, List, [], ◌∷◌, None};
 ghost use Rattle.std.specs.List.{Contains};
 ghost use Rattle.bay_audit_laws.specs.Examples.{at_all_times};
@@ -11,7 +11,7 @@ ghost use Rattle.bay_mms_services.specs.declared.answer.Command.{Command};
 ghost use Rattle.bay_device.specs.Device.{State};
 ghost use Rattle.bay_device.specs.Fresh.{IsSameProcess, Past};
 ghost use Rattle.bay_device.specs.declared.event.Step.{Step};
-ghost use Rattle.cmd_audit_laws.specs.Guarded.{GuardedCommandsObey};
+ghost use Rattle.cmd_audit_laws.specs.Guarded.{GuardedCommandsAreHarmless, GuardedCommandsObey};
 ghost use Rattle.cmd_audit_laws.specs.Orders.{five_milliseconds, octets_arrived, scanned_at, server_without_clients, contact_past, with_enable_value, lost_past, server_with_client, open_command, octets_refused, scan_past, no_octets, turn_with};
 ghost use Rattle.cmd_replay.specs.History.{EachPast};
 ghost use Rattle.cmd_audit_laws.specs.Replayed.{ReplayedCommandsObey};
@@ -36,7 +36,9 @@ use bay_server_turn::link::Link;
 /// condition does not hold for what the process had last reported before these octets. If it
 /// answers that a timer establishes a rule with a time, and the rule applies to what the process
 /// had last reported, its condition had held for this time at the last scan. After each scan of a
-/// turn the interlocking values meet each rule without a time that the audit answers to hold.
+/// turn the interlocking values meet each rule without a time that the audit answers to hold. If it
+/// answers that the release of a switch and operation holds by a single line diagram, no such
+/// command is a hazard in the diagram for what the process had last reported before these octets.
 ///
 /// An image may come from anyone: it must only be a list of octets. The text of a program may be
 /// any.
@@ -59,6 +61,11 @@ pub fn served_commands_obey<F: FileSystem, L: Link, H: Host<L>, W: Sink>(
 /// applies to what the process had last reported, its condition had held for this time at the last
 /// scan before the command.
 ///
+/// A service that was started with a diagram obeys it, with no premise on an audit either. If it
+/// serves a turn, the octets that it read from the file of the diagram are a single line diagram of
+/// the bay. No command of a turn, and no such line, moves a switch of the bay in a way that is a
+/// hazard in the diagram for what the process had last reported before the octets of the client.
+///
 /// An image may come from anyone: it must only be a list of octets. The text of a program may be
 /// any.
 pub fn guarded_commands_obey<F: FileSystem, L: Link, H: Host<L>, W: Sink>(
@@ -67,8 +74,10 @@ pub fn guarded_commands_obey<F: FileSystem, L: Link, H: Host<L>, W: Sink>(
     _host: &H,
     _sink: &W,
 )
-    ensures { GuardedCommandsObey (Called L.does L.failures) H.does W.contents W.does F.reads
+    ensures rules { GuardedCommandsObey (Called L.does L.failures) H.does W.contents W.does F.reads
         F.guards }
+    ensures diagram { GuardedCommandsAreHarmless (Called L.does L.failures) H.does W.contents
+        W.does F.reads F.guards }
 {}
 
 /// The answers of an audit hold for each replay whose scenario has the same bay file and program.
@@ -76,14 +85,16 @@ pub fn guarded_commands_obey<F: FileSystem, L: Link, H: Host<L>, W: Sink>(
 /// event before which the condition did not hold for what the process had last reported. The same
 /// holds for each line `ms command id on` (or `off`) of the text that names the switch of the rule
 /// by its id. If a timer establishes a rule with a time, the commands wait for it; and each scan
-/// obeys each rule without a time that holds.
+/// obeys each rule without a time that holds. If a release holds by a diagram, each command of its
+/// switch and operation is issued by an event before which it was no hazard in the diagram, for
+/// what the process had last reported; and so for each line that names the switch.
 pub fn replayed_commands_obey()
     ensures { ReplayedCommandsObey }
 {}
 
-/// Each line `rule LINE ID OPERATION holds ..` of an audit's text is that of a rule in this line of
-/// the text of rules, for this operation of the switch with this id, for which the audit answers
-/// that it holds, or that a timer establishes it.
+/// Each line `rule LINE ID OPERATION holds ..` of the text of an audit without a diagram is that of
+/// a rule in this line of the text of rules, for this operation of the switch with this id, for
+/// which the audit answers that it holds, or that a timer establishes it.
 pub fn printed_holds_are_audited()
     ensures { HoldsAreAudited }
 {}

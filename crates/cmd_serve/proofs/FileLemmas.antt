@@ -1,5 +1,5 @@
 -- Lemmas on serving files.
-use Rattle.std.proofs.Common.{Global, Vec, ◌≡◌, ◌≤◌, ◌&&◌, ℕ, nat_le, min, Bool, true, false, if◌then◌else◌, IsErr, List, length, take, drop, Option, None, Some, Result, Ok, Err, refl, sym, subst, arith}
+use Rattle.std.proofs.Common.{◌≡◌, ◌≤◌, ◌&&◌, ℕ, nat_le, min, Bool, true, false, if◌then◌else◌, IsErr, List, length, take, drop, Option, None, Some, Result, Ok, Err, refl, sym, subst, arith}
 use Rattle.std.specs.Char.{is_ascii_hexdigit}
 use Rattle.std.specs.List.{prefix_len}
 use Rattle.std.proofs.lemmas.Bool.{and_parts}
@@ -23,11 +23,8 @@ use Rattle.bay_replay_laws.specs.ReadBack.{HaveIds}
 use Rattle.bay_server_turn.specs.Calls.{Call}
 use Rattle.bay_server.specs.Host.{HostCall}
 use Rattle.bay_server.specs.ServeReport.{Serving, ServesTurns}
-use Rattle.bay_report.specs.LogLines.{PrintsLogs}
-use Rattle.cmd_audit.specs.Judging.{VerdictReport}
-use Rattle.cmd_audit.specs.declared.judging.RulesVerdict.{RulesVerdict}
-use Rattle.cmd_audit.specs.declared.judging.RulesVerdict.TheVariants as judged
-use Rattle.cmd_serve.specs.Serve.{AfterVerdict, RunsText, key_of, ServesLoaded, ServesPorts, ServesRules, ServesRun, ServesVerdict, rules_of}
+use Rattle.cmd_serve.specs.Serve.{RunsText, key_of, ServesLoaded, ServesRun}
+use Rattle.cmd_serve.specs.declared.permit.Permit.{Permit}
 use Rattle.cmd_serve.specs.declared.serve.LoadedFiles.{LoadedFiles}
 use Rattle.cmd_serve.specs.declared.serve.Numbers.{Numbers}
 use Rattle.cmd_serve.specs.Service.{DoneTurn, IsBegun, turns_in}
@@ -73,13 +70,17 @@ text-runs Logic both s loads =
     (loaded, loaded-runs both.bay both.program s loaded)
 text-runs Image both s loads = tt
 
--- the octets of rules, as the code has them
-pub none-rules : (loaded : LoadedFiles) → loaded.rules ≡ None → rules_of loaded ≡ None
-none-rules loaded is = rw is refl
+-- a permit that fails as a write did
+pub permit-fails : (permit : Result Permit WriteFault) (fault : WriteFault) → IsErr permit
+    → permit ≡ Err fault
+permit-fails (Ok permit) fault e = absurd cc
+permit-fails (Err f) fault e = refl
 
-pub some-rules : (loaded : LoadedFiles) (rules : Vec ℕ Global) → loaded.rules ≡ Some rules
-    → rules_of loaded ≡ Some rules.items
-some-rules loaded rules is = rw is refl
+-- an answer that fails so
+pub answer-fails : (answer : Result ℕ WriteFault) (fault : WriteFault) → IsErr answer
+    → answer ≡ Err fault
+answer-fails (Ok status) fault e = absurd cc
+answer-fails (Err f) fault e = refl
 
 module _ {L H W : Type 0} (step : L → Call → L → Type 0) (acts : H → HostCall L → H → Type 0)
     (contents : W → Option (List ℕ)) (asks : W → WriteCall → W → Type 0) where
@@ -106,17 +107,6 @@ module _ {L H W : Type 0} (step : L → Call → L → Type 0) (acts : H → Hos
             host new answer serves begun supervised;
       }
 
-  -- a service by the rules that were read
-  pub by-rules : (rules : Option (List ℕ)) (numbers : Numbers) (loaded : LoadedFiles)
-      (before after : H) (old new : Writing W) (answer : Result ℕ WriteFault)
-      → rules_of loaded ≡ rules
-      → ServesRules step acts contents asks rules numbers loaded before after old new answer
-      → ServesRules step acts contents asks (rules_of loaded) numbers loaded before after old new
-      answer
-  by-rules rules numbers loaded before after old new answer is serves =
-      subst (λ (r : Option (List ℕ)). ServesRules step acts contents asks r numbers loaded before
-      after old new answer) (sym is) serves
-
   -- the line of a load could not be written
   pub line-fails : (numbers : Numbers) (loaded : LoadedFiles) (report : Report)
       → IsReport loaded.load.image report → (host : H) (old middle : Writing W)
@@ -133,27 +123,3 @@ module _ {L H W : Type 0} (step : L → Call → L → Type 0) (acts : H → Hos
     printed = printed;
     goes_on = (refl, refl, refl);
   }
-
-  -- a verdict could not be written
-  pub verdict-fails : (numbers : Numbers) (loaded : LoadedFiles) (verdict : RulesVerdict) (host : H)
-      (old middle : Writing W) (fault : WriteFault)
-      → PrintsLogs contents asks (VerdictReport verdict) old middle (Err fault)
-      → (answer : Result ℕ WriteFault) → IsErr answer
-      → ServesVerdict step acts contents asks numbers loaded verdict host host old middle answer
-  verdict-fails numbers loaded verdict host old middle fault printed (Ok n) e = absurd cc
-  verdict-fails numbers loaded verdict host old middle fault printed (Err f) e = record {
-    middle = middle;
-    told = Err f;
-    printed = printed;
-    goes_on = ends verdict;
-  }
-    where
-      ends : (v : RulesVerdict) → AfterVerdict v (Err f)
-          ((middle ≡ middle) × (host ≡ host)
-          × ((let r : Result ℕ WriteFault = Err f in r) ≡ Err f))
-          (λ count. ServesPorts step acts contents asks numbers loaded count host host middle middle
-          (Err f))
-      ends (judged.Hold count) = (refl, refl, refl)
-      ends (judged.Unproved text) = (refl, refl, refl)
-      ends (judged.Refused why) = (refl, refl, refl)
-      ends judged.OutOfMemory = (refl, refl, refl)

@@ -3,8 +3,9 @@
 --
 -- `Serve` is the main file: files are read and loaded, the line of the load is printed, the ports
 -- are opened, and turns are served, which are one run of the device; if one of these fails, it
--- defines what is printed, and nothing more is done. If rules are named, they are judged before any
--- port is opened. `Sums`: what is logged of the files that are served.
+-- defines what is printed, and nothing more is done. If rules or a diagram are named, they are
+-- judged before any port is opened. `Permits`: whether the service goes on after that. `Sums`: what
+-- is logged of the files that are served.
 --
 -- `Service`: the turns that were served, one after the other, and all events of the device in them
 -- since load, which are one run of it. `Orders`: the request, the answer and the scan of each
@@ -23,7 +24,9 @@ pub use Rattle.bay_files.specs.Keys
 pub use Rattle.bay_process_port.specs.Ports
 pub use Rattle.bay_process_port.specs.Supervision
 pub use Rattle.bay_process_port.specs.Supervised
+pub use Rattle.cmd_audit.specs.Auditing
 pub use Rattle.cmd_audit.specs.Judging
+pub use Rattle.cmd_audit.specs.JudgingDiagram
 pub use Rattle.cmd_replay.specs.History
 pub use Rattle.bay_load.specs.Loads
 pub use Rattle.bay_report.specs.Report
@@ -39,6 +42,7 @@ pub use Rattle.bay_server.specs.ServeReport
 -- Its own definitions.
 pub mod Live
 pub mod Orders
+pub mod Permits
 pub mod Serve
 pub mod Service
 pub mod Sums

@@ -1,5 +1,5 @@
--- The command `serve`: files are read and loaded, rules are judged, ports are opened, and turns are
--- served.
+-- The command `serve`: files are read and loaded, rules and a diagram are judged, ports are opened,
+-- and turns are served.
 use Rattle.bay_io.specs.Calls.{WriteCall}
 use Rattle.std.specs.declared.io.ErrorKind.{ErrorKind}
 use Rattle.std.specs.Prelude.{◌≡◌, ℕ, true, is_err, is_some, List, ◌∷◌, ◌++◌, replicate, option_map, codes, MatchResult, Bool, Option, None, Some, Result, Ok, Err, ◌⊎◌, [], unwrap_or}
@@ -7,7 +7,7 @@ use Rattle.bay_device.specs.Device.{State}
 use Rattle.bay_device.specs.Load.{IsLoaded, device_of}
 use Rattle.bay_device.specs.Meaning.{Runs}
 use Rattle.bay_device.specs.Outcomes.{associations}
-use Rattle.bay_files.specs.Files.{FileGuards, FileReads, FilesData, ReadsBoth, ReadsFile, ReadsNamed, UnreadData, unread_view}
+use Rattle.bay_files.specs.Files.{FileGuards, FileReads, FilesData, ReadsBoth, ReadsNamed, unread_view}
 use Rattle.bay_files.specs.Keys.{ReadsNamedKey, keyless_view}
 use Rattle.bay_files.specs.declared.key.KeyFault.{KeyFault}
 use Rattle.bay_files.specs.declared.key.KeyFault.TheVariants as keyless
@@ -36,11 +36,10 @@ use Rattle.bay_server.specs.RecordLine.{room_log}
 use Rattle.bay_server.specs.ServeReport.{AfterTurn, ProcessData, Serving, ServesTurns, numbered_lines}
 use Rattle.bay_server.specs.declared.clock.Clocks.{Clocks}
 use Rattle.bay_server.specs.declared.host.BindFault.{BindFault}
-use Rattle.cmd_audit.specs.Judging.{IsVerdictOn, VerdictReport}
-use Rattle.cmd_audit.specs.declared.judging.RulesVerdict.{RulesVerdict}
-use Rattle.cmd_audit.specs.declared.judging.RulesVerdict.TheVariants as judged
+use Rattle.cmd_audit.specs.Auditing.{ReadsOptional}
 use Rattle.cmd_serve.specs.Live.{CommandsLive, IsSupervised}
 use Rattle.cmd_serve.specs.Orders.{AreOrdered}
+use Rattle.cmd_serve.specs.Permits.{AfterPermit, WritesOnDiagram, WritesOnRules}
 use Rattle.cmd_serve.specs.Service.{DoneTurn, IsService, turns_in}
 use Rattle.cmd_serve.specs.Sums.{sums_log}
 use Rattle.cmd_serve.specs.Texts.{ArePrinted}
@@ -49,11 +48,13 @@ use Rattle.cmd_serve.specs.declared.serve.LoadedFiles.{LoadedFiles}
 use Rattle.cmd_serve.specs.declared.serve.NamedFiles.{NamedFiles}
 use Rattle.cmd_serve.specs.declared.serve.Numbers.{Numbers}
 use Rattle.cmd_serve.specs.declared.serve.ServeStartFault.{ServeStartFault}
+use Rattle.cmd_serve.specs.declared.permit.Permit.{Permit}
+use Rattle.cmd_serve.specs.declared.sums.HeldCounts.{HeldCounts}
 use Rattle.cmd_serve.specs.declared.sums.ServedFiles.{ServedFiles}
 use Rattle.cmd_serve.specs.declared.serve.ServeStartFault.TheVariants as unserved
 
--- the names of the command's files: the bay, a program or an image, and the trace, the key and the
--- rules, if they were given
+-- the names of the command's files: the bay, a program or an image, and the trace, the key, the
+-- rules and the diagram, if they were given
 pub record FileNames : Type 0 where
   pub bay : List ℕ
   pub form : Form
@@ -61,6 +62,7 @@ pub record FileNames : Type 0 where
   pub trace : Option (List ℕ)
   pub key : Option (List ℕ)
   pub rules : Option (List ℕ)
+  pub diagram : Option (List ℕ)
 
 -- the names of the command's files, as the code has them
 abbrev pub names_of : NamedFiles → FileNames
@@ -71,6 +73,7 @@ names_of named = record {
   trace = text_in named.trace;
   key = text_in named.key;
   rules = text_in named.rules;
+  diagram = text_in named.diagram;
 }
 
 -- a file without a key: the log line, the text and the status
@@ -133,28 +136,17 @@ abbrev pub data_of : LoadedFiles → FilesData
 data_of loaded =
     record { bay = loaded.both.bay.items; program = loaded.both.program.items }
 
--- the octets of the rules, if they were named
-abbrev pub rules_of : LoadedFiles → Option (List ℕ)
-rules_of loaded = option_map (λ rules. rules.items) loaded.rules
-
--- the file of the rules was read, if it was named
-abbrev pub ReadsRules : {F : Type 0} → FileReads F → F → Option (List ℕ)
-    → Result (Option (List ℕ)) UnreadData → Type 0
-ReadsRules reads files None read = read ≡ Ok None
-ReadsRules reads files (Some name) (Ok None) = ⊥
-ReadsRules reads files (Some name) (Ok (Some rules)) = ReadsFile reads files name (Ok rules)
-ReadsRules reads files (Some name) (Err unread) = ReadsFile reads files name (Err unread)
-
--- The files were read: the bay and the program or the image, then the trace, the key and the rules,
--- if they were named. Their contents were loaded; or one could not be read, or had no key, or the
--- load was refused.
+-- The files were read: the bay and the program or the image, then the trace, the key, the rules and
+-- the diagram, if they were named. Their contents were loaded; or one could not be read, or had no
+-- key, or the load was refused.
 abbrev pub LoadsFiles : {F : Type 0} → FileReads F → FileGuards F → F → FileNames
     → Result LoadedFiles ServeStartFault → Type 0
 LoadsFiles reads guards files named (Ok loaded) =
     ReadsBoth reads files named.bay named.program (Ok (data_of loaded))
     × ReadsNamed reads files named.trace (Ok loaded.trace.items)
     × ReadsNamedKey guards files named.key (Ok (option_map (λ key. key.items) loaded.key))
-    × ReadsRules reads files named.rules (Ok (rules_of loaded))
+    × ReadsOptional reads files named.rules (Ok loaded.rules)
+    × ReadsOptional reads files named.diagram (Ok loaded.diagram)
     × (loaded.form ≡ named.form)
     × LoadsTo loaded.both.bay.items named.form loaded.both.program.items (Ok loaded.load)
     × RunsText named.form (data_of loaded) (state_of loaded)
@@ -164,7 +156,9 @@ LoadsFiles reads guards files named (Err (unserved.Unread unread)) =
     × (ReadsNamed reads files named.trace (Err (unread_view unread))
     ⊎ ((trace : List ℕ) × ReadsNamed reads files named.trace (Ok trace)
     × ((key : Option (List ℕ)) × ReadsNamedKey guards files named.key (Ok key)
-    × ReadsRules reads files named.rules (Err (unread_view unread))))))
+    × (ReadsOptional reads files named.rules (Err (unread_view unread))
+    ⊎ ((rules : Option (List ℕ)) × ReadsOptional reads files named.rules (Ok rules)
+    × ReadsOptional reads files named.diagram (Err (unread_view unread))))))))
 LoadsFiles reads guards files named (Err (unserved.KeyFileFault none)) =
     (both : FilesData) × ReadsBoth reads files named.bay named.program (Ok both)
     × ((trace : List ℕ) × ReadsNamed reads files named.trace (Ok trace)
@@ -173,8 +167,9 @@ LoadsFiles reads guards files named (Err (unserved.Refused error)) =
     (both : FilesData) × ReadsBoth reads files named.bay named.program (Ok both)
     × ((trace : List ℕ) × ReadsNamed reads files named.trace (Ok trace)
     × ((key : Option (List ℕ)) × ReadsNamedKey guards files named.key (Ok key)
-    × ((rules : Option (List ℕ)) × ReadsRules reads files named.rules (Ok rules)
-    × MayLoadTo both.bay named.form both.program (Err error))))
+    × ((rules : Option (List ℕ)) × ReadsOptional reads files named.rules (Ok rules)
+    × ((diagram : Option (List ℕ)) × ReadsOptional reads files named.diagram (Ok diagram)
+    × MayLoadTo both.bay named.form both.program (Err error)))))
 LoadsFiles reads guards files named (Err _) = ⊥
 
 -- ---- ports
@@ -243,18 +238,15 @@ start_log now numbers served =
     ports_log now numbers.port numbers.process ∷ room_log now numbers.record_most
     ++ sums_log now served
 
--- the files that are served, with the number of their rules
-abbrev pub served_of : LoadedFiles → ℕ → ServedFiles
-served_of loaded count =
-    record { form = loaded.form; both = loaded.both; rules = loaded.rules; count = count }
-
--- what follows after a verdict was printed: the service, with the number of the rules, if each rule
--- holds and the number could be written; otherwise nothing
-abbrev pub AfterVerdict : RulesVerdict → Result ℕ WriteFault → Type 0 → (ℕ → Type 0) → Type 0
-AfterVerdict (judged.Hold count) told ends goes = AfterTurn told ends (goes count)
-AfterVerdict (judged.Unproved text) told ends goes = ends
-AfterVerdict (judged.Refused fault) told ends goes = ends
-AfterVerdict judged.OutOfMemory told ends goes = ends
+-- the files that are served, with the numbers of the rules and of the releases that hold
+abbrev pub served_of : LoadedFiles → HeldCounts → ServedFiles
+served_of loaded held = record {
+  form = loaded.form;
+  both = loaded.both;
+  rules = loaded.rules;
+  diagram = loaded.diagram;
+  held = held;
+}
 
 module _ {L H W : Type 0} (step : L → Call → L → Type 0) (acts : H → HostCall L → H → Type 0)
     (contents : W → Option (List ℕ)) (asks : W → WriteCall → W → Type 0) where
@@ -293,46 +285,51 @@ module _ {L H W : Type 0} (step : L → Call → L → Type 0) (acts : H → Hos
         lines = numbered_lines 1 (lines_of trace);
       }) mid new after answer
 
-  -- the ports are opened, and the device is served, with this number of rules; or it is reported
-  -- why no turn is served
-  pub record ServesPorts (numbers : Numbers) (loaded : LoadedFiles) (count : ℕ) (before after : H)
-      (old new : Writing W) (answer : Result ℕ WriteFault) : Type 0 where
+  -- the ports are opened, and the device is served, with these numbers of rules and releases that
+  -- hold; or it is reported why no turn is served
+  pub record ServesPorts (numbers : Numbers) (loaded : LoadedFiles) (held : HeldCounts)
+      (before after : H) (old new : Writing W) (answer : Result ℕ WriteFault) : Type 0 where
     pub bound : Result (Bound L) ServeStartFault
     pub host : H
     pub binds : BindsPorts acts numbers
         (settings_of numbers.limit_ms (key_of (option_map (λ digits. digits.items) loaded.key)))
         (state_of loaded) before host bound
     pub goes_on : MatchResult bound
-        (λ ports. ServesBound numbers (served_of loaded count) ports loaded.trace.items host after
+        (λ ports. ServesBound numbers (served_of loaded held) ports loaded.trace.items host after
         old new answer)
         (λ why. EndsUnserved contents asks why old new answer × (after ≡ host))
 
-  -- A verdict on the rules is printed. The ports are opened and served only if each rule holds;
-  -- otherwise nothing more is done.
-  pub record ServesVerdict (numbers : Numbers) (loaded : LoadedFiles) (verdict : RulesVerdict)
-      (before after : H) (old new : Writing W) (answer : Result ℕ WriteFault) : Type 0 where
+  -- A verdict is printed. What follows it is done only if the permit is granted; otherwise nothing
+  -- more is done.
+  pub record ServesPermitted (Writes : Writing W → Writing W → Result Permit WriteFault → Type 0)
+      (Goes : ℕ → Writing W → Type 0) (before after : H) (old new : Writing W)
+      (answer : Result ℕ WriteFault) : Type 0 where
+    pub permit : Result Permit WriteFault
     pub middle : Writing W
-    pub told : Result ℕ WriteFault
-    pub printed : PrintsLogs contents asks (VerdictReport verdict) old middle told
-    pub goes_on : AfterVerdict verdict told ((new ≡ middle) × (after ≡ before) × (answer ≡ told))
-        (λ count. ServesPorts numbers loaded count before after middle new answer)
+    pub writes : Writes old middle permit
+    pub goes_on : AfterPermit permit
+        (λ told. (new ≡ middle) × (after ≡ before) × (answer ≡ told))
+        (λ count. Goes count middle)
 
-  -- the rules are judged for the program that was loaded, and served by the verdict
-  pub record ServesJudged (numbers : Numbers) (loaded : LoadedFiles) (rules : List ℕ)
-      (before after : H) (old new : Writing W) (answer : Result ℕ WriteFault) : Type 0 where
-    pub verdict : RulesVerdict
-    pub is : IsVerdictOn loaded.load rules verdict
-    pub serves : ServesVerdict numbers loaded verdict before after old new answer
-
-  -- the ports are served, after the rules are judged, if they were named
-  abbrev pub ServesRules : Option (List ℕ) → Numbers → LoadedFiles → H → H → Writing W → Writing W
+  -- the releases are judged by the diagram, if one was named, and then the ports are served
+  abbrev pub ServesDiagram : Numbers → LoadedFiles → ℕ → H → H → Writing W → Writing W
       → Result ℕ WriteFault → Type 0
-  ServesRules None numbers loaded before after old new answer =
-      ServesPorts numbers loaded 0 before after old new answer
-  ServesRules (Some rules) numbers loaded before after old new answer =
-      ServesJudged numbers loaded rules before after old new answer
+  ServesDiagram numbers loaded rules before after old new answer =
+      ServesPermitted (WritesOnDiagram contents asks loaded.load loaded.diagram)
+      (λ releases middle. ServesPorts numbers loaded
+      (record { rules = rules; releases = releases }) before after middle new answer) before after
+      old new answer
 
-  -- the line of a load is printed, and then the rules are judged and the ports are served
+  -- the rules are judged, if they were named, and then the diagram
+  abbrev pub ServesRules : Numbers → LoadedFiles → H → H → Writing W → Writing W
+      → Result ℕ WriteFault → Type 0
+  ServesRules numbers loaded before after old new answer =
+      ServesPermitted (WritesOnRules contents asks loaded.load loaded.rules)
+      (λ rules middle. ServesDiagram numbers loaded rules before after middle new answer) before
+      after old new answer
+
+  -- the line of a load is printed, then the rules and the diagram are judged, and the ports are
+  -- served
   pub record ServesLoaded (numbers : Numbers) (loaded : LoadedFiles) (before after : H)
       (old new : Writing W) (answer : Result ℕ WriteFault) : Type 0 where
     pub report : Report
@@ -341,7 +338,7 @@ module _ {L H W : Type 0} (step : L → Call → L → Type 0) (acts : H → Hos
     pub told : Result ℕ WriteFault
     pub printed : Prints contents asks (IsLast (report_text report) 0) old middle told
     pub goes_on : AfterTurn told ((new ≡ middle) × (after ≡ before) × (answer ≡ told))
-        (ServesRules (rules_of loaded) numbers loaded before after middle new answer)
+        (ServesRules numbers loaded before after middle new answer)
 
   -- Files are read and loaded, and their contents are served; or it is reported why no turn is
   -- served.

@@ -1,6 +1,6 @@
 -- The log lines of the files that are served, each with its sum: the SHA-256 of its octets (FIPS
 -- 180-4 6.2), in 64 hexadecimal digits.
-use Rattle.std.specs.Prelude.{ℕ, List, [], ◌∷◌, codes, Option, None, Some, option_map}
+use Rattle.std.specs.Prelude.{ℕ, List, [], ◌∷◌, ◌++◌, codes, Option, None, Some}
 use Rattle.std.specs.Fmt.{decimal}
 use Rattle.bay_io.specs.Moments.{utc_text}
 use Rattle.bay_load.specs.declared.load.Form.{Form}
@@ -20,16 +20,18 @@ abbrev pub program_words : Form → List ℕ
 program_words Logic = codes " program SHA-256 "
 program_words Image = codes " image SHA-256 "
 
--- the line of the rules, if they were named, with their number
-abbrev pub rules_log : ℕ → Option (List ℕ) → ℕ → List (List ℕ)
-rules_log now None count = []
-rules_log now (Some rules) count =
-    concat (utc_text now ∷ codes " rules SHA-256 " ∷ encode_lower (sha256 rules) ∷ codes ", "
-    ∷ decimal count ∷ codes " hold\n" ∷ []) ∷ []
+-- the line of rules or of a diagram, if they were named: words, the sum, and how many rules or
+-- releases hold
+abbrev pub held_log : ℕ → List ℕ → Option (List ℕ) → ℕ → List (List ℕ)
+held_log now words None count = []
+held_log now words (Some octets) count =
+    concat (utc_text now ∷ words ∷ encode_lower (sha256 octets) ∷ codes ", " ∷ decimal count
+    ∷ codes " hold\n" ∷ []) ∷ []
 
 -- the line of each file that is served
 abbrev pub sums_log : ℕ → ServedFiles → List (List ℕ)
 sums_log now served =
     sum_line now (codes " bay SHA-256 ") served.both.bay.items
     ∷ sum_line now (program_words served.form) served.both.program.items
-    ∷ rules_log now (option_map (λ rules. rules.items) served.rules) served.count
+    ∷ held_log now (codes " rules SHA-256 ") served.rules served.held.rules
+    ++ held_log now (codes " diagram SHA-256 ") served.diagram served.held.releases

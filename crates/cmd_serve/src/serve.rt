@@ -1,20 +1,19 @@
 // Reads, loads and serves files.
 ghost use Rattle.std.specs.Prelude.{◌≡◌, None, Some, Ok, Err, false, is_some, replicate, IfErr, IfOk, ◌≤◌, length, option_map};
 ghost use Rattle.bay_device.specs.Load.{device_of};
-ghost use Rattle.bay_files.specs.Files.{unread_view};
 ghost use Rattle.bay_device.specs.Outcomes.{associations};
 ghost use Rattle.bay_report.specs.LogLines.{PrintsLogs};
-ghost use Rattle.cmd_serve.specs.Serve.{BindsPorts, BindsProcess, EndsUnserved, IsBound, IsRecordFault, KeylessReport, LoadsFiles, ReadsRules, ServesBound, ServesFiles, ServesLoaded, ServesPorts, ServesVerdict, Unrecorded, UnservedReport, settings_of, key_of, made_of, names_of, state_of};
+ghost use Rattle.cmd_serve.specs.Serve.{BindsPorts, BindsProcess, EndsUnserved, IsBound, IsRecordFault, KeylessReport, LoadsFiles, ServesBound, ServesFiles, ServesLoaded, ServesPorts, Unrecorded, UnservedReport, settings_of, key_of, made_of, names_of, state_of};
 ghost use Rattle.cmd_serve.specs.declared.serve.ServeStartFault.TheVariants as unserved;
 ghost use Rattle.bay_replay_laws.specs.ReadBack.{HaveIds};
 ghost use Rattle.bay_server_turn.specs.Calls.{Called};
 ghost use Rattle.cmd_serve.specs.Service.{IsBegun};
 
-use crate::sums::{ServedFiles, log_sums};
+use crate::permit::{Permit, prove_diagram, prove_rules};
+use crate::sums::{HeldCounts, ServedFiles, log_sums};
+use bay_base::listing::Listing;
 use bay_device::device::Device;
-use bay_files::files::{
-    BothFiles, FileFault, FileSystem, UnreadFile, read_file, read_files, read_optional,
-};
+use bay_files::files::{BothFiles, FileFault, FileSystem, UnreadFile, read_files, read_optional};
 use bay_files::key::{KeyFault, KeyFileFault, read_key};
 use bay_io::calls::{LinePart, Sink};
 use bay_io::outbox::WriteFault;
@@ -37,7 +36,7 @@ use bay_server::serving::serve_turns;
 use bay_server_turn::link::Link;
 use bay_server_turn::record::Record;
 use bay_server_turn::server::Server;
-use cmd_audit::judging::{RulesVerdict, judge_rules, write_verdict};
+use cmd_audit::audit_files::read_named;
 use std::alloc::{AllocError, AllocFailed, Global};
 use std::io::ErrorKind;
 
@@ -57,7 +56,8 @@ pub struct Numbers {
 }
 
 /// The names of the files of a service: the bay, a program or an image, the trace of the process,
-/// the key that the process must send, and the rules that must hold.
+/// the key that the process must send, the rules that must hold, and the single line diagram in
+/// which no release may be a hazard.
 #[derive(Clone, Copy)]
 pub struct NamedFiles<'a> {
     pub bay: &'a str,
@@ -66,15 +66,17 @@ pub struct NamedFiles<'a> {
     pub trace: Option<&'a str>,
     pub key: Option<&'a str>,
     pub rules: Option<&'a str>,
+    pub diagram: Option<&'a str>,
 }
 
 /// The contents of the files: a bay file and a program or an image, what was loaded of them, a
-/// trace, and a key and rules, if there are some.
+/// trace, and a key, rules and a diagram, if there are some.
 #[derive(Drop)]
 pub struct LoadedFiles {
     form: Form,
     both: BothFiles,
-    rules: Option<Vec<u8>>,
+    rules: Option<Listing<u8>>,
+    diagram: Option<Listing<u8>>,
     load: Loaded,
     trace: Vec<u8>,
     key: Option<Vec<u8>>,
@@ -205,27 +207,8 @@ fn report_unserved<W: Sink>(
     }
 }
 
-// Reads the file of the rules, if there is a name.
-fn read_rules<'a, F: FileSystem>(
-    alloc: Global,
-    files: &F,
-    name: Option<&'a str>,
-) -> Result<Option<Vec<u8>>, UnreadFile<'a>>
-    ensures ok { IfOk result
-        (λ rules. ReadsRules F.reads files.now (option_map (λ n. n.now) name.entry)
-        (Ok (option_map (λ r. r.items) rules))) }
-    ensures err { IfErr result
-        (λ unread. ReadsRules F.reads files.now (option_map (λ n. n.now) name.entry)
-        (Err (unread_view unread))) }
-{
-    match name {
-        Some(name) => Ok(Some(read_file(alloc, files, name)?)),
-        None => Ok(None),
-    }
-}
-
-// Reads the bay, then the program or the image, then the trace, the key and the rules, if they are
-// named, and loads them.
+// Reads the bay, then the program or the image, then the trace, the key, the rules and the diagram,
+// if they are named, and loads them.
 fn read_and_load<'a, F: FileSystem>(
     alloc: Global,
     named: NamedFiles<'a>,
@@ -243,7 +226,8 @@ fn read_and_load<'a, F: FileSystem>(
     let both = read_files(alloc, files, named.bay, named.program)?;
     let trace = read_optional(alloc, files, named.trace)?;
     let key = read_key(alloc, files, named.key)?;
-    let rules = read_rules(alloc, files, named.rules)?;
+    let rules = read_named(alloc, files, named.rules)?;
+    let diagram = read_named(alloc, files, named.diagram)?;
     let load = load_files(
         alloc,
         both.bay.as_slice(),
@@ -254,6 +238,7 @@ fn read_and_load<'a, F: FileSystem>(
         form: named.form,
         both,
         rules,
+        diagram,
         load,
         trace,
         key,
@@ -447,11 +432,12 @@ fn serve_bound<L: Link + Drop, H: Host<L>, W: Sink>(
     )
 }
 
-// Opens the ports, starts the record, and serves, with this number of rules.
+// Opens the ports, starts the record, and serves, with these numbers of rules and releases that
+// hold.
 fn serve_ports<F: FileSystem, L: Link + Drop, H: Host<L>, W: Sink>(
     alloc: Global,
     loaded: LoadedFiles,
-    count: usize,
+    held: HeldCounts,
     record_file: Option<&str>,
     files: &mut F,
     host: &mut H,
@@ -463,13 +449,14 @@ fn serve_ports<F: FileSystem, L: Link + Drop, H: Host<L>, W: Sink>(
     requires named { HaveIds loaded.load.bay.switches }
     requires short { length (key_of (option_map (λ digits. digits.items) loaded.key)) ≤ 64 }
     ensures serves { ServesPorts (Called L.does L.failures) H.does W.contents W.does numbers loaded
-        count host.old host.new writer.old writer.new result }
+        held host.old host.new writer.old writer.new result }
     ensures files { is_some numbers.record_most ≡ false → files.new ≡ files.old }
 {
     let LoadedFiles {
         form,
         both,
         rules,
+        diagram,
         load,
         trace,
         key,
@@ -478,7 +465,8 @@ fn serve_ports<F: FileSystem, L: Link + Drop, H: Host<L>, W: Sink>(
         form,
         both,
         rules,
-        count,
+        diagram,
+        held,
     };
     let duties = settings_by(numbers.limit_ms, key_octets(&key));
     match bind_ports(alloc, load, host, numbers, duties, record_file, files) {
@@ -487,46 +475,8 @@ fn serve_ports<F: FileSystem, L: Link + Drop, H: Host<L>, W: Sink>(
     }
 }
 
-// Judges rules for the device and writes the verdict; serves only if each rule holds.
-fn serve_judged<F: FileSystem, L: Link + Drop, H: Host<L>, W: Sink>(
-    alloc: Global,
-    loaded: LoadedFiles,
-    verdict: RulesVerdict,
-    record_file: Option<&str>,
-    files: &mut F,
-    host: &mut H,
-    numbers: Numbers,
-    writer: &mut WatchedWriter<W>,
-) -> Result<u8, WriteFault>
-    requires records { is_some numbers.record_most ≡ is_some record_file }
-    requires begun { IsBegun (made_of (state_of loaded)) }
-    requires named { HaveIds loaded.load.bay.switches }
-    requires short { length (key_of (option_map (λ digits. digits.items) loaded.key)) ≤ 64 }
-    ensures serves { ServesVerdict (Called L.does L.failures) H.does W.contents W.does numbers
-        loaded
-        verdict host.old host.new writer.old writer.new result }
-    ensures files { is_some numbers.record_most ≡ false → files.new ≡ files.old }
-{
-    let status = write_verdict(writer, &verdict)?;
-    match verdict {
-        RulesVerdict::Hold(count) => serve_ports(
-            alloc,
-            loaded,
-            count,
-            record_file,
-            files,
-            host,
-            numbers,
-            writer,
-        ),
-        RulesVerdict::Unproved(_) => Ok(status),
-        RulesVerdict::Refused(_) => Ok(status),
-        RulesVerdict::OutOfMemory => Ok(status),
-    }
-}
-
-// Writes the line of a load, judges the rules, if there are some, opens the ports, starts the
-// record, and serves.
+// Writes the line of a load, judges the rules and then the diagram, if there are some, opens the
+// ports, starts the record, and serves; only if each rule and each release holds.
 fn serve_loaded<F: FileSystem, L: Link + Drop, H: Host<L>, W: Sink>(
     alloc: Global,
     loaded: LoadedFiles,
@@ -545,14 +495,21 @@ fn serve_loaded<F: FileSystem, L: Link + Drop, H: Host<L>, W: Sink>(
     ensures files { is_some numbers.record_most ≡ false → files.new ≡ files.old }
 {
     write_report(writer, loaded.load.report())?;
-    let verdict = match &loaded.rules {
-        Some(rules) => judge_rules(alloc, &loaded.load, rules.as_slice()),
-        None => return serve_ports(alloc, loaded, 0, record_file, files, host, numbers, writer),
+    let permit = prove_rules(alloc, &loaded.load, &loaded.rules, writer)?;
+    let rules = match permit {
+        Permit::Granted(count) => count,
+        Permit::Denied(status) => return Ok(status),
     };
-    serve_judged(
+    let drawn = prove_diagram(alloc, &loaded.load, &loaded.diagram, writer)?;
+    let releases = match drawn {
+        Permit::Granted(count) => count,
+        Permit::Denied(status) => return Ok(status),
+    };
+    let held = HeldCounts { rules, releases };
+    serve_ports(
         alloc,
         loaded,
-        verdict,
+        held,
         record_file,
         files,
         host,
@@ -562,14 +519,16 @@ fn serve_loaded<F: FileSystem, L: Link + Drop, H: Host<L>, W: Sink>(
 }
 
 /// Serves files by their names. Reads the bay, then the program or the image, then the trace, the
-/// key and the rules; loads them and writes the line of the load; judges the rules, if there are
-/// some, for the program that the device runs, and writes `rules COUNT`; opens the port for
-/// clients, and then that of the process, if there is one; creates the file of the record, if the
-/// session is recorded; and serves the given number of turns. Opens no port if a rule does not
-/// hold. Logs the ports, the record's room and the SHA-256 of each file that is served, or why no
-/// turn is served. Returns the exit status: 0 after the last turn, 1 if the load or the rules are
-/// refused, 4 if a rule does not hold, and 3 for any other fault. Fails if a write or a flush
-/// fails, or if the file of the record can't be created.
+/// key, the rules and the diagram; loads them and writes the line of the load; judges the rules, if
+/// there are some, for the program that the device runs, and writes `rules COUNT`; judges each
+/// release by the diagram, if there is one, and writes `diagram COUNT`; opens the port for clients,
+/// and then that of the process, if there is one; creates the file of the record, if the session is
+/// recorded; and serves the given number of turns. Opens no port if a rule does not hold, or a
+/// release is not proved harmless. Logs the ports, the record's room and the SHA-256 of each file
+/// that is served, or why no turn is served. Returns the exit status: 0 after the last turn, 1 if
+/// the load, the rules or the diagram are refused, 4 if a rule or a release does not hold, and 3
+/// for any other fault. Fails if a write or a flush fails, or if the file of the record can't be
+/// created.
 ///
 /// All turns are one run of the device, from load on. For each command that a turn reports, and so
 /// for each line that is printed, or sent to the process, and is read as a command: the octets of a

@@ -1,25 +1,34 @@
 // The log lines of the files that are served, with the SHA-256 of each.
-ghost use Rattle.std.specs.Prelude.{◌≡◌, Some, codes, option_map};
+ghost use Rattle.std.specs.Prelude.{◌≡◌, Some, codes};
 ghost use Rattle.hex.specs.Hex.{encode_lower};
 ghost use Rattle.sha2.specs.Sha256.{sha256};
 ghost use Rattle.bay_io.specs.Sent.{Logs};
 ghost use Rattle.bay_server.specs.Logging.{LogsAll};
-ghost use Rattle.cmd_serve.specs.Sums.{program_words, rules_log, sum_line, sums_log};
+ghost use Rattle.cmd_serve.specs.Sums.{held_log, program_words, sum_line, sums_log};
 
+use bay_base::listing::Listing;
 use bay_files::files::BothFiles;
 use bay_io::calls::{LinePart, Sink};
 use bay_io::writer::WatchedWriter;
 use bay_load::load::Form;
 use sha2::{Digest, Sha256};
 
-/// The octets of the files that are served: a bay file, a program or an image, and rules, if there
-/// are some, with the number of rules in them.
+/// How many rules and how many releases hold: 0 of what is not named.
+#[derive(Clone, Copy)]
+pub struct HeldCounts {
+    pub rules: usize,
+    pub releases: usize,
+}
+
+/// The octets of the files that are served: a bay file, a program or an image, and rules and a
+/// diagram, if there are some, with the numbers of the rules and of the releases that hold.
 #[derive(Drop)]
 pub struct ServedFiles {
     pub form: Form,
     pub both: BothFiles,
-    pub rules: Option<Vec<u8>>,
-    pub count: usize,
+    pub rules: Option<Listing<u8>>,
+    pub diagram: Option<Listing<u8>>,
+    pub held: HeldCounts,
 }
 
 // Returns the SHA-256 of octets in hexadecimal digits.
@@ -72,11 +81,11 @@ fn log_program<W: Sink>(writer: &mut WatchedWriter<W>, moment: u64, form: Form, 
 fn log_rules<W: Sink>(
     writer: &mut WatchedWriter<W>,
     moment: u64,
-    rules: &Option<Vec<u8>>,
+    rules: &Option<Listing<u8>>,
     count: usize,
 )
     ensures { LogsAll W.contents W.does writer.old
-        (rules_log moment (option_map (λ r. r.items) rules.now) count) writer.new }
+        (held_log moment (codes " rules SHA-256 ") rules.now count) writer.new }
 {
     let Some(rules) = rules else {
         return;
@@ -92,11 +101,37 @@ fn log_rules<W: Sink>(
     ]);
 }
 
-/// Logs the SHA-256 of each file that is served, and the number of the rules, if there are rules.
+// Logs the sum of the diagram and the number of the releases, if there is a diagram.
+fn log_diagram<W: Sink>(
+    writer: &mut WatchedWriter<W>,
+    moment: u64,
+    diagram: &Option<Listing<u8>>,
+    count: usize,
+)
+    ensures { LogsAll W.contents W.does writer.old
+        (held_log moment (codes " diagram SHA-256 ") diagram.now count) writer.new }
+{
+    let Some(diagram) = diagram else {
+        return;
+    };
+    let digits = sum_digits(diagram.as_slice());
+    writer.log(&[
+        LinePart::Moment(moment),
+        LinePart::Text(b" diagram SHA-256 "),
+        LinePart::Text(&digits),
+        LinePart::Text(b", "),
+        LinePart::Number(count as u64),
+        LinePart::Text(b" hold\n"),
+    ]);
+}
+
+/// Logs the SHA-256 of each file that is served, and the numbers of the rules and of the releases
+/// that hold, if there are rules and a diagram.
 pub fn log_sums<W: Sink>(writer: &mut WatchedWriter<W>, moment: u64, served: &ServedFiles)
     ensures { LogsAll W.contents W.does writer.old (sums_log moment served.now) writer.new }
 {
     log_bay(writer, moment, served.both.bay.as_slice());
     log_program(writer, moment, served.form, served.both.program.as_slice());
-    log_rules(writer, moment, &served.rules, served.count);
+    log_rules(writer, moment, &served.rules, served.held.rules);
+    log_diagram(writer, moment, &served.diagram, served.held.releases);
 }

@@ -30,7 +30,27 @@ returns-in_err-rules-clause-err g c =
         (
           option_map (λ k. k.items) c.in_ok-key.key,
           c.in_ok-key.ensures.ok,
-          c.in_err-rules.ensures.err,
+          inl c.in_err-rules.ensures.err,
+        ),
+      ),
+    ))
+
+pub returns-in_err-diagram-clause-err : goal.returns-in_err-diagram-clause-err
+returns-in_err-diagram-clause-err g c =
+    let p = err_from_is_err_and c.from_residual-in_err-diagram.result
+    c.from_residual-in_err-diagram.ensures.1 in
+    let both : FilesData =
+    record { bay = c.in_ok-both.both.bay.items; program = c.in_ok-both.both.program.items } in
+    rw (p.1, p.2) (inr (
+      both,
+      c.in_ok-both.ensures.ok,
+      inr (
+        c.in_ok-trace.trace.items,
+        c.in_ok-trace.ensures.ok,
+        (
+          option_map (λ k. k.items) c.in_ok-key.key,
+          c.in_ok-key.ensures.ok,
+          inr (c.in_ok-rules.rules, c.in_ok-rules.ensures.ok, c.in_err-diagram.ensures.err),
         ),
       ),
     ))
@@ -52,7 +72,11 @@ returns-in_err-load-clause-err g c =
         (
           option_map (λ k. k.items) c.in_ok-key.key,
           c.in_ok-key.ensures.ok,
-          (option_map (λ r. r.items) c.in_ok-rules.rules, c.in_ok-rules.ensures.ok, refused),
+          (
+            c.in_ok-rules.rules,
+            c.in_ok-rules.ensures.ok,
+            (c.in_ok-diagram.diagram, c.in_ok-diagram.ensures.ok, refused),
+          ),
         ),
       ),
     )
@@ -79,6 +103,7 @@ returns-clause-ok g c =
       c.in_ok-trace.ensures.ok,
       c.in_ok-key.ensures.ok,
       c.in_ok-rules.ensures.ok,
+      c.in_ok-diagram.ensures.ok,
       refl,
       loads,
       text-runs c.args.named.form both (device_of c.in_ok-load.load)

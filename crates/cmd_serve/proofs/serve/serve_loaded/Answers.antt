@@ -1,6 +1,7 @@
-use Rattle.std.proofs.Common.{None, Ok, Some}
+use Rattle.std.proofs.Common.{Ok, Err, refl}
 use Rattle.bay_server_turn.specs.Calls.{Called}
-use Rattle.cmd_serve.proofs.FileLemmas.{by-rules, line-fails, none-rules, some-rules}
+use Rattle.cmd_serve.specs.declared.permit.Permit.TheVariants.{Granted, Denied}
+use Rattle.cmd_serve.proofs.FileLemmas.{answer-fails, line-fails}
 use Rattle.cmd_serve.proofs.serve.serve_loaded.Goals as goal
 
 pub returns-in_err-write_report-clause-serves : goal.returns-in_err-write_report-clause-serves
@@ -10,17 +11,84 @@ returns-in_err-write_report-clause-serves g c =
     c.args.writer.now c.write_report.new.writer c.in_err-write_report.field-0.0
     c.in_err-write_report.ensures c.from_residual.result c.from_residual.ensures.0
 
-pub returns-in-None-clause-serves : goal.returns-in-None-clause-serves
-returns-in-None-clause-serves g c = record {
+pub returns-in_err-permit-clause-serves : goal.returns-in_err-permit-clause-serves
+returns-in_err-permit-clause-serves g c = record {
   report = c.report.result;
   is = c.report.ensures;
   middle = c.write_report.new.writer;
   told = Ok c.in_ok-write_report.field-0;
   printed = c.in_ok-write_report.ensures;
-  goes_on =
-      by-rules (Called g.L.Link.does g.L.Link.failures) g.H.Host.does g.W.Sink.contents
-      g.W.Sink.does None _ c.args.loaded _ _ _ _ _ (none-rules c.args.loaded c.in-None.is)
-      c.serve_ports.ensures.serves;
+  goes_on = record {
+    permit = Err c.in_err-permit.field-0.0;
+    middle = c.prove_rules.new.writer;
+    writes = c.in_err-permit.ensures;
+    goes_on = (
+      refl,
+      refl,
+      answer-fails c.from_residual-in_err-permit.result c.in_err-permit.field-0.0
+          c.from_residual-in_err-permit.ensures.0,
+    );
+  };
+}
+
+pub returns-in-Denied-clause-serves : goal.returns-in-Denied-clause-serves
+returns-in-Denied-clause-serves g c = record {
+  report = c.report.result;
+  is = c.report.ensures;
+  middle = c.write_report.new.writer;
+  told = Ok c.in_ok-write_report.field-0;
+  printed = c.in_ok-write_report.ensures;
+  goes_on = record {
+    permit = Ok (Denied c.in-Denied.status);
+    middle = c.prove_rules.new.writer;
+    writes = rw c.in-Denied.is at c.in_ok-permit.ensures;
+    goes_on = (refl, refl, refl);
+  };
+}
+
+pub returns-in_err-drawn-clause-serves : goal.returns-in_err-drawn-clause-serves
+returns-in_err-drawn-clause-serves g c = record {
+  report = c.report.result;
+  is = c.report.ensures;
+  middle = c.write_report.new.writer;
+  told = Ok c.in_ok-write_report.field-0;
+  printed = c.in_ok-write_report.ensures;
+  goes_on = record {
+    permit = Ok (Granted c.in-Granted.count);
+    middle = c.prove_rules.new.writer;
+    writes = rw c.in-Granted.is at c.in_ok-permit.ensures;
+    goes_on = record {
+      permit = Err c.in_err-drawn.field-0.0;
+      middle = c.prove_diagram.new.writer;
+      writes = c.in_err-drawn.ensures;
+      goes_on = (
+        refl,
+        refl,
+        answer-fails c.from_residual-in_err-drawn.result c.in_err-drawn.field-0.0
+            c.from_residual-in_err-drawn.ensures.0,
+      );
+    };
+  };
+}
+
+pub returns-in-Denied-drawn-clause-serves : goal.returns-in-Denied-drawn-clause-serves
+returns-in-Denied-drawn-clause-serves g c = record {
+  report = c.report.result;
+  is = c.report.ensures;
+  middle = c.write_report.new.writer;
+  told = Ok c.in_ok-write_report.field-0;
+  printed = c.in_ok-write_report.ensures;
+  goes_on = record {
+    permit = Ok (Granted c.in-Granted.count);
+    middle = c.prove_rules.new.writer;
+    writes = rw c.in-Granted.is at c.in_ok-permit.ensures;
+    goes_on = record {
+      permit = Ok (Denied c.in-Denied-drawn.status);
+      middle = c.prove_diagram.new.writer;
+      writes = rw c.in-Denied-drawn.is at c.in_ok-drawn.ensures;
+      goes_on = (refl, refl, refl);
+    };
+  };
 }
 
 pub returns-clause-serves : goal.returns-clause-serves
@@ -30,13 +98,15 @@ returns-clause-serves g c = record {
   middle = c.write_report.new.writer;
   told = Ok c.in_ok-write_report.field-0;
   printed = c.in_ok-write_report.ensures;
-  goes_on =
-      by-rules (Called g.L.Link.does g.L.Link.failures) g.H.Host.does g.W.Sink.contents
-      g.W.Sink.does (Some c.in-Some.rules.items) _ c.args.loaded _ _ _ _ _
-      (some-rules c.args.loaded c.in-Some.rules c.in-Some.is)
-      (record {
-        verdict = c.judge_rules-verdict.result;
-        is = rw c.as_slice.ensures.value at c.judge_rules-verdict.ensures;
-        serves = c.serve_judged.ensures.serves;
-      });
+  goes_on = record {
+    permit = Ok (Granted c.in-Granted.count);
+    middle = c.prove_rules.new.writer;
+    writes = rw c.in-Granted.is at c.in_ok-permit.ensures;
+    goes_on = record {
+      permit = Ok (Granted c.in-Granted-drawn.count);
+      middle = c.prove_diagram.new.writer;
+      writes = rw c.in-Granted-drawn.is at c.in_ok-drawn.ensures;
+      goes_on = c.serve_ports.ensures.serves;
+    };
+  };
 }
