@@ -1,3 +1,4 @@
+pub mod ChangeLemmas
 pub mod ClockLemmas
 pub mod LineCountLemmas
 pub mod LogLemmas

@@ -1,9 +1,11 @@
 -- Lemmas on lines that are logged one after the other.
-use Rattle.std.proofs.Common.{◌≡◌, ℕ, ◌+◌, ◌<◌, ◌≤◌, List, [], ◌∷◌, ◌++◌, length, drop, get_or, map, Option, refl, sym, ap, subst, add-one}
+use Rattle.std.proofs.Common.{◌≡◌, ℕ, ◌+◌, ◌<◌, ◌≤◌, false, List, [], ◌∷◌, ◌++◌, length, drop, get_or, map, Option, None, Some, refl, sym, ap, subst, add-one, ◌∙◌}
+use Rattle.std.specs.Io.KnownBytes.{Keeps}
+use Rattle.std.specs.Prelude.{MatchBool}
 use Rattle.std.proofs.Math.Seq.{drop-cons}
 use Rattle.std.specs.List.{flat_map}
 use Rattle.std.proofs.lemmas.List.{drop_all}
-use Rattle.bay_io.specs.Calls.{WriteCall}
+use Rattle.bay_io.specs.Calls.{WriteCall, Log}
 use Rattle.bay_io.specs.Sent.{Logs}
 use Rattle.bay_io.specs.Watched.{Writing}
 use Rattle.bay_device.specs.Device.{State}
@@ -11,6 +13,11 @@ use Rattle.bay_server.specs.ChangeLines.{switch_log, switches_log}
 use Rattle.bay_server.specs.Logging.{LogsAll}
 use Rattle.bay_server.specs.declared.change_lines.Column.{Column}
 use Rattle.bay_server.specs.declared.change_lines.SwitchView.{SwitchView}
+
+-- known octets stay as they are
+keeps-same : (octets : Option (List ℕ)) → Keeps octets octets
+keeps-same None = tt
+keeps-same (Some octets) = refl
 
 module _ {W : Type 0} (contents : W → Option (List ℕ)) (asks : W → WriteCall → W → Type 0) where
   pub logs-one : (old new : Writing W) (line : List ℕ) → Logs contents asks old line new
@@ -29,6 +36,47 @@ module _ {W : Type 0} (contents : W → Option (List ℕ)) (asks : W → WriteCa
       → LogsAll contents asks old lines new → LogsAll contents asks old other new
   logs-as old new lines other same logged =
       subst (λ ls. LogsAll contents asks old ls new) same logged
+
+  -- ---- if nothing is logged
+
+  -- a line leaves the writer as it is
+  unlogged-line : (old new : Writing W) (line : List ℕ) → old.logs ≡ false
+      → Logs contents asks old line new → new ≡ old
+  unlogged-line old new line off logged =
+      let same : new.inner ≡ old.inner =
+      subst (λ b. MatchBool b (asks old.inner (Log line) new.inner) (new.inner ≡ old.inner)) off
+      logged.logged in
+      logged.rest ∙ ap (λ i. record old { inner = i }) same
+
+  -- any lines are logged so
+  pub unlogged : (old : Writing W) (lines : List (List ℕ)) → old.logs ≡ false
+      → LogsAll contents asks old lines old
+  unlogged old [] off = refl
+  unlogged old (line ∷ lines) off = (
+    old,
+    record {
+      logged = subst (λ b. MatchBool b (asks old.inner (Log line) old.inner)
+          (old.inner ≡ old.inner)) (sym off) refl;
+      rest = refl;
+      kept = keeps-same (contents old.inner);
+    },
+    unlogged old lines off,
+  )
+
+  unlogged-lines : (old new : Writing W) (lines : List (List ℕ)) → old.logs ≡ false
+      → LogsAll contents asks old lines new → new ≡ old
+  unlogged-lines old new [] off logged = logged
+  unlogged-lines old new (line ∷ lines) off logged =
+      let first : logged.0 ≡ old = unlogged-line old logged.0 line off logged.1 in
+      unlogged-lines logged.0 new lines (ap (λ (w : Writing W). w.logs) first ∙ off) logged.2
+      ∙ first
+
+  -- other lines are logged, too
+  pub unlogged-as : (old new : Writing W) (lines other : List (List ℕ)) → old.logs ≡ false
+      → LogsAll contents asks old lines new → LogsAll contents asks old other new
+  unlogged-as old new lines other off logged =
+      subst (λ w. LogsAll contents asks old other w)
+      (sym (unlogged-lines old new lines off logged)) (unlogged old other off)
 
   -- where the lines of each item are several
   module _ {A : Type 0} (f : A → List (List ℕ)) (xs : List A) where

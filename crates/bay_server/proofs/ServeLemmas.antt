@@ -35,6 +35,7 @@ use Rattle.bay_server.specs.declared.clock.Clocks.{Clocks}
 use Rattle.bay_server.specs.declared.clock.ClockShift.{ClockShift}
 use Rattle.bay_server.specs.declared.connection_lines.LineCount.{LineCount}
 use Rattle.bay_server.specs.declared.process.NextInput.{NextInput}
+use Rattle.bay_server.proofs.LogLemmas.{unlogged-as}
 
 -- ---- the lines of a trace that are not empty
 
@@ -388,6 +389,32 @@ module _ {L H W : Type 0} (step : L → Call → L → Type 0) (acts : H → Hos
     printed = tells-cut now count next seen turn s old new fault other tells;
     hears = (refl, refl, refl);
   }
+
+  -- The views are compared only if lines are logged.
+  pub reports-seen : (now : ℕ) (count : LineCount) (next : NextInput) (one other : BayView)
+      (turn : Turn) (s : State) (before after : Option (ProcessData L)) (old new : Writing W)
+      (answer : Result ℕ WriteFault) → MatchBool old.logs (one ≡ other) (Unit {0})
+      → ReportsAndPolls step contents asks now count next one turn s before after old new answer
+      → ReportsAndPolls step contents asks now count next other turn s before after old new answer
+  reports-seen now count next one other turn s before after old new answer seen goes =
+      by-log old.logs refl seen
+    where
+      by-log : (b : Bool) → old.logs ≡ b → MatchBool b (one ≡ other) (Unit {0})
+          → ReportsAndPolls step contents asks now count next other turn s before after old new
+          answer
+      by-log true on same =
+          subst (λ v. ReportsAndPolls step contents asks now count next v turn s before after old
+          new answer) same goes
+      by-log false off none = record {
+        between = goes.between;
+        outcome = goes.outcome;
+        printed = record {
+          mid = goes.printed.mid;
+          logged = unlogged-as contents asks old goes.printed.mid _ _ off goes.printed.logged;
+          printed = goes.printed.printed;
+        };
+        hears = goes.hears;
+      }
 
   goes-cut : (before : Serving L H) (old : Writing W)
       (after : Serving L H) (new : Writing W) (one other : WriteFault)

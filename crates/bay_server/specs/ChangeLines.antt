@@ -1,5 +1,5 @@
 -- The log lines of a turn: what it reports, and what has changed in it.
-use Rattle.std.specs.Prelude.{Bool, true, false, ℕ, ◌+◌, List, [], ◌∷◌, ◌++◌, bytes_eq, codes, map, Option, None, Some, if◌then◌else◌}
+use Rattle.std.specs.Prelude.{◌≡◌, Bool, true, false, ℕ, ◌+◌, List, [], ◌∷◌, ◌++◌, bytes_eq, codes, length, map, take, Option, None, Some, if◌then◌else◌}
 use Rattle.std.specs.List.{flat_map, range_with_len}
 use Rattle.bay_io.specs.Moments.{utc_text}
 use Rattle.bay_base.specs.declared.position.Dbpos.{Dbpos}
@@ -31,12 +31,22 @@ dbpos_in other = None
 abbrev pub seen_at : State → ℕ → SwitchView
 seen_at s k = record { position = dbpos_in (position_of s k); release = enabled_of s k }
 
--- the view of 32 switches, and the switch that is operating
+-- the view of 32 switches, how many the bay has, and the switch that is operating
 abbrev pub bay_seen : State → BayView
 bay_seen s = record {
   switches = map (seen_at s) (range_with_len 0 32);
+  count = length s.switches;
   operating = operating_in s;
 }
+
+-- the views of the bay's own switches
+abbrev pub own_switches : BayView → List SwitchView
+own_switches v = take v.count v.switches
+
+-- These are the views of the switches from index k on.
+abbrev pub AreSeen : State → ℕ → List SwitchView → Type 0
+AreSeen s k [] = Unit {0}
+AreSeen s k (view ∷ more) = (view ≡ seen_at s k) × AreSeen s (k + 1) more
 
 -- ---- positions and releases
 
@@ -136,5 +146,6 @@ turn_log now count next before s turn =
     ++ flat_map (decisions_log now s) turn.decisions
     ++ map (closed_line now) (first_ten (count_at_closings now turn count) turn.closed)
     ++ map (memory_line now) (first_ten (count_at_memory now turn count) turn.memory)
-    ++ ends_log now before s turn ++ switches_log Position now s 0 before.switches
-    ++ switches_log Release now s 0 before.switches
+    ++ ends_log now before s turn
+    ++ (switches_log Position now s 0 (own_switches before)
+    ++ switches_log Release now s 0 (own_switches before))

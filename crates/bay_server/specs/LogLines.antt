@@ -1,5 +1,5 @@
 -- The log lines of a server.
-use Rattle.std.specs.Prelude.{Bool, false, true, ℕ, ℤ, ◌==◌, List, [], ◌∷◌, ◌++◌, codes, map, slice_get, slice_index, Option, None, Some, option_map, unwrap_or, Result, Ok, Err, unsigned_abs, if◌then◌else◌}
+use Rattle.std.specs.Prelude.{Bool, false, true, ℕ, ℤ, List, [], ◌∷◌, ◌++◌, codes, map, slice_get, slice_index, Option, None, Some, option_map, unwrap_or, Result, Ok, Err, unsigned_abs, if◌then◌else◌}
 use Rattle.std.specs.Int.{is_negative}
 use Rattle.std.specs.Fmt.{decimal}
 use Rattle.std.specs.Net.Addr.{ipv4_octets}

@@ -1,10 +1,12 @@
 // Logs the process and its switches in a turn.
-ghost use Rattle.std.specs.Prelude.{◌≡◌};
+ghost use Rattle.std.specs.Prelude.{◌≡◌, ◌++◌, false, true, MatchBool};
 ghost use Rattle.bay_server_turn.specs.Served.{reported_in};
 ghost use Rattle.bay_server.specs.Logging.{LogsAll};
-ghost use Rattle.bay_server.specs.ChangeLines.{commanded_switch, end_log, ends_log, lost_log, operates_in, reached_in, seen_at, seen_log, bay_seen, switch_log, switches_log, word_log};
+ghost use Rattle.bay_server.specs.ChangeLines.{AreSeen, bay_seen, commanded_switch, end_log, ends_log, lost_log, operates_in, own_switches, reached_in, seen_at, seen_log, switch_log, switches_log, word_log};
+ghost use Rattle.bay_server.specs.declared.change_lines.Column.TheVariants as column;
 ghost use Rattle.bay_server.specs.ChangeLines as spec;
 
+use crate::connection_lines::first;
 use crate::control_lines::id;
 use bay_base::position::Dbpos;
 use bay_device::device::Device;
@@ -31,12 +33,28 @@ pub enum Column {
     Release,
 }
 
-/// The view of each switch, and the switch that is operating.
+/// The view of each switch, how many of them the bay has, and the switch that is operating.
 #[derive(Drop)]
 pub struct BayView {
     pub switches: [SwitchView; SWITCHES],
+    pub count: usize,
     pub operating: Option<usize>,
 }
+
+impl BayView {
+    // Returns the views of the bay's own switches.
+    fn own_switches(&self) -> &[SwitchView]
+        ensures { result.now ≡ own_switches self.now }
+    {
+        first(&self.switches, self.count)
+    }
+}
+
+// The view of a switch that the bay does not have.
+const NO_SWITCH: SwitchView = SwitchView {
+    position: None,
+    release: None,
+};
 
 // Returns the view of the switch at an index.
 fn view_switch(device: &Device, place: usize) -> SwitchView
@@ -48,17 +66,35 @@ fn view_switch(device: &Device, place: usize) -> SwitchView
     }
 }
 
-/// Returns the view of each switch, and the switch that is operating.
-pub fn view_bay(device: &Device) -> BayView
+// Returns the view of each switch, and the switch that is operating.
+fn view_bay(device: &Device) -> BayView
     ensures { result ≡ bay_seen device.now }
 {
-    let mut switches = [view_switch(device, 0); SWITCHES];
-    for place in 0..SWITCHES {
-        switches[place] = view_switch(device, place);
+    let count = device.switch_count();
+    let mut switches = [NO_SWITCH; SWITCHES];
+    for switch in 0..count.min(SWITCHES) {
+        switches[switch] = view_switch(device, switch);
     }
     BayView {
         switches,
+        count,
         operating: device.operating(),
+    }
+}
+
+/// Returns the view of each switch, and the switch that is operating, if lines are logged. If not,
+/// nobody compares it with a later one, and it has no switches.
+pub fn view_for_log<W>(device: &Device, writer: &WatchedWriter<W>) -> BayView
+    ensures { MatchBool writer.now.logs (result ≡ bay_seen device.now) (Unit {0}) }
+{
+    if writer.is_logging() {
+        view_bay(device)
+    } else {
+        BayView {
+            switches: [NO_SWITCH; SWITCHES],
+            count: 0,
+            operating: None,
+        }
     }
 }
 
@@ -159,8 +195,55 @@ fn log_switch<W: Sink>(
     );
 }
 
-/// Logs the positions or the releases of the switches that have changed.
-pub fn log_switches<W: Sink>(
+// Returns whether two positions are the same.
+fn is_same_position(one: Option<Dbpos>, other: Option<Dbpos>) -> bool
+    ensures { result ≡ true → one ≡ other }
+{
+    match (one, other) {
+        (None, None) => true,
+        (Some(Dbpos::Intermediate), Some(Dbpos::Intermediate)) => true,
+        (Some(Dbpos::Off), Some(Dbpos::Off)) => true,
+        (Some(Dbpos::On), Some(Dbpos::On)) => true,
+        (Some(Dbpos::Bad), Some(Dbpos::Bad)) => true,
+        _ => false,
+    }
+}
+
+// Returns whether two releases are the same.
+fn is_same_release(one: Option<(bool, bool)>, other: Option<(bool, bool)>) -> bool
+    ensures { result ≡ true → one ≡ other }
+{
+    match (one, other) {
+        (None, None) => true,
+        (Some((true, true)), Some((true, true))) => true,
+        (Some((true, false)), Some((true, false))) => true,
+        (Some((false, true)), Some((false, true))) => true,
+        (Some((false, false)), Some((false, false))) => true,
+        _ => false,
+    }
+}
+
+// Returns whether two views are the same.
+fn is_same(one: SwitchView, other: SwitchView) -> bool
+    ensures { result ≡ true → one ≡ other }
+{
+    is_same_position(one.position, other.position) && is_same_release(one.release, other.release)
+}
+
+// Returns whether a switch has another view than before.
+fn has_changed(device: &Device, before: &[SwitchView]) -> bool
+    ensures { result ≡ false → AreSeen device.now 0 before.now }
+{
+    for switch in 0..before.len() {
+        if !is_same(before[switch], view_switch(device, switch)) {
+            return true;
+        }
+    }
+    false
+}
+
+// Logs the positions or the releases of the switches that have changed.
+fn log_switches<W: Sink>(
     writer: &mut WatchedWriter<W>,
     column: Column,
     device: &Device,
@@ -172,6 +255,24 @@ pub fn log_switches<W: Sink>(
 {
     for place in 0..before.len() {
         log_switch(writer, column, device, moment, place, before[place]);
+    }
+}
+
+/// Logs the positions of the switches that have changed, and then the releases.
+pub fn log_changes<W: Sink>(
+    writer: &mut WatchedWriter<W>,
+    device: &Device,
+    moment: u64,
+    before: &BayView,
+)
+    ensures { LogsAll W.contents W.does writer.old
+        (switches_log column.Position moment device.now 0 (own_switches before.now)
+        ++ switches_log column.Release moment device.now 0 (own_switches before.now)) writer.new }
+{
+    let before = before.own_switches();
+    if has_changed(device, before) {
+        log_switches(writer, Column::Position, device, moment, before);
+        log_switches(writer, Column::Release, device, moment, before);
     }
 }
 

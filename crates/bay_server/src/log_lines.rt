@@ -6,7 +6,7 @@ ghost use Rattle.bay_server.specs.LogLines.{closed_line, memory_line, connection
 ghost use Rattle.bay_server.specs.ChangeLines.{turn_log};
 ghost use Rattle.bay_server_turn.specs.declared.fault.ServeFault.TheVariants.{BadLine};
 
-use crate::change_lines::{BayView, Column, log_ends, log_lost, log_switches};
+use crate::change_lines::{BayView, log_changes, log_ends, log_lost};
 use crate::clock::{ClockShift, ClockSide};
 use crate::connection_lines::{LineCount, first, log_left_out};
 use crate::control_lines::log_controls;
@@ -211,7 +211,8 @@ fn log_memories<W: Sink>(writer: &mut WatchedWriter<W>, moment: u64, memory: &[u
 }
 
 /// Logs what a turn reports and what has changed in it, given the count of the lines of connections
-/// before it, its input, the view of the bay before it, and the device after it.
+/// before it, its input, the view of the bay before it, and the device after it. Looks at nothing if
+/// no lines are logged.
 pub fn log_turn<W: Sink>(
     writer: &mut WatchedWriter<W>,
     device: &Device,
@@ -224,6 +225,9 @@ pub fn log_turn<W: Sink>(
     ensures { LogsAll W.contents W.does writer.old
         (turn_log moment count next.now before.now device.now turn.now) writer.new }
 {
+    if !writer.is_logging() {
+        return;
+    }
     let closed = first(
         turn.closed.as_slice(),
         count.at_closings(moment, turn).room(),
@@ -237,8 +241,7 @@ pub fn log_turn<W: Sink>(
     log_closings(writer, moment, closed);
     log_memories(writer, moment, memory);
     log_ends(writer, device, moment, before, turn);
-    log_switches(writer, Column::Position, device, moment, &before.switches);
-    log_switches(writer, Column::Release, device, moment, &before.switches);
+    log_changes(writer, device, moment, before);
 }
 
 // Logs which line of the trace is not valid.

@@ -8,7 +8,7 @@ ghost use Rattle.bay_server.specs.Serving.{TriesTurn, with_host};
 ghost use Rattle.bay_server_turn.specs.Calls.{Called};
 
 use crate::busy::BusyLink;
-use crate::change_lines::{BayView, view_bay};
+use crate::change_lines::{BayView, view_for_log};
 use crate::clock::ServeClock;
 use crate::connection_lines::LineCount;
 use crate::host::Host;
@@ -107,7 +107,7 @@ fn try_turn<L: Link, H: Host<L>, W: Sink>(
         moment,
         reading.jump,
     );
-    let before = view_bay(served.server.device());
+    let before = view_for_log(served.server.device(), writer);
     let said = next.shown.as_slice();
     match serve_event(
         &mut served.server,

@@ -1,29 +1,35 @@
-use Rattle.std.proofs.Common.{◌≡◌, ℕ, List, Option, None, map, length-set, ap₂, arith}
+use Rattle.std.proofs.Common.{◌≡◌, ◌<◌, ◌≤◌, map, length-set, refl, subst, ◌∙◌, arith}
+use Rattle.std.proofs.lemmas.List.{get_or-set_other}
 use Rattle.std.proofs.lemmas.List.Edits.{fill_by_more}
 use Rattle.std.proofs.lemmas.List.FromFn.{fill_by_all}
 use Rattle.std.specs.List.{range_with_len}
 use Rattle.bay_server.specs.ChangeLines.{seen_at}
-use Rattle.bay_server.specs.declared.change_lines.BayView.{BayView}
-use Rattle.bay_server.specs.declared.change_lines.SwitchView.{SwitchView}
+use Rattle.bay_server.proofs.ChangeLemmas.{below-both, by-end, no-view-in, no_view}
 use Rattle.bay_server.proofs.change_lines.view_bay.Goals as goal
 
-pub loop-place-preserved : goal.loop-place-preserved
-loop-place-preserved c =
-    let sized = c.loop-place.invariant.0 in
+pub loop-switch-init : goal.loop-switch-init
+loop-switch-init c = (refl, λ k lt. absurd (omega (arith, lt)), λ k past. no-view-in 32 k)
+
+pub loop-switch-preserved : goal.loop-switch-preserved
+loop-switch-preserved c =
+    let sized = c.loop-switch.invariant.0 in
+    let below = below-both c.loop-switch.switch c.switch_count-count.result 32
+    (subst (λ n. c.loop-switch.switch < n) c.min-switch-end.ensures c.loop-switch-test.true) in
     rw c.view_switch.ensures (
       simp length-set sized,
-      fill_by_more (seen_at c.args.device.now) c.loop-place.switches c.loop-place.place
-          (record { position = None; release = None }) (omega (arith, sized))
-          c.loop-place.invariant.1,
+      fill_by_more (seen_at c.args.device.now) c.loop-switch.switches c.loop-switch.switch no_view
+          (omega (arith, sized, below)) c.loop-switch.invariant.1,
+      λ k past. get_or-set_other c.loop-switch.switches c.loop-switch.switch k _ no_view
+          (λ same. omega (arith, past, below, same)) ∙ c.loop-switch.invariant.2 k past,
     )
 
 pub returns : goal.returns
 returns c =
-    let sized = c.loop-place.invariant.0 in
-    let seen : c.loop-place.switches ≡ map (seen_at c.args.device.now) (range_with_len 0 32) =
-    fill_by_all (seen_at c.args.device.now) c.loop-place.switches 32
-    (record { position = None; release = None }) sized
-    (λ k lt. c.loop-place.invariant.1 k (omega (arith, sized))) in
-    let bay : List SwitchView → Option ℕ → BayView =
-    λ ss o. record { switches = ss; operating = o } in
-    ap₂ bay seen c.operating.ensures
+    let seen : c.loop-switch.switches ≡ map (seen_at c.args.device.now) (range_with_len 0 32) =
+    fill_by_all (seen_at c.args.device.now) c.loop-switch.switches 32 no_view
+    c.loop-switch.invariant.0
+    (λ k lt. by-end c.args.device.now c.loop-switch.switches k c.switch_count-count.result
+    c.loop-switch.switch c.switch_count-count.ensures lt
+    (subst (λ n. n ≤ c.loop-switch.switch) c.min-switch-end.ensures c.loop-switch-test.false)
+    c.loop-switch.invariant.1 c.loop-switch.invariant.2) in
+    rw (seen, c.switch_count-count.ensures, c.operating.ensures) refl

@@ -1,9 +1,14 @@
-use Rattle.std.proofs.Common.{◌-◌, ap, map, take, ◌∙◌}
-use Rattle.bay_server.proofs.LogLemmas.{logs-as, logs-then}
+use Rattle.std.proofs.Common.{◌-◌, ap, map, sym, take, ◌∙◌}
+use Rattle.bay_server.proofs.LogLemmas.{logs-as, logs-then, unlogged}
 use Rattle.bay_server.specs.ConnectionLines.{count_at, count_at_closings, count_at_memory, first_ten}
 use Rattle.bay_server.specs.LogLines.{closed_line, memory_line, opened_log}
 use Rattle.bay_server.specs.declared.connection_lines.LineCount.{LineCount}
 use Rattle.bay_server.proofs.log_lines.log_turn.Goals as goal
+
+pub returns-then-not-is_logging : goal.returns-then-not-is_logging
+returns-then-not-is_logging g c =
+    unlogged g.W.Sink.contents g.W.Sink.does _ _
+    (sym c.is_logging.ensures ∙ c.if-not-is_logging.true)
 
 pub returns : goal.returns
 returns g c =
@@ -40,9 +45,7 @@ returns g c =
     (logs-then g.W.Sink.contents g.W.Sink.does _ _ _ _ _
     (logs-then g.W.Sink.contents g.W.Sink.does _ _ _ _ _
     (logs-then g.W.Sink.contents g.W.Sink.does _ _ _ _ _
-    (logs-then g.W.Sink.contents g.W.Sink.does _ _ _ _ _
     (logs-then g.W.Sink.contents g.W.Sink.does _ _ _ _ _ c.log_left_out.ensures opened)
     c.log_lost.ensures)
     c.log_refused.ensures) c.log_controls.ensures) closings) memories) c.log_ends.ensures)
-    c.log_switches.ensures)
-    c.log_switches-2.ensures
+    c.log_changes.ensures

@@ -3,7 +3,7 @@ use Rattle.bay_device.specs.Device.{State}
 use Rattle.bay_server.specs.ChangeLines.{bay_seen}
 use Rattle.bay_server.specs.Clock.{ClockData, moment_read, shift_of}
 use Rattle.bay_server.specs.Serving.{with_host}
-use Rattle.bay_server.proofs.ServeLemmas.{failed-cut, tried-cut, turn-fails, turn-goes}
+use Rattle.bay_server.proofs.ServeLemmas.{failed-cut, reports-seen, tried-cut, turn-fails, turn-goes}
 use Rattle.bay_server_turn.specs.Calls.{Called}
 use Rattle.bay_server_turn.specs.Turns.{ServerData, moment_at}
 use Rattle.bay_server.proofs.serving.try_turn.Goals as goal
@@ -31,8 +31,10 @@ returns-in_err-told-in-Ok g c =
     c.clocks.ensures c.log_shift.ensures
     c.in-Ok.ensures.right
     (rw (sym c.write_record.ensures) at c.in-Ok.ensures.ok)
-    (c.view_bay-before.ensures ∙ ap bay_seen c.device-3.ensures)
-    c.in_err-told-in-Ok.ensures c.after-served.ensures c.log_record.ensures)
+    (ap bay_seen c.device-3.ensures)
+    (reports-seen {H = Unit {0}} (Called g.L.Link.does g.L.Link.failures) (λ _ _ _. Unit {0})
+    g.W.Sink.contents g.W.Sink.does _ _ _ _ _ _ _ _ _ _ _ _ c.view_for_log-before.ensures
+    c.in_err-told-in-Ok.ensures) c.after-served.ensures c.log_record.ensures)
 
 pub returns-in_ok-told-in-Ok : goal.returns-in_ok-told-in-Ok
 returns-in_ok-told-in-Ok g c =
@@ -58,8 +60,10 @@ returns-in_ok-told-in-Ok g c =
           (c.device-in-Ok.ensures ∙ ap (λ (h : ServerData). h.device) (sym c.write_record.ensures))
           c.clocks.ensures c.log_shift.ensures c.in-Ok.ensures.right
           (rw (sym c.write_record.ensures) at c.in-Ok.ensures.ok)
-          (c.view_bay-before.ensures ∙ ap bay_seen c.device-3.ensures)
-          c.in_ok-told-in-Ok.ensures c.after-served.ensures c.log_record.ensures),
+          (ap bay_seen c.device-3.ensures)
+          (reports-seen {H = Unit {0}} (Called g.L.Link.does g.L.Link.failures) (λ _ _ _. Unit {0})
+          g.W.Sink.contents g.W.Sink.does _ _ _ _ _ _ _ _ _ _ _ _ c.view_for_log-before.ensures
+          c.in_ok-told-in-Ok.ensures) c.after-served.ensures c.log_record.ensures),
     )
 
 pub returns-in_err-status-in-Err : goal.returns-in_err-status-in-Err
