@@ -25,6 +25,7 @@ VALUES = {
     'Install': {'WantedBy': r'bays\.target|multi-user\.target'},
     'Service': {
         'Type': 'exec', 'ExecStart': r'(/usr/bin/\S+ .*)?', 'ExecStopPost': r'(/usr/bin/\S+ .*)?',
+        'Environment': 'DIAGRAM=',
         'EnvironmentFile': '/etc/bayctl/%i/env', 'LoadCredential': 'key:/etc/bayctl/%i/key',
         'Restart': 'always', 'RestartSec': TIME, 'TimeoutStopSec': TIME,
         'TimeoutStartSec': TIME,
@@ -155,6 +156,10 @@ class Units(Tools):
                     self.assertTrue(mode == '0644' or user == unit.one('User'),
                                     f'{unit.name}: {name}')
                 named.add(f'/etc/bayctl/*/{name}')
+        text = (EXAMPLES / '12_station' / 'env').read_text(encoding='utf-8')
+        for name in re.findall(r'/etc/bayctl/NAME/(\w+\.\w+)', text):
+            self.assertEqual(modes[f'/etc/bayctl/*/{name}'], ('0644', 'root'))
+            named.add(f'/etc/bayctl/*/{name}')
         self.assertEqual(modes['/etc/bayctl/*/key'], ('0400', 'bayctl'))
         self.assertEqual(set(modes), named)
 
@@ -216,7 +221,15 @@ class Units(Tools):
         self.assertEqual(used, set(settings))
         self.assertIn(PORT, settings)
         for name, value in settings.items():
-            self.assertRegex(value, r'^\d+$', name)
+            self.assertRegex(value, '^$' if name == 'DIAGRAM' else r'^\d+$', name)
+
+    def test_a_diagram_is_an_option_of_the_settings(self):
+        """A service without it has no such word: the variable is empty, and stands alone."""
+        unit = Entries(UNITS / 'bayctl@.service')
+        self.assertEqual(unit.one('Environment'), 'DIAGRAM=')
+        self.assertIn(' $DIAGRAM ', unit.one('ExecStart'))
+        self.assertRegex(HELP.read_text(encoding='utf-8'),
+                         r'(?s)bayctl serve --help.*--diagram <F>')
 
     def test_what_all_share_is_the_same(self):
         parts = {unit.text.partition(SHARED)[2].partition('\n\n')[0] for unit in services()}

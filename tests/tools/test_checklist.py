@@ -1,5 +1,6 @@
 """The checklist before a bay goes into a network: what each step finds good, and what wrong."""
 import datetime
+import hashlib
 import os
 import socket
 import unittest
@@ -68,6 +69,28 @@ class Here(Tools):
         self.assertEqual((found.state, found.told.count('it was started without --')), (WRONG, 4))
         (self.process / '77' / 'cmdline').write_text('')
         self.assertEqual(self.machine.server(), Verdict(WRONG, '0 servers at port 10102'))
+
+    def test_the_diagram(self):
+        self.assertEqual(self.machine.diagram().state, OPEN)
+        path = self.bay / 'diagram.toml'
+        path.write_text('x')
+        os.utime(path, (1, 1))
+        self.assertIn('it serves --diagram None', self.machine.diagram().told)
+        self.runs('--diagram', str(path))
+        digest = hashlib.sha256(b'x').hexdigest()
+        for lines, state, told in (
+                (f'.. diagram SHA-256 {"0" * 64}, 9 hold\n.. diagram SHA-256 {digest}, 10 hold\n',
+                 GOOD, f'SHA-256 {digest}, 10 operations hold'),
+                (f'diagram SHA-256 {"0" * 64}, 9 hold', WRONG, f'{path} HAS ANOTHER SUM'),
+                ('bay SHA-256', OPEN, 'the log has no sum of a diagram')):
+            with mock.patch.object(here, 'asked', return_value=(0, lines)):
+                found = self.machine.diagram()
+                self.assertEqual(found.state, state)
+                self.assertIn(told, found.told)
+        os.utime(path, (2 ** 33, 2 ** 33))
+        self.assertIn('diagram.toml has changed since', self.machine.diagram().told)
+        (self.process / '77' / 'cmdline').write_text('')
+        self.assertEqual(self.machine.diagram(), Verdict(WRONG, '0 servers at port 10102'))
 
     def test_keys(self):
         for path in (self.bay / 'key', self.trust / 'server.key'):

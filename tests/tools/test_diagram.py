@@ -1,5 +1,6 @@
 """What a single line diagram asks of an interlocking: paths, rules, refusals, and the examples,
 whose programs and rules are gone through in every state."""
+import re
 import tomllib
 import types
 import unittest
@@ -17,8 +18,8 @@ from baytools.rules.demands import ALONE, CURRENT, JOINS, MEETS, STAYS, SYSTEMS,
 from baytools.rules.paths import paths_between
 from devtools.check import diagrams
 from devtools.check.planted import read_faults
+from devtools.truths import States, forbidden, joined, releases
 from tests.tool import Tools
-from tests.tools.truths import States, forbidden, joined, releases
 
 FOLDER = TOP / 'examples' / '07_diagrams'
 EXAMPLES = sorted(FOLDER.glob('*/bay.toml'))
@@ -373,6 +374,33 @@ class Checked(Tools):
         self.assertIn("diagrams/line: 'nothing' in line 94", told)
         told = self.run_parts(diagrams.diagrams_are_kept, changed=same(BROKEN))
         self.assertEqual(len(told), 8)
+
+    def test_hazards(self):
+        """What bayctl prints of each program, and of one with a planted fault."""
+        answered, wrong = {}, []
+        for path in EXAMPLES:
+            text = path.with_name('logic.il').read_text()
+            held = path.with_name('judged').read_text()
+            answered[path, text] = held
+            for fault in read_faults(path.with_name('faults').read_text()):
+                changed = held
+                for switch, way in diagrams.told_releases(fault.told):
+                    changed, count = re.subn(rf'(?m)^diagram {switch} {way} holds .*$',
+                                             f'diagram {switch} {way} broken: x', changed)
+                    self.assertEqual(count, 1, f'{path}: {fault}')
+                answered[path, fault.planted(text)] = changed
+        checks = types.SimpleNamespace(
+            bayctl='none', file=self.file,
+            holds=lambda name, is_so, why: None if is_so else wrong.append(name))
+        for change, count in ((str, 0), (lambda it: it.replace(' broken: x', ' many'), 27),
+                              (lambda it: it.replace('cases=1\n', 'cases=2\n'), 4)):
+            def run(bayctl, *words) -> types.SimpleNamespace:
+                said = answered[Path(words[2]), Path(words[4]).read_text()]
+                return types.SimpleNamespace(stdout=change(said).encode())
+            wrong.clear()
+            with mock.patch.multiple('devtools.check.diagrams.questions', run=run):
+                diagrams.hazards_are_judged(checks)
+            self.assertEqual(len(wrong), count, wrong)
 
     def test_lines_that_are_left_out(self):
         found = dict(diagrams.without_a_line('LD a\nAND b\nAND( c\n    ORN d\n)\nST e\n'))

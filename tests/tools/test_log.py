@@ -30,9 +30,11 @@ def at(after):
 SUM = hashlib.sha256(b'').hexdigest()
 SERVER = f'''instructions=14 depth=2 budget=14
 rules 9
+diagram 16
 {at(0)} clients on 127.0.0.1:10102, process on 127.0.0.1:10103
 {at(0)} bay SHA-256 {SUM}
 {at(0)} rules SHA-256 {SUM}, 9 hold
+{at(0)} diagram SHA-256 {SUM}, 16 hold
 {at(0)} the record has room for 16000000 octets: about 133 minutes without clients, \
 about 32 beside a panel and a station's page
 {at(10)} process lost
@@ -123,9 +125,11 @@ The process
 What happened
   10:00:00.000  the bay and its program are loaded: instructions=14 depth=2 budget=14
   10:00:00.000  each of the 9 rules holds
+  10:00:00.000  none of 16 operations is released while it is a hazard in the diagram
   10:00:00.000  the server listens: clients on 127.0.0.1:10102, process on 127.0.0.1:10103
   10:00:00.000  the server serves: bay SHA-256 {SUM}
   10:00:00.000  the server serves: rules SHA-256 {SUM}, 9 hold
+  10:00:00.000  the server serves: diagram SHA-256 {SUM}, 16 hold
   10:00:00.000  the record has room for 16000000 octets: about 133 minutes without clients, \
 about 32 beside a panel and a station's page
   10:00:00.000  [from 10.0.0.7] not let in: it showed no certificate
@@ -173,8 +177,8 @@ failed, or it sent nothing for too long
 def of_journal(form):
     """The lines of both as journalctl prints them in a format."""
     said = (SERVER + PRINTED).splitlines()
-    lines = [(START, 'bayctl[812]', line) for line in said[:2]]
-    for line in said[2:]:
+    lines = [(START, 'bayctl[812]', line) for line in said[:3]]
+    for line in said[3:]:
         lines.append((event_of(Entry(line), 0).moment, 'bayctl[812]', line))
     for line in DOOR.splitlines():
         clock = datetime.datetime.strptime(line[:19], '%Y.%m.%d %H:%M:%S')
@@ -361,11 +365,11 @@ class Joins(Tools):
         moved = DOOR.replace('10:00:0', '10:00:2')
         self.assertNotIn('CN=operator', self.joined(SERVER, moved))
         lines = SERVER.splitlines(keepends=True)
-        self.assertIn('CN=operator: 1', self.joined(''.join(lines[:6] + [shift] + lines[6:]),
+        self.assertIn('CN=operator: 1', self.joined(''.join(lines[:8] + [shift] + lines[8:]),
                                                     moved))
 
     def test_a_log_that_begins_late(self):
-        late = ''.join(SERVER.splitlines(keepends=True)[13:])
+        late = ''.join(SERVER.splitlines(keepends=True)[15:])
         self.assertIn('unknown: its opening is not in the log: 1 association, 1 done, 1 refused',
                       self.joined(late, DOOR))
 

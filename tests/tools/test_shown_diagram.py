@@ -86,14 +86,14 @@ class Reports(Tools):
         state = state_of(net, usual_positions(net), file)
         found = [SimpleNamespace(rule=SimpleNamespace(line=line, text='never QA1 open'),
                                  shown=SimpleNamespace(state=state)) for line in range(MOST + 3)]
-        audit = SimpleNamespace(bay=SimpleNamespace(file=file), findings=found, answer=None)
+        audit = SimpleNamespace(bay=SimpleNamespace(file=file), findings=found, answer=None,
+                                judged=[])
         states, left = drawn_states(audit, net)
         self.assertEqual((len(states), left, states[0].releases), (MOST + 2, 3, {}))
 
-    def test_a_diagram_without_a_report_or_that_is_refused(self):
+    def test_a_diagram_that_is_refused(self):
         words = ['audit', SINGLE, SINGLE.with_name('logic.il'), SINGLE.with_name('rules'),
                  '--bayctl', self.bayctl(test_proofs.LOADED), '--diagram']
-        self.assertEqual(self.call_tool(*words, SINGLE.with_name('diagram.toml')).status, 2)
         found = self.call_tool(*words, LINE.with_name('diagram.toml'), '--html', 'page.html')
         self.assertEqual((found.status, found.error.count('\n')), (1, 1))
         self.assertFalse((self.folder / 'page.html').exists())

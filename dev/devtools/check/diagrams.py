@@ -1,5 +1,6 @@
-"""The rules of single line diagrams, asked of bayctl: the programs of the examples keep them, and
-whatever mistake of one line breaks a rule by hand breaks one of the diagram's too."""
+"""The rules of single line diagrams and the hazards in them, asked of bayctl: the programs of the
+examples keep them, and whatever mistake of one line breaks a rule by hand breaks one of the
+diagram's too."""
 import re
 import sys
 from collections.abc import Iterator
@@ -15,6 +16,7 @@ from .planted import EXAMPLES, read_faults
 
 DIAGRAMS = EXAMPLES / '07_diagrams'
 BY_HAND, OF_DIAGRAM = 'rules', 'rules_of_diagram'
+JUDGED = 'judged'  # the file of an example with what bayctl prints of its diagram
 TOLD = ('instructions=', 'rule ', 'release ', 'lost ')  # the lines that an example keeps
 PART = re.compile(r'(AND|OR)N? \w+')
 
@@ -45,6 +47,19 @@ class Asked:
         found = questions.asked(self.checks.bayctl, self.path, changed, self.path.with_name(name),
                              self.keys)
         return {(it.name, WAYS[it.way]) for it in found.rules if it.verdict in kinds}
+
+
+    def judged(self, logic: str) -> str:
+        """What bayctl prints of the hazards of a program in the diagram."""
+        changed = self.checks.file('logic.il', logic)
+        done = questions.run(self.checks.bayctl, 'audit', '--bay', self.path, '--logic', changed,
+                             '--diagram', self.path.with_name('diagram.toml'))
+        return done.stdout.decode()
+
+    def hazards(self, logic: str) -> set[tuple[str, str]]:
+        """The releases of a program that are a hazard in the diagram."""
+        found = answers.read(self.judged(logic), self.keys).judged
+        return {(it.name, WAYS[it.way]) for it in found if it.verdict == answers.BROKEN}
 
 
 def without_a_line(logic: str) -> Iterator[tuple[int, str]]:
@@ -106,6 +121,24 @@ def planted_faults_break(checks) -> None:
     checks.holds('planted faults of diagrams', count >= 20, f'only {count}')
 
 
+# Shows P-150, P-153.
+def hazards_are_judged(checks) -> None:
+    """No release of the programs is a hazard in its diagram, by as many cases as the example says;
+    and each planted fault makes a hazard of just the releases that its line names."""
+    count = 0
+    for path in sorted(DIAGRAMS.glob('*/bay.toml')):
+        asked = Asked(checks, path)
+        found, wanted = asked.judged(asked.logic), text_of(path.with_name(JUDGED))
+        checks.holds(f'{asked.name}: {JUDGED}', found == wanted, f'bayctl says:\n{found}')
+        for fault in read_faults(text_of(path.with_name('faults'))):
+            broken = asked.hazards(fault.planted(asked.logic))
+            count += 1
+            checks.holds(f'{asked.name}: the hazards of {fault.new or "nothing"!r} in line '
+                         f'{fault.line}', broken == told_releases(fault.told),
+                         f'broken: {sorted(broken)}')
+    checks.holds('hazards of planted faults', count >= 20, f'only {count}')
+
+
 def diagram_on_the_panel(checks) -> None:
     """The diagram of a served bay on a panel, with its positions and what is released."""
     bay = DIAGRAMS / 'line' / 'bay.toml'
@@ -127,4 +160,5 @@ def diagram_on_the_panel(checks) -> None:
                     'QB1'] == (False, False), str(free))
 
 
-PARTS = (diagrams_are_kept, hands_follow, planted_faults_break, diagram_on_the_panel)
+PARTS = (diagrams_are_kept, hands_follow, planted_faults_break, hazards_are_judged,
+         diagram_on_the_panel)

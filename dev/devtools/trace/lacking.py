@@ -35,6 +35,9 @@ NO_LAW = {
     'bay_server_turn serve_turn': 'it speaks of refusals alone; what a turn does has its laws '
                                   'in bay_server_turn_laws',
     'bay_cli task_of': OWN_WORDS + 'a job for each command line',
+    'cmd_audit audit_files': OWN_WORDS + 'the answer to each release, and its line, in their order',
+    'cmd_audit judge_diagram': OWN_WORDS + 'the answer to each release, and whether all of them '
+                               'hold',
     'il_compile compile': '`follows` is the law of `image` and `tabled`: the code does what the '
                           'program means by its structure; il_standard_laws adds the '
                           'standard\'s tables',

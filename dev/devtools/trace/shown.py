@@ -30,7 +30,9 @@ NONE = {
     'P-124': 'no trial refuses memory to a server that begins',
     'P-140': OWN_RUNS,
     'P-141': OWN_RUNS,
-    'P-147': 'no case can: it speaks of every run'}
+    'P-147': 'no case can: it speaks of every run',
+    'P-155': 'no case can: it speaks of every run',
+    'P-156': 'no case can: it speaks of every run'}
 
 
 @dataclasses.dataclass(frozen=True)

@@ -15,6 +15,8 @@
     lost QB1 close depends on t1
     start QB1 open blocked
     start QB1 close depends on QA1_OPEN QC1_OPEN
+    diagram QC1 close holds cases=2
+    diagram QC1 open broken QB1=0|2|3: earths BB1, which is not isolated: N1 - QB1 - BB1
 
 A rule has an answer for each switch and operation that its line is about. One with a time that
 holds names the timer that bears it, where one does. In a case a switch has its positions as
@@ -27,7 +29,10 @@ is open. The lines `lost` say the same of one case, that the process is lost: ea
 and each input 0, and a measure has any value. A bayctl older than 1.2.0 prints none. The lines
 `start` say the same of the first scan after a load, from the first values, whatever the process
 reports by then: behind `on` stands what it may depend on, also points of the process. A bayctl
-older than 1.9.0 prints none."""
+older than 1.9.0 prints none.
+A line `diagram` says of an operation whether the program releases it while it is a hazard in a
+single line diagram. A line that is broken or open names a case of such a hazard, and the hazard in
+words; a bayctl older than 1.12.0 prints none."""
 import re
 from dataclasses import dataclass, field
 
@@ -41,6 +46,8 @@ BROKEN, MANY, OPEN, HOLDS = 'broken', 'many', 'open', 'holds'
 RELEASED, DEPENDS, BLOCKED = 'released', 'depends', 'blocked'
 COMPUTED = 'what the program calculates'  # what a case depends on where no name is told
 WORST = [BROKEN, MANY, OPEN, HOLDS]  # of the answers of one line, the worst first
+JUDGED = re.compile(r'diagram (?P<name>\S+) (?P<way>\S+) (?:holds (?P<cases>\S+)|many|'
+                    r'(?P<verdict>broken|open)(?P<case>(?: [^ :]+)*)(?:: (?P<why>.+))?)')
 
 
 class Bad(Exception):
@@ -101,15 +108,28 @@ class Lost:
     kept: tuple = ()
 
 
+@dataclass(frozen=True)
+class Judged:
+    """The answer on a release and the hazards of a diagram. One that is BROKEN or OPEN has a case
+    in which the operation is a hazard, and the hazard in words, if bayctl prints them."""
+    name: str
+    way: int
+    verdict: str
+    cases: int = 0
+    case: Case = Case({})
+    why: str = ''
+
+
 @dataclass
 class Answer:
-    """All that bayctl says: of each rule, of each release, and of each while the process is lost
-    and by the first scan after a load."""
+    """All that bayctl says: of each rule, of each release, of each while the process is lost and
+    by the first scan after a load, and of each and the hazards of a diagram."""
     report: str
     rules: list[Proof] = field(default_factory=list)
     releases: list[Release] = field(default_factory=list)
     lost: list[Lost] = field(default_factory=list)
     start: list[Lost] = field(default_factory=list)
+    judged: list[Judged] = field(default_factory=list)
 
     def of_line(self, line: int) -> Proof | None:
         """The answer on a line of rules: the worst, where it has several."""
@@ -145,6 +165,9 @@ def read(printed: str, keys: set) -> Answer:
         elif words[0] == 'start':
             found.start.append(lost_of(lines[at], words[1:], keys))
             at += 1
+        elif words[0] == 'diagram':
+            found.judged.append(judged_of(lines[at], keys))
+            at += 1
         else:
             raise Bad(lines[at])
     return found
@@ -166,6 +189,20 @@ def proof_of(line: str, words: list[str], keys: set) -> Proof:
     if rest or verdict == HOLDS:
         raise Bad(line)
     return Proof(*asked, verdict)
+
+
+def judged_of(line: str, keys: set) -> Judged:
+    """The answer on a release and the hazards of a diagram."""
+    found = JUDGED.fullmatch(line)
+    if not found:
+        raise Bad(line)
+    asked = way_of(line, [found['name'], found['way']], keys)
+    if found['cases']:
+        return Judged(*asked, HOLDS, count_of(line, found['cases']))
+    if found['verdict']:
+        case = case_of(line, found['case'].split(), keys)
+        return Judged(*asked, found['verdict'], case=case, why=found['why'] or '')
+    return Judged(*asked, MANY)
 
 
 def way_of(line: str, words: list[str], keys: set) -> tuple[str, int]:

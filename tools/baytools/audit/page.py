@@ -8,7 +8,7 @@ from baytools.common.texts import counted
 from baytools.diagram.drawing import draw
 from baytools.report.bayctl import is_tried
 
-from . import proofs, verdicts
+from . import hazards, proofs, verdicts
 from .matrix import draw_parts
 from .rule_findings import released, uncovered
 from .states import drawn_states
@@ -43,8 +43,8 @@ class Report:
         title = f'Audit of the interlocking of bay {bay["domain"]}'
         style = A4 % f'Bay {bay["domain"]}, {page_head.moment_told(self.begun)}'
         parts = [f'<h1>{escaped(title)}</h1>', self.verdict(), *self.head(),
-                 signatures(), self.how(), self.rules(), self.diagram(), self.conditions(),
-                 self.lost(), self.start(), self.uncovered(), self.matrix()]
+                 signatures(), self.how(), self.rules(), self.hazards(), self.diagram(),
+                 self.conditions(), self.lost(), self.start(), self.uncovered(), self.matrix()]
         return page(title, style, parts)
 
     def verdict(self) -> str:
@@ -53,6 +53,8 @@ class Report:
         more = [f'Restricted in what was tried: {it}.' for it in verdicts.restrictions(self.audit)]
         if self.audit.answer is None:
             more.append('Nothing is proved: this bayctl has no command audit, so all was tried.')
+        if verdicts.is_unjudged(self.audit):
+            more.append(f'{self.audit.diagram} is not judged: this bayctl has no audit --diagram.')
         if is_tried(self.bayctl):
             more.append('The sources of bayctl were run, without proof: what is proved here rests '
                         'on a program that is not.')
@@ -119,6 +121,11 @@ class Report:
         heads = ['#Line', 'Rule', '#Cases proved', '#Applied in so many tried', 'Verdict']
         return '<h2>Rules</h2>' + (table(heads, rows) if rows else '<p>There are none.</p>')
 
+    def hazards(self) -> str:
+        """What is proved of the releases and the hazards in the diagram."""
+        judged = self.audit.judged
+        return hazards.rows_of(judged, self.audit.diagram) if judged else ''
+
     def diagram(self) -> str:
         """The single line diagram in some states, with what is released in them."""
         if self.network is None:
@@ -128,9 +135,9 @@ class Report:
                'What is released in a state is not told: nothing is proved')
         lead = (f'<h2>Single line diagram</h2><p class="quiet">{how}. Inputs tell the positions '
                 'of switches of other bays (grey). Other inputs and measures are 0, but in a '
-                'state that breaks a rule.</p>')
+                'state that breaks a rule or is a hazard.</p>')
         states, left = drawn_states(self.audit, self.network)
-        more = f'<p>{counted(left, "other broken rule")} not drawn.</p>' if left else ''
+        more = f'<p>{counted(left, "other such state")} not drawn.</p>' if left else ''
         return lead + ''.join(
             f'<div class="figure"><p>{escaped(it.title)}</p>'
             + draw(self.network, it.title, it.positions, it.releases) + '</div>'

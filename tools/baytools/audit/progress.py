@@ -1,5 +1,5 @@
 """Shows how far bayctl is with an audit, on a terminal alone. bayctl prints each answer when it has
-it: those of the rules, and then the releases."""
+it: those of the rules, then the releases, and then what it finds of a diagram."""
 import contextlib
 import sys
 import threading
@@ -12,10 +12,11 @@ FIRST, EVERY = 1.0, 0.5  # seconds until something is shown, and between two tim
 
 
 class Progress:
-    """How many rules and releases bayctl has answered, of how many."""
+    """How many rules and releases bayctl has answered, and how many releases it has judged by a
+    diagram, of how many."""
 
-    def __init__(self, rules: int, releases: int) -> None:
-        self.all = {'rule': rules, 'release': releases}
+    def __init__(self, rules: int, releases: int, judged: int = 0) -> None:
+        self.all = {'rule': rules, 'release': releases, 'diagram': judged}
         self.done = dict.fromkeys(self.all, 0)
 
     def take(self, line: bytes) -> None:
@@ -26,7 +27,10 @@ class Progress:
 
     def told(self) -> str:
         """How far it is, in words."""
-        what = 'rule' if self.done['rule'] < self.all['rule'] else 'release'
+        left = [what for what in self.all if self.done[what] < self.all[what]]
+        what = left[0] if left else 'diagram' if self.all['diagram'] else 'release'
+        if what == 'diagram':
+            return f'{self.done[what]} of {counted(self.all[what], "release")} in the diagram'
         return f'{self.done[what]} of {counted(self.all[what], what)}'
 
 

@@ -14,13 +14,14 @@ from baytools.diagnosis.faults import faults
 from baytools.diagnosis.warnings import Proved
 from baytools.report.bayctl import Ask, is_tried, run, run_lines
 
-from .answers import Answer, Bad, read
+from .answers import Answer, Bad, Judged, read
 from .program_inputs import POSITION
 from .variables import keys_of
 
 WAYS = ('opened', 'closed')
 DONE, FOUND = 0, 4  # statuses with an answer
 REFUSED = re.compile(r'(?m)^rules refused (\d+) line (\d+)$')
+REFUSED_DIAGRAM = re.compile(r'(?m)^diagram refused (\d+)(?: (\w.*))?$')
 
 
 def can_prove(bayctl) -> bool:
@@ -31,20 +32,33 @@ def can_prove(bayctl) -> bool:
     return re.search(rb'(?m)^ +audit\b', told.stdout + told.stderr) is not None
 
 
+def can_judge(bayctl) -> bool:
+    """Whether bayctl judges releases by a diagram: its help of `audit` lists the option."""
+    if is_tried(bayctl):
+        return True
+    told = run(bayctl, 'audit', '--help')
+    return b'--diagram' in told.stdout + told.stderr
+
+
 def unseen(line: bytes) -> None:
     """A line that comes from bayctl, where nobody looks how far it is."""
 
 
-def asked(bayctl, bay, logic, rules, keys: set, each=unseen) -> Answer:
-    """The answer of bayctl on a bay file, a program and a file of rules; `keys` are the things of
-    the bay, as rules know them. Each line is handed to `each` when it comes."""
-    done = run_lines(bayctl, 'audit', '--bay', bay, '--logic', logic, '--rules', rules, each=each)
+def asked(bayctl, bay, logic, rules, keys: set, each=unseen, diagram=None) -> Answer:
+    """The answer of bayctl on a bay file, a program, and a file of rules or a diagram or both;
+    `keys` are the things of the bay, as rules know them. Each line is handed to `each` when it
+    comes."""
+    files = [it for option, path in (('--rules', rules), ('--diagram', diagram)) if path
+             for it in (option, path)]
+    done = run_lines(bayctl, 'audit', '--bay', bay, '--logic', logic, *files, each=each)
     printed = done.stdout.decode('utf-8', 'backslashreplace')
-    refused = REFUSED.search(printed)
+    refused, drawn = REFUSED.search(printed), REFUSED_DIAGRAM.search(printed)
     if refused:
-        fault = faults().get(int(refused[1]))
-        why = f': {fault.meaning} {fault.mend}' if fault else ''
-        raise Failed(f'{rules}: line {refused[2]}: bayctl refuses it with {refused[1]}{why}')
+        raise Failed(f'{rules}: line {refused[2]}: {refusal_told(refused[1])}')
+    if drawn:
+        place = f'{drawn[2]}: ' if drawn[2] else ''
+        raise Failed(f'{diagram}: {place}{refusal_told(drawn[1])} (tools/diagnose --diagram shows '
+                     'where)')
     if done.returncode not in (DONE, FOUND):
         said = printed.strip() or done.stderr.decode('utf-8', 'backslashreplace').strip()
         first = said.split('\n')[0] or f'it ended with status {done.returncode}'
@@ -56,6 +70,12 @@ def asked(bayctl, bay, logic, rules, keys: set, each=unseen) -> Answer:
         raise Failed(f'bayctl audit printed what this tool can\'t read: {error}') from None
 
 
+def refusal_told(code: str) -> str:
+    """A refusal by bayctl, with what its number means and the remedy."""
+    fault = faults().get(int(code))
+    return f'bayctl refuses it with {code}' + (f': {fault.meaning} {fault.mend}' if fault else '')
+
+
 def refusal_of_rules(bayctl, bay, logic, rules) -> tuple[int, int] | None:
     """The number and the line of bayctl's refusal of rules; None where it refuses none."""
     done = run(bayctl, 'audit', '--bay', bay, '--logic', logic, '--rules', rules)
@@ -63,9 +83,23 @@ def refusal_of_rules(bayctl, bay, logic, rules) -> tuple[int, int] | None:
     return (int(found[1]), int(found[2])) if found else None
 
 
-def answer_of(bayctl, bay, logic, rules, keys: set, each=unseen) -> Answer | None:
+def refusal_of_diagram(bayctl, bay, logic, diagram) -> tuple[int, str] | None:
+    """The number and the place of bayctl's refusal of a diagram; None where it refuses none."""
+    done = run(bayctl, 'audit', '--bay', bay, '--logic', logic, '--diagram', diagram)
+    found = REFUSED_DIAGRAM.search(done.stdout.decode('utf-8', 'backslashreplace'))
+    return (int(found[1]), found[2] or '') if found else None
+
+
+def judged_of(bayctl, bay, logic, diagram, keys: set) -> list[Judged]:
+    """What bayctl answers of each release and the hazards in a diagram."""
+    if not can_judge(bayctl):
+        raise Failed(f'{bayctl}: it has no `audit --diagram`')
+    return asked(bayctl, bay, logic, None, keys, diagram=diagram).judged
+
+
+def answer_of(bayctl, bay, logic, rules, keys: set, each=unseen, diagram=None) -> Answer | None:
     """The answer of bayctl, or None where it can prove nothing."""
-    return asked(bayctl, bay, logic, rules, keys, each) if can_prove(bayctl) else None
+    return asked(bayctl, bay, logic, rules, keys, each, diagram) if can_prove(bayctl) else None
 
 
 def proved_of(bayctl, bay, logic, file: dict) -> Proved | None:
@@ -87,9 +121,10 @@ def any_rule(keys: set) -> str:
     return f'never {name} open when {name} open and {name} closed\n'
 
 
-def releases_of(bayctl, bay, logic, keys: set, each=unseen) -> Answer | None:
-    """What bayctl says of the releases, whatever the rules are; None where it can prove nothing."""
-    answer = answer_of(bayctl, bay, logic, rules_file(any_rule(keys)).name, keys, each)
+def releases_of(bayctl, bay, logic, keys: set, each=unseen, diagram=None) -> Answer | None:
+    """What bayctl says of the releases, and of a diagram, if one is given, whatever the rules are;
+    None where it can prove nothing."""
+    answer = answer_of(bayctl, bay, logic, rules_file(any_rule(keys)).name, keys, each, diagram)
     if answer is not None:
         answer.rules.clear()
     return answer

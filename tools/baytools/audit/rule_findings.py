@@ -11,8 +11,9 @@ from baytools.bay.conditions import TooLarge, Variable, condition
 from baytools.common.ending import CalledWrong, Failed
 from baytools.common.texts import counted, raised
 
-from . import answers
+from . import answers, hazards
 from .answers import Answer, Proof
+from .hazards import Judgement
 from .proofs import Shown, conditions, shown
 from .replays import asked_ahead, scans_of, scenarios, timed_scenarios, timed_trace_of, trace_of
 from .variables import SWITCH, WAYS
@@ -72,7 +73,9 @@ class Finding:
 class Audit:
     """All that was found. `answer` is what bayctl proves, or None. `table` has each combination
     that was tried, with what is released in it once timers have run out; `scans` counts the scans,
-    at `offsets` after each combination is reached; `kept` has what was derived of it."""
+    at `offsets` after each combination is reached; `kept` has what was derived of it. `judged` is
+    what was found of the hazards in a diagram, and `diagram` the name of its file, where one is
+    asked for."""
     bay: object
     findings: list
     answer: Answer | None
@@ -80,6 +83,8 @@ class Audit:
     offsets: list
     scans: int
     kept: dict = field(default_factory=dict)
+    judged: list[Judgement] = field(default_factory=list)
+    diagram: str = ''
 
     def has_times(self) -> bool:
         return any(it.rule.since for it in self.findings)
@@ -120,8 +125,9 @@ class Progress:
 
 
 def audit(bay, rules: list, bayctl, pause: int | None = None, answer: Answer | None = None,
-          is_table_asked: bool = False) -> Audit:
-    """What bayctl answered on the rules, and what trying shows of those that it does not settle."""
+          is_table_asked: bool = False, diagram: str = '') -> Audit:
+    """What bayctl answered on the rules, and what trying shows of those that it does not settle;
+    and what it answered on the diagram of this name."""
     offsets = offsets_of(bay.program, rules, pause)
     findings = [Finding(rule, answer and answer.of_line(rule.line), rule.can_apply())
                 for rule in rules]
@@ -132,7 +138,8 @@ def audit(bay, rules: list, bayctl, pause: int | None = None, answer: Answer | N
         if finding.proof and finding.proof.verdict == answers.BROKEN:
             finding.shown = shown(bay, finding.rule, finding.proof.case, bayctl)
     chosen = chosen_of(bay, findings, answer is None or is_table_asked)
-    found = Audit(bay, findings, answer, [], offsets, 0)
+    judged = hazards.replayed(bay, answer.judged if answer else [], bayctl)
+    found = Audit(bay, findings, answer, [], offsets, 0, judged=judged, diagram=diagram)
     if chosen:
         tell_size(bay, len(chosen), offsets)
     go_through(found, chosen, bayctl)
@@ -143,9 +150,11 @@ def audit(bay, rules: list, bayctl, pause: int | None = None, answer: Answer | N
 
 
 def chosen_of(bay, findings: list, is_asked: bool) -> list[tuple]:
-    """The combinations that are tried: all of the usual number; of more some, spread over all, if
-    a rule is not settled without, or all where it is asked for."""
+    """The combinations that are tried: none without rules; all of the usual number; of more some,
+    spread over all, if a rule is not settled without, or all where it is asked for."""
     count = bay.count()
+    if not findings and not is_asked:
+        return []
     if count <= (WHOLE if is_asked else USUAL):
         return list(bay.combinations())
     if not is_asked and all(it.is_settled() for it in findings):

@@ -9,9 +9,10 @@ from baytools.diagram.drawing import in_service, usual_positions
 from baytools.diagram.network import Network
 
 from .answers import WAYS, Answer
+from .hazards import why_told
 from .variables import all_things
 
-MOST = 6  # broken rules whose states are drawn
+MOST = 6  # broken rules, and hazards, whose states are drawn
 OPEN, CLOSED = POSITIONS.index('open'), POSITIONS.index('closed')
 
 
@@ -65,14 +66,16 @@ def positions_of(network: Network, state: Mapping) -> dict[str, str]:
 
 
 def drawn_states(audit, network: Network) -> tuple[list[Drawn], int]:
-    """All switches open, the bay in service, and states that were shown to break rules, of the
-    first rules; and how many such rules are left."""
+    """All switches open, the bay in service, and states that were shown to break rules, or in which
+    a release was shown to be a hazard, the first of these; and how many are left."""
     file = audit.bay.file
     states = [('All switches open', state_of(network, usual_positions(network), file)),
               ('Breakers and disconnectors closed, earthing switches open',
                state_of(network, in_service(network), file))]
     broken = [(f'The rule of line {it.rule.line} is broken: {it.rule.text}', it.shown.state)
               for it in audit.findings if it.shown]
+    broken += [(f'{it.switch} {it.operation()} is released while it is a hazard'
+                f'{why_told(it.answer)}', it.shown.state) for it in audit.judged if it.shown]
     states += broken[:MOST]
     names = [switch['id'] for switch in file['switch']]
     return [Drawn(title, positions_of(network, state), {

@@ -3,7 +3,7 @@ from baytools.bay.rules import MEASURE
 from baytools.common.ending import DONE, FOUND, PARTLY
 from baytools.common.texts import counted, raised
 
-from . import answers, proofs
+from . import answers, hazards, proofs
 from .rule_findings import Audit, Finding
 from .variables import all_things
 
@@ -148,17 +148,37 @@ def unfinished(audit: Audit) -> list[str]:
 
 
 def status(audit: Audit) -> int:
-    """The exit status: a rule is broken, or not all was proved or tried, or all holds."""
-    verdicts = [it.verdict() for it in audit.findings]
+    """The exit status: a rule or a release is broken, or not all was proved or tried, or all
+    holds."""
+    verdicts = [it.verdict() for it in (*audit.findings, *audit.judged)]
     if 'BROKEN' in verdicts:
         return FOUND
-    is_whole = verdicts and set(verdicts) <= {'PROVED', 'TRIED'}
+    is_whole = verdicts and set(verdicts) <= {'PROVED', 'TRIED'} and not is_unjudged(audit)
     return DONE if is_whole and not unfinished(audit) else PARTLY
+
+
+def is_unjudged(audit: Audit) -> bool:
+    """Whether bayctl was asked for hazards in a diagram, and did not answer."""
+    return bool(audit.diagram) and not audit.judged
 
 
 def counts_told(audit: Audit) -> str:
     """How many rules are proved, broken, open, tried and idle."""
     verdicts = [it.verdict() for it in audit.findings]
+    if not verdicts:
+        return judged_told(audit)
+    return '; '.join(filter(None, (rules_told(verdicts), judged_told(audit))))
+
+
+def judged_told(audit: Audit) -> str:
+    """What was found of the hazards in a diagram, if one was asked for."""
+    if is_unjudged(audit):
+        return f'{audit.diagram} is not judged'
+    return hazards.counts_told(audit.judged, audit.diagram) if audit.diagram else ''
+
+
+def rules_told(verdicts: list[str]) -> str:
+    """How many rules have each verdict."""
     kinds = [(verdicts.count(kind), kind) for kind in SENTENCES if kind in verdicts]
     if len(kinds) > 1:
         return f'of {counted(len(verdicts), "rule")} ' + ', '.join(
@@ -172,12 +192,13 @@ def how_told(audit: Audit, tried: list) -> str:
     """Whether a pass is proved."""
     if not tried:
         return ''
-    return ' (TRIED, NOT PROVED)' if len(tried) == len(audit.findings) else ' (NOT ALL PROVED)'
+    is_all = len(tried) == len(audit.findings) and not audit.judged
+    return ' (TRIED, NOT PROVED)' if is_all else ' (NOT ALL PROVED)'
 
 
 def verdict(audit: Audit) -> str:
     """The result in a sentence. Under a restriction of what is tried it never reads PASSED."""
-    if not audit.findings:
+    if not audit.findings and not audit.diagram:
         return 'NOTHING AUDITED: there are no rules.'
     found, told = status(audit), counts_told(audit)
     if found == FOUND:

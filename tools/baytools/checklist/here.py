@@ -9,6 +9,7 @@ import stat
 import sys
 from dataclasses import dataclass
 
+from baytools.common import page_head
 from baytools.common.ending import Failed
 from baytools.common.paths import TOOLS
 from baytools.station.bays import settings_of
@@ -21,7 +22,9 @@ DATE = '%b %d %H:%M:%S %Y %Z'
 NOBODY = 'nobody'
 REACHED, REFUSED, UNTRIED = range(3)  # how a child ends that tries a port
 OPTIONS = ('--supervise', '--key', '--rules', '--log')
+DIAGRAM = 'diagram.toml'
 SUBJECT = re.compile(r'\[[^\]]*CN=[^\]]*\] operate .*')
+SUM = re.compile(r'diagram SHA-256 ([0-9a-f]{64}), (\d+) hold', re.ASCII)
 
 
 @dataclass(frozen=True)
@@ -122,20 +125,45 @@ class Machine:
         (process, words), told = running[0], []
         told += [f'it was started without {name}' for name in OPTIONS if name not in words]
         for name, file in (('--bay', 'bay.toml'), ('--logic', 'logic.il'), ('--rules', 'rules')):
-            path = self.folder / file
-            served = option(words, name)
-            if served is None or not os.path.exists(served) or not path.samefile(served):
-                told.append(f'it serves {name} {served}, not {path}')
-            elif path.stat().st_mtime > process.stat().st_ctime:
-                told.append(f'{path} has changed since it was started: restart it')
+            told += self.served(process, words, name, file)
         return judged(not told, '\n'.join(told) or ' '.join(words))
 
+    def served(self, process: pathlib.Path, words: list[str], name: str, file: str) -> list[str]:
+        """What is wrong with a file of the folder that an option of a server names."""
+        path, found = self.folder / file, option(words, name)
+        if found is None or not os.path.exists(found) or not path.samefile(found):
+            return [f'it serves {name} {found}, not {path}']
+        if path.stat().st_mtime > process.stat().st_ctime:
+            return [f'{path} has changed since it was started: restart it']
+        return []
+
+    def diagram(self) -> Verdict:
+        """The server has proved the diagram of the folder, which has the sum of its log."""
+        path = self.folder / DIAGRAM
+        if not path.exists():
+            return Verdict(OPEN, f'there is no {path}: nobody proves that no command is a hazard')
+        running = self.servers()
+        if len(running) != 1:
+            return judged(False, f'{len(running)} servers at port {self.ports()[0]}')
+        if wrong := self.served(*running[0], '--diagram', DIAGRAM):
+            return judged(False, '\n'.join(wrong))
+        _, lines = asked(['journalctl', '-u', f'bayctl@{self.folder.name}', '-o', 'cat',
+                          '--no-pager'])
+        found = SUM.findall(lines)
+        if not found:
+            return Verdict(OPEN, 'the log has no sum of a diagram')
+        digest, count = found[-1]
+        is_same = digest == page_head.source_at('', path).digest
+        return judged(is_same, f'SHA-256 {digest}, {count} operations hold'
+                      + ('' if is_same else f': {path} HAS ANOTHER SUM'))
+
     def audit(self) -> Verdict:
-        """The files that are served keep the rules."""
+        """The files that are served keep the rules, and no release is a hazard in the diagram."""
         if not self.rules:
             return Verdict(OPEN, 'name the rules of the bay by --rules')
+        more = ['--diagram', self.folder / DIAGRAM] if (self.folder / DIAGRAM).exists() else []
         _, found = asked([sys.executable, '-B', TOOLS / 'audit', self.folder / 'bay.toml',
-                          self.folder / 'logic.il', self.rules, '--bayctl', self.bayctl])
+                          self.folder / 'logic.il', self.rules, *more, '--bayctl', self.bayctl])
         lines = found.splitlines()
         told = [line for line in lines if line.startswith('WARNING: ')] + lines[-1:]
         return judged(any(line.startswith('PASSED: ') for line in lines), '\n'.join(told))
@@ -194,5 +222,7 @@ def steps_of(it: Machine) -> list[Step]:
         Step('each key is for its one user alone, and there is none of an authority', it.keys),
         Step('the server runs with --supervise, --key, --rules and --log, and the files of the '
              'folder', it.server),
-        Step('the files that are served keep the rules', it.audit),
+        Step('the server has proved that no command is a hazard in the diagram of the folder',
+             it.diagram),
+        Step('the files that are served keep the rules, and those of the diagram', it.audit),
         Step('the log has your certificate beside an operate that you made today', it.subject)]

@@ -260,6 +260,9 @@ def without_link(event: Event) -> tuple[str, str]:
             return f'the bay and its program are loaded{why}', QUIET
         case lines.RULES:
             return f'each of the {event.code} rules holds', QUIET
+        case lines.DIAGRAM:
+            return (f'none of {counted(int(event.code), "operation")} is released while it is a '
+                    'hazard in the diagram'), QUIET
         case lines.SUM:
             return f'the server serves: {event.words}', QUIET
         case lines.UNPROVED:

@@ -12,7 +12,7 @@ from baytools.common.page_head import Source
 
 from .entries import Entry, entries_of
 from .links import Joining, Story
-from .server_lines import LOADED, RULES, Event, event_of, told_once
+from .server_lines import DIAGRAM, LOADED, RULES, Event, event_of, told_once
 from .stunnel_lines import Door
 
 
@@ -79,7 +79,7 @@ def read(paths: list[str], also: list[str]) -> Read:
 
 def take(found: Read, entries: Iterator[Entry], also: set[str]) -> None:
     """Takes the lines of one file. A line without a moment has that of the line before; what is
-    printed of a load and of rules that hold that of the line behind."""
+    printed of a load, and of rules and a diagram that hold, that of the line behind."""
     before: int = 0
     waiting: list[Event] = []
     for entry in entries:
@@ -88,7 +88,7 @@ def take(found: Read, entries: Iterator[Entry], also: set[str]) -> None:
         event = event_of(entry, before)
         if event is None:
             take_other(found, entry, also)
-        elif event.kind in (LOADED, RULES) and entry.moment is None:
+        elif event.kind in (LOADED, RULES, DIAGRAM) and entry.moment is None:
             waiting.append(event)
         else:
             before = event.moment

@@ -14,7 +14,7 @@ CONNECTED, PARTED, LOADED, BEGUN = 'process open', 'process closed', 'loaded', '
 ENDED, CLOCK, FAULT = 'ended', 'clock', 'fault'
 POSITION, RELEASE, LOST, DONE = 'position', 'release', 'process lost', 'operate ended'
 LEFT_OUT, RECORD = 'left out', 'record'
-SUM, RULES, UNPROVED = 'sum', 'rules', 'rule that does not hold'
+SUM, RULES, DIAGRAM, UNPROVED = 'sum', 'rules', 'diagram', 'what does not hold'
 REACHED = 'position reached'  # how an operate ends well
 OPERATE = 'operate'
 TWICE = (CLOSED, REFUSED, CONNECTED, PARTED)  # printed and logged
@@ -38,7 +38,7 @@ LINES = [
     (DONE, r'operate of (?P<switch>\w+) ended: (?P<words>position reached|time over)'),
     (BEGUN, r'clients on (?P<address>[\d.]+:\d+)(?P<words>, process on [\d.]+:\d+)?'),
     (RECORD, r'(?P<words>the record has (?:room for \d+ octets|ended): .+)'),
-    (SUM, r'(?P<words>(?:bay|program|image|rules) SHA-256 [0-9a-f]{64}(?:, \d+ hold)?)'),
+    (SUM, r'(?P<words>(?:bay|program|image|rules|diagram) SHA-256 [0-9a-f]{64}(?:, \d+ hold)?)'),
     (ENDED, r'(?P<words>all turns are served)'),
     (CLOCK, r'the system\'s clock (?P<words>agrees again|is (?P<code>\d+) ms (?:ahead|behind))')]
 STAMP = r'(?:(?P<moment>\d{1,20})|(?P<time>\d{4}-\d\d-\d\dT\d\d:\d\d:\d\d\.\d{3}Z)) '
@@ -46,9 +46,11 @@ STAMPED = [(kind, re.compile(STAMP + pattern, re.ASCII)) for kind, pattern in LI
 # Lines without a moment.
 BARE = [(LOADED, re.compile(r'(?P<words>instructions=\d+ depth=\d+ budget=\d+)', re.ASCII)),
         (RULES, re.compile(r'rules (?P<code>\d+)', re.ASCII)),
-        (UNPROVED, re.compile(r'(?P<words>rule \d+ \w+ (?:open|close) (?:broken|open|many).*)')),
+        (DIAGRAM, re.compile(r'diagram (?P<code>\d+)', re.ASCII)),
+        (UNPROVED, re.compile(r'(?P<words>(?:rule \d+|diagram) \w+ (?:open|close) '
+                              r'(?:broken|open|many).*)')),
         (FAULT, re.compile(
-            r'(?P<words>(?:bayctl: )?(?:fault (?:\d+|memory)|(?:load|rules) refused).*)'))]
+            r'(?P<words>(?:bayctl: )?(?:fault (?:\d+|memory)|(?:load|rules|diagram) refused).*)'))]
 
 
 @dataclass(frozen=True)

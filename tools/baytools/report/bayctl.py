@@ -14,7 +14,8 @@ from baytools.common import paths
 from baytools.common.ending import Failed, complain
 from baytools.common.paths import CRATE, TRY
 
-FILES = ('--bay', '--logic', '--image', '--rules', '--trace', '--key')  # options that name one
+# Options that name a file.
+FILES = ('--bay', '--logic', '--image', '--rules', '--diagram', '--trace', '--key')
 NEVER = ('serve', 'compile')  # whose clients or files would not be reached
 SECONDS, SHOWN = 600, 300  # of a run; characters that are told of one that failed
 SAID = 'bayctl is not built, so `rt try` runs its sources, without proof, which takes minutes'

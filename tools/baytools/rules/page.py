@@ -4,6 +4,7 @@ import itertools
 from collections.abc import Sequence
 from typing import Any
 
+from baytools.audit.hazards import Judgement, rows_of
 from baytools.common import page_head
 from baytools.common.html_page import A4, code, escaped, page, signatures, table
 from baytools.diagram.network import Network
@@ -12,9 +13,9 @@ from .demands import demands_of, kept_elsewhere
 
 
 def page_of(network: Network, bay: dict[str, Any], picture: str,
-            sources: Sequence[page_head.Source]) -> str:
+            sources: Sequence[page_head.Source], judged: Sequence[Judgement] = ()) -> str:
     """The page. `bay` is the table of the bay file, `picture` the drawn diagram, and `sources` are
-    the files that were read."""
+    the files that were read. `judged` is what was proved of a program in the diagram."""
     title, moment = f'Rules of the diagram of bay {bay["domain"]}', page_head.moment_told(
         page_head.now())
     about = [('Bay', bay['domain']),
@@ -24,7 +25,8 @@ def page_of(network: Network, bay: dict[str, Any], picture: str,
              '<p>What the diagram asks of the interlocking. No program was asked whether it keeps '
              'the rules: tools/audit does that. A position that is not known counts as the worse '
              'of both.</p>', *elsewhere(network), signatures(),
-             f'<h2>Single line diagram</h2><div class="figure">{picture}</div>', *rules(network)]
+             f'<h2>Single line diagram</h2><div class="figure">{picture}</div>',
+             *([rows_of(judged, network.title)] if judged else []), *rules(network)]
     return page(title, A4 % f'Bay {bay["domain"]}, {moment}', parts)
 
 

@@ -1,0 +1,114 @@
+"""What only a served bay can show of `serve --diagram`: a server of whose releases none is a hazard
+serves, and its log has the sum of the diagram; of a diagram or a program that was edited no port is
+opened. Each check has the name of the wrong behaviour that it refuses."""
+import re
+import socket
+import subprocess
+
+from baytools.common.paths import TOP
+from devtools.served import Server, free_port
+
+from .by_rules import logged, reached
+
+FOLDER = TOP / 'examples' / '07_diagrams' / 'single'
+BAY, LOGIC, DIAGRAM = FOLDER / 'bay.toml', FOLDER / 'logic.il', FOLDER / 'diagram.toml'
+RULES = FOLDER / 'rules_of_diagram'
+LOAD, COUNT = 'instructions=67 depth=3 budget=67\n', 10
+HELD, KEPT = f'diagram {COUNT}\n', 'rules 17\n'
+HAZARD = r'diagram QC9 close broken .*: earths CABLE, which is not isolated: .*\n'
+# What is edited after the audit, its text and what takes its place; the status, and a pattern of
+# what is printed.
+EDITS = (
+    ('a key of the diagram', DIAGRAM, 'dead = "VT_DEAD"\n', '', 4, LOAD + HAZARD),
+    ('the program', LOGIC, '    AND VT_DEAD\n', '', 4, LOAD.replace('67', '65') + HAZARD),
+    ('a word of the diagram', DIAGRAM, 'kind = "cable"', 'kind = "cabel"', 1,
+     LOAD + 'diagram refused 149 node 2\n'),
+    ('the end of the diagram', DIAGRAM, '[[between]]', '[[between]', 1,
+     LOAD + 'diagram refused 146\n'),
+    ('a switch of the diagram', DIAGRAM, '[[between]]\nswitch = "QC1"\nnodes = ["N1", "E"]\n', '',
+     1, LOAD + 'diagram refused 155 switch 4\n'),
+    ('the bay file', BAY, 'name = "VT_DEAD"', 'name = "VT_DED"', 1, r'load refused 70 line \d+\n'))
+
+
+# Shows P-146, P-148, P-157.
+def holding(checks) -> None:
+    """A server of whose releases none is a hazard prints their number and serves; its log has the
+    sum of the diagram after those of the other files."""
+    bay, program = logged(BAY, 'bay'), logged(LOGIC, 'program')
+    rules = logged(RULES, 'rules', ', 17 hold')
+    diagram = logged(DIAGRAM, 'diagram', f', {COUNT} hold')
+    for name, words, printed, sums in (
+            ('a diagram', ['--diagram', DIAGRAM], LOAD + HELD, [bay, program, diagram]),
+            ('rules and a diagram', ['--diagram', DIAGRAM, '--rules', RULES], LOAD + KEPT + HELD,
+             [bay, program, rules, diagram])):
+        done = subprocess.run([checks.bayctl, 'serve', '--log', '--bay', BAY, '--logic', LOGIC,
+                               *words, '--port', str(free_port()), '--turns', '1'],
+                              capture_output=True, text=True, timeout=60)
+        found = [line[24:] for line in done.stderr.splitlines(True) if ' SHA-256 ' in line]
+        checks.holds(f'a server with {name} prints otherwise',
+                     (done.returncode, done.stdout) == (0, printed), str(done))
+        checks.holds(f'the log of a server with {name} has other sums', found == sums, done.stderr)
+    with Server(checks.bayctl, BAY, LOGIC, '--diagram', DIAGRAM) as server:
+        client = server.client()
+        checks.holds('a server without a hazard does not serve', client.domain() == 'E11',
+                     server.printed())
+        client.close()
+
+
+def started(checks, files: dict, port: int, *more: object) -> subprocess.Popen:
+    """A server of these files."""
+    return subprocess.Popen([checks.bayctl, 'serve', '--bay', files[BAY], '--logic', files[LOGIC],
+                             '--diagram', files[DIAGRAM], '--port', str(port), '--turns', '1000000',
+                             *map(str, more)], stdout=subprocess.PIPE, stderr=subprocess.PIPE,
+                            text=True)
+
+
+# Shows P-146, P-154.
+def edited(checks) -> None:
+    """A file that was edited after the audit is not served: nobody reaches the port, and a port
+    that another program has is not even tried."""
+    for name, path, old, new, status, wanted in EDITS:
+        text = path.read_text(encoding='utf-8')
+        assert old in text, old
+        files = {it: it for it in (BAY, LOGIC, DIAGRAM)}
+        files[path] = checks.file(f'edited_{path.name}', text.replace(old, new, 1))
+        port = free_port()
+        run = started(checks, files, port, '--process', free_port())
+        checks.holds(f'a port is opened though {name} was edited', not reached(port, run), name)
+        told, error = run.communicate(timeout=60)
+        checks.holds(f'{name} was edited, and the server tells otherwise',
+                     (run.returncode, error) == (status, '') and re.fullmatch(wanted, told),
+                     f'{run.returncode} {told!r} {error!r}')
+        with socket.create_server(('127.0.0.1', 0)) as taken:
+            run = started(checks, files, taken.getsockname()[1])
+            told = run.communicate(timeout=60)[0]
+            checks.holds(f'{name} was edited, and a port is tried first',
+                         run.returncode == status and re.fullmatch(wanted, told),
+                         f'{run.returncode} {told!r}')
+
+
+# Shows P-146, P-154.
+def in_order(checks) -> None:
+    """A diagram that is not there is told before the load; one that is refused is logged with its
+    words; and it is not judged if a rule does not hold."""
+    absent = checks.folder / 'absent.toml'
+    text = DIAGRAM.read_text(encoding='utf-8')
+    broken = checks.file('broken.toml', text.replace('"cable"', '"cabel"'))
+    rules = checks.file('broken.rules', 'never QA1 open\n')
+    words = [checks.bayctl, 'serve', '--log', '--bay', BAY, '--logic', LOGIC, '--port',
+             str(free_port()), '--turns', '1']
+    meaning = ('a value has a wrong type, or is none of the words of its key: write one of them')
+    for name, more, status, out, error in (
+            ('a diagram that is not there', ['--diagram', absent], 3, 'fault 121\n',
+             f'bayctl: fault 121: {absent}: there is no such file\n'),
+            ('a diagram that is refused', ['--diagram', broken], 1,
+             LOAD + 'diagram refused 149 node 2\n',
+             f'bayctl: diagram refused 149 node 2: {meaning}\n'),
+            ('a diagram beside broken rules', ['--diagram', broken, '--rules', rules], 4,
+             LOAD + 'rule 1 QA1 open broken\n', '')):
+        done = subprocess.run([*words, *more], capture_output=True, text=True, timeout=60)
+        told = done.returncode, done.stdout, done.stderr
+        checks.holds(f'{name} is told otherwise', told == (status, out, error), str(told))
+
+
+PARTS = (holding, edited, in_order)
