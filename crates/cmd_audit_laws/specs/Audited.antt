@@ -16,7 +16,7 @@ use Rattle.bay_load.specs.declared.load.Form.{Form}
 use Rattle.bay_audit_rules.specs.declared.fault.RuleFault.{RuleFault}
 use Rattle.bay_audit_rules.specs.declared.rule.Rule.{Rule}
 
--- ---- what is said of an audit
+-- ---- statements on an audit
 
 -- a statement on the answers to rules and on the judgements by a diagram in a text
 abbrev pub OnAnswers : Type 1

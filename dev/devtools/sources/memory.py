@@ -50,6 +50,8 @@ PLACES = (
           "if answer_named(writer, device, octets, line, moment, event)"
           " { Some(ReplayEnd::OutOfMemory) }",
           "the line's octets found no memory, which `answer_named` returns as true"),
+    Place("cmd_audit/src/judging_diagram.rt", "None => Err(AllocError),",
+          "want of memory is the fault without a number"),
     Place("bay_server/src/turns.rt",
           "for association in memory"
           " { put_closing_line(writer, moment, *association, Why::Memory); }",
