@@ -2,7 +2,8 @@
 each of which asks whether a walk over some branches leads from one node to another. It is written
 from the table of docs/AUDIT.md ('What a hazard is'), and knows nothing of bayctl.
 
-What is known of a state are numbers with a bit for each branch, and one with a bit for each node."""
+What is known of a state are numbers with a bit for each branch, and one with a bit for each
+node."""
 from collections.abc import Iterator, Mapping
 from dataclasses import dataclass
 
@@ -201,7 +202,8 @@ class Diagram:
                 and self.spans(over, moving, live, self.terminals))
 
     def lies_beside(self, over: int, moving: int, a: int, b: int) -> bool:
-        """Whether a path  x .. a - s - b .. y  leads beside d, through no transformer but x and y."""
+        """Whether a path  x .. a - s - b .. y  leads beside d, and through no transformer but x
+        and y."""
         x, y = self.ends[moving]
         if a == y or b == x:
             return False

@@ -1,5 +1,5 @@
-"""What an operation in a network would do, looked at without any walk formula: for each way in which
-the positions that are not known can be, the network is joined switch by switch."""
+"""What an operation in a network would do, looked at without any walk formula: for each way in
+which the positions that are not known can be, the network is joined switch by switch."""
 from baytools.diagram.network import BREAKER, DISCONNECTOR, EARTHING
 from diagram_hazards import CLOSE, Diagram, Known, numbers
 

@@ -203,8 +203,8 @@ def bad_keys(rows: Rows) -> Iterator[Refused]:
         elif 'switch' in row:
             for key in OF_OTHERS:
                 if key in row:
-                    yield rows.refused(154, 'between', index, f'{key} is a key of switches of other '
-                                       'bays', key, 'leave it out: the bay file has it')
+                    yield rows.refused(154, 'between', index, f'{key} is a key of switches of '
+                                       'other bays', key, 'leave it out: the bay file has it')
         elif 'kind' not in row:
             yield rows.refused(154, 'between', index, 'the kind is missing', 'name', 'add kind')
         elif raised(row['name']) in rows.bay:
