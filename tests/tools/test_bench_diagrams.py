@@ -1,5 +1,5 @@
-"""The hazards beside which bench/trials/diagrams holds bayctl: small states, worked out by hand, and
-the states of a bay at once."""
+"""The hazards beside which bench/trials/diagrams holds bayctl: small states, worked out by hand,
+and the states of a bay at once."""
 import random
 import sys
 import unittest

@@ -51,7 +51,8 @@ class Asking(Tools):
         path = self.file('bayctl', f'#!{sys.executable}\nimport sys\n'
                          f'if "--help" in sys.argv:\n    sys.exit(print({help_text!r}) or 2)\n'
                          'if sys.argv[1] != "audit":\n    sys.stdin.buffer.read()\n'
-                         f'    print({LOADED!r}, end="")\n    print({row + chr(10)!r} * 5000, end="")\n'
+                         f'    print({LOADED!r}, end="")\n'
+                         f'    print({row + chr(10)!r} * 5000, end="")\n'
                          '    sys.exit(0)\n'
                          'print(" ".join(sys.argv[1:]), file=open("asked", "a"))\n'
                          f'print({printed!r}, end="")\nsys.exit({status})\n')
