@@ -32,6 +32,7 @@ pub record Le (a b : Bool) : Type 0 where
 no-yes : false ≡ true → ⊥
 no-yes h = cc
 
+-- each truth value is at most itself
 pub same : (a : Bool) → Le a a
 same a = record { gives = λ h. h }
 
