@@ -40,6 +40,7 @@ or-none : (a b : Bool) → a ≡ false → b ≡ false → (a || b) ≡ false
 or-none true b h g = absurd (no-yes (sym h))
 or-none false b h g = g
 
+-- no value is TRUE and FALSE at once, so from both anything follows
 pub opposed : (a b : Bool) → a ≡ true → a ≡ false → b ≡ false
 opposed true b h g = absurd (no-yes (sym g))
 opposed false b h g = absurd (no-yes h)
