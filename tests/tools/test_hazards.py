@@ -48,13 +48,14 @@ class Asking(Tools):
     def bayctl(self, printed: str, status: int, help_text: str = HELP, releases: str = '11'):
         """A program in the place of bayctl: its help, its answer, and what its replays release."""
         row = f'0 scan steps=0 QA1=11 QB1=11 QB9=11 QC1=11 QC9={releases}'
+        asked = str(self.folder / 'asked')
         path = self.file('bayctl', f'#!{sys.executable}\nimport sys\n'
                          f'if "--help" in sys.argv:\n    sys.exit(print({help_text!r}) or 2)\n'
                          'if sys.argv[1] != "audit":\n    sys.stdin.buffer.read()\n'
                          f'    print({LOADED!r}, end="")\n'
                          f'    print({row + chr(10)!r} * 5000, end="")\n'
                          '    sys.exit(0)\n'
-                         'print(" ".join(sys.argv[1:]), file=open("asked", "a"))\n'
+                         f'print(" ".join(sys.argv[1:]), file=open({asked!r}, "a"))\n'
                          f'print({printed!r}, end="")\nsys.exit({status})\n')
         path.chmod(0o755)
         return path
