@@ -7,7 +7,7 @@ use Rattle.bay_audit.specs.Conditions.{includes, condition_truths}
 use Rattle.bay_audit.specs.Process.{IsProcess}
 use Rattle.bay_audit.specs.declared.case.TestAnswer.{TestAnswer}
 use Rattle.bay_audit.specs.declared.truth_set.TruthSet.{TruthSet}
-use Rattle.bay_audit.proofs.OutlookLemmas.{condition-included}
+use Rattle.bay_audit.proofs.TruthSetLemmas.{condition-included}
 
 sure : (o : TruthSet) (b : Bool) → o.no ≡ false → includes o b ≡ true → b ≡ true
 sure o true never one = refl

@@ -1,7 +1,7 @@
 pub mod CaseLemmas
 pub mod EarlyLemmas
 pub mod ListLemmas
-pub mod OutlookLemmas
+pub mod TruthSetLemmas
 pub mod ReleaseLemmas
 pub mod RuleLemmas
 pub mod SearchLemmas

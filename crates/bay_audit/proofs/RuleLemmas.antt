@@ -19,7 +19,7 @@ use Rattle.il_image.specs.declared.value.Value.TheVariants.{Truth, Short, Long, 
 use Rattle.bay_base.specs.declared.types.TimerKind.{TimerKind}
 use Rattle.bay_base.specs.declared.types.TimerKind.TheVariants.{OnDelay}
 use Rattle.il_range.specs.Effects.{value_range}
-use Rattle.il_range.specs.Foretold.{AreDelays, First, Foretells, IsMemory, IsReached, Leaves, delay_start, delay_start_at}
+use Rattle.il_range.specs.Predictions.{AreDelays, First, PredictsScans, IsMemory, IsReached, ScanLeaves, delay_start, delay_start_at}
 use Rattle.il_range.specs.Starts.{range_of_point}
 use Rattle.il_range.proofs.StartLemmas.{firsts-in}
 use Rattle.il_range.specs.Ranges.{AreIn, IsDelay, IsIn, Setting, delay_onset, delay_onset_at, is_by}
@@ -27,13 +27,13 @@ use Rattle.il_range.specs.declared.delay.KnownDelay.{KnownDelay}
 use Rattle.il_range.specs.declared.delay.KnownDelay.TheVariants.{Unknown, Below, Begun, AtLeast}
 use Rattle.il_range.specs.declared.range.Range.{Range}
 use Rattle.il_range.specs.declared.range.Range.TheVariants.{Any, No, Yes, Either, Between, Among}
-use Rattle.il_scan.specs.Places.{is_true}
+use Rattle.il_scan.specs.OutputValues.{is_true}
 use Rattle.il_scan.specs.Scans.{first_machine, outputs_of}
 use Rattle.il_scan.specs.Scans as scans
 use Rattle.bay_audit.specs.Cases.{is_in, range_of}
 use Rattle.bay_audit.specs.Conditions.{rule_truths, includes, negate_truths, condition_truths}
 use Rattle.bay_audit.specs.Process.{IsProcess, process_value}
-use Rattle.bay_audit.specs.Rules.{BoundProgram, Comes, Foresees, ForeseesFirst, IsAnswer, IsDecision, IsMissed, IsRequired, IsStart, begun_range, decide, goal_range, idle_range, is_covered, is_obeyed, is_surely_missed, is_surely_obeyed, lasting_range, range_at, range_there, reaches, release_range, releases, releasing_point, sufficient_demand}
+use Rattle.bay_audit.specs.Rules.{BoundProgram, ScansMeet, PredictsRanges, PredictsFirst, IsAnswer, IsDecision, IsMissed, IsAfterAnswer, IsFirstRelease, begun_range, decide, goal_range, idle_range, is_covered, is_obeyed, is_surely_missed, is_surely_obeyed, lasting_range, range_at, range_or_false, reaches, release_range, releases, releasing_point, sufficient_demand}
 use Rattle.bay_audit.specs.declared.demand.Demand.{Demand}
 use Rattle.bay_audit.specs.declared.demand.Goal.{Goal}
 use Rattle.bay_audit.specs.declared.demand.Goal.TheVariants as goals
@@ -44,7 +44,7 @@ use Rattle.bay_audit.specs.declared.answer.RuleAnswer.TheVariants.{Broken, Holds
 use Rattle.bay_audit.specs.declared.answer.RuleVerdict.{RuleVerdict}
 use Rattle.bay_audit.specs.declared.answer.RuleVerdict.TheVariants as decision
 use Rattle.bay_audit.proofs.CaseLemmas.{ranges-have, setting_of}
-use Rattle.bay_audit.proofs.OutlookLemmas.{condition-included, of-both, of-opposite}
+use Rattle.bay_audit.proofs.TruthSetLemmas.{condition-included, of-both, of-opposite}
 
 -- ---- outputs
 
@@ -93,7 +93,7 @@ value-told w v (Among k s) h = tt
 
 there-told : (w : Setting) (values : List Value) (ranges : List Range) (n : ℕ)
     → AreIn w values ranges
-    → Told (range_there (slice_get ranges n)) (is_true (slice_get values n))
+    → Told (range_or_false (slice_get ranges n)) (is_true (slice_get values n))
 there-told w [] [] n h = refl
 there-told w (v ∷ values) (r ∷ ranges) zero h = value-told w v r h.0
 there-told w (v ∷ values) (r ∷ ranges) (suc n) h = there-told w values ranges n h.1
@@ -278,22 +278,22 @@ asked-included d p is case inside =
 -- What is foretold of all that the ranges of a program's memory hold is so of what it reaches.
 pub foresees-by : (g : BoundProgram) (memory : List Range) (limits : List KnownDelay)
     (given : List Range) (last : List KnownDelay) (result : List Range) → IsMemory g.image memory
-    → Foretells g.image memory limits given last result → Foresees g limits given last result
-foresees-by g memory limits given last result is foretells w machine inputs now slots timers image
+    → PredictsScans g.image memory limits given last result → PredictsRanges g limits given last result
+foresees-by g memory limits given last result is predicts w machine inputs now slots timers image
     reached young inside leaves =
-    foretells w machine inputs now slots timers image reached (is w machine image reached) young
+    predicts w machine inputs now slots timers image reached (is w machine image reached) young
     inside leaves
 
 module _ (g : BoundProgram) (d : Demand) (case : List TestAnswer) (ranges : List Range)
     (limits : List KnownDelay)
-    (foresees : Foresees g d.limits (map (range_of case) g.reads) limits ranges)
+    (foresees : PredictsRanges g d.limits (map (range_of case) g.reads) limits ranges)
     (asked : TruthSet) (r : Range) (is-asked : asked ≡ rule_truths case d.when d.unless)
     (is-range : r ≡ goal_range g.image.points g.writes ranges limits d.goal) where
   module _ (p : Process) (is : IsProcess p) (inside : is_in case p ≡ true)
       (mark : ℕ) (machine : scans.MachineData)
       (now : ℕ) (slots : List Value) (timers : List TimerState) (image : machine.image ≡ g.image)
       (kept : IsReached machine) (young : AreDelays mark now machine.timers d.limits)
-      (leaves : Leaves machine (map (process_value p) g.reads) now slots timers)
+      (leaves : ScanLeaves machine (map (process_value p) g.reads) now slots timers)
     where
       told : Told r (reaches g d.goal mark slots timers)
       told =
@@ -310,7 +310,7 @@ module _ (g : BoundProgram) (d : Demand) (case : List TestAnswer) (ranges : List
           ∙ asked-included d p is case inside
 
   obeyed-by : decide d.kind asked r ≡ decision.Obeyed
-      → (p : Process) → IsProcess p → is_in case p ≡ true → Comes true g d p
+      → (p : Process) → IsProcess p → is_in case p ≡ true → ScansMeet true g d p
   obeyed-by e p is inside mark machine now slots timers image kept young leaves =
       obeyed-so d.kind asked r (reaches g d.goal mark slots timers)
       (told p is inside mark machine now slots timers image kept young leaves) (is_covered d p)
@@ -330,10 +330,10 @@ module _ (g : BoundProgram) (d : Demand) (case : List TestAnswer) (ranges : List
 -- ---- the first scan
 
 module _ (g : BoundProgram) (k : ℕ) (operation : Operation) (ranges : List Range)
-    (foresees : ForeseesFirst g (map (range_of []) g.reads) ranges) where
+    (foresees : PredictsFirst g (map (range_of []) g.reads) ranges) where
   start-told : (r : Range) → r ≡ release_range g.image.points g.writes ranges k operation
       → (p : Process) (now : ℕ) (slots : List Value) (timers : List TimerState) → IsProcess p
-      → Leaves (first_machine g.image) (map (process_value p) g.reads) now slots timers
+      → ScanLeaves (first_machine g.image) (map (process_value p) g.reads) now slots timers
       → Told r (releases g k operation slots)
   start-told r is p now slots timers ip leaves =
       subst (λ (x : Range). Told x (releases g k operation slots)) (sym is)
@@ -345,12 +345,12 @@ module _ (g : BoundProgram) (k : ℕ) (operation : Operation) (ranges : List Ran
       (ranges-have p 0 ip [] refl g.reads) leaves)))
 
   pub start-released : (r : Range) → r ≡ release_range g.image.points g.writes ranges k operation
-      → r ≡ Yes → IsStart g k operation Released
+      → r ≡ Yes → IsFirstRelease g k operation Released
   start-released r is e p now slots timers ip leaves =
       start-told Yes (sym e ∙ is) p now slots timers ip leaves
 
   pub start-refused : (r : Range) → r ≡ release_range g.image.points g.writes ranges k operation
-      → r ≡ No → IsStart g k operation Refused
+      → r ≡ No → IsFirstRelease g k operation Refused
   start-refused r is e p now slots timers ip leaves =
       start-told No (sym e ∙ is) p now slots timers ip leaves
 
@@ -364,10 +364,10 @@ first-young mark now (kind ∷ kinds) (suc n) = (tt, first-young mark now kinds 
 pub foresees-first : (g : BoundProgram) (memory : List Range) (n : ℕ) (given : List Range)
     (last : List KnownDelay) (result : List Range)
     → memory ≡ map range_of_point g.image.points ++ map value_range g.image.variables
-    → Foretells g.image memory (replicate n (Below 0)) given last result
-    → ForeseesFirst g given result
-foresees-first g memory n given last result is foretells w inputs now slots timers inside leaves =
-    (foretells w (first_machine g.image) inputs now slots timers refl (First g.image)
+    → PredictsScans g.image memory (replicate n (Below 0)) given last result
+    → PredictsFirst g given result
+foresees-first g memory n given last result is predicts w inputs now slots timers inside leaves =
+    (predicts w (first_machine g.image) inputs now slots timers refl (First g.image)
     (subst (AreIn w (first_machine g.image).slots) (sym is)
     (firsts-in w g.image.points g.image.variables))
     (first-young w.mark now g.image.timers n) inside leaves).0
@@ -380,7 +380,7 @@ idle-so kind o true b never one = absurd (let f : true ≡ false = sym one ∙ n
 
 pub idle-in : (g : BoundProgram) (d : Demand) (case : List TestAnswer)
     → (rule_truths case d.when d.unless).yes ≡ false → (p : Process) → IsProcess p
-    → is_in case p ≡ true → Comes true g d p
+    → is_in case p ≡ true → ScansMeet true g d p
 idle-in g d case never p is inside mark machine now slots timers image kept young leaves =
     idle-so d.kind (rule_truths case d.when d.unless) (is_covered d p)
     (reaches g d.goal mark slots timers)
@@ -390,7 +390,7 @@ idle-in g d case never p is inside mark machine now slots timers image kept youn
 
 -- the answer to the demand that the condition alone releases the switch is one to the rule
 pub required-plain : (g : BoundProgram) (rule : Rule) (timing : Timing) (a : RuleAnswer)
-    → IsAnswer g (sufficient_demand rule timing.condition) a → IsRequired g rule timing a
+    → IsAnswer g (sufficient_demand rule timing.condition) a → IsAfterAnswer g rule timing a
 required-plain g rule timing (Holds cases) h = h
 required-plain g rule timing (Broken case) h = h
 required-plain g rule timing (Open case kept) h = h

@@ -10,7 +10,7 @@ use Rattle.bay_audit_rules.specs.declared.rule.Rule.{Rule}
 use Rattle.bay_audit.specs.declared.demand.Demand.{Demand}
 use Rattle.bay_audit.specs.Cases.{answer_of, example_of, is_in, meets}
 use Rattle.bay_audit.specs.Process.{IsProcess}
-use Rattle.bay_audit.specs.Rules.{AreRight, Comes, HasProcess, IsLeft, IsMet, IsRight, BoundProgram, case_count, if_any, case_with_answer, parts_of}
+use Rattle.bay_audit.specs.Rules.{AreRightAnswers, ScansMeet, HasProcess, IsMetOutside, IsMet, IsRightAnswer, BoundProgram, case_count, if_any, case_with_answer, parts_of}
 use Rattle.bay_audit.specs.declared.answer.RuleAnswer.{RuleAnswer}
 use Rattle.bay_audit.specs.declared.case.TestAnswer.{TestAnswer}
 use Rattle.bay_audit.specs.declared.case.Test.{Test}
@@ -109,13 +109,13 @@ full-last cases case all =
 
 module _ (g : BoundProgram) (d : Demand) where
   -- at first all processes are left
-  pub left-first : IsLeft g d ([] ∷ [])
+  pub left-first : IsMetOutside g d ([] ∷ [])
   left-first p is none = absurd (omega (arith, none))
 
   left-if : (b : Bool) (cases : List (List TestAnswer)) (case : List TestAnswer) (p : Process)
-      → IsProcess p → is_in case p ≡ b → IsLeft g d (cases ++ case ∷ [])
-      → ((q : Process) → IsProcess q → is_in case q ≡ true → Comes true g d q)
-      → case_count cases p ≡ 0 → Comes true g d p
+      → IsProcess p → is_in case p ≡ b → IsMetOutside g d (cases ++ case ∷ [])
+      → ((q : Process) → IsProcess q → is_in case q ≡ true → ScansMeet true g d q)
+      → case_count cases p ≡ 0 → ScansMeet true g d p
   left-if true cases case p is inside left obeyed none = obeyed p is inside
   left-if false cases case p is inside left obeyed none =
       left p is (let e = count-last cases case p in let o = ap one_if inside in
@@ -123,16 +123,16 @@ module _ (g : BoundProgram) (d : Demand) where
 
   -- a case in which the rule is obeyed is left no more
   pub left-without : (cases : List (List TestAnswer)) (case : List TestAnswer)
-      → IsLeft g d (cases ++ case ∷ [])
-      → ((q : Process) → IsProcess q → is_in case q ≡ true → Comes true g d q)
-      → IsLeft g d cases
+      → IsMetOutside g d (cases ++ case ∷ [])
+      → ((q : Process) → IsProcess q → is_in case q ≡ true → ScansMeet true g d q)
+      → IsMetOutside g d cases
   left-without cases case left obeyed p is none =
       left-if (is_in case p) cases case p is refl left obeyed none
 
   -- the parts of a case are left in its place
   pub left-parts : (cases : List (List TestAnswer)) (case : List TestAnswer) (test : Test)
-      → IsLeft g d (cases ++ case ∷ [])
-      → IsLeft g d (cases ++ parts_of case test)
+      → IsMetOutside g d (cases ++ case ∷ [])
+      → IsMetOutside g d (cases ++ parts_of case test)
   left-parts cases case test left p is none =
       left p is
       (let e = count-last cases case p in
@@ -140,14 +140,14 @@ module _ (g : BoundProgram) (d : Demand) where
       omega (arith, e, two, none))
 
   -- where none is left the rule holds
-  pub left-none : (cases : List (List TestAnswer)) → cases ≡ [] → IsLeft g d cases
+  pub left-none : (cases : List (List TestAnswer)) → cases ≡ [] → IsMetOutside g d cases
       → IsMet g d
   left-none cases none left p is = left p is (ap (λ cs. case_count cs p) none)
 
 -- one rule more, and its answer
 pub right-more : (g : BoundProgram) (rules : List Rule) (answers : List RuleAnswer) (r : Rule)
     (a : RuleAnswer)
-    → AreRight g rules answers → IsRight g r a → AreRight g (rules ++ r ∷ []) (answers ++ a ∷ [])
+    → AreRightAnswers g rules answers → IsRightAnswer g r a → AreRightAnswers g (rules ++ r ∷ []) (answers ++ a ∷ [])
 right-more g [] [] r a all one = (one, tt)
 right-more g (q ∷ rules) (b ∷ answers) r a all one =
     (all.0, right-more g rules answers r a all.1 one)

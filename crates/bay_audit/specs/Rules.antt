@@ -20,14 +20,14 @@ use Rattle.il_image.specs.declared.image.ImagePoint.{ImagePoint}
 use Rattle.il_image.specs.declared.timer.TimerState.{TimerState}
 use Rattle.il_image.specs.declared.value.Value.{Value}
 use Rattle.il_image.specs.Images.{Image}
-use Rattle.il_range.specs.Foretold.{AreDelays, IsReached, Leaves, delay_start_at}
+use Rattle.il_range.specs.Predictions.{AreDelays, IsReached, ScanLeaves, delay_start_at}
 use Rattle.il_range.specs.Ranges.{AreIn, Setting, delay_onset_at, is_by}
 use Rattle.il_range.specs.declared.delay.KnownDelay.{KnownDelay}
 use Rattle.il_range.specs.declared.delay.KnownDelay.TheVariants as delays
 use Rattle.il_range.specs.declared.range.Range.{Range}
 use Rattle.il_range.specs.declared.range.Range.TheVariants as range
 use Rattle.il_scan.specs.Scans.{MachineData, first_machine, outputs_of}
-use Rattle.il_scan.specs.Places.{is_true}
+use Rattle.il_scan.specs.OutputValues.{is_true}
 use Rattle.bay_audit.specs.Cases.{example_of, is_in}
 use Rattle.bay_audit.specs.Process.{IsLost, IsProcess, process_value}
 use Rattle.bay_audit.specs.declared.answer.RuleAnswer.{RuleAnswer}
@@ -39,7 +39,7 @@ use Rattle.bay_audit.specs.declared.demand.Demand.{Demand}
 use Rattle.bay_audit.specs.declared.demand.Goal.{Goal}
 use Rattle.bay_audit.specs.declared.demand.Goal.TheVariants as goals
 use Rattle.bay_audit.specs.declared.answer.CaseRelease.{CaseRelease}
-use Rattle.bay_audit.specs.declared.answer.CaseRelease.TheVariants.{Released, Refused, Hangs}
+use Rattle.bay_audit.specs.declared.answer.CaseRelease.TheVariants.{Released, Refused, Depends}
 use Rattle.bay_audit.specs.declared.answer.ReportedCase.{ReportedCase}
 use Rattle.bay_audit.specs.declared.truth_set.TruthSet.{TruthSet}
 use Rattle.bay_audit.specs.declared.answer.RuleVerdict.{RuleVerdict}
@@ -104,20 +104,20 @@ obeys g d p mark slots timers =
 
 -- Every scan that the demand covers, for this process and each mark, at any time and from any state
 -- that the program can reach, meets the demand if b is true, and misses it if b is false.
-abbrev pub Comes : Bool → BoundProgram → Demand → Process → Type 0
-Comes b g d p =
+abbrev pub ScansMeet : Bool → BoundProgram → Demand → Process → Type 0
+ScansMeet b g d p =
     (mark : ℕ) (machine : MachineData) (now : ℕ) (slots : List Value) (timers : List TimerState)
     → machine.image ≡ g.image → IsReached machine → AreDelays mark now machine.timers d.limits
-    → Leaves machine (map (process_value p) g.reads) now slots timers
+    → ScanLeaves machine (map (process_value p) g.reads) now slots timers
     → obeys g d p mark slots timers ≡ b
 
 -- A demand is met: for every process, in each state.
 abbrev pub IsMet : BoundProgram → Demand → Type 0
-IsMet g d = (p : Process) → IsProcess p → Comes true g d p
+IsMet g d = (p : Process) → IsProcess p → ScansMeet true g d p
 
 -- A demand is missed in a case: for each process of the case, in each state.
 abbrev pub IsMissed : BoundProgram → Demand → List TestAnswer → Type 0
-IsMissed g d case = (p : Process) → IsProcess p → is_in case p ≡ true → Comes false g d p
+IsMissed g d case = (p : Process) → IsProcess p → is_in case p ≡ true → ScansMeet false g d p
 
 -- the demand of a rule, without its time
 abbrev pub plain_demand : Rule → Demand
@@ -130,8 +130,8 @@ plain_demand rule = record {
 }
 
 -- A rule holds: it is obeyed for every process, in each state.
-abbrev pub IsRule : BoundProgram → Rule → Type 0
-IsRule g rule = IsMet g (plain_demand rule)
+abbrev pub RuleHolds : BoundProgram → Rule → Type 0
+RuleHolds g rule = IsMet g (plain_demand rule)
 
 -- A rule is broken in a case: for each process of the case, in each state.
 abbrev pub IsBroken : BoundProgram → Rule → List TestAnswer → Type 0
@@ -216,18 +216,18 @@ lasting_demand condition n =
 -- A timer establishes the rule that a switch is not released until a condition has held for a time:
 -- its delay runs only while the condition is TRUE, and a release waits for it.
 pub record IsByTimer (g : BoundProgram) (rule : Rule) (timing : Timing) (n : ℕ) : Type 0 where
-  pub late_so : IsMet g (delay_demand rule timing.time n)
-  pub there_so : IsMet g (necessary_demand rule timing.condition)
-  pub idle_so : IsMet g (idle_timer_demand timing.condition n)
+  pub delay_met : IsMet g (delay_demand rule timing.time n)
+  pub necessary_met : IsMet g (necessary_demand rule timing.condition)
+  pub idle_met : IsMet g (idle_timer_demand timing.condition n)
 
 -- A timer establishes the rule that a switch is released after a condition has held for a time: its
 -- delay begins and lasts while the condition is TRUE, and lets the release through once it has
 -- lasted for the time.
 pub record IsDueByTimer (g : BoundProgram) (rule : Rule) (timing : Timing) (n : ℕ) : Type 0 where
   pub long : 0 < timing.time
-  pub begun_so : IsMet g (begun_demand timing.condition n)
-  pub lasts_so : IsMet g (lasting_demand timing.condition n)
-  pub due_so : IsMet g (due_demand rule timing n)
+  pub begun_met : IsMet g (begun_demand timing.condition n)
+  pub lasting_met : IsMet g (lasting_demand timing.condition n)
+  pub due_met : IsMet g (due_demand rule timing n)
 
 -- ---- answers
 
@@ -239,14 +239,14 @@ HasProcess case = (p : Process) × IsProcess p × (is_in case p ≡ true)
 abbrev pub IsAnswer : BoundProgram → Demand → RuleAnswer → Type 0
 IsAnswer g d (Holds cases) = IsMet g d
 IsAnswer g d (Broken case) = IsMissed g d case × HasProcess case
-IsAnswer g d (Open case kept) = HasProcess case
+IsAnswer g d (Open case depends_on) = HasProcess case
 IsAnswer g d TooMany = Unit {0}
 IsAnswer g d (Since n cases) = ⊥
 
 -- A scan with these inputs takes the machine to its next state.
-abbrev pub Passes : List Value → MachineData → ℕ → MachineData → Type 0
-Passes inputs machine now next =
-    (next.image ≡ machine.image) × Leaves machine inputs now next.slots next.timers
+abbrev pub ScansTo : List Value → MachineData → ℕ → MachineData → Type 0
+ScansTo inputs machine now next =
+    (next.image ≡ machine.image) × ScanLeaves machine inputs now next.slots next.timers
 
 -- A scan with these inputs at a time below `time`, from the first values or after a scan with the
 -- same inputs at time 0, makes TRUE the writable point with this index.
@@ -254,11 +254,11 @@ pub record IsEarlyBy (inputs : List Value) (first : MachineData) (place : Option
     : Type 0
   where
     pub before : MachineData
-    pub starts : (before ≡ first) ⊎ Passes inputs first 0 before
+    pub starts : (before ≡ first) ⊎ ScansTo inputs first 0 before
     pub now : ℕ
     pub soon : now < time
     pub after : MachineData
-    pub passes : Passes inputs before now after
+    pub passes : ScansTo inputs before now after
     pub released : is_true (output_at place
         (outputs_of after.image.points after.slots)) ≡ true
 
@@ -273,83 +273,83 @@ pub record IsEarlyIn (g : BoundProgram) (rule : Rule) (time : ℕ) (case : List 
     pub process : Process
     pub is : IsProcess process
     pub inside : is_in case process ≡ true
-    pub asked : holds rule.when process ≡ true
+    pub covered : holds rule.when process ≡ true
     pub early : IsEarlyBy (map (process_value process) g.reads) (first_machine g.image)
         (index_of_release g rule) time
 
 -- The answer to a rule that forbids until a condition has held for a time is right. It holds if the
 -- switch is never released in a state that the rule covers, or if a timer establishes it; it is
 -- broken if the switch is released without the condition, in each state, or by such a run.
-abbrev pub IsForbidden : BoundProgram → Rule → Timing → RuleAnswer → Type 0
-IsForbidden g rule timing (Holds cases) = IsMet g (plain_demand rule)
-IsForbidden g rule timing (Since n cases) = IsByTimer g rule timing n
-IsForbidden g rule timing (Broken case) =
+abbrev pub IsUntilAnswer : BoundProgram → Rule → Timing → RuleAnswer → Type 0
+IsUntilAnswer g rule timing (Holds cases) = IsMet g (plain_demand rule)
+IsUntilAnswer g rule timing (Since n cases) = IsByTimer g rule timing n
+IsUntilAnswer g rule timing (Broken case) =
     (IsMissed g (necessary_demand rule timing.condition) case × HasProcess case)
     ⊎ IsEarlyIn g rule timing.time case
-IsForbidden g rule timing (Open case kept) = HasProcess case
-IsForbidden g rule timing TooMany = Unit {0}
+IsUntilAnswer g rule timing (Open case depends_on) = HasProcess case
+IsUntilAnswer g rule timing TooMany = Unit {0}
 
 -- The answer to a rule that requires a release after a condition has held for a time is right. It
 -- holds if the switch is released whenever the condition is TRUE, or if a timer establishes it; it
 -- is broken if the switch is never released while the condition is TRUE.
-abbrev pub IsRequired : BoundProgram → Rule → Timing → RuleAnswer → Type 0
-IsRequired g rule timing (Holds cases) = IsMet g (sufficient_demand rule timing.condition)
-IsRequired g rule timing (Since n cases) = IsDueByTimer g rule timing n
-IsRequired g rule timing (Broken case) =
+abbrev pub IsAfterAnswer : BoundProgram → Rule → Timing → RuleAnswer → Type 0
+IsAfterAnswer g rule timing (Holds cases) = IsMet g (sufficient_demand rule timing.condition)
+IsAfterAnswer g rule timing (Since n cases) = IsDueByTimer g rule timing n
+IsAfterAnswer g rule timing (Broken case) =
     IsMissed g (sufficient_demand rule timing.condition) case × HasProcess case
-IsRequired g rule timing (Open case kept) = HasProcess case
-IsRequired g rule timing TooMany = Unit {0}
+IsAfterAnswer g rule timing (Open case depends_on) = HasProcess case
+IsAfterAnswer g rule timing TooMany = Unit {0}
 
 -- The answer to a rule of this kind with a time is right.
-abbrev pub IsTimely : RuleKind → BoundProgram → Rule → Timing → RuleAnswer → Type 0
-IsTimely Never g rule timing answer = IsForbidden g rule timing answer
-IsTimely Always g rule timing answer = IsRequired g rule timing answer
+abbrev pub IsTimedAnswerOf : RuleKind → BoundProgram → Rule → Timing → RuleAnswer → Type 0
+IsTimedAnswerOf Never g rule timing answer = IsUntilAnswer g rule timing answer
+IsTimedAnswerOf Always g rule timing answer = IsAfterAnswer g rule timing answer
 
 -- The answer to a rule with a time is right.
-abbrev pub IsUntil : BoundProgram → Rule → Timing → RuleAnswer → Type 0
-IsUntil g rule timing answer = IsTimely rule.kind g rule timing answer
+abbrev pub IsTimedAnswer : BoundProgram → Rule → Timing → RuleAnswer → Type 0
+IsTimedAnswer g rule timing answer = IsTimedAnswerOf rule.kind g rule timing answer
 
 -- The answer to a rule is right.
-abbrev pub IsRight : BoundProgram → Rule → RuleAnswer → Type 0
-IsRight g rule answer =
+abbrev pub IsRightAnswer : BoundProgram → Rule → RuleAnswer → Type 0
+IsRightAnswer g rule answer =
     MatchOption rule.timed (IsAnswer g (plain_demand rule) answer)
-    (λ timing. IsUntil g rule timing answer)
+    (λ timing. IsTimedAnswer g rule timing answer)
 
 -- There is one answer for each rule, in their order, and it is right.
-abbrev pub AreRight : BoundProgram → List Rule → List RuleAnswer → Type 0
-AreRight g [] [] = Unit {0}
-AreRight g (r ∷ rules) (a ∷ answers) = IsRight g r a × AreRight g rules answers
-AreRight g [] (a ∷ answers) = ⊥
-AreRight g (r ∷ rules) [] = ⊥
+abbrev pub AreRightAnswers : BoundProgram → List Rule → List RuleAnswer → Type 0
+AreRightAnswers g [] [] = Unit {0}
+AreRightAnswers g (r ∷ rules) (a ∷ answers) = IsRightAnswer g r a × AreRightAnswers g rules answers
+AreRightAnswers g [] (a ∷ answers) = ⊥
+AreRightAnswers g (r ∷ rules) [] = ⊥
 
 -- ---- releases
 
 -- Every scan for this process, from any state that the program can reach, releases the switch in
 -- this direction if b is true, and does not if b is false.
-abbrev pub Gives : Bool → BoundProgram → ℕ → Operation → Process → Type 0
-Gives b g k operation p =
+abbrev pub ReleaseIs : Bool → BoundProgram → ℕ → Operation → Process → Type 0
+ReleaseIs b g k operation p =
     (machine : MachineData) (now : ℕ) (slots : List Value) (timers : List TimerState)
     → machine.image ≡ g.image → IsReached machine
-    → Leaves machine (map (process_value p) g.reads) now slots timers
+    → ScanLeaves machine (map (process_value p) g.reads) now slots timers
     → releases g k operation slots ≡ b
 
 -- The release is right for each of these processes.
-abbrev pub IsReportedFor : (Process → Type 0) → BoundProgram → ℕ → Operation → CaseRelease → Type 0
-IsReportedFor These g k operation Released =
-    (p : Process) → IsProcess p → These p → Gives true g k operation p
-IsReportedFor These g k operation Refused =
-    (p : Process) → IsProcess p → These p → Gives false g k operation p
-IsReportedFor These g k operation (Hangs kept) = Unit {0}
+abbrev pub IsRightFor : (Process → Type 0) → BoundProgram → ℕ → Operation → CaseRelease → Type 0
+IsRightFor These g k operation Released =
+    (p : Process) → IsProcess p → These p → ReleaseIs true g k operation p
+IsRightFor These g k operation Refused =
+    (p : Process) → IsProcess p → These p → ReleaseIs false g k operation p
+IsRightFor These g k operation (Depends depends_on) = Unit {0}
 
 -- The release in a case is right.
-abbrev pub IsReportedOf : BoundProgram → ℕ → Operation → List TestAnswer → CaseRelease → Type 0
-IsReportedOf g k operation case told = IsReportedFor (λ p. is_in case p ≡ true) g k operation told
+abbrev pub IsRightInCase : BoundProgram → ℕ → Operation → List TestAnswer → CaseRelease → Type 0
+IsRightInCase g k operation case release = IsRightFor (λ p. is_in case p ≡ true) g k operation release
 
 -- The release in each of the cases is right.
-abbrev pub AreReported : BoundProgram → ℕ → Operation → List ReportedCase → Type 0
-AreReported g k operation [] = Unit {0}
-AreReported g k operation (c ∷ cases) =
-    IsReportedOf g k operation c.case c.told × AreReported g k operation cases
+abbrev pub AreRightInCases : BoundProgram → ℕ → Operation → List ReportedCase → Type 0
+AreRightInCases g k operation [] = Unit {0}
+AreRightInCases g k operation (c ∷ cases) =
+    IsRightInCase g k operation c.case c.release × AreRightInCases g k operation cases
 
 -- the number of the cases that have this process
 abbrev pub reported_count : List ReportedCase → Process → ℕ
@@ -361,28 +361,28 @@ case_count cases p = count_by (λ case. is_in case p) cases
 
 -- Each first scan of the program, with any process and at any time, releases the switch in this
 -- direction if b is true, and does not if b is false.
-abbrev pub Starts : Bool → BoundProgram → ℕ → Operation → Type 0
-Starts b g k operation =
+abbrev pub FirstReleaseIs : Bool → BoundProgram → ℕ → Operation → Type 0
+FirstReleaseIs b g k operation =
     (p : Process) (now : ℕ) (slots : List Value) (timers : List TimerState) → IsProcess p
-    → Leaves (first_machine g.image) (map (process_value p) g.reads) now slots timers
+    → ScanLeaves (first_machine g.image) (map (process_value p) g.reads) now slots timers
     → releases g k operation slots ≡ b
 
 -- The release by the first scan is right.
-abbrev pub IsStart : BoundProgram → ℕ → Operation → CaseRelease → Type 0
-IsStart g k operation Released = Starts true g k operation
-IsStart g k operation Refused = Starts false g k operation
-IsStart g k operation (Hangs kept) = Unit {0}
+abbrev pub IsFirstRelease : BoundProgram → ℕ → Operation → CaseRelease → Type 0
+IsFirstRelease g k operation Released = FirstReleaseIs true g k operation
+IsFirstRelease g k operation Refused = FirstReleaseIs false g k operation
+IsFirstRelease g k operation (Depends depends_on) = Unit {0}
 
 -- The release in each case is right, each case has a process, and each process is in exactly one of
 -- the cases and of those that are left. The release while the process is lost is right too, and so
 -- is that by the first scan.
 pub record IsRelease (bay : Bay) (g : BoundProgram) (r : Release) : Type 0 where
-  pub told : AreReported g r.switch r.operation r.cases.items
+  pub release : AreRightInCases g r.switch r.operation r.cases.items
   pub full : All (λ c. HasProcess c.case) r.cases.items
   pub one : (p : Process) → IsProcess p
       → reported_count r.cases.items p + case_count r.left.items p ≡ 1
-  pub lost : IsReportedFor (IsLost bay) g r.switch r.operation r.lost
-  pub start : IsStart g r.switch r.operation r.start
+  pub lost : IsRightFor (IsLost bay) g r.switch r.operation r.lost
+  pub start : IsFirstRelease g r.switch r.operation r.start
 
 -- Each of the releases is right.
 abbrev pub AreReleases : Bay → BoundProgram → List Release → Type 0
@@ -390,13 +390,13 @@ AreReleases bay g [] = Unit {0}
 AreReleases bay g (r ∷ releases) = IsRelease bay g r × AreReleases bay g releases
 
 -- the releases of the first n switches: opening and closing of each
-abbrev pub ways : ℕ → List (ℕ × Operation)
-ways zero = []
-ways (suc k) = ways k ++ (k, operations.Open) ∷ (k, operations.Close) ∷ []
+abbrev pub directions : ℕ → List (ℕ × Operation)
+directions zero = []
+directions (suc k) = directions k ++ (k, operations.Open) ∷ (k, operations.Close) ∷ []
 
 -- the switch of a release and its direction
-abbrev pub way_of : Release → ℕ × Operation
-way_of r = (r.switch, r.operation)
+abbrev pub direction_of : Release → ℕ × Operation
+direction_of r = (r.switch, r.operation)
 
 -- the demand that a switch is always released in a direction
 abbrev pub release_demand : ℕ → Operation → Demand
@@ -413,34 +413,34 @@ release_demand k operation = record {
 -- In any setting, from every state that the program can reach, a scan with inputs in the given
 -- ranges, and with delays of timers as `limits` says, leaves slots in the resulting ranges, and
 -- delays as `last` says.
-abbrev pub Foresees : BoundProgram → List KnownDelay → List Range → List KnownDelay → List Range
+abbrev pub PredictsRanges : BoundProgram → List KnownDelay → List Range → List KnownDelay → List Range
     → Type 0
-Foresees g limits given last result =
+PredictsRanges g limits given last result =
     (w : Setting) (machine : MachineData) (inputs : List Value) (now : ℕ) (slots : List Value)
     (timers : List TimerState) → machine.image ≡ g.image → IsReached machine
     → AreDelays w.mark now machine.timers limits → AreIn w inputs given
-    → Leaves machine inputs now slots timers
+    → ScanLeaves machine inputs now slots timers
     → AreIn w slots result × AreDelays w.mark now timers last
 
 -- In any setting, the first scan, with inputs in the given ranges, leaves slots in the resulting
 -- ranges.
-abbrev pub ForeseesFirst : BoundProgram → List Range → List Range → Type 0
-ForeseesFirst g given result =
+abbrev pub PredictsFirst : BoundProgram → List Range → List Range → Type 0
+PredictsFirst g given result =
     (w : Setting) (inputs : List Value) (now : ℕ) (slots : List Value) (timers : List TimerState)
-    → AreIn w inputs given → Leaves (first_machine g.image) inputs now slots timers
+    → AreIn w inputs given → ScanLeaves (first_machine g.image) inputs now slots timers
     → AreIn w slots result
 
 -- the verdict on a demand in a case is right
 abbrev pub IsVerdict : BoundProgram → Demand → List TestAnswer → Verdict → Type 0
 IsVerdict g d case verdict.Obeyed =
-    (p : Process) → IsProcess p → is_in case p ≡ true → Comes true g d p
+    (p : Process) → IsProcess p → is_in case p ≡ true → ScansMeet true g d p
 IsVerdict g d case verdict.Broken = IsMissed g d case
 IsVerdict g d case (verdict.Split test) = Unit {0}
-IsVerdict g d case (verdict.Open kept) = Unit {0}
+IsVerdict g d case (verdict.Open depends_on) = Unit {0}
 
 -- the decision on a demand in a case is right
 abbrev pub IsDecision : BoundProgram → Demand → List TestAnswer → RuleVerdict → Type 0
-IsDecision g d case Obeyed = (p : Process) → IsProcess p → is_in case p ≡ true → Comes true g d p
+IsDecision g d case Obeyed = (p : Process) → IsProcess p → is_in case p ≡ true → ScansMeet true g d p
 IsDecision g d case Missed = IsMissed g d case
 IsDecision g d case Unknown = Unit {0}
 
@@ -449,7 +449,7 @@ abbrev pub IsUndecided : Verdict → Type 0
 IsUndecided verdict.Obeyed = ⊥
 IsUndecided verdict.Broken = ⊥
 IsUndecided (verdict.Split test) = Unit {0}
-IsUndecided (verdict.Open kept) = Unit {0}
+IsUndecided (verdict.Open depends_on) = Unit {0}
 
 -- a release in this range obeys a rule of this kind for certain, if its condition is TRUE
 abbrev pub is_surely_obeyed : RuleKind → Range → Bool
@@ -470,14 +470,14 @@ decide kind o r =
     else if is_surely_missed kind r && not o.no then Missed else Unknown
 
 -- the range, or FALSE if there is none
-abbrev pub range_there : Option Range → Range
-range_there None = range.No
-range_there (Some r) = r
+abbrev pub range_or_false : Option Range → Range
+range_or_false None = range.No
+range_or_false (Some r) = r
 
 -- the range at an index; FALSE without an index
 abbrev pub range_at : List Range → Option ℕ → Range
 range_at outputs None = range.No
-range_at outputs (Some place) = range_there (slice_get outputs place)
+range_at outputs (Some place) = range_or_false (slice_get outputs place)
 
 -- the range of a release
 abbrev pub release_range : List ImagePoint → List Source → List Range → ℕ → Operation → Range
@@ -531,12 +531,12 @@ parts_of case test =
     if_any (case_with_answer case test false) ++ if_any (case_with_answer case test true)
 
 -- The demand is met for each process that is in none of these cases.
-abbrev pub IsLeft : BoundProgram → Demand → List (List TestAnswer) → Type 0
-IsLeft g d cases = (p : Process) → IsProcess p → case_count cases p ≡ 0 → Comes true g d p
+abbrev pub IsMetOutside : BoundProgram → Demand → List (List TestAnswer) → Type 0
+IsMetOutside g d cases = (p : Process) → IsProcess p → case_count cases p ≡ 0 → ScansMeet true g d p
 
 -- the release that a verdict on its demand means, or the test by which to split the case
-abbrev pub IsTurn : Verdict → Result CaseRelease Test → Type 0
-IsTurn verdict.Obeyed r = r ≡ Ok Released
-IsTurn verdict.Broken r = r ≡ Ok Refused
-IsTurn (verdict.Open kept) r = r ≡ Ok (Hangs kept)
-IsTurn (verdict.Split test) r = r ≡ Err test
+abbrev pub IsReleaseOrTest : Verdict → Result CaseRelease Test → Type 0
+IsReleaseOrTest verdict.Obeyed r = r ≡ Ok Released
+IsReleaseOrTest verdict.Broken r = r ≡ Ok Refused
+IsReleaseOrTest (verdict.Open depends_on) r = r ≡ Ok (Depends depends_on)
+IsReleaseOrTest (verdict.Split test) r = r ≡ Err test

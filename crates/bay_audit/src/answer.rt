@@ -13,8 +13,8 @@ pub enum RuleAnswer {
     Broken { case: Case },
     /// In this case the answer depends on something that no test of the process decides: on
     /// variables or timers that the program retains, or on a calculation that the audit does not
-    /// follow. `kept` is a hint of what it may depend on.
-    Open { case: Case, kept: StateDependencies },
+    /// follow. `depends_on` is a hint of what it may depend on.
+    Open { case: Case, depends_on: StateDependencies },
     /// The rule needs more passes than allowed.
     TooMany,
     /// The rule has a time and holds; the proof needed this number of cases. For `never`, the timer
@@ -34,14 +34,14 @@ pub enum CaseRelease {
     /// program can reach.
     Refused,
     /// It depends on something that no test of the process decides.
-    Hangs(StateDependencies),
+    Depends(StateDependencies),
 }
 
 /// A case with the release of the switch in it.
 #[derive(Drop)]
 pub struct ReportedCase {
     pub case: Case,
-    pub told: CaseRelease,
+    pub release: CaseRelease,
 }
 
 /// The cases in which a switch is released in a direction. Each process is in exactly one of the

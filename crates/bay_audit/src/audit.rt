@@ -1,8 +1,8 @@
 // Finds which rules a program obeys, and in which cases it breaks the others.
 ghost use Rattle.std.specs.Prelude.{◌≡◌, ◌++◌, length, map, IfOk, OnOk};
 ghost use Rattle.bay_audit.specs.Effort.{IsSpent};
-ghost use Rattle.bay_audit.specs.Rules.{AreReleases, IsAnswer, program_of, way_of, ways};
-ghost use Rattle.bay_audit.specs.Rules.{AreRight, IsRight};
+ghost use Rattle.bay_audit.specs.Rules.{AreReleases, IsAnswer, program_of, direction_of, directions};
+ghost use Rattle.bay_audit.specs.Rules.{AreRightAnswers, IsRightAnswer};
 ghost use Rattle.bay_audit.specs.Rules as spec;
 
 use crate::answer::{Audit, RuleAnswer, Verdict};
@@ -11,7 +11,7 @@ use crate::demand::{Demand, Goal};
 use crate::effort::PassBudget;
 use crate::program::AuditedProgram;
 use crate::release::releases;
-use crate::until::until;
+use crate::until::answer_timed_rule;
 use crate::verdict::verdict;
 use bay_audit_rules::rule::Rule;
 use bay_base::listing::Listing;
@@ -20,7 +20,7 @@ use il_verify::verify::Verified;
 use std::alloc::{AllocError, Global};
 
 // Appends a case to those that are left, if it has a process.
-fn keep(left: &mut Vec<Case>, case: Case) -> Result<(), AllocError>
+fn push_if_any(left: &mut Vec<Case>, case: Case) -> Result<(), AllocError>
     ensures { OnOk result (left.new.items ≡ left.old.items ++ spec.if_any case) }
 {
     if case.has_example() {
@@ -39,13 +39,13 @@ pub(crate) fn split(
 ) -> Result<(), AllocError>
     ensures { OnOk result (left.new.items ≡ left.old.items ++ spec.parts_of case.now test) }
 {
-    keep(left, case.with(alloc, test, false)?)?;
-    keep(left, case.with(alloc, test, true)?)
+    push_if_any(left, case.with(alloc, test, false)?)?;
+    push_if_any(left, case.with(alloc, test, true)?)
 }
 
 /// Answers a demand in at most `passes` passes, and subtracts those that it needed. Fails only if
 /// an allocation fails.
-pub(crate) fn answer(
+pub(crate) fn answer_demand(
     alloc: Global,
     program: &AuditedProgram<'_>,
     demand: &Demand,
@@ -63,7 +63,7 @@ pub(crate) fn answer(
         match verdict(alloc, program, demand, &case)? {
             Verdict::Obeyed => cases = cases.saturating_add(1),
             Verdict::Broken => return Ok(RuleAnswer::Broken { case }),
-            Verdict::Open(kept) => return Ok(RuleAnswer::Open { case, kept }),
+            Verdict::Open(depends_on) => return Ok(RuleAnswer::Open { case, depends_on }),
             Verdict::Split(test) => split(alloc, &mut left, &case, test)?,
         }
     }
@@ -98,13 +98,13 @@ fn answer_within(
     rule: &Rule,
     passes: &mut u32,
 ) -> Result<RuleAnswer, AllocError>
-    ensures { IfOk result (IsRight program.now rule.now) }
+    ensures { IfOk result (IsRightAnswer program.now rule.now) }
 {
     match &rule.timed {
-        Some(timing) => until(alloc, program, rule, timing, passes),
+        Some(timing) => answer_timed_rule(alloc, program, rule, timing, passes),
         None => {
             let demand = plain_demand(alloc, rule)?;
-            answer(alloc, program, &demand, passes)
+            answer_demand(alloc, program, &demand, passes)
         }
     }
 }
@@ -118,7 +118,7 @@ pub fn answer_rule(
     budget: &mut PassBudget,
 ) -> Result<RuleAnswer, AllocError>
     // The answer is right, as `audit` requires;
-    ensures right { IfOk result (IsRight program.now rule.now) }
+    ensures right { IfOk result (IsRightAnswer program.now rule.now) }
     // It made at most its share of the passes, and one answer less shares the others.
     ensures shared { OnOk result (IsSpent budget.old budget.new) }
 {
@@ -137,7 +137,7 @@ fn answers(
     budget: &mut PassBudget,
 ) -> Result<Vec<RuleAnswer>, AllocError>
     ensures { IfOk result
-        (λ answers. AreRight program.now rules.now answers.items) }
+        (λ answers. AreRightAnswers program.now rules.now answers.items) }
 {
     let mut answers = Vec::new(alloc);
     for rule in rules {
@@ -157,7 +157,7 @@ pub fn answer_rules(
 ) -> Result<Vec<RuleAnswer>, AllocError>
     // Each answer is right, as `audit` requires.
     ensures { IfOk result
-        (λ answers. AreRight (program_of bay.now verified.now) rules.now answers.items) }
+        (λ answers. AreRightAnswers (program_of bay.now verified.now) rules.now answers.items) }
 {
     let program = AuditedProgram::new(alloc, bay, verified)?;
     let mut budget = PassBudget::new(verified.image(), effort, rules.len());
@@ -185,7 +185,7 @@ pub fn audit(
     // case, in each such state. A rule with a time may also hold by a timer, which runs only while
     // the condition holds and has expired before a release, and may also be broken by a run of one
     // scan or two;
-    ensures answers { IfOk result (λ audit. AreRight (program_of bay.now verified.now) rules.now
+    ensures answers { IfOk result (λ audit. AreRightAnswers (program_of bay.now verified.now) rules.now
         audit.answers.items) }
     // The cases of each release are right and disjoint, each has a process, and together with those
     // that are left they cover all processes; the release while the process is lost is right, and
@@ -195,8 +195,8 @@ pub fn audit(
     ensures releases { IfOk result (λ audit. AreReleases bay.now (program_of bay.now verified.now)
         audit.releases.items) }
     // There is one release for each switch and direction.
-    ensures ways { IfOk result (λ audit. map way_of audit.releases.items
-        ≡ ways (length bay.now.switches)) }
+    ensures directions { IfOk result (λ audit. map direction_of audit.releases.items
+        ≡ directions (length bay.now.switches)) }
 {
     let program = AuditedProgram::new(alloc, bay, verified)?;
     let mut budget = PassBudget::new(verified.image(), effort, answer_count(bay, rules));

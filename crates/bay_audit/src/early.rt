@@ -1,12 +1,12 @@
 // Runs that release a switch too early: one scan or two from the program's first values.
 ghost use Rattle.std.specs.Prelude.{◌≡◌, IfOk, IfSome, true, map};
 ghost use Rattle.bay_process.specs.Values.{output_at};
-ghost use Rattle.il_scan.specs.Places.{is_true};
-ghost use Rattle.il_scan.specs.PointPlaces.{AreValues};
+ghost use Rattle.il_scan.specs.OutputValues.{is_true};
+ghost use Rattle.il_scan.specs.PointIndices.{AreValues};
 ghost use Rattle.il_scan.specs.Scans.{AreInputs, outputs_of};
 ghost use Rattle.bay_audit.specs.Cases.{example_of};
 ghost use Rattle.bay_audit.specs.Process.{process_value};
-ghost use Rattle.bay_audit.specs.Rules.{IsEarlyBy, IsEarlyIn, Passes};
+ghost use Rattle.bay_audit.specs.Rules.{IsEarlyBy, IsEarlyIn, ScansTo};
 
 use crate::answer::Verdict;
 use crate::audit::{plain_demand, split};
@@ -22,12 +22,12 @@ use std::alloc::{AllocError, Global};
 
 // The inputs of a scan, as a list.
 #[derive(Drop)]
-struct Listed<'a> {
+struct InputList<'a> {
     pub values: &'a [Value],
     ghost are: { AreValues values.now },
 }
 
-impl<'a> Inputs for Listed<'a> {
+impl<'a> Inputs for InputList<'a> {
     ghost use Rattle.std.specs.Prelude.{map};
     ghost use Rattle.std.proofs.Common.{sym};
     ghost use Rattle.std.proofs.lemmas.List.{length-map};
@@ -66,9 +66,9 @@ fn values_of(
 // Runs one scan.
 fn scan_once(machine: &mut Machine, inputs: &[Value], now: u64)
     requires { AreInputs machine.old.image.points inputs.now }
-    ensures { Passes inputs.now machine.old now machine.new }
+    ensures { ScansTo inputs.now machine.old now machine.new }
 {
-    machine.scan_points(&Listed { values: inputs }, now);
+    machine.scan_points(&InputList { values: inputs }, now);
 }
 
 // Returns whether the last scan released the operation with this index among the writable points.
@@ -111,8 +111,8 @@ fn is_early(
 ) -> Result<bool, AllocError>
     ensures { IfOk result (λ shown. shown ≡ true → IsEarlyIn program.now rule.now time case.now) }
 {
-    let asked = condition_truths_of(alloc, case, rule.when.as_slice())?;
-    if asked.no || !case.has_example() {
+    let covered = condition_truths_of(alloc, case, rule.when.as_slice())?;
+    if covered.no || !case.has_example() {
         return Ok(false);
     }
     let Some(machine) = program.machine(alloc)? else {

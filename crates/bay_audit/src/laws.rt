@@ -5,6 +5,6 @@ ghost use Rattle.bay_audit.specs.Laws.{CasesAreReported, CasesHaveExamples};
 /// values: those that the case's text names, and any value where it names none. If a case has a
 /// process, it has its example, in which each point has the first value that the case allows.
 pub fn cases_are_reported()
-    ensures told { CasesAreReported }
+    ensures reported { CasesAreReported }
     ensures examples { CasesHaveExamples }
 {}

@@ -1,7 +1,7 @@
 // A program on a bay, and the states that its scans can reach.
 ghost use Rattle.std.specs.Prelude.{◌≡◌, ◌+◌, IfOk, IfSome, length};
 ghost use Rattle.il_scan.specs.Scans.{first_machine};
-ghost use Rattle.bay_audit.specs.Rules.{Foresees, ForeseesFirst, program_of};
+ghost use Rattle.bay_audit.specs.Rules.{PredictsRanges, PredictsFirst, program_of};
 
 use crate::start::{first_ranges, no_delays};
 use bay_base::listing::Listing;
@@ -33,7 +33,7 @@ pub struct AuditedProgram<'a> {
 
 impl<'a> Model for AuditedProgram<'a> {
     ghost use Rattle.bay_audit.specs.Rules.{BoundProgram, program};
-    ghost use Rattle.il_range.specs.Foretold.{IsMemory};
+    ghost use Rattle.il_range.specs.Predictions.{IsMemory};
 
     ghost Value = { BoundProgram };
 
@@ -119,7 +119,7 @@ impl<'a> AuditedProgram<'a> {
         ensures size { IfOk result
             (λ f. length f.ranges.items ≡ length self.now.image.points
             + length self.now.image.variables) }
-        ensures foretells { IfOk result (λ f. Foresees self.now limits.now given.now f.delays.items
+        ensures predicts { IfOk result (λ f. PredictsRanges self.now limits.now given.now f.delays.items
             f.ranges.items) }
     {
         let memory = self.memory.as_slice();
@@ -133,8 +133,8 @@ impl<'a> AuditedProgram<'a> {
         ensures size { IfOk result
             (λ f. length f.ranges.items ≡ length self.now.image.points
             + length self.now.image.variables) }
-        ensures foretells { IfOk result
-            (λ f. ForeseesFirst self.now given.now f.ranges.items) }
+        ensures predicts { IfOk result
+            (λ f. PredictsFirst self.now given.now f.ranges.items) }
     {
         let memory = first_ranges(alloc, self.image())?;
         let limits = no_delays(alloc, self.image().timers().len())?;

@@ -2,7 +2,7 @@
 ghost use Rattle.std.specs.Prelude.{◌≡◌, IfOk, OnOk, length, map};
 ghost use Rattle.bay_audit.specs.Effort.{IsSpent};
 ghost use Rattle.bay_audit.specs.Process.{IsLost};
-ghost use Rattle.bay_audit.specs.Rules.{AreReleases, IsRelease, IsReportedFor, IsStart, IsTurn, way_of, ways};
+ghost use Rattle.bay_audit.specs.Rules.{AreReleases, IsRelease, IsRightFor, IsFirstRelease, IsReleaseOrTest, direction_of, directions};
 ghost use Rattle.bay_audit.specs.Rules as spec;
 
 use crate::answer::{CaseRelease, Release, ReportedCase, RuleVerdict, Verdict};
@@ -13,7 +13,7 @@ use crate::effort::PassBudget;
 use crate::program::AuditedProgram;
 use crate::split::dependencies_of;
 use crate::truth_set::TruthSet;
-use crate::verdict::{input_ranges, pass, release_range, verdict};
+use crate::verdict::{input_ranges, run_pass, release_range, verdict};
 use bay_audit_rules::rule::{ConditionItem, RuleKind};
 use bay_base::listing::Listing;
 use bay_base::switch::Operation;
@@ -37,12 +37,12 @@ fn demand(alloc: Global, switch: usize, operation: Operation) -> Result<Demand, 
 
 // Returns the release that a verdict on that demand means, or the test by which to split the case.
 fn release_or_test(verdict: Verdict) -> Result<CaseRelease, Test>
-    ensures { IsTurn verdict result }
+    ensures { IsReleaseOrTest verdict result }
 {
     match verdict {
         Verdict::Obeyed => Ok(CaseRelease::Released),
         Verdict::Broken => Ok(CaseRelease::Refused),
-        Verdict::Open(kept) => Ok(CaseRelease::Hangs(kept)),
+        Verdict::Open(depends_on) => Ok(CaseRelease::Depends(depends_on)),
         Verdict::Split(test) => Err(test),
     }
 }
@@ -55,7 +55,7 @@ fn lost_release(
     switch: usize,
     operation: Operation,
 ) -> Result<CaseRelease, AllocError>
-    ensures { IfOk result (IsReportedFor (IsLost bay.now) program.now switch operation) }
+    ensures { IfOk result (IsRightFor (IsLost bay.now) program.now switch operation) }
 {
     let demand = demand(alloc, switch, operation)?;
     let case = Case::lost(
@@ -63,17 +63,17 @@ fn lost_release(
         bay.switches.as_slice().len(),
         bay.inputs.as_slice().len(),
     )?;
-    let asked = TruthSet {
+    let covered = TruthSet {
         yes: true,
         no: false,
     };
-    let (decision, forecast) = pass(alloc, program, &demand, &case, asked)?;
+    let (decision, prediction) = run_pass(alloc, program, &demand, &case, covered)?;
     match decision {
         RuleVerdict::Obeyed => Ok(CaseRelease::Released),
         RuleVerdict::Missed => Ok(CaseRelease::Refused),
         RuleVerdict::Unknown => {
-            let kept = dependencies_of(alloc, program, demand.goal, &forecast)?;
-            Ok(CaseRelease::Hangs(kept))
+            let depends_on = dependencies_of(alloc, program, demand.goal, &prediction)?;
+            Ok(CaseRelease::Depends(depends_on))
         }
     }
 }
@@ -85,19 +85,19 @@ fn start_release(
     switch: usize,
     operation: Operation,
 ) -> Result<CaseRelease, AllocError>
-    ensures { IfOk result (IsStart program.now switch operation) }
+    ensures { IfOk result (IsFirstRelease program.now switch operation) }
 {
     let case = Case::new(alloc);
     let given = input_ranges(alloc, &case, program.reads())?;
-    let forecast = program.first_scan(alloc, given.as_slice())?;
-    let ranges = forecast.ranges.as_slice();
+    let prediction = program.first_scan(alloc, given.as_slice())?;
+    let ranges = prediction.ranges.as_slice();
     match release_range(alloc, program, switch, operation, ranges)? {
         Range::Yes => Ok(CaseRelease::Released),
         Range::No => Ok(CaseRelease::Refused),
         _ => {
             let goal = Goal::Release { switch, operation };
-            let kept = dependencies_of(alloc, program, goal, &forecast)?;
-            Ok(CaseRelease::Hangs(kept))
+            let depends_on = dependencies_of(alloc, program, goal, &prediction)?;
+            Ok(CaseRelease::Depends(depends_on))
         }
     }
 }
@@ -118,7 +118,7 @@ pub fn release(
     // the first scan;
     ensures right { IfOk result (IsRelease bay.now program.now) }
     // It is the release of this switch in this direction;
-    ensures way { IfOk result (λ r. way_of r ≡ record { 0 = switch; 1 = operation }) }
+    ensures way { IfOk result (λ r. direction_of r ≡ record { 0 = switch; 1 = operation }) }
     // It made at most its share of the passes, and one answer less shares the others.
     ensures shared { OnOk result (IsSpent budget.old budget.new) }
 {
@@ -133,7 +133,7 @@ pub fn release(
         };
         passes = passes.saturating_sub(1);
         match release_or_test(verdict(alloc, program, &demand, &case)?) {
-            Ok(told) => cases.push(ReportedCase { case, told })?,
+            Ok(release) => cases.push(ReportedCase { case, release })?,
             Err(test) => split(alloc, &mut left, &case, test)?,
         }
     }
@@ -158,8 +158,8 @@ pub fn releases(
 ) -> Result<Vec<Release>, AllocError>
     ensures right { IfOk result
         (λ releases. AreReleases bay.now program.now releases.items) }
-    ensures all { IfOk result (λ releases. map way_of releases.items
-        ≡ ways (length bay.now.switches)) }
+    ensures all { IfOk result (λ releases. map direction_of releases.items
+        ≡ directions (length bay.now.switches)) }
 {
     let mut releases = Vec::new(alloc);
     for switch in 0..bay.switches.as_slice().len() {

@@ -42,7 +42,7 @@ fn part_of(one: Positions, other: Positions, is_in: bool) -> Positions {
 }
 
 // Returns the positions that are in one of the sets alone.
-fn differing(one: Positions, other: Positions) -> Positions {
+fn difference(one: Positions, other: Positions) -> Positions {
     Positions {
         intermediate: one.intermediate != other.intermediate,
         off: one.off != other.off,
@@ -57,19 +57,19 @@ fn has_any(positions: Positions) -> bool {
 }
 
 // Returns whether a set parts the positions that a case allows in two.
-fn parts(allowed: Positions, positions: Positions) -> bool {
+fn splits(allowed: Positions, positions: Positions) -> bool {
     has_any(part_of(allowed, positions, true)) && has_any(part_of(allowed, positions, false))
 }
 
 // Returns whether two sets part the positions that a case allows in the same way.
-fn part_alike(allowed: Positions, one: Positions, other: Positions) -> bool {
-    let differs = differing(one, other);
+fn split_alike(allowed: Positions, one: Positions, other: Positions) -> bool {
+    let differs = difference(one, other);
     !has_any(part_of(allowed, differs, true)) || !has_any(part_of(allowed, differs, false))
 }
 
 // Returns the test of a set of positions; `None` if the case decides it.
 fn set_part(allowed: Positions, switch: usize, positions: Positions) -> Option<Test> {
-    if parts(allowed, positions) {
+    if splits(allowed, positions) {
         Some(Test::Position { switch, positions })
     } else {
         None
@@ -97,7 +97,7 @@ const SETS: [[Dbpos; 2]; 7] = [
 ];
 
 // Returns a set with the positions of another.
-fn joined(one: Positions, other: Positions) -> Positions {
+fn unite(one: Positions, other: Positions) -> Positions {
     Positions {
         intermediate: one.intermediate || other.intermediate,
         off: one.off || other.off,
@@ -107,8 +107,8 @@ fn joined(one: Positions, other: Positions) -> Positions {
 }
 
 // Returns the set of two positions.
-fn either(two: [Dbpos; 2]) -> Positions {
-    joined(only(two[0]), only(two[1]))
+fn set_of_two(two: [Dbpos; 2]) -> Positions {
+    unite(only(two[0]), only(two[1]))
 }
 
 // Returns whether a goal distinguishes these positions of a switch from the others.
@@ -116,13 +116,13 @@ fn is_distinguished(
     allowed: Positions,
     switch: usize,
     positions: Positions,
-    forecast: &ScanPrediction,
+    prediction: &ScanPrediction,
     goal: usize,
 ) -> bool {
     for two in SETS {
-        let told = either(two);
-        if part_alike(allowed, told, positions)
-            && forecast.sources.depends_on_positions(goal, switch, told)
+        let told = set_of_two(two);
+        if split_alike(allowed, told, positions)
+            && prediction.sources.depends_on_positions(goal, switch, told)
         {
             return true;
         }
@@ -135,13 +135,13 @@ fn is_distinguished(
 fn set_test(
     allowed: Positions,
     switch: usize,
-    forecast: &ScanPrediction,
+    prediction: &ScanPrediction,
     goal: usize,
 ) -> Option<Test> {
     for two in SETS {
-        let positions = either(two);
-        if parts(allowed, positions)
-            && is_distinguished(allowed, switch, positions, forecast, goal)
+        let positions = set_of_two(two);
+        if splits(allowed, positions)
+            && is_distinguished(allowed, switch, positions, prediction, goal)
         {
             return Some(Test::Position { switch, positions });
         }
@@ -155,15 +155,15 @@ fn point_test(
     case: &Case,
     switch: usize,
     position: Dbpos,
-    forecast: &ScanPrediction,
+    prediction: &ScanPrediction,
     goal: usize,
 ) -> Option<Test> {
     let allowed = allowed_positions(case, switch);
     let test = set_part(allowed, switch, only(position));
-    if test.is_some() && is_distinguished(allowed, switch, only(position), forecast, goal) {
+    if test.is_some() && is_distinguished(allowed, switch, only(position), prediction, goal) {
         return test;
     }
-    set_test(allowed, switch, forecast, goal).or(test)
+    set_test(allowed, switch, prediction, goal).or(test)
 }
 
 // Returns the test of an input; `None` if the case decides it.
@@ -231,7 +231,7 @@ fn joined_items(
                 ),
                 Some(ConditionItem::Or),
             ) if *at == switch => {
-                positions = joined(positions, only(*position));
+                positions = unite(positions, only(*position));
                 next = next.saturating_add(2);
             }
             _ => return (positions, next),
@@ -324,13 +324,13 @@ fn source_test(
     code: &[u8],
     case: &Case,
     source: Source,
-    forecast: &ScanPrediction,
+    prediction: &ScanPrediction,
     goal: usize,
 ) -> Option<Test> {
     match source {
         Source::Switch { switch, point } => match point {
-            SwitchPoint::Open => point_test(case, switch, Dbpos::Off, forecast, goal),
-            SwitchPoint::Closed => point_test(case, switch, Dbpos::On, forecast, goal),
+            SwitchPoint::Open => point_test(case, switch, Dbpos::Off, prediction, goal),
+            SwitchPoint::Closed => point_test(case, switch, Dbpos::On, prediction, goal),
             SwitchPoint::Position => any_position_test(case, switch),
             SwitchPoint::EnableOpen | SwitchPoint::EnableClose => None,
         },
@@ -358,7 +358,7 @@ fn slot_of(points: &[ImagePoint], place: usize) -> Option<usize> {
 fn program_split(
     program: &AuditedProgram<'_>,
     case: &Case,
-    forecast: &ScanPrediction,
+    prediction: &ScanPrediction,
     goal: usize,
 ) -> Option<Test> {
     let image = program.image();
@@ -368,8 +368,8 @@ fn program_split(
         .enumerate()
         .filter(|(_, point)| !point.writable);
     for ((slot, _), source) in slots.zip(program.reads().iter()) {
-        if forecast.sources.depends_on_slot(goal, slot) {
-            let test = source_test(image.code(), case, *source, forecast, goal);
+        if prediction.sources.depends_on_slot(goal, slot) {
+            let test = source_test(image.code(), case, *source, prediction, goal);
             if test.is_some() {
                 return test;
             }
@@ -379,13 +379,13 @@ fn program_split(
 }
 
 // Returns the slot of a goal: that of a release, or the one that represents a timer.
-fn goal_slot(program: &AuditedProgram<'_>, goal: Goal, forecast: &ScanPrediction) -> usize {
+fn goal_slot(program: &AuditedProgram<'_>, goal: Goal, prediction: &ScanPrediction) -> usize {
     match goal {
         Goal::Release { switch, operation } => release_index(program.writes(), switch, operation)
             .and_then(|place| slot_of(program.image().points(), place))
             .unwrap_or(0),
         Goal::Idle { timer } | Goal::Begun { timer } | Goal::Lasting { timer } => {
-            forecast.ranges.len().saturating_add(timer)
+            prediction.ranges.len().saturating_add(timer)
         }
     }
 }
@@ -395,18 +395,18 @@ pub fn dependencies_of(
     alloc: Global,
     program: &AuditedProgram<'_>,
     goal: Goal,
-    forecast: &ScanPrediction,
+    prediction: &ScanPrediction,
 ) -> Result<StateDependencies, AllocError> {
-    let goal = goal_slot(program, goal, forecast);
+    let goal = goal_slot(program, goal, prediction);
     let mut slots = Vec::new(alloc);
-    for slot in 0..forecast.ranges.len() {
-        if forecast.sources.depends_on_slot(goal, slot) {
+    for slot in 0..prediction.ranges.len() {
+        if prediction.sources.depends_on_slot(goal, slot) {
             slots.push(slot)?;
         }
     }
     let mut timers = Vec::new(alloc);
     for timer in 0..program.image().timers().len() {
-        if forecast.sources.depends_on_timer(goal, timer) {
+        if prediction.sources.depends_on_timer(goal, timer) {
             timers.push(timer)?;
         }
     }
@@ -415,12 +415,12 @@ pub fn dependencies_of(
 
 /// Returns the verdict of a pass that decides nothing: the next test, or what the goal may depend
 /// on. Fails only if an allocation fails.
-pub fn undecided(
+pub fn find_split(
     alloc: Global,
     program: &AuditedProgram<'_>,
     demand: &Demand,
     case: &Case,
-    forecast: &ScanPrediction,
+    prediction: &ScanPrediction,
 ) -> Result<Verdict, AllocError>
     ensures { IfOk result IsUndecided }
 {
@@ -431,8 +431,8 @@ pub fn undecided(
     if let Some(test) = asked {
         return Ok(Verdict::Split(test));
     }
-    let slot = goal_slot(program, demand.goal, forecast);
-    if let Some(test) = program_split(program, case, forecast, slot) {
+    let slot = goal_slot(program, demand.goal, prediction);
+    if let Some(test) = program_split(program, case, prediction, slot) {
         return Ok(Verdict::Split(test));
     }
     let single = single_split(case, demand.when.as_slice()).or_else(|| single_split(
@@ -442,6 +442,6 @@ pub fn undecided(
     if let Some(test) = single {
         return Ok(Verdict::Split(test));
     }
-    let kept = dependencies_of(alloc, program, demand.goal, forecast)?;
-    Ok(Verdict::Open(kept))
+    let depends_on = dependencies_of(alloc, program, demand.goal, prediction)?;
+    Ok(Verdict::Open(depends_on))
 }

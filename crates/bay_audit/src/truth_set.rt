@@ -145,7 +145,7 @@ impl TruthSetStack {
     }
 
     // Replaces the top by its negation.
-    fn oppose(&mut self) -> Result<(), AllocError>
+    fn negate_top(&mut self) -> Result<(), AllocError>
         ensures { OnOk result (self.new ≡ spec.negate_top_truths self.old) }
     {
         match self.pop() {
@@ -155,7 +155,7 @@ impl TruthSetStack {
     }
 
     // Replaces the two on top by their conjunction, or by their disjunction.
-    fn pair(&mut self, is_both: bool) -> Result<(), AllocError>
+    fn join_top(&mut self, is_both: bool) -> Result<(), AllocError>
         ensures both { is_both ≡ true
             → OnOk result (self.new ≡ spec.join_top_truths spec.and_truths self.old) }
         ensures either { is_both ≡ false
@@ -205,9 +205,9 @@ impl TruthSetStack {
                 case.high_of(meter, field),
                 i64::from(value),
             )),
-            ConditionItem::Not => self.oppose(),
-            ConditionItem::And => self.pair(true),
-            ConditionItem::Or => self.pair(false),
+            ConditionItem::Not => self.negate_top(),
+            ConditionItem::And => self.join_top(true),
+            ConditionItem::Or => self.join_top(false),
         }
     }
 }

@@ -1,11 +1,11 @@
 // Rules with a time: a switch is not released until a condition has held for a time, or is released
 // after that.
 ghost use Rattle.std.specs.Prelude.{◌≡◌, IfOk, IfSome, IsSome};
-ghost use Rattle.bay_audit.specs.Rules.{IsDueByTimer, IsForbidden, IsMet, IsRequired, IsUntil};
+ghost use Rattle.bay_audit.specs.Rules.{IsDueByTimer, IsUntilAnswer, IsMet, IsAfterAnswer, IsTimedAnswer};
 ghost use Rattle.bay_audit.specs.Rules as spec;
 
 use crate::answer::RuleAnswer;
-use crate::audit::{answer, plain_demand};
+use crate::audit::{answer_demand, plain_demand};
 use crate::demand::{Demand, Goal};
 use crate::early::early_case;
 use crate::program::AuditedProgram;
@@ -150,7 +150,7 @@ fn cases_needed(
 ) -> Result<Option<u32>, AllocError>
     ensures { IfOk result (λ cases. IsSome cases → IsMet program.now demand.now) }
 {
-    match answer(alloc, program, demand, passes)? {
+    match answer_demand(alloc, program, demand, passes)? {
         RuleAnswer::Holds { cases } => Ok(Some(cases)),
         _ => Ok(None),
     }
@@ -158,7 +158,7 @@ fn cases_needed(
 
 // Returns the number of cases by which a timer's delay runs only while a condition is TRUE, and a
 // release waits for the delay; `None` if that is not proved.
-fn by_timer(
+fn cases_by_timer(
     alloc: Global,
     program: &AuditedProgram<'_>,
     rule: &Rule,
@@ -193,10 +193,10 @@ fn answer_by_bearing_timer(
 ) -> Result<Option<RuleAnswer>, AllocError>
     requires { IsMet program.now (spec.necessary_demand rule.now timing.now.condition) }
     ensures { IfOk result
-        (λ found. IfSome found (IsForbidden program.now rule.now timing.now)) }
+        (λ found. IfSome found (IsUntilAnswer program.now rule.now timing.now)) }
 {
     for timer in 0..program.image().timers().len() {
-        if let Some(more) = by_timer(alloc, program, rule, timing, timer, passes)? {
+        if let Some(more) = cases_by_timer(alloc, program, rule, timing, timer, passes)? {
             return Ok(Some(RuleAnswer::Since {
                 timer,
                 cases: cases.saturating_add(more),
@@ -215,10 +215,10 @@ fn answer_by_dependency(
     timing: &Timing,
     passes: &mut u32,
 ) -> Result<RuleAnswer, AllocError>
-    ensures { IfOk result (IsForbidden program.now rule.now timing.now) }
+    ensures { IfOk result (IsUntilAnswer program.now rule.now timing.now) }
 {
     let demand = plain_demand(alloc, rule)?;
-    let found = answer(alloc, program, &demand, passes)?;
+    let found = answer_demand(alloc, program, &demand, passes)?;
     if let RuleAnswer::Holds { cases } = found {
         return Ok(RuleAnswer::Holds { cases });
     }
@@ -226,7 +226,7 @@ fn answer_by_dependency(
         return Ok(RuleAnswer::Broken { case });
     }
     match found {
-        RuleAnswer::Open { case, kept } if *passes > 0 => Ok(RuleAnswer::Open { case, kept }),
+        RuleAnswer::Open { case, depends_on } if *passes > 0 => Ok(RuleAnswer::Open { case, depends_on }),
         _ => Ok(RuleAnswer::TooMany),
     }
 }
@@ -240,10 +240,10 @@ fn answer_forbidden(
     timing: &Timing,
     passes: &mut u32,
 ) -> Result<RuleAnswer, AllocError>
-    ensures { IfOk result (IsForbidden program.now rule.now timing.now) }
+    ensures { IfOk result (IsUntilAnswer program.now rule.now timing.now) }
 {
     let demand = presence_demand(alloc, rule, timing.condition.as_slice())?;
-    match answer(alloc, program, &demand, passes)? {
+    match answer_demand(alloc, program, &demand, passes)? {
         RuleAnswer::Holds { cases } => {
             if let Some(found) = answer_by_bearing_timer(
                 alloc, program, rule, timing, cases, passes,
@@ -259,7 +259,7 @@ fn answer_forbidden(
 
 // Returns the number of cases by which a timer's delay begins and lasts while a condition is TRUE;
 // `None` if that is not proved.
-fn lasts_by_timer(
+fn cases_lasting(
     alloc: Global,
     program: &AuditedProgram<'_>,
     condition: &[ConditionItem],
@@ -285,7 +285,7 @@ fn lasts_by_timer(
 
 // Returns the number of cases by which a timer's delay lasts while a condition is TRUE, and the
 // switch is released once it has lasted for the time; `None` if that is not proved.
-fn due_by_timer(
+fn cases_due(
     alloc: Global,
     program: &AuditedProgram<'_>,
     rule: &Rule,
@@ -300,7 +300,7 @@ fn due_by_timer(
         return Ok(None);
     }
     let condition = timing.condition.as_slice();
-    let Some(lasting_cases) = lasts_by_timer(alloc, program, condition, timer, passes)? else {
+    let Some(lasting_cases) = cases_lasting(alloc, program, condition, timer, passes)? else {
         return Ok(None);
     };
     let limits = limit_of(alloc, timer, KnownDelay::AtLeast(timing.time))?;
@@ -321,10 +321,10 @@ fn answer_by_expiring_timer(
     passes: &mut u32,
 ) -> Result<Option<RuleAnswer>, AllocError>
     ensures { IfOk result
-        (λ found. IfSome found (IsRequired program.now rule.now timing.now)) }
+        (λ found. IfSome found (IsAfterAnswer program.now rule.now timing.now)) }
 {
     for timer in 0..program.image().timers().len() {
-        if let Some(cases) = due_by_timer(alloc, program, rule, timing, timer, passes)? {
+        if let Some(cases) = cases_due(alloc, program, rule, timing, timer, passes)? {
             return Ok(Some(RuleAnswer::Since { timer, cases }));
         }
     }
@@ -340,19 +340,19 @@ fn answer_required(
     timing: &Timing,
     passes: &mut u32,
 ) -> Result<RuleAnswer, AllocError>
-    ensures { IfOk result (IsRequired program.now rule.now timing.now) }
+    ensures { IfOk result (IsAfterAnswer program.now rule.now timing.now) }
 {
     let none = Listing::new(Vec::new(alloc));
     let demand = release_demand(alloc, rule, timing.condition.as_slice(), none)?;
-    let found = answer(alloc, program, &demand, passes)?;
-    let RuleAnswer::Open { case, kept } = found else {
+    let found = answer_demand(alloc, program, &demand, passes)?;
+    let RuleAnswer::Open { case, depends_on } = found else {
         return Ok(found);
     };
     if let Some(by) = answer_by_expiring_timer(alloc, program, rule, timing, passes)? {
         return Ok(by);
     }
     if *passes > 0 {
-        Ok(RuleAnswer::Open { case, kept })
+        Ok(RuleAnswer::Open { case, depends_on })
     } else {
         Ok(RuleAnswer::TooMany)
     }
@@ -360,14 +360,14 @@ fn answer_required(
 
 /// Answers a rule with a time in at most `passes` passes, and subtracts those that it needed. Fails
 /// only if an allocation fails.
-pub(crate) fn until(
+pub(crate) fn answer_timed_rule(
     alloc: Global,
     program: &AuditedProgram<'_>,
     rule: &Rule,
     timing: &Timing,
     passes: &mut u32,
 ) -> Result<RuleAnswer, AllocError>
-    ensures { IfOk result (IsUntil program.now rule.now timing.now) }
+    ensures { IfOk result (IsTimedAnswer program.now rule.now timing.now) }
 {
     match rule.kind {
         RuleKind::Never => answer_forbidden(alloc, program, rule, timing, passes),

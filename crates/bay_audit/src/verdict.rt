@@ -4,7 +4,7 @@ ghost use Rattle.std.specs.Prelude.{◌≡◌, ◌≤◌, IfOk, length, map, pos
 ghost use Rattle.bay_process.specs.Values as spec_values;
 ghost use Rattle.il_scan.specs.Scans.{outputs_of};
 ghost use Rattle.bay_audit.specs.Cases as spec_cases;
-ghost use Rattle.bay_audit.specs.Conditions as spec_outlook;
+ghost use Rattle.bay_audit.specs.Conditions as spec_truths;
 ghost use Rattle.bay_audit.specs.Rules.{IsDecision, IsVerdict, goal_range};
 ghost use Rattle.bay_audit.specs.Rules as spec;
 
@@ -12,7 +12,7 @@ use crate::answer::{RuleVerdict, Verdict};
 use crate::case::Case;
 use crate::demand::{Demand, Goal};
 use crate::program::AuditedProgram;
-use crate::split::undecided;
+use crate::split::find_split;
 use crate::truth_set::{TruthSet, rule_truths};
 use bay_audit_rules::rule::RuleKind;
 use bay_base::switch::Operation;
@@ -173,13 +173,13 @@ fn range_of_goal(
     alloc: Global,
     program: &AuditedProgram<'_>,
     goal: Goal,
-    forecast: &ScanPrediction,
+    prediction: &ScanPrediction,
 ) -> Result<Range, AllocError>
-    requires { length program.now.image.points ≤ length forecast.now.ranges.items }
+    requires { length program.now.image.points ≤ length prediction.now.ranges.items }
     ensures { IfOk result (λ r. r ≡ goal_range program.now.image.points program.now.writes
-        forecast.now.ranges.items forecast.now.delays.items goal) }
+        prediction.now.ranges.items prediction.now.delays.items goal) }
 {
-    let delays = forecast.delays.as_slice();
+    let delays = prediction.delays.as_slice();
     match goal {
         Goal::Release { switch, operation } => {
             release_range(
@@ -187,7 +187,7 @@ fn range_of_goal(
                 program,
                 switch,
                 operation,
-                forecast.ranges.as_slice(),
+                prediction.ranges.as_slice(),
             )
         }
         Goal::Idle { timer } => Ok(idle_range(delays.get(timer).copied())),
@@ -196,23 +196,23 @@ fn range_of_goal(
     }
 }
 
-/// Returns the verdict of a pass on a demand in a case, and its prediction. `asked` is the truth
+/// Returns the verdict of a pass on a demand in a case, and its prediction. `covered` is the truth
 /// set of the demand's condition with its exception. Fails only if an allocation fails.
-pub(crate) fn pass(
+pub(crate) fn run_pass(
     alloc: Global,
     program: &AuditedProgram<'_>,
     demand: &Demand,
     case: &Case,
-    asked: TruthSet,
+    covered: TruthSet,
 ) -> Result<(RuleVerdict, ScanPrediction), AllocError>
-    requires { asked ≡ spec_outlook.rule_truths case.now demand.now.when demand.now.unless }
+    requires { covered ≡ spec_truths.rule_truths case.now demand.now.when demand.now.unless }
     ensures { IfOk result
         (λ found. IsDecision program.now demand.now case.now found.0) }
 {
     let input_ranges = input_ranges(alloc, case, program.reads())?;
-    let forecast = program.scan(alloc, demand.limits.as_slice(), input_ranges.as_slice())?;
-    let range = range_of_goal(alloc, program, demand.goal, &forecast)?;
-    Ok((decide(demand.kind, asked, range), forecast))
+    let prediction = program.scan(alloc, demand.limits.as_slice(), input_ranges.as_slice())?;
+    let range = range_of_goal(alloc, program, demand.goal, &prediction)?;
+    Ok((decide(demand.kind, covered, range), prediction))
 }
 
 /// Returns the verdict of one pass on a demand in a case. Fails only if an allocation fails.
@@ -224,19 +224,19 @@ pub fn verdict(
 ) -> Result<Verdict, AllocError>
     ensures { IfOk result (IsVerdict program.now demand.now case.now) }
 {
-    let asked = rule_truths(
+    let covered = rule_truths(
         alloc,
         case,
         demand.when.as_slice(),
         demand.unless.as_slice(),
     )?;
-    if !asked.yes {
+    if !covered.yes {
         return Ok(Verdict::Obeyed);
     }
-    let (decision, forecast) = pass(alloc, program, demand, case, asked)?;
+    let (decision, prediction) = run_pass(alloc, program, demand, case, covered)?;
     match decision {
         RuleVerdict::Obeyed => Ok(Verdict::Obeyed),
         RuleVerdict::Missed => Ok(Verdict::Broken),
-        RuleVerdict::Unknown => undecided(alloc, program, demand, case, &forecast),
+        RuleVerdict::Unknown => find_split(alloc, program, demand, case, &prediction),
     }
 }

@@ -27,26 +27,26 @@ use Rattle.bay_audit_hazards.specs.Parts.{AllowInputs, AllowPositions, IsKnown}
 
 -- ---- sets of positions and of values
 
--- one set more; `may` is what the case allows
-positions-more : (may : ℕ → Dbpos → Bool) (sets : List PositionSet) (s : PositionSet)
-    → ((k : ℕ) (d : Dbpos) → may k d ≡ true → has_position (slice_get sets k) d ≡ true)
-    → ((d : Dbpos) → may (length sets) d ≡ true → has_position (Some s) d ≡ true)
-    → (k : ℕ) (d : Dbpos) → may k d ≡ true → has_position (slice_get (sets ++ s ∷ []) k) d ≡ true
-positions-more may [] s all one zero d h = one d h
-positions-more may [] s all one (suc k) d h = refl
-positions-more may (t ∷ sets) s all one zero d h = all zero d h
-positions-more may (t ∷ sets) s all one (suc k) d h =
-    positions-more (λ j. may (suc j)) sets s (λ j. all (suc j)) one k d h
+-- one set more; `may_conduct` is what the case allows
+positions-more : (may_conduct : ℕ → Dbpos → Bool) (sets : List PositionSet) (s : PositionSet)
+    → ((k : ℕ) (d : Dbpos) → may_conduct k d ≡ true → has_position (slice_get sets k) d ≡ true)
+    → ((d : Dbpos) → may_conduct (length sets) d ≡ true → has_position (Some s) d ≡ true)
+    → (k : ℕ) (d : Dbpos) → may_conduct k d ≡ true → has_position (slice_get (sets ++ s ∷ []) k) d ≡ true
+positions-more may_conduct [] s all one zero d h = one d h
+positions-more may_conduct [] s all one (suc k) d h = refl
+positions-more may_conduct (t ∷ sets) s all one zero d h = all zero d h
+positions-more may_conduct (t ∷ sets) s all one (suc k) d h =
+    positions-more (λ j. may_conduct (suc j)) sets s (λ j. all (suc j)) one k d h
 
-inputs-more : (may : ℕ → Bool → Bool) (sets : List InputSet) (s : InputSet)
-    → ((k : ℕ) (v : Bool) → may k v ≡ true → has_value (slice_get sets k) v ≡ true)
-    → ((v : Bool) → may (length sets) v ≡ true → has_value (Some s) v ≡ true)
-    → (k : ℕ) (v : Bool) → may k v ≡ true → has_value (slice_get (sets ++ s ∷ []) k) v ≡ true
-inputs-more may [] s all one zero v h = one v h
-inputs-more may [] s all one (suc k) v h = refl
-inputs-more may (t ∷ sets) s all one zero v h = all zero v h
-inputs-more may (t ∷ sets) s all one (suc k) v h =
-    inputs-more (λ j. may (suc j)) sets s (λ j. all (suc j)) one k v h
+inputs-more : (may_conduct : ℕ → Bool → Bool) (sets : List InputSet) (s : InputSet)
+    → ((k : ℕ) (v : Bool) → may_conduct k v ≡ true → has_value (slice_get sets k) v ≡ true)
+    → ((v : Bool) → may_conduct (length sets) v ≡ true → has_value (Some s) v ≡ true)
+    → (k : ℕ) (v : Bool) → may_conduct k v ≡ true → has_value (slice_get (sets ++ s ∷ []) k) v ≡ true
+inputs-more may_conduct [] s all one zero v h = one v h
+inputs-more may_conduct [] s all one (suc k) v h = refl
+inputs-more may_conduct (t ∷ sets) s all one zero v h = all zero v h
+inputs-more may_conduct (t ∷ sets) s all one (suc k) v h =
+    inputs-more (λ j. may_conduct (suc j)) sets s (λ j. all (suc j)) one k v h
 
 -- the set of the next switch, and of the next input
 pub positions-step : (case : List TestAnswer) (sets : List PositionSet) (k : ℕ) (s : PositionSet)

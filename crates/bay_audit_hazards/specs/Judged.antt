@@ -4,7 +4,7 @@ use Rattle.bay_base.specs.declared.switch.Operation.{Operation}
 use Rattle.bay_audit_rules.specs.Process.{Process}
 use Rattle.bay_audit.specs.Cases.{is_in}
 use Rattle.bay_audit.specs.Process.{IsProcess}
-use Rattle.bay_audit.specs.Rules.{BoundProgram, Gives, HasProcess}
+use Rattle.bay_audit.specs.Rules.{BoundProgram, ReleaseIs, HasProcess}
 use Rattle.bay_audit.specs.declared.case.TestAnswer.{TestAnswer}
 use Rattle.bay_diagram.specs.declared.network.Network.{Network}
 use Rattle.bay_diagram.specs.Hazards.{is_hazard}
@@ -23,7 +23,7 @@ is_hazard_of net k operation p = is_hazard net (reading_of p) k operation
 abbrev pub IsHarmless : BoundProgram → Network → ℕ → Operation → Type 0
 IsHarmless g net k operation =
     (p : Process) → IsProcess p → is_hazard_of net k operation p ≡ true
-    → Gives false g k operation p
+    → ReleaseIs false g k operation p
 
 -- The case has a process, and the operation is a hazard in each process of the case.
 pub record IsHazard (net : Network) (k : ℕ) (operation : Operation) (case : List TestAnswer)
@@ -35,15 +35,15 @@ pub record IsHazard (net : Network) (k : ℕ) (operation : Operation) (case : Li
 -- In each process of the case the switch is released, in each state that the program can reach.
 abbrev pub IsReleased : BoundProgram → ℕ → Operation → List TestAnswer → Type 0
 IsReleased g k operation case =
-    (p : Process) → IsProcess p → is_in case p ≡ true → Gives true g k operation p
+    (p : Process) → IsProcess p → is_in case p ≡ true → ReleaseIs true g k operation p
 
 -- The answer is right.
-abbrev pub IsJudged : BoundProgram → Network → ℕ → Operation → HazardAnswer → Type 0
-IsJudged g net k operation (Holds cases) = IsHarmless g net k operation
-IsJudged g net k operation (Broken case) =
+abbrev pub IsHazardAnswer : BoundProgram → Network → ℕ → Operation → HazardAnswer → Type 0
+IsHazardAnswer g net k operation (Holds cases) = IsHarmless g net k operation
+IsHazardAnswer g net k operation (Broken case) =
     IsHazard net k operation case × IsReleased g k operation case
-IsJudged g net k operation (Open case) = IsHazard net k operation case
-IsJudged g net k operation Undecided = Unit {0}
+IsHazardAnswer g net k operation (Open case) = IsHazard net k operation case
+IsHazardAnswer g net k operation Undecided = Unit {0}
 
 -- What is shown is a hazard of the operation in each process of the case.
 abbrev pub IsExplained : Network → ℕ → Operation → List TestAnswer → Option ShownHazard → Type 0

@@ -5,7 +5,7 @@ use Rattle.bay_base.specs.declared.switch.Operation.{Operation}
 use Rattle.bay_audit_rules.specs.Process.{Process}
 use Rattle.bay_audit.specs.Cases.{input_may, is_in, may_be}
 use Rattle.bay_audit.specs.Process.{IsProcess}
-use Rattle.bay_audit.specs.Rules.{AreReported, BoundProgram, Gives, case_count, reported_count}
+use Rattle.bay_audit.specs.Rules.{AreRightInCases, BoundProgram, ReleaseIs, case_count, reported_count}
 use Rattle.bay_audit.specs.declared.answer.ReportedCase.{ReportedCase}
 use Rattle.bay_audit.specs.declared.case.TestAnswer.{TestAnswer}
 use Rattle.bay_diagram.specs.declared.network.Network.{Network}
@@ -70,16 +70,16 @@ IsSweep net k operation cases sweep.Undecided = Unit {0}
 
 -- In the processes of the first list of cases the switch is released, and in those that are in
 -- neither list it is not.
-pub record ArePartedBy (g : BoundProgram) (k : ℕ) (operation : Operation)
-    (cases : List ReportedCase) (released hanging : List (List TestAnswer)) : Type 0
+pub record AreSplitBy (g : BoundProgram) (k : ℕ) (operation : Operation)
+    (cases : List ReportedCase) (released undecided : List (List TestAnswer)) : Type 0
   where
     pub given : (p : Process) → IsProcess p → 0 < case_count released p
-        → Gives true g k operation p
+        → ReleaseIs true g k operation p
     pub refused : (p : Process) → IsProcess p → 0 < reported_count cases p
-        → case_count released p ≡ 0 → case_count hanging p ≡ 0 → Gives false g k operation p
+        → case_count released p ≡ 0 → case_count undecided p ≡ 0 → ReleaseIs false g k operation p
 
 -- The lists part the cases so for each release of which the cases are right.
-abbrev pub AreParted : List ReportedCase → List (List TestAnswer) → List (List TestAnswer) → Type 0
-AreParted cases released hanging =
-    (g : BoundProgram) (k : ℕ) (operation : Operation) → AreReported g k operation cases
-    → ArePartedBy g k operation cases released hanging
+abbrev pub AreSplit : List ReportedCase → List (List TestAnswer) → List (List TestAnswer) → Type 0
+AreSplit cases released undecided =
+    (g : BoundProgram) (k : ℕ) (operation : Operation) → AreRightInCases g k operation cases
+    → AreSplitBy g k operation cases released undecided

@@ -2,7 +2,7 @@
 ghost use Rattle.std.specs.Prelude.{IfOk, OnOk};
 ghost use Rattle.bay_audit.specs.Effort.{IsSpent};
 ghost use Rattle.bay_audit.specs.Rules.{IsRelease};
-ghost use Rattle.bay_audit_hazards.specs.Judged.{IsJudged};
+ghost use Rattle.bay_audit_hazards.specs.Judged.{IsHazardAnswer};
 ghost use Rattle.bay_audit_hazards.specs.Parts as spec;
 
 use crate::answer::{HazardAnswer, Sweep};
@@ -41,20 +41,20 @@ fn evaluation_cost(program: &AuditedProgram<'_>, network: &Network) -> u32 {
 }
 
 // Returns the cases in which the switch is released, and those in which no test decides that.
-fn parted(alloc: Global, cases: Vec<ReportedCase>) -> Result<(Vec<Case>, Vec<Case>), AllocError>
-    ensures { IfOk result (λ both. spec.AreParted cases.items both.0.items both.1.items) }
+fn split_by_release(alloc: Global, cases: Vec<ReportedCase>) -> Result<(Vec<Case>, Vec<Case>), AllocError>
+    ensures { IfOk result (λ both. spec.AreSplit cases.items both.0.items both.1.items) }
 {
     let mut cases = cases;
     let mut released = Vec::new(alloc);
-    let mut hanging = Vec::new(alloc);
+    let mut undecided = Vec::new(alloc);
     while let Some(reported) = cases.pop() {
-        match reported.told {
+        match reported.release {
             CaseRelease::Released => released.push(reported.case)?,
             CaseRelease::Refused => {}
-            CaseRelease::Hangs(_) => hanging.push(reported.case)?,
+            CaseRelease::Depends(_) => undecided.push(reported.case)?,
         }
     }
-    Ok((released, hanging))
+    Ok((released, undecided))
 }
 
 // Judges a release, and subtracts the passes that it needed.
@@ -68,7 +68,7 @@ fn judge_within(
 ) -> Result<HazardAnswer, AllocError>
     requires { IsRelease bay.now program.now release }
     ensures { IfOk result
-        (IsJudged program.now network.now release.switch release.operation) }
+        (IsHazardAnswer program.now network.now release.switch release.operation) }
 {
     let Release {
         switch,
@@ -78,7 +78,7 @@ fn judge_within(
         ..
     } = release;
     let cost = evaluation_cost(program, network);
-    let (released, hanging) = parted(alloc, cases)?;
+    let (released, undecided) = split_by_release(alloc, cases)?;
     let first = match sweep(
         alloc, bay, network, switch, operation, released, cost, passes,
     )? {
@@ -87,7 +87,7 @@ fn judge_within(
         Sweep::Undecided => return Ok(HazardAnswer::Undecided),
     };
     let second = match sweep(
-        alloc, bay, network, switch, operation, hanging, cost, passes,
+        alloc, bay, network, switch, operation, undecided, cost, passes,
     )? {
         Sweep::Harmless { cases } => cases,
         Sweep::Hazard { case } => return Ok(HazardAnswer::Open { case }),
@@ -119,7 +119,7 @@ pub fn judge(
     // case has a process, and for each process of the case the operation is a hazard and each scan
     // releases the switch, in each such state;
     ensures right { IfOk result
-        (IsJudged program.now network.now release.switch release.operation) }
+        (IsHazardAnswer program.now network.now release.switch release.operation) }
     // It made at most its share of the passes, and one answer less shares the others.
     ensures shared { OnOk result (IsSpent budget.old budget.new) }
 {

@@ -16,7 +16,7 @@ use Rattle.il_image.specs.Images.{Image}
 use Rattle.il_image.specs.declared.timer.TimerPhase.{TimerPhase}
 use Rattle.il_image.specs.declared.timer.TimerPhase.TheVariants.{Idle, Held, Since}
 use Rattle.il_image.specs.declared.timer.TimerState.{TimerState}
-use Rattle.il_range.specs.Foretold.{AreDelays, delay_start, delay_start_at}
+use Rattle.il_range.specs.Predictions.{AreDelays, delay_start, delay_start_at}
 use Rattle.il_range.specs.Ranges.{delay_onset, delay_onset_at, is_by}
 use Rattle.il_range.specs.declared.delay.KnownDelay.TheVariants.{AtLeast}
 use Rattle.il_range.proofs.StartLemmas.{delays-continue}
@@ -29,7 +29,7 @@ use Rattle.bay_device.specs.declared.event.Event.TheVariants.{Scan}
 use Rattle.bay_device.specs.declared.event.Step.{Step}
 use Rattle.bay_device.specs.declared.fault.StepFault.{StepFault}
 use Rattle.bay_audit.specs.Rules.{IsDueByTimer, IsMet, is_obeyed, limit_of, program_of, releases, sufficient_demand}
-use Rattle.bay_audit_laws.specs.Laws.{AreOfTypes, EachAfter, HasHeld, ScanIsDueAt, ScanReleasesAt, ScansAreDue, ScansRelease, is_released, process_of, scans_after}
+use Rattle.bay_audit_laws.specs.Laws.{AreOfTypes, EachEvent, HasHeld, ScanIsDueAt, ScanReleasesAt, ScansAreDue, ScansRelease, is_released, process_of, scans_after}
 use Rattle.bay_audit_laws.proofs.DeviceLemmas.{Quiet}
 use Rattle.bay_audit_laws.proofs.LawLemmas.{Standing, Turned, halts-of, leaves, led-step, process-so, read, scanned-process, scanned-releases, standing-first, turned}
 use Rattle.bay_audit_laws.proofs.MomentLemmas.{accepted-on, moment-on}
@@ -155,7 +155,7 @@ module _ (bay : Bay) (image : Image) (rule : Rule) (timing : Timing) (is_bay : I
         (answers : List (Result Step StepFault)) (last : State) → AreOfTypes events
         → Standing bay image s
         → EachStep HaltsAt events s answers last
-        → EachAfter (ScanReleasesAt rule timing) timing.condition events scans s answers last
+        → EachEvent (ScanReleasesAt rule timing) timing.condition events scans s answers last
     each-released [] scans s [] last typed o each = each
     each-released [] scans s (answer ∷ answers) last typed o each = absurd each
     each-released (e ∷ es) scans s [] last typed o each = absurd each
@@ -213,7 +213,7 @@ module _ (bay : Bay) (image : Image) (rule : Rule) (timing : Timing) (is_bay : I
       begins-now so =
           begun-by now n scanned.machine.timers past-on
           (must-so held false (is_some (delay_onset_at n scanned.machine.timers))
-          (due.begun_so (process_of s)
+          (due.begun_met (process_of s)
           (process-so bay image s o) 0 s.machine now
           scanned.machine.slots scanned.machine.timers o.image_is o.reached tt
           (read bay image is_bay now s o steps halts)) so refl)
@@ -222,7 +222,7 @@ module _ (bay : Bay) (image : Image) (rule : Rule) (timing : Timing) (is_bay : I
           → is_by start (delay_onset_at n scanned.machine.timers) ≡ true
       lasts-on so start runs =
           must-so held false (is_by start (delay_onset_at n scanned.machine.timers))
-          (due.lasts_so (process_of s)
+          (due.lasting_met (process_of s)
           (process-so bay image s o) start s.machine now
           scanned.machine.slots scanned.machine.timers o.image_is o.reached
           (by-limit start now 0 n s.machine.timers (w.lasts start runs) (omega arith))
@@ -246,7 +246,7 @@ module _ (bay : Bay) (image : Image) (rule : Rule) (timing : Timing) (is_bay : I
           must-so (holds rule.when (process_of s))
           (holds (timing.condition ++ items.Not ∷ []) (process_of s))
           (releases (program_of bay image) rule.switch rule.operation scanned.machine.slots)
-          (due.due_so (process_of s)
+          (due.due_met (process_of s)
           (process-so bay image s o) r.start s.machine now
           scanned.machine.slots scanned.machine.timers o.image_is o.reached
           (by-limit r.start now timing.time n s.machine.timers (w.lasts r.start r.runs) r.far)
@@ -336,7 +336,7 @@ module _ (bay : Bay) (image : Image) (rule : Rule) (timing : Timing) (is_bay : I
         (answers : List (Result Step StepFault)) (last : State) → AreOfTypes events
         → Standing bay image s
         → Lasting scans s → EachStep HaltsAt events s answers last
-        → EachAfter (ScanIsDueAt rule timing) timing.condition events scans s answers last
+        → EachEvent (ScanIsDueAt rule timing) timing.condition events scans s answers last
     each-due [] scans s [] last typed o w each = each
     each-due [] scans s (answer ∷ answers) last typed o w each = absurd each
     each-due (e ∷ es) scans s [] last typed o w each = absurd each

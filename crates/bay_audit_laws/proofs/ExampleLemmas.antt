@@ -2,7 +2,7 @@
 use Rattle.std.proofs.Common.{◌≡◌, ℕ, pos, true, false, [], refl, arith}
 use Rattle.std.proofs.lemmas.Int.{ints}
 use Rattle.bay_audit.specs.Process.{IsProcess}
-use Rattle.bay_audit.specs.Rules.{IsRule}
+use Rattle.bay_audit.specs.Rules.{RuleHolds}
 use Rattle.bay_audit_hazards.specs.Judged.{IsHarmless}
 use Rattle.bay_audit_laws.specs.Examples.{at_all_times, halting_program}
 use Rattle.bay_audit_rules.specs.Process.{Process}
@@ -14,10 +14,10 @@ use Rattle.il_image.specs.Machine.{act, run_from}
 use Rattle.il_image.specs.Opcodes.{opcode_of}
 use Rattle.il_image.specs.Offsets.{is_instruction_offset}
 use Rattle.il_image.specs.Reading.{instr_at, instr_from}
-use Rattle.il_range.specs.Foretold.{First}
+use Rattle.il_range.specs.Predictions.{First}
 use Rattle.il_scan.specs.Scans.{first_machine}
 
-pub keeps-never : IsRule halting_program (at_all_times Never)
+pub keeps-never : RuleHolds halting_program (at_all_times Never)
 keeps-never p is mark machine now slots timers image reached young leaves = refl
 
 abbrev silent : Process
@@ -29,7 +29,7 @@ is-silent = record {
   greatest = λ k field. grind (arith, ints);
 }
 
-pub breaks-always : IsRule halting_program (at_all_times Always) → ⊥
+pub breaks-always : RuleHolds halting_program (at_all_times Always) → ⊥
 unfolding run_from act is_instruction_offset instr_at instr_from opcode_of
 breaks-always h =
     let no : false ≡ true =

@@ -27,7 +27,7 @@ use Rattle.bay_tree.specs.declared.row.Row.{Row}
 use Rattle.il_image.specs.Images.{Image}
 use Rattle.il_image.specs.declared.timer.TimerState.{TimerState}
 use Rattle.il_image.specs.declared.value.Value.{Value}
-use Rattle.il_range.specs.Foretold.{IsReached, First, Next, Leaves}
+use Rattle.il_range.specs.Predictions.{IsReached, First, Next, ScanLeaves}
 use Rattle.il_scan.specs.Scans.{MachineData, outputs_of}
 use Rattle.bay_device.specs.Commands.{AreCommanded, IsReleasedAt}
 use Rattle.bay_device.specs.Device.{State, after_scan, device_at, inputs_of, is_recent}
@@ -42,7 +42,7 @@ use Rattle.bay_device.specs.declared.fault.StepFault.{StepFault}
 use Rattle.bay_device.specs.declared.fault.StepFault.TheVariants.{MomentTooLarge, TimeWentBack}
 use Rattle.bay_device.proofs.CommandLemmas.{step-commanded}
 use Rattle.bay_audit.specs.Process.{IsProcess, process_value}
-use Rattle.bay_audit.specs.Rules.{BoundProgram, Gives, IsRule, is_obeyed, program_of, releases, releasing_point}
+use Rattle.bay_audit.specs.Rules.{BoundProgram, ReleaseIs, RuleHolds, is_obeyed, program_of, releases, releasing_point}
 use Rattle.bay_audit_hazards.specs.Judged.{is_hazard_of}
 use Rattle.bay_audit_laws.specs.Laws.{AreOfTypes, CommandsAreHarmless, CommandsAreHarmlessAt, CommandsObey, IsOfType, CommandsObeyAt, IsAllowed, IsOutside, RowsObey, ScanObeysAt, ScansObey, is_released, process_of}
 use Rattle.bay_audit_laws.proofs.DeviceLemmas.{Quiet, quiet-event}
@@ -171,7 +171,7 @@ pub record IsScanned (bay : Bay) (image : Image) (s : State) : Type 0 where
   pub timers : List TimerState
   pub image_is : machine.image ≡ image
   pub reached : IsReached machine
-  pub leaves : Leaves machine (map (process_value (process_of s)) (program_of bay image).reads) now
+  pub leaves : ScanLeaves machine (map (process_value (process_of s)) (program_of bay image).reads) now
       slots timers
   pub released : (k : ℕ) (operation : Operation) → k < length bay.switches
       → is_released s k operation ≡ releases (program_of bay image) k operation slots
@@ -249,7 +249,7 @@ module _ (bay : Bay) (image : Image) where
     timers = is.timers;
     image_is = is.image_is;
     reached = is.reached;
-    leaves = subst (λ p. Leaves is.machine (map (process_value p) (program_of bay image).reads)
+    leaves = subst (λ p. ScanLeaves is.machine (map (process_value p) (program_of bay image).reads)
         is.now is.slots is.timers) (sym (process-same s t q fresh)) is.leaves;
     released = λ k operation lt. released-same s t k operation q fresh ∙ is.released k operation lt;
   }
@@ -279,7 +279,7 @@ module _ (bay : Bay) (image : Image) (is_bay : IsBay bay) where
     abbrev outputs : List Value
     outputs = outputs_of s.machine.image.points scanned.machine.slots
 
-    pub leaves : Leaves s.machine (inputs_of s) now scanned.machine.slots scanned.machine.timers
+    pub leaves : ScanLeaves s.machine (inputs_of s) now scanned.machine.slots scanned.machine.timers
     leaves = record { most = length s.machine.image.code; steps = steps; halts = halts.halts }
 
     scanned-told : (k : ℕ) → k < length bay.switches
@@ -296,10 +296,10 @@ module _ (bay : Bay) (image : Image) (is_bay : IsBay bay) where
     scanned-process = scan-alike s scanned s.writes outputs now refl refl refl refl
 
     -- the run is one from what the process reports
-    pub read : Leaves s.machine (map (process_value (process_of s)) (program_of bay image).reads)
+    pub read : ScanLeaves s.machine (map (process_value (process_of s)) (program_of bay image).reads)
         now scanned.machine.slots scanned.machine.timers
     read =
-        subst (λ inputs. Leaves s.machine inputs now scanned.machine.slots scanned.machine.timers)
+        subst (λ inputs. ScanLeaves s.machine inputs now scanned.machine.slots scanned.machine.timers)
         (inputs-read s (program_of bay image).reads o.reads) leaves
 
     -- the interlocking values tell what the slots release
@@ -319,7 +319,7 @@ module _ (bay : Bay) (image : Image) (is_bay : IsBay bay) where
       timers = scanned.machine.timers;
       image_is = o.image_is;
       reached = o.reached;
-      leaves = subst (λ p. Leaves s.machine (map (process_value p) (program_of bay image).reads)
+      leaves = subst (λ p. ScanLeaves s.machine (map (process_value p) (program_of bay image).reads)
           now scanned.machine.slots scanned.machine.timers) (sym scanned-process) read;
       released = scanned-releases;
     }
@@ -384,23 +384,23 @@ module _ (bay : Bay) (image : Image) (is_bay : IsBay bay) where
   -- ---- runs
 
   -- what each event of a standing device does is done in each run
-  each-step : (Does : ℕ → Event → State → Result Step StepFault → State → Type 0)
+  each-step : (Law : ℕ → Event → State → Result Step StepFault → State → Type 0)
       → ((now : ℕ) (event : Event) (s : State) (answer : Result Step StepFault) (new : State)
       → Standing bay image s → Steps now event s answer new → Led event answer new
-      → Does now event s answer new)
+      → Law now event s answer new)
       → (events : List (ℕ × Event)) (s : State) (answers : List (Result Step StepFault))
       (last : State) → AreOfTypes events → Standing bay image s
-      → EachStep HaltsAt events s answers last → EachStep Does events s answers last
-  each-step Does does [] s [] last typed o each = each
-  each-step Does does [] s (answer ∷ answers) last typed o each = absurd each
-  each-step Does does (e ∷ es) s [] last typed o each = absurd each
-  each-step Does does (e ∷ es) s (answer ∷ answers) last typed o each =
+      → EachStep HaltsAt events s answers last → EachStep Law events s answers last
+  each-step Law does [] s [] last typed o each = each
+  each-step Law does [] s (answer ∷ answers) last typed o each = absurd each
+  each-step Law does (e ∷ es) s [] last typed o each = absurd each
+  each-step Law does (e ∷ es) s (answer ∷ answers) last typed o each =
       let led = led-step e.0 e.1 s answer each.0 o
       (turned e.0 e.1 s answer each.0 typed.0 each.1 each.2) in (
         each.0,
         each.1,
         does e.0 e.1 s answer each.0 o each.1 led,
-        each-step Does does es each.0 answers last typed.1 led.goes_on each.3,
+        each-step Law does es each.0 answers last typed.1 led.goes_on each.3,
       )
 
   -- ---- load
@@ -424,10 +424,10 @@ module _ (bay : Bay) (image : Image) (is_bay : IsBay bay) where
 -- reach.
 abbrev pub IsRefusedWhere : BoundProgram → (Process → Bool) → ℕ → Operation → Type 0
 IsRefusedWhere g set k operation =
-    (p : Process) → IsProcess p → set p ≡ true → Gives false g k operation p
+    (p : Process) → IsProcess p → set p ≡ true → ReleaseIs false g k operation p
 
 -- a rule that holds and forbids is such a set
-pub rule-refuses : (g : BoundProgram) (rule : Rule) → IsRule g rule → rule.kind ≡ Never
+pub rule-refuses : (g : BoundProgram) (rule : Rule) → RuleHolds g rule → rule.kind ≡ Never
     → IsRefusedWhere g (holds rule.when) rule.switch rule.operation
 rule-refuses g rule holds_so never p is asked machine now slots timers image reached leaves =
     must-not (releases g rule.switch rule.operation slots)
@@ -455,7 +455,7 @@ not-yes false h = refl
 module _ (bay : Bay) (image : Image) where
   -- the interlocking values of a scan obey a rule that holds
   scanned-obeys : (rule : Rule) → rule.switch < length bay.switches
-      → IsRule (program_of bay image) rule → (s : State) → IsProcess (process_of s)
+      → RuleHolds (program_of bay image) rule → (s : State) → IsProcess (process_of s)
       → IsScanned bay image s → RowsObey rule s
   scanned-obeys rule there holds_so s is scan =
       ap₂ (is_obeyed rule.kind) (sym (and-true (holds rule.when (process_of s))))
@@ -464,7 +464,7 @@ module _ (bay : Bay) (image : Image) where
       scan.reached tt scan.leaves
 
   ok-obeys : (rule : Rule) → rule.switch < length bay.switches
-      → IsRule (program_of bay image) rule → (answer : Result Step StepFault) (s : State)
+      → RuleHolds (program_of bay image) rule → (answer : Result Step StepFault) (s : State)
       → IsProcess (process_of s) → OnOk answer (IsScanned bay image s)
       → OnOk answer (RowsObey rule s)
   ok-obeys rule there holds_so (Ok step) s is scan = scanned-obeys rule there holds_so s is scan
@@ -472,7 +472,7 @@ module _ (bay : Bay) (image : Image) where
 
   -- so does each scan
   pub scan-obeys : (rule : Rule) → rule.switch < length bay.switches
-      → IsRule (program_of bay image) rule → (is_bay : IsBay bay) (now : ℕ) (event : Event)
+      → RuleHolds (program_of bay image) rule → (is_bay : IsBay bay) (now : ℕ) (event : Event)
       (old : State) (answer : Result Step StepFault) (new : State)
       → Led bay image is_bay event answer new → ScanObeysAt rule now event old answer new
   scan-obeys rule there holds_so is_bay now event old answer new led is =
@@ -513,7 +513,7 @@ module _ (bay : Bay) (image : Image) where
 
   -- a rule that holds allows each command that is released
   pub allowed : (rule : Rule) → rule.switch < length bay.switches
-      → IsRule (program_of bay image) rule → (now : ℕ) (s : State) (command : Command)
+      → RuleHolds (program_of bay image) rule → (now : ℕ) (s : State) (command : Command)
       → Standing bay image s → IsReleasedAt now s command → IsAllowed rule s command
   allowed rule there holds_so now s command o released never =
       outside (holds rule.when) rule.switch rule.operation there

@@ -1,5 +1,5 @@
 pub mod BadLemmas
-pub mod BlindLemmas
+pub mod LostLemmas
 pub mod DeviceLemmas
 pub mod DueLemmas
 pub mod ExampleLemmas

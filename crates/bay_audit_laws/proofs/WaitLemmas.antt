@@ -16,7 +16,7 @@ use Rattle.il_image.specs.declared.timer.TimerPhase.TheVariants.{Idle, Held, Sin
 use Rattle.il_image.specs.declared.timer.TimerState.{TimerState}
 use Rattle.il_image.specs.Timers.{first_state}
 use Rattle.bay_base.specs.declared.types.TimerKind.{TimerKind}
-use Rattle.il_range.specs.Foretold.{AreDelays, delay_start, delay_start_at}
+use Rattle.il_range.specs.Predictions.{AreDelays, delay_start, delay_start_at}
 use Rattle.il_range.specs.Ranges.{IsDelay}
 use Rattle.il_range.specs.declared.delay.KnownDelay.TheVariants.{Below}
 use Rattle.il_range.proofs.StartLemmas.{delays-continue}
@@ -31,7 +31,7 @@ use Rattle.bay_device.specs.declared.event.Step.{Step}
 use Rattle.bay_device.specs.declared.fault.StepFault.{StepFault}
 use Rattle.bay_device.proofs.CommandLemmas.{step-commanded}
 use Rattle.bay_audit.specs.Rules.{IsByTimer, is_obeyed, limit_of, program_of, releases}
-use Rattle.bay_audit_laws.specs.Laws.{AreOfTypes, CommandsWait, CommandsWaitAt, EachAfter, HasHeld, HasWaited, ScanWaitsAt, ScansWait, is_released, process_of, scans_after}
+use Rattle.bay_audit_laws.specs.Laws.{AreOfTypes, CommandsWait, CommandsWaitAt, EachEvent, HasHeld, HasWaited, ScanWaitsAt, ScansWait, is_released, process_of, scans_after}
 use Rattle.bay_audit_laws.proofs.DeviceLemmas.{Quiet}
 use Rattle.bay_audit_laws.proofs.LawLemmas.{Standing, Turned, halts-of, leaves, led-step, not-true, process-same, process-so, read, recent-at, released-same, scanned-process, scanned-releases, standing-first, turned}
 
@@ -170,7 +170,7 @@ module _ (bay : Bay) (image : Image) (rule : Rule) (timing : Timing) (n : ℕ) (
     idle-told none start is =
         let none_runs : is_none (delay_start_at n scanned.machine.timers) ≡ true =
         always-so (not held) (is_none (delay_start_at n scanned.machine.timers))
-        (bears.idle_so (process_of s)
+        (bears.idle_met (process_of s)
         (process-so bay image s o) 0 s.machine now
         scanned.machine.slots scanned.machine.timers o.image_is o.reached tt
         (read bay image is_bay now s o steps halts)) (ap not none) in
@@ -207,7 +207,7 @@ module _ (bay : Bay) (image : Image) (rule : Rule) (timing : Timing) (n : ℕ) (
         go false e = absurd
             (let none : g_releases ≡ false =
             never-so (holds rule.when (process_of s)) (not held) g_releases
-            (bears.there_so (process_of s)
+            (bears.necessary_met (process_of s)
             (process-so bay image s o) 0 s.machine now
             scanned.machine.slots scanned.machine.timers o.image_is o.reached tt
             (read bay image is_bay now s o steps halts)) asked
@@ -220,7 +220,7 @@ module _ (bay : Bay) (image : Image) (rule : Rule) (timing : Timing) (n : ℕ) (
     not-young asked released young =
         let none : g_releases ≡ false =
         never-so (holds rule.when (process_of s)) true g_releases
-        (bears.late_so (process_of s)
+        (bears.delay_met (process_of s)
         (process-so bay image s o) 0 s.machine now
         scanned.machine.slots scanned.machine.timers o.image_is o.reached young
         (read bay image is_bay now s o steps halts)) asked refl in
@@ -356,7 +356,7 @@ module _ (bay : Bay) (image : Image) (rule : Rule) (timing : Timing) (n : ℕ) (
       (answers : List (Result Step StepFault)) (last : State) → AreOfTypes events
       → Standing bay image s
       → Waiting scans s → EachStep HaltsAt events s answers last
-      → EachAfter (ScanWaitsAt rule timing) timing.condition events scans s answers last
+      → EachEvent (ScanWaitsAt rule timing) timing.condition events scans s answers last
   each-wait [] scans s [] last typed o w each = each
   each-wait [] scans s (answer ∷ answers) last typed o w each = absurd each
   each-wait (e ∷ es) scans s [] last typed o w each = absurd each
@@ -376,7 +376,7 @@ module _ (bay : Bay) (image : Image) (rule : Rule) (timing : Timing) (n : ℕ) (
       (answers : List (Result Step StepFault)) (last : State) → AreOfTypes events
       → Standing bay image s
       → Waiting scans s → EachStep HaltsAt events s answers last
-      → EachAfter (CommandsWaitAt rule timing) timing.condition events scans s answers last
+      → EachEvent (CommandsWaitAt rule timing) timing.condition events scans s answers last
   each-command-wait [] scans s [] last typed o w each = each
   each-command-wait [] scans s (answer ∷ answers) last typed o w each = absurd each
   each-command-wait (e ∷ es) scans s [] last typed o w each = absurd each

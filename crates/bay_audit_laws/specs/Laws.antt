@@ -22,7 +22,7 @@ use Rattle.bay_device.specs.declared.event.Event.{Event}
 use Rattle.bay_device.specs.declared.event.Event.TheVariants.{Open, Recv, Close, Contact, Input, Measure, BadMeasure, Lost, Scan}
 use Rattle.bay_device.specs.declared.event.Step.{Step}
 use Rattle.bay_device.specs.declared.fault.StepFault.{StepFault}
-use Rattle.bay_audit.specs.Rules.{BoundProgram, IsByTimer, IsDueByTimer, IsMet, IsRule, is_obeyed, program_of, sufficient_demand}
+use Rattle.bay_audit.specs.Rules.{BoundProgram, IsByTimer, IsDueByTimer, IsMet, RuleHolds, is_obeyed, program_of, sufficient_demand}
 use Rattle.bay_audit_hazards.specs.Judged.{IsHarmless, is_hazard_of}
 use Rattle.bay_diagram.specs.declared.network.Network.{Network}
 
@@ -108,28 +108,28 @@ CommandsAreHarmlessAt net k operation now event old answer new =
 
 -- ---- the laws
 
--- `Does` is true for each event in each run of a device, from load of a bay and an image on.
+-- `Law` is true for each event in each run of a device, from load of a bay and an image on.
 abbrev pub InEachRun : Bay → Image → (ℕ → Event → State → Result Step StepFault → State → Type 0)
     → Type 0
-InEachRun bay image Does =
+InEachRun bay image Law =
     (events : List (ℕ × Event)) (answers : List (Result Step StepFault)) (last : State)
     → AreOfTypes events → EachStep HaltsAt events (initial_device bay image) answers last
-    → EachStep Does events (initial_device bay image) answers last
+    → EachStep Law events (initial_device bay image) answers last
 
--- `Does` is true in each run, if a rule holds of the program.
-abbrev pub Always : (Rule → ℕ → Event → State → Result Step StepFault → State → Type 0) → Type 0
-Always Does =
+-- `Law` is true in each run, if a rule holds of the program.
+abbrev pub ForEachRule : (Rule → ℕ → Event → State → Result Step StepFault → State → Type 0) → Type 0
+ForEachRule Law =
     (bay : Bay) (image : Image) (rule : Rule) → IsBay bay
-    → rule.switch < length bay.switches → IsRule (program_of bay image) rule
-    → InEachRun bay image (Does rule)
+    → rule.switch < length bay.switches → RuleHolds (program_of bay image) rule
+    → InEachRun bay image (Law rule)
 
 -- Each scan of a device obeys each rule that holds of its program.
 abbrev pub ScansObey : Type 0
-ScansObey = Always ScanObeysAt
+ScansObey = ForEachRule ScanObeysAt
 
 -- Each command of a device obeys each rule that holds of its program.
 abbrev pub CommandsObey : Type 0
-CommandsObey = Always CommandsObeyAt
+CommandsObey = ForEachRule CommandsObeyAt
 
 -- No command of a device is a hazard in a network, if the release of its switch and operation is
 -- harmless in this network.
@@ -143,10 +143,10 @@ CommandsAreHarmless =
 
 -- the accepted scans, the last one first: the time of each, and whether a condition was TRUE for
 -- the values that the process had last reported
-abbrev pub scan_noted : List ConditionItem → ℕ → State → Result Step StepFault → List (ℕ × Bool)
+abbrev pub add_scan : List ConditionItem → ℕ → State → Result Step StepFault → List (ℕ × Bool)
     → List (ℕ × Bool)
-scan_noted condition now s (Ok step) scans = (now, holds condition (process_of s)) ∷ scans
-scan_noted condition now s (Err fault) scans = scans
+add_scan condition now s (Ok step) scans = (now, holds condition (process_of s)) ∷ scans
+add_scan condition now s (Err fault) scans = scans
 
 abbrev pub scans_after : List ConditionItem → ℕ → Event → State → Result Step StepFault
     → List (ℕ × Bool)
@@ -159,7 +159,7 @@ scans_after condition now (Input k value) s answer scans = scans
 scans_after condition now (Measure k field value) s answer scans = scans
 scans_after condition now (BadMeasure k field) s answer scans = scans
 scans_after condition now Lost s answer scans = scans
-scans_after condition now Scan s answer scans = scan_noted condition now s answer scans
+scans_after condition now Scan s answer scans = add_scan condition now s answer scans
 
 -- The condition has held for a time, as of `now`: it was TRUE at the last scan, and at each scan
 -- before it back to one that is at least this time ago.
@@ -191,17 +191,17 @@ abbrev pub CommandsWaitAt : Rule → Timing → List (ℕ × Bool) → ℕ → E
 CommandsWaitAt rule timing scans now event old answer new =
     IfOk answer (λ step. All (HasWaited rule timing scans old) step.commands)
 
--- Each event is a step for which `Does` is true, with the scans before it.
-abbrev pub EachAfter : (List (ℕ × Bool) → ℕ → Event → State → Result Step StepFault → State
+-- Each event is a step for which `Law` is true, with the scans before it.
+abbrev pub EachEvent : (List (ℕ × Bool) → ℕ → Event → State → Result Step StepFault → State
     → Type 0)
     → List ConditionItem → List (ℕ × Event) → List (ℕ × Bool) → State → List (Result Step StepFault)
     → State → Type 0
-EachAfter Does condition [] scans s [] last = last ≡ s
-EachAfter Does condition [] scans s (answer ∷ answers) last = ⊥
-EachAfter Does condition (e ∷ es) scans s [] last = ⊥
-EachAfter Does condition (e ∷ es) scans s (answer ∷ answers) last =
-    (new : State) × Steps e.0 e.1 s answer new × Does scans e.0 e.1 s answer new
-    × EachAfter Does condition es (scans_after condition e.0 e.1 s answer scans) new answers last
+EachEvent Law condition [] scans s [] last = last ≡ s
+EachEvent Law condition [] scans s (answer ∷ answers) last = ⊥
+EachEvent Law condition (e ∷ es) scans s [] last = ⊥
+EachEvent Law condition (e ∷ es) scans s (answer ∷ answers) last =
+    (new : State) × Steps e.0 e.1 s answer new × Law scans e.0 e.1 s answer new
+    × EachEvent Law condition es (scans_after condition e.0 e.1 s answer scans) new answers last
 
 -- An accepted scan releases the switch, in a state that the rule covers, if the condition has held
 -- for the time.
@@ -220,40 +220,40 @@ ScanReleasesAt rule timing scans now event old answer new =
     → holds timing.condition (process_of new) ≡ true
     → is_released new rule.switch rule.operation ≡ true)
 
--- `Does` is true in each run of a device, from load of a bay and an image on, if a rule with a time
+-- `Law` is true in each run of a device, from load of a bay and an image on, if a rule with a time
 -- is established in this way.
-abbrev pub EachIf : (BoundProgram → Rule → Timing → Type 0)
+abbrev pub InEachRunIf : (BoundProgram → Rule → Timing → Type 0)
     → (Rule → Timing → List (ℕ × Bool) → ℕ → Event → State → Result Step StepFault → State
     → Type 0) → Type 0
-EachIf IsEstablished Does =
+InEachRunIf IsEstablished Law =
     (bay : Bay) (image : Image) (rule : Rule) (timing : Timing) → IsBay bay
     → rule.switch < length bay.switches → IsEstablished (program_of bay image) rule timing
     → (events : List (ℕ × Event)) (answers : List (Result Step StepFault)) (last : State)
     → AreOfTypes events → EachStep HaltsAt events (initial_device bay image) answers last
-    → EachAfter (Does rule timing) timing.condition events [] (initial_device bay image) answers
+    → EachEvent (Law rule timing) timing.condition events [] (initial_device bay image) answers
     last
 
--- `Does` is true in each run of a device, from load of a bay and an image on, if a timer
+-- `Law` is true in each run of a device, from load of a bay and an image on, if a timer
 -- establishes a rule with a time.
-abbrev pub Waits : (Rule → Timing → List (ℕ × Bool) → ℕ → Event → State → Result Step StepFault
+abbrev pub IfByTimer : (Rule → Timing → List (ℕ × Bool) → ℕ → Event → State → Result Step StepFault
     → State → Type 0) → Type 0
-Waits Does = (n : ℕ) → EachIf (λ g rule timing. IsByTimer g rule timing n) Does
+IfByTimer Law = (n : ℕ) → InEachRunIf (λ g rule timing. IsByTimer g rule timing n) Law
 
 -- Each scan that releases a switch waits for the time of each rule that a timer establishes.
 abbrev pub ScansWait : Type 0
-ScansWait = Waits ScanWaitsAt
+ScansWait = IfByTimer ScanWaitsAt
 
 -- Each command waits for the time of each rule that a timer establishes.
 abbrev pub CommandsWait : Type 0
-CommandsWait = Waits CommandsWaitAt
+CommandsWait = IfByTimer CommandsWaitAt
 
 -- ---- rules that require a release
 
 -- Each scan releases a switch when a rule requires it, if a timer establishes the rule.
 abbrev pub ScansAreDue : Type 0
-ScansAreDue = (n : ℕ) → EachIf (λ g rule timing. IsDueByTimer g rule timing n) ScanIsDueAt
+ScansAreDue = (n : ℕ) → InEachRunIf (λ g rule timing. IsDueByTimer g rule timing n) ScanIsDueAt
 
 -- Each scan with the condition TRUE releases the switch, if the condition alone releases it.
 abbrev pub ScansRelease : Type 0
 ScansRelease =
-    EachIf (λ g rule timing. IsMet g (sufficient_demand rule timing.condition)) ScanReleasesAt
+    InEachRunIf (λ g rule timing. IsMet g (sufficient_demand rule timing.condition)) ScanReleasesAt

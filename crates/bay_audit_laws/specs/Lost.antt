@@ -20,7 +20,7 @@ use Rattle.bay_device.specs.Steps.{Steps}
 
 -- The device has only the values of a lost process: the position of each switch is bad, with an
 -- invalid quality, and each input is FALSE.
-pub record IsBlind (s : State) : Type 0 where
+pub record IsLostState (s : State) : Type 0 where
   pub positions : (k : ℕ) (switch : Switch) → slice_get s.switches k ≡ Some switch
       → leaf_of (switch_names s.switches k switch).position.value s.rows ≡ Some (leaf.Dbpos Bad)
   pub qualities : (k : ℕ) (switch : Switch) → slice_get s.switches k ≡ Some switch
@@ -30,21 +30,21 @@ pub record IsBlind (s : State) : Type 0 where
 
 -- A program reads these values: the points of each switch are those of a bad position, and each
 -- input is FALSE.
-pub record ReadsBlind (s : State) : Type 0 where
+pub record ReadsLost (s : State) : Type 0 where
   pub switches : (k : ℕ) (point : SwitchPoint) → k < length s.switches
       → point_value s (source.Switch k point) ≡ position_value point (Some (leaf.Dbpos Bad))
   pub inputs : (k : ℕ) → point_value s (source.Input k) ≡ Truth false
 
 -- These events led from the first device to this one; the last event comes first.
-abbrev pub CameFrom : State → List Past → State → Type 0
-CameFrom first [] s = s ≡ first
-CameFrom first (p ∷ past) s = (s ≡ p.after)
-    × ((before : State) × CameFrom first past before × Steps p.now p.event before p.answer p.after)
+abbrev pub IsRunFrom : State → List Past → State → Type 0
+IsRunFrom first [] s = s ≡ first
+IsRunFrom first (p ∷ past) s = (s ≡ p.after)
+    × ((before : State) × IsRunFrom first past before × Steps p.now p.event before p.answer p.after)
 
 -- In each run from load of a bay and an image on, while the process is lost, the device has only
 -- the values of a lost process, and a program reads these.
 abbrev pub LostIsBlind : Type 0
 LostIsBlind =
     (bay : Bay) (image : Image) → IsBay bay → (past : List Past) (s : State)
-    → CameFrom (initial_device bay image) past s → is_heard past ≡ false
-    → IsBlind s × ReadsBlind s
+    → IsRunFrom (initial_device bay image) past s → is_heard past ≡ false
+    → IsLostState s × ReadsLost s

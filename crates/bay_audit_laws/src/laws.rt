@@ -1,7 +1,7 @@
 // Laws of a device for a rule that holds of its program, and for a release that is harmless. Each
 // function does nothing; its contract is the law.
 ghost use Rattle.std.specs.Prelude.{ℕ};
-ghost use Rattle.bay_audit.specs.Rules.{IsRule};
+ghost use Rattle.bay_audit.specs.Rules.{RuleHolds};
 ghost use Rattle.bay_audit_hazards.specs.Judged.{IsHarmless};
 ghost use Rattle.bay_audit_laws.specs.Examples.{at_all_times, halting_program};
 ghost use Rattle.bay_audit_laws.specs.Laws.{CommandsAreHarmless, CommandsObey, CommandsWait, ScansAreDue, ScansObey, ScansRelease, ScansWait};
@@ -66,8 +66,8 @@ pub fn a_lost_process_releases_only_what_lost_does()
 /// switch, so the rule holds of it that a switch is never released, and not the rule that a switch
 /// is always released. Each of its releases is harmless in any diagram.
 pub fn a_program_that_releases_nothing()
-    ensures never { IsRule halting_program (at_all_times Never) }
-    ensures always { IsRule halting_program (at_all_times Always) → ⊥ }
+    ensures never { RuleHolds halting_program (at_all_times Never) }
+    ensures always { RuleHolds halting_program (at_all_times Always) → ⊥ }
     ensures harmless { (net : Network) (k : ℕ) (operation : Operation)
         → IsHarmless halting_program net k operation }
 {}

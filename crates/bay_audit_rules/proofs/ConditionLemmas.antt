@@ -8,8 +8,8 @@ use Rattle.bay_audit_rules.specs.declared.token.RuleToken.TheVariants as token
 use Rattle.bay_audit_rules.specs.declared.token.TestValue.{TestValue}
 use Rattle.bay_audit_rules.specs.Facts.{Items, ◌⊕◌, item, negation, value_items}
 use Rattle.bay_audit_rules.specs.Grammar.{value_of}
-use Rattle.bay_audit_rules.specs.Running.{more_at, values_at, State, finish, Phase, passes, over, Found, token_step, found_after_tokens}
-use Rattle.bay_audit_rules.specs.Turns.{TookIf, phase_of, Goes}
+use Rattle.bay_audit_rules.specs.Running.{more_at, values_at, State, finish, Phase, skips, over, ReadCondition, token_step, found_after_tokens}
+use Rattle.bay_audit_rules.specs.Advances.{ConsumedIf, phase_of, IsAdvance}
 
 -- ---- items one after another
 
@@ -51,7 +51,7 @@ pub values-step : (named : NamedObject) (negated : Bool) (old new : Items)
     → value_of t ≡ Some value
     → new ≡ ((old ⊕ value_items named value) ⊕ (more_at named others).0) ⊕ negation negated
     → left.now ≡ drop (more_at named others).1 others
-    → TookIf (values_at named negated ts) old new ts (Some left)
+    → ConsumedIf (values_at named negated ts) old new ts (Some left)
 values-step named negated old new ts others left t value p is e f =
     rw (p, is) (record {
       items = e ∙ plus-four old (value_items named value) (more_at named others).0
@@ -61,13 +61,13 @@ values-step named negated old new ts others left t value p is e f =
 
 -- ---- tokens that are passed
 
-pub run-over : (found : Found) (s : State) (ts : List RuleToken)
+pub run-over : (found : ReadCondition) (s : State) (ts : List RuleToken)
     → found_after_tokens (over found) s ts ≡ found
 run-over found s [] = refl
 run-over found s (t ∷ ts) = run-over found s ts
 
 pub run-passes : (k : ℕ) (s : State) (ts : List RuleToken)
-    → found_after_tokens (passes k) s ts ≡ found_after_tokens (passes 0) s (drop k ts)
+    → found_after_tokens (skips k) s ts ≡ found_after_tokens (skips 0) s (drop k ts)
 run-passes zero s ts = refl
 run-passes (suc k) s [] = refl
 run-passes (suc k) s (t ∷ ts) = run-passes k s ts
@@ -76,7 +76,7 @@ run-passes (suc k) s (t ∷ ts) = run-passes k s ts
 
 pub turn-on : (phase : Phase) (expects : Bool) (s new : State) (t : RuleToken)
     (all ts : List RuleToken) (left : Bor (List RuleToken)) → all ≡ t ∷ ts
-    → Goes (On expects left) new t ts (token_step phase s t ts)
+    → IsAdvance (On expects left) new t ts (token_step phase s t ts)
     → found_after_tokens phase s all ≡ found_after_tokens (phase_of expects) new left.now
 turn-on phase true s new t all ts left p goes = rw (p, goes.0, goes.1) refl
 turn-on phase false s new t all ts left p goes =
@@ -84,11 +84,11 @@ turn-on phase false s new t all ts left p goes =
 
 pub turn-stop : (phase : Phase) (s new : State) (t : RuleToken) (all ts : List RuleToken)
     → all ≡ t ∷ ts
-    → Goes Stop new t ts (token_step phase s t ts) → found_after_tokens phase s all ≡ finish new all
+    → IsAdvance Stop new t ts (token_step phase s t ts) → found_after_tokens phase s all ≡ finish new all
 turn-stop phase s new t all ts p goes = rw (p, goes) (run-over (finish new (t ∷ ts)) new ts)
 
 pub turn-refuse : (phase : Phase) (s new : State) (t : RuleToken) (all ts : List RuleToken)
     → all ≡ t ∷ ts
-    → Goes Refuse new t ts (token_step phase s t ts) → found_after_tokens phase s all ≡ None
+    → IsAdvance Refuse new t ts (token_step phase s t ts) → found_after_tokens phase s all ≡ None
 turn-refuse phase s new t all ts p goes =
     rw (p, goes) (run-over None (token_step phase s t ts).1 ts)

@@ -13,12 +13,12 @@ use Rattle.bay_audit_rules.specs.declared.token.TestValue.{TestValue}
 use Rattle.bay_audit_rules.proofs.ConditionLemmas.{plus-assoc, plus-four, none-plus, run-over}
 use Rattle.bay_audit_rules.specs.Facts.{Items, ◌⊕◌, item, negation, value_items}
 use Rattle.bay_audit_rules.specs.Grammar.{value_of, AreValues, IsComparison, IsFact, Level, operand, conjunction, condition, Reads}
-use Rattle.bay_audit_rules.specs.Running.{Taken, more_at, fact_at, values_at, is_at, or_alone, with_one_more_token, State, state, append_operators, append_or, after_fact, close_parenthesis, found_if_complete, finish, expects, passes, found_after_tokens, condition_at}
+use Rattle.bay_audit_rules.specs.Running.{ReadItems, more_at, fact_at, values_at, is_at, or_alone, with_one_more_token, State, state, append_operators, append_or, after_fact, close_parenthesis, found_if_complete, finish, expects, skips, found_after_tokens, condition_at}
 
 -- ---- tokens that are passed
 
 run-passed : (s : State) (ts rest : List RuleToken)
-    → found_after_tokens (passes (length ts)) s (ts ++ rest) ≡ found_after_tokens (passes 0) s rest
+    → found_after_tokens (skips (length ts)) s (ts ++ rest) ≡ found_after_tokens (skips 0) s rest
 run-passed s [] rest = refl
 run-passed s (t ∷ ts) rest = run-passed s ts rest
 
@@ -32,7 +32,7 @@ pub data Ends : List RuleToken → Type 0 where
   at_when : {ts : List RuleToken} → Ends (token.When ∷ ts)
 
 -- what is taken of tokens
-abbrev pub taken : Items → List RuleToken → Taken
+abbrev pub taken : Items → List RuleToken → ReadItems
 taken c ts = (c, length ts)
 
 values-found : (named : NamedObject) (ts : List RuleToken) (c : Items) (rest : List RuleToken)
@@ -128,30 +128,30 @@ pub record IsFound (pending : List Pending) (c : Items) (ts : List RuleToken) (d
     (rest : List RuleToken) : Type 0 where
   pub last : State
   pub goes : found_after_tokens expects (state pending c) (ts ++ rest)
-      ≡ found_after_tokens (passes 0) last rest
+      ≡ found_after_tokens (skips 0) last rest
   pub closes : append_or last ≡ state pending (c ⊕ d)
 
 abbrev pub Finds : Level → List RuleToken → Items → Type 0
 Finds operand ts d = (pending : List Pending) (c : Items) (rest : List RuleToken) → Ends rest
     → found_after_tokens expects (state pending c) (ts ++ rest)
-    ≡ found_after_tokens (passes 0) (append_operators pending (c ⊕ d)) rest
+    ≡ found_after_tokens (skips 0) (append_operators pending (c ⊕ d)) rest
 Finds conjunction ts d =
     (pending : List Pending) (c : Items) (rest : List RuleToken) → IsOpen pending
     → Ends rest
     → found_after_tokens expects (state pending c) (ts ++ rest)
-    ≡ found_after_tokens (passes 0) (state pending (c ⊕ d)) rest
+    ≡ found_after_tokens (skips 0) (state pending (c ⊕ d)) rest
 Finds condition ts d = (pending : List Pending) (c : Items) (rest : List RuleToken) → IsBase pending
     → Ends rest → IsFound pending c ts d rest
 
 pub finds : (level : Level) (ts : List RuleToken) (d : Items) → Reads level ts d → Finds level ts d
 finds level ts d (Reads.fact {named = named} {ts = us} is) = λ pending c rest ends.
-    ap (λ (x : Option Taken). let then =
+    ap (λ (x : Option ReadItems). let then =
     after_fact (state pending c) x in found_after_tokens then.0 then.1 (us ++ rest))
     (fact-found named us d rest is ends)
     ∙ run-passed (append_operators pending (c ⊕ d)) us rest
 finds level ts d (Reads.not {ts = us} {c = e} r) = λ pending c rest ends.
     finds operand us e r (waits.Not ∷ pending) c rest ends
-    ∙ ap (λ x. found_after_tokens (passes 0) (append_operators pending x) rest)
+    ∙ ap (λ x. found_after_tokens (skips 0) (append_operators pending x) rest)
     (plus-assoc c e (item items.Not))
 finds level ts d (Reads.group {ts = us} r) = λ pending c rest ends.
     let found = finds condition us d r (waits.Begin ∷ pending) c (token.Connector End ∷ rest) begun
@@ -163,13 +163,13 @@ finds level ts d (Reads.group {ts = us} r) = λ pending c rest ends.
     found.closes
 finds level ts d (Reads.one r) = λ pending c rest is ends.
     finds operand ts d r pending c rest ends
-    ∙ ap (λ s. found_after_tokens (passes 0) s rest) (open-settled pending (c ⊕ d) is)
+    ∙ ap (λ s. found_after_tokens (skips 0) s rest) (open-settled pending (c ⊕ d) is)
 finds level ts d (Reads.and {ts = us} {us = vs} {c = e} {d = f} r q) = λ pending c rest is ends.
     ap (found_after_tokens expects (state pending c))
     (append_assoc us (token.Connector And ∷ vs) rest)
     ∙ finds conjunction us e r pending c (token.Connector And ∷ (vs ++ rest)) is at_link
     ∙ finds operand vs f q (waits.And ∷ pending) (c ⊕ e) rest ends
-    ∙ ap (λ s. found_after_tokens (passes 0) s rest)
+    ∙ ap (λ s. found_after_tokens (skips 0) s rest)
     (open-settled pending (((c ⊕ e) ⊕ f) ⊕ item items.And) is
     ∙ ap (state pending) (plus-four c e f (item items.And)))
 finds level ts d (Reads.all r) = λ pending c rest is ends.
@@ -204,7 +204,7 @@ stops-ends rest at_for = at_for
 stops-ends rest at_when = at_when
 
 stops-finish : (s : State) (rest : List RuleToken) → Stops rest
-    → found_after_tokens (passes 0) s rest ≡ finish s rest
+    → found_after_tokens (skips 0) s rest ≡ finish s rest
 stops-finish s rest at_end = refl
 stops-finish s rest (at_for {ts = ts}) = run-over (finish s (token.For ∷ ts)) s ts
 stops-finish s rest (at_when {ts = ts}) = run-over (finish s (token.When ∷ ts)) s ts

@@ -14,7 +14,7 @@ use Rattle.bay_audit_rules.specs.declared.rule.Rule.{Rule}
 use Rattle.bay_audit_rules.specs.declared.statement.RuleStatement.{RuleStatement}
 use Rattle.bay_audit_rules.specs.declared.token.NamedObject.{NamedObject}
 use Rattle.bay_audit_rules.specs.declared.token.Measurand.{Measurand}
-use Rattle.bay_audit_rules.specs.declared.token.Measurand.TheVariants as things
+use Rattle.bay_audit_rules.specs.declared.token.Measurand.TheVariants as measurands
 use Rattle.bay_audit_rules.specs.declared.token.RuleToken.{RuleToken}
 use Rattle.bay_audit_rules.specs.declared.token.TestValue.{TestValue}
 use Rattle.bay_audit_rules.specs.declared.token.TestValue.TheVariants.{Position, Truth, Number}
@@ -87,39 +87,39 @@ switch-sound : (switch : Option ℕ) (position : Dbpos)
 switch-sound None position = tt
 switch-sound (Some k) position = λ p stack. refl
 
-input-sound : (thing : Option Measurand) (truth : Bool) → IsSound (input_items thing truth)
-input-sound (Some (things.Input input)) truth =
+input-sound : (measurand : Option Measurand) (truth : Bool) → IsSound (input_items measurand truth)
+input-sound (Some (measurands.Input input)) truth =
     negation-sound (item (items.Input input)) (not truth) (λ p stack. refl)
-input-sound (Some (things.Measure meter field)) truth = tt
+input-sound (Some (measurands.Measure meter field)) truth = tt
 input-sound None truth = tt
 
-measure-sound : (thing : Option Measurand) (relation : Relation) (n : ℤ)
-    → IsSound (measure_items thing relation n)
-measure-sound (Some (things.Measure meter field)) relation n = λ p stack. refl
-measure-sound (Some (things.Input input)) relation n = tt
+measure-sound : (measurand : Option Measurand) (relation : Relation) (n : ℤ)
+    → IsSound (measure_items measurand relation n)
+measure-sound (Some (measurands.Measure meter field)) relation n = λ p stack. refl
+measure-sound (Some (measurands.Input input)) relation n = tt
 measure-sound None relation n = tt
 
-truth-sound : (thing : Option Measurand) (truth : Option Bool)
-    → IsSound (option_and_then (input_items thing) truth)
-truth-sound thing None = tt
-truth-sound thing (Some truth) = input-sound thing truth
+truth-sound : (measurand : Option Measurand) (truth : Option Bool)
+    → IsSound (option_and_then (input_items measurand) truth)
+truth-sound measurand None = tt
+truth-sound measurand (Some truth) = input-sound measurand truth
 
-number-sound : (thing : Option Measurand) (n : ℤ) → IsSound (number_items thing n)
-number-sound (Some (things.Input input)) n = truth-sound (Some (things.Input input)) (truth_of n)
-number-sound (Some (things.Measure meter field)) n =
-    measure-sound (Some (things.Measure meter field)) Equal n
+number-sound : (measurand : Option Measurand) (n : ℤ) → IsSound (number_items measurand n)
+number-sound (Some (measurands.Input input)) n = truth-sound (Some (measurands.Input input)) (truth_of n)
+number-sound (Some (measurands.Measure meter field)) n =
+    measure-sound (Some (measurands.Measure meter field)) Equal n
 number-sound None n = tt
 
 value-sound : (named : NamedObject) (value : TestValue) → IsSound (value_items named value)
 value-sound named (Position position) = switch-sound named.switch position
-value-sound named (Truth truth) = input-sound named.thing truth
-value-sound named (Number (Some n)) = number-sound named.thing n
+value-sound named (Truth truth) = input-sound named.measurand truth
+value-sound named (Number (Some n)) = number-sound named.measurand n
 value-sound named (Number None) = tt
 
 relation-sound : (named : NamedObject) (relation : Relation) (n : Option ℤ)
     → IsSound (relation_items named relation n)
 relation-sound named relation None = tt
-relation-sound named relation (Some n) = measure-sound named.thing relation n
+relation-sound named relation (Some n) = measure-sound named.measurand relation n
 
 values-sound : (named : NamedObject) (ts : List RuleToken) (c a : Items) → IsSound a
     → AreValues named ts c

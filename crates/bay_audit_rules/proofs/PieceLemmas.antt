@@ -2,7 +2,7 @@
 use Rattle.std.proofs.Common.{◌≡◌, ℕ, zero, suc, ◌-◌, ◌<◌, ◌≤◌, Bool, true, false, List, [], ◌∷◌, length, get_or, take, drop, refl, ap, arith}
 use Rattle.std.proofs.lemmas.Grind.{common_steps}
 use Rattle.std.proofs.lemmas.List.{take_all}
-use Rattle.bay_audit_rules.specs.Pieces.{joins, joins_piece, before, pieces}
+use Rattle.bay_audit_rules.specs.Pieces.{joins, joins_piece, prepend, pieces}
 use Rattle.bay_audit_rules.specs.declared.pieces.Cut.{Cut}
 
 -- each of the first so many octets belongs to the one behind it
@@ -12,12 +12,12 @@ AllJoin cut n bs =
 
 -- an octet joins a list of pieces as it joins their first octet
 joins-first : (cut : Cut) (a b : ℕ) (ps : List (List ℕ)) → joins cut a b ≡ false
-    → before cut a (before cut b ps) ≡ (a ∷ []) ∷ before cut b ps
+    → prepend cut a (prepend cut b ps) ≡ (a ∷ []) ∷ prepend cut b ps
 joins-first cut a b [] apart = rw apart refl
 joins-first cut a b (p ∷ ps) apart = by-test (joins_piece cut b p) refl
   where
     by-test : (v : Bool) → joins_piece cut b p ≡ v
-        → before cut a (before cut b (p ∷ ps)) ≡ (a ∷ []) ∷ before cut b (p ∷ ps)
+        → prepend cut a (prepend cut b (p ∷ ps)) ≡ (a ∷ []) ∷ prepend cut b (p ∷ ps)
     by-test true e = rw (e, apart) refl
     by-test false e = rw (e, apart) refl
 

@@ -14,7 +14,7 @@ use Rattle.bay_audit_rules.specs.declared.token.TestValue.{TestValue}
 use Rattle.bay_audit_rules.specs.declared.token.TestValue.TheVariants.{Position, Truth, Number}
 use Rattle.bay_audit_rules.specs.Facts.{Items, ◌⊕◌, item, negation, value_items}
 use Rattle.bay_audit_rules.specs.Grammar.{value_of, AreValues, IsComparison, IsFact, operand, conjunction, condition, Reads}
-use Rattle.bay_audit_rules.specs.Running.{Taken, more_at, values_at, number_at, is_at, or_alone, with_one_more_token, fact_at, State, state, append_operators, append_or, after_fact, close_parenthesis, found_if_complete, finish, operand_at, after_operand, Phase, expects, passes, over, token_step, found_after_tokens, Found, condition_at}
+use Rattle.bay_audit_rules.specs.Running.{ReadItems, more_at, values_at, number_at, is_at, or_alone, with_one_more_token, fact_at, State, state, append_operators, append_or, after_fact, close_parenthesis, found_if_complete, finish, operand_at, after_operand, Phase, expects, skips, over, token_step, found_after_tokens, ReadCondition, condition_at}
 use Rattle.bay_audit_rules.proofs.ConditionLemmas.{plus-assoc, plus-four, none-plus}
 use Rattle.bay_audit_rules.proofs.GrammarLemmas.{IsOpen, IsBase, open-settled}
 
@@ -35,44 +35,44 @@ values-read named (token.Bar ∷ (t ∷ ts)) = by-value (values-read named ts) (
 values-read named (other ∷ ts) = AreValues.none
 
 -- what was taken is a fact
-abbrev pub IsTaken : NamedObject → List RuleToken → List RuleToken → Taken → Type 0
-IsTaken named told ts taken = IsFact named (told ++ take taken.1 ts) taken.0
+abbrev pub IsTaken : NamedObject → List RuleToken → List RuleToken → ReadItems → Type 0
+IsTaken named between ts taken = IsFact named (between ++ take taken.1 ts) taken.0
 
-first-read : (named : NamedObject) (told : List RuleToken) (negated : Bool) (ts : List RuleToken)
-    (taken : Taken)
-    → IsComparison told negated → values_at named negated ts ≡ Some taken
-    → IsTaken named told ts taken
-first-read named told negated [] taken how e = absurd cc
-first-read named told negated (t ∷ ts) taken how e = by-value (value_of t) refl
+first-read : (named : NamedObject) (between : List RuleToken) (negated : Bool) (ts : List RuleToken)
+    (taken : ReadItems)
+    → IsComparison between negated → values_at named negated ts ≡ Some taken
+    → IsTaken named between ts taken
+first-read named between negated [] taken how e = absurd cc
+first-read named between negated (t ∷ ts) taken how e = by-value (value_of t) refl
   where
-    by-value : (v : Option TestValue) → value_of t ≡ v → IsTaken named told (t ∷ ts) taken
+    by-value : (v : Option TestValue) → value_of t ≡ v → IsTaken named between (t ∷ ts) taken
     by-value None f = let none : None ≡ Some taken = rw f at e in absurd cc
     by-value (Some v) f =
         let more = more_at named ts in
         let found : Some (value_items named v ⊕ more.0 ⊕ negation negated, suc more.1) ≡ Some taken
         =
         rw f at e in
-        subst (IsTaken named told (t ∷ ts)) (same_Some _ taken found)
+        subst (IsTaken named between (t ∷ ts)) (same_Some _ taken found)
         (IsFact.valued t how f (values-read named ts))
 
 -- what is taken with a token more
-pub record IsBehind (x : Option Taken) (taken : Taken) : Type 0 where
-  pub first : Taken
+pub record IsBehind (x : Option ReadItems) (taken : ReadItems) : Type 0 where
+  pub first : ReadItems
   pub was : x ≡ Some first
   pub is : (first.0, suc first.1) ≡ taken
 
-behind-some : (x : Option Taken) (taken : Taken) → with_one_more_token x ≡ Some taken
+behind-some : (x : Option ReadItems) (taken : ReadItems) → with_one_more_token x ≡ Some taken
     → IsBehind x taken
 behind-some None taken e = absurd cc
 behind-some (Some y) taken e =
     record { first = y; was = refl; is = same_Some (y.0, suc y.1) taken e }
 
-number-read : (named : NamedObject) (relation : Relation) (ts : List RuleToken) (taken : Taken)
+number-read : (named : NamedObject) (relation : Relation) (ts : List RuleToken) (taken : ReadItems)
     → number_at named relation ts ≡ Some taken
     → IsFact named (take (suc taken.1) (token.Relation relation ∷ ts)) taken.0
 number-read named relation [] taken e = absurd cc
 number-read named relation (token.TestValue (Number n) ∷ ts) taken e =
-    subst (λ (k : Taken). IsFact named (take (suc k.1)
+    subst (λ (k : ReadItems). IsFact named (take (suc k.1)
     (token.Relation relation ∷ (token.TestValue (Number n) ∷ ts))) k.0)
     (same_Some _ taken e) IsFact.related
 number-read named relation (token.TestValue (Position p) ∷ ts) taken e = absurd cc
@@ -80,34 +80,34 @@ number-read named relation (token.TestValue (Truth b) ∷ ts) taken e = absurd c
 number-read named relation (other ∷ ts) taken e = absurd cc
 
 -- a fact behind one token
-one-behind : (named : NamedObject) (t : RuleToken) (ts : List RuleToken) (x : Option Taken)
-    (taken : Taken)
+one-behind : (named : NamedObject) (t : RuleToken) (ts : List RuleToken) (x : Option ReadItems)
+    (taken : ReadItems)
     → with_one_more_token x ≡ Some taken
-    → ((y : Taken) → x ≡ Some y → IsFact named (take (suc y.1) (t ∷ ts)) y.0)
+    → ((y : ReadItems) → x ≡ Some y → IsFact named (take (suc y.1) (t ∷ ts)) y.0)
     → IsFact named (take taken.1 (t ∷ ts)) taken.0
 one-behind named t ts x taken e read =
     let at = behind-some x taken e in
-    subst (λ (k : Taken). IsFact named (take k.1 (t ∷ ts)) k.0) at.is (read at.first at.was)
+    subst (λ (k : ReadItems). IsFact named (take k.1 (t ∷ ts)) k.0) at.is (read at.first at.was)
 
-is-read : (named : NamedObject) (ts : List RuleToken) (taken : Taken) → is_at named ts ≡ Some taken
+is-read : (named : NamedObject) (ts : List RuleToken) (taken : ReadItems) → is_at named ts ≡ Some taken
     → IsFact named (take (suc taken.1) (token.Is ∷ ts)) taken.0
 is-read named [] taken e = absurd cc
 is-read named (token.Not ∷ ts) taken e =
     let at = behind-some (values_at named true ts) taken e in
-    subst (λ (k : Taken). IsFact named (take (suc k.1) (token.Is ∷ (token.Not ∷ ts))) k.0) at.is
+    subst (λ (k : ReadItems). IsFact named (take (suc k.1) (token.Is ∷ (token.Not ∷ ts))) k.0) at.is
     (first-read named (token.Is ∷ (token.Not ∷ [])) true ts at.first IsComparison.is_not at.was)
 is-read named (other ∷ ts) taken e =
     first-read named (token.Is ∷ []) false (other ∷ ts) taken IsComparison.is e
 
-alone-read : (named : NamedObject) (ts : List RuleToken) (x : Option Taken) (taken : Taken)
+alone-read : (named : NamedObject) (ts : List RuleToken) (x : Option ReadItems) (taken : ReadItems)
     → values_at named false ts ≡ x → or_alone named x ≡ Some taken
     → IsFact named (take taken.1 ts) taken.0
 alone-read named ts None taken e f =
-    subst (λ (k : Taken). IsFact named (take k.1 ts) k.0) (same_Some _ taken f) IsFact.alone
+    subst (λ (k : ReadItems). IsFact named (take k.1 ts) k.0) (same_Some _ taken f) IsFact.alone
 alone-read named ts (Some y) taken e f =
     first-read named [] false ts taken IsComparison.plain (e ∙ f)
 
-pub fact-read : (named : NamedObject) (ts : List RuleToken) (taken : Taken)
+pub fact-read : (named : NamedObject) (ts : List RuleToken) (taken : ReadItems)
     → fact_at named ts ≡ Some taken
     → IsFact named (take taken.1 ts) taken.0
 fact-read named (token.Relation relation ∷ ts) taken e =
@@ -309,7 +309,7 @@ finish-read s ts rest d left at e =
 -- what is known of the tokens so far, and of those to come
 abbrev pub Follows : Phase → State → List RuleToken → List RuleToken → Type 0
 Follows expects s us ts = Waits s.pending s.items us
-Follows (passes k) s us ts = StandsAt s (us ++ take k ts)
+Follows (skips k) s us ts = StandsAt s (us ++ take k ts)
 Follows (over found) s us ts =
     (d : Items) (left : List RuleToken) → found ≡ Some (d, left) → IsRead (us ++ ts) d left
 
@@ -318,14 +318,14 @@ abbrev pub FollowsAt : Phase × State → List RuleToken → List RuleToken → 
 FollowsAt then us ts = Follows then.0 then.1 us ts
 
 nowhere : (us ts : List RuleToken) (d : Items) (left : List RuleToken)
-    → ◌≡◌ {A = Found} None (Some (
+    → ◌≡◌ {A = ReadCondition} None (Some (
       d,
       left,
     ))
     → IsRead (us ++ ts) d left
 nowhere us ts d left e = absurd cc
 
-took-follows : (s : State) (named : NamedObject) (us ts : List RuleToken) (x : Option Taken)
+took-follows : (s : State) (named : NamedObject) (us ts : List RuleToken) (x : Option ReadItems)
     → fact_at named ts ≡ x → Waits s.pending s.items us
     → FollowsAt (after_fact s x) (us ++ (token.Name named ∷ [])) ts
 took-follows s named us ts None e w = nowhere (us ++ (token.Name named ∷ [])) ts
@@ -395,8 +395,8 @@ behind-follows s other us ts at = λ d left e.
 next-follows : (phase : Phase) (s : State) (t : RuleToken) (us ts : List RuleToken)
     → Follows phase s us (t ∷ ts) → FollowsAt (token_step phase s t ts) (us ++ (t ∷ [])) ts
 next-follows expects s t us ts at = operand-follows s t us ts at
-next-follows (passes zero) s t us ts at = behind-follows s t us ts (rw append-nil at at)
-next-follows (passes (suc k)) s t us ts at = rw (append_assoc us (t ∷ []) (take k ts)) at
+next-follows (skips zero) s t us ts at = behind-follows s t us ts (rw append-nil at at)
+next-follows (skips (suc k)) s t us ts at = rw (append_assoc us (t ∷ []) (take k ts)) at
 next-follows (over found) s t us ts at = λ d left e.
     rw (append_assoc us (t ∷ []) ts) (at d left e)
 
@@ -404,8 +404,8 @@ run-read : (ts : List RuleToken) (phase : Phase) (s : State) (us : List RuleToke
     (left : List RuleToken) → Follows phase s us ts → found_after_tokens phase s ts ≡ Some (d, left)
     → IsRead (us ++ ts) d left
 run-read [] expects s us d left at e = absurd cc
-run-read [] (passes zero) s us d left at e = finish-read s us [] d left (rw append-nil at at) e
-run-read [] (passes (suc k)) s us d left at e = finish-read s us [] d left (rw append-nil at at) e
+run-read [] (skips zero) s us d left at e = finish-read s us [] d left (rw append-nil at at) e
+run-read [] (skips (suc k)) s us d left at e = finish-read s us [] d left (rw append-nil at at) e
 run-read [] (over found) s us d left at e = at d left e
 run-read (t ∷ ts) phase s us d left at e =
     let then = token_step phase s t ts in

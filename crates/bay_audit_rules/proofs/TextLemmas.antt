@@ -16,20 +16,20 @@ use Rattle.bay_audit_rules.specs.Facts.{Items, ◌⊕◌}
 use Rattle.bay_audit_rules.specs.Grammar.{Spells}
 use Rattle.bay_audit_rules.specs.Meaning.{AllRead, TextRead, prepend_rules, line_tokens, TokensRead, LinesRead, LineRead}
 use Rattle.bay_audit_rules.specs.Reading.{Pushes, AppendsRules}
-use Rattle.bay_audit_rules.specs.Running.{Taken, fact_at}
+use Rattle.bay_audit_rules.specs.Running.{ReadItems, fact_at}
 use Rattle.bay_audit_rules.specs.TokenParsing.{only_items, looks_at, statement_at}
-use Rattle.bay_audit_rules.specs.Turns.{TookIf}
+use Rattle.bay_audit_rules.specs.Advances.{ConsumedIf}
 use Rattle.bay_audit_rules.proofs.ConditionLemmas.{none-plus}
 use Rattle.bay_audit_rules.proofs.TokenParsingLemmas.{says-found}
 
 -- values that are to be looked at, in an empty draft
 looks-took : (named : NamedObject) (ts : List RuleToken) (old new : Items)
     (rest : Bor (List RuleToken))
-    → old ≡ Some [] → TookIf (fact_at named ts) old new ts (Some rest)
+    → old ≡ Some [] → ConsumedIf (fact_at named ts) old new ts (Some rest)
     → looks_at named ts ≡ option_map Looks (only_items new rest.now)
 looks-took named ts old new rest empty took = by-taken (fact_at named ts) took
   where
-    by-taken : (x : Option Taken) → TookIf x old new ts (Some rest)
+    by-taken : (x : Option ReadItems) → ConsumedIf x old new ts (Some rest)
         → option_map Looks (x >>= λ taken. only_items taken.0 (drop taken.1 ts))
         ≡ option_map Looks (only_items new rest.now)
     by-taken None t = absurd t
@@ -47,7 +47,7 @@ alone-more c (t ∷ ts) e = refl
 
 pub looks-some : (named : NamedObject) (ts : List RuleToken) (old new : Items)
     (x : Option (Bor (List RuleToken)))
-    (rest : Bor (List RuleToken)) → old ≡ Some [] → TookIf (fact_at named ts) old new ts x
+    (rest : Bor (List RuleToken)) → old ≡ Some [] → ConsumedIf (fact_at named ts) old new ts x
     → x ≡ Some rest → (length rest.now == 0) ≡ true → looks_at named ts ≡ Some (Looks new)
 looks-some named ts old new x rest empty took is e =
     looks-took named ts old new rest empty (rw is at took)
@@ -55,7 +55,7 @@ looks-some named ts old new x rest empty took is e =
 
 pub looks-none : (named : NamedObject) (ts : List RuleToken) (old new : Items)
     (x : Option (Bor (List RuleToken)))
-    (rest : Bor (List RuleToken)) → old ≡ Some [] → TookIf (fact_at named ts) old new ts x
+    (rest : Bor (List RuleToken)) → old ≡ Some [] → ConsumedIf (fact_at named ts) old new ts x
     → x ≡ Some rest → (length rest.now == 0) ≡ false → looks_at named ts ≡ None
 looks-none named ts old new x rest empty took is e =
     looks-took named ts old new rest empty (rw is at took)

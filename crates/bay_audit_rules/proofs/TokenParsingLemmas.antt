@@ -16,7 +16,7 @@ use Rattle.bay_audit_rules.specs.declared.token.RuleToken.{RuleToken}
 use Rattle.bay_audit_rules.specs.declared.token.RuleToken.TheVariants as token
 use Rattle.bay_audit_rules.specs.Facts.{Items}
 use Rattle.bay_audit_rules.specs.Grammar.{IsFact, condition, Reads, direction_tokens, IsTimed, IsWhen, Spells}
-use Rattle.bay_audit_rules.specs.Running.{Taken, fact_at, condition_at}
+use Rattle.bay_audit_rules.specs.Running.{ReadItems, fact_at, condition_at}
 use Rattle.bay_audit_rules.specs.TokenParsing.{directions_at, directions_after_open, directions_after_close, time_after_condition, held_condition_at, same_kind, timed_at, only_items, when_at, looks_at, rule_at, statement_at}
 use Rattle.bay_audit_rules.proofs.GrammarLemmas.{Ends, Stops, fact-found, condition-found}
 use Rattle.bay_audit_rules.proofs.ReadLemmas.{fact-read, condition-read}
@@ -29,16 +29,16 @@ data AfterWays : List RuleToken → Type 0 where
   at_since : {kind : RuleKind} {ts : List RuleToken} → AfterWays (token.Since kind ∷ ts)
   at_when : {ts : List RuleToken} → AfterWays (token.When ∷ ts)
 
-ways-found : (ways : Directions) (rest : List RuleToken) → AfterWays rest
-    → directions_at (direction_tokens ways ++ rest) ≡ Some (ways, rest)
+ways-found : (directions : Directions) (rest : List RuleToken) → AfterWays rest
+    → directions_at (direction_tokens directions ++ rest) ≡ Some (directions, rest)
 ways-found Opening rest at_end = refl
-ways-found Opening rest at_since = refl
-ways-found Opening rest at_when = refl
-ways-found Closing rest at_end = refl
-ways-found Closing rest at_since = refl
-ways-found Closing rest at_when = refl
-ways-found OpeningAndClosing rest after = refl
-ways-found ClosingAndOpening rest after = refl
+directions-found Opening rest at_since = refl
+directions-found Opening rest at_when = refl
+directions-found Closing rest at_end = refl
+directions-found Closing rest at_since = refl
+directions-found Closing rest at_when = refl
+directions-found OpeningAndClosing rest after = refl
+directions-found ClosingAndOpening rest after = refl
 
 same-kind : (kind : RuleKind) → same_kind kind kind ≡ true
 same-kind Never = refl
@@ -80,10 +80,10 @@ says-found ts s Spells.silence = refl
 says-found ts s (Spells.look {named = named} {ts = us} {c = c} is) =
     let found : fact_at named us ≡ Some (c, length us) =
     rw append-nil at (fact-found named us c [] is Ends.at_end) in rw (found, drop-all us) refl
-says-found ts s (Spells.rule {kind = kind} {named = named} ways {us = us} {vs = vs} {timed = timed}
+says-found ts s (Spells.rule {kind = kind} {named = named} directions {us = us} {vs = vs} {timed = timed}
     {c = c} q r) =
     rw (
-      ways-found ways (us ++ vs) (after-ways kind us vs timed c q r),
+      ways-found directions (us ++ vs) (after-ways kind us vs timed c q r),
       timed-found kind us vs timed c q r,
       when-found vs c r,
     ) refl
@@ -131,7 +131,7 @@ close-read (other ∷ ts) = refl
 
 ways-read : (ts : List RuleToken) (x : Directions × List RuleToken) → directions_at ts ≡ Some x
     → ts ≡ direction_tokens x.0 ++ x.1
-ways-read (token.Open ∷ ts) x e =
+directions-read (token.Open ∷ ts) x e =
     open-read ts ∙ ap (λ (y : Directions × List RuleToken). direction_tokens y.0 ++ y.1)
     (same_Some (directions_after_open ts)
     x e)
@@ -140,7 +140,7 @@ ways-read (token.Close ∷ ts) x e =
     (same_Some (directions_after_close
     ts) x e)
 ways-read [] x e = absurd cc
-ways-read (other ∷ ts) x e = absurd cc
+directions-read (other ∷ ts) x e = absurd cc
 
 behind-read : (c : Items) (ts : List RuleToken) (x : HeldCondition × List RuleToken)
     → time_after_condition c ts ≡ Some x
@@ -244,9 +244,9 @@ looks-read : (named : NamedObject) (ts : List RuleToken) (s : RuleStatement)
     → looks_at named ts ≡ Some s
     → Spells (token.Look ∷ (token.Name named ∷ ts)) s
 looks-read named ts s e =
-    let x = fact_at named ts >>= λ (taken : Taken). only_items taken.0 (drop taken.1 ts) in
+    let x = fact_at named ts >>= λ (taken : ReadItems). only_items taken.0 (drop taken.1 ts) in
     let looks = mapped-some x Looks s e in
-    let at = then-some (fact_at named ts) (λ (taken : Taken). only_items taken.0 (drop taken.1 ts))
+    let at = then-some (fact_at named ts) (λ (taken : ReadItems). only_items taken.0 (drop taken.1 ts))
     looks.found looks.was in
     let whole = alone-is at.found.0 (drop at.found.1 ts) looks.found at.is in
     let is : IsFact named ts at.found.0 =
@@ -256,32 +256,32 @@ looks-read named ts s e =
     (Spells.look is)
 
 rule-says : (kind : RuleKind) (named : NamedObject) (ts : List RuleToken) (s : RuleStatement)
-    (ways : Directions)
+    (directions : Directions)
     (timed : Option HeldCondition) (when : Items) (us vs : List RuleToken)
-    → ts ≡ direction_tokens ways ++ (us ++ vs)
+    → ts ≡ direction_tokens directions ++ (us ++ vs)
     → IsTimed kind us timed → IsWhen vs when
-    → Rule (record { kind = kind; named = named; ways = ways; timed = timed; when = when }) ≡ s
+    → Rule (record { kind = kind; named = named; directions = directions; timed = timed; when = when }) ≡ s
     → Spells (token.Kind kind ∷ (token.Name named ∷ ts)) s
-rule-says kind named ts s ways timed when us vs p q r e =
+rule-says kind named ts s directions timed when us vs p q r e =
     rw p (subst
-    (Spells (token.Kind kind ∷ (token.Name named ∷ (direction_tokens ways ++ (us ++ vs))))) e
-    (Spells.rule ways q r))
+    (Spells (token.Kind kind ∷ (token.Name named ∷ (direction_tokens directions ++ (us ++ vs))))) e
+    (Spells.rule directions q r))
 
 rule-read : (kind : RuleKind) (named : NamedObject) (ts : List RuleToken) (s : RuleStatement)
     → rule_at kind named ts ≡ Some s → Spells (token.Kind kind ∷ (token.Name named ∷ ts)) s
 rule-read kind named ts s e =
     let said =
-    λ (ways : Directions × List RuleToken) (timed : Option HeldCondition × List RuleToken)
+    λ (directions : Directions × List RuleToken) (timed : Option HeldCondition × List RuleToken)
     (when : Items).
     Rule (record {
       kind = kind;
       named = named;
-      ways = ways.0;
+      directions = directions.0;
       timed = timed.0;
       when = when;
     }) in
-    let w = then-some (directions_at ts) (λ (ways : Directions × List RuleToken).
-    timed_at kind ways.1 >>= λ timed. option_map (said ways timed) (when_at timed.1)) s e in
+    let w = then-some (directions_at ts) (λ (directions : Directions × List RuleToken).
+    timed_at kind directions.1 >>= λ timed. option_map (said directions timed) (when_at timed.1)) s e in
     let t = then-some (timed_at kind w.found.1) (λ (timed : Option HeldCondition × List RuleToken).
     option_map (said w.found timed) (when_at timed.1)) s w.is in
     let m = mapped-some (when_at t.found.1) (said w.found t.found) s t.is in

@@ -7,7 +7,7 @@ use Rattle.bay_audit_rules.specs.declared.rule.Relation.{Relation}
 use Rattle.bay_audit_rules.specs.declared.rule.RuleKind.{RuleKind}
 use Rattle.bay_audit_rules.specs.declared.statement.HeldCondition.{HeldCondition}
 use Rattle.bay_audit_rules.specs.declared.statement.RuleStatement.{RuleStatement}
-use Rattle.bay_audit_rules.specs.declared.statement.RuleStatement.TheVariants.{Silence, Looks, Rule}
+use Rattle.bay_audit_rules.specs.declared.statement.RuleStatement.TheVariants.{Blank, Looks, Rule}
 use Rattle.bay_audit_rules.specs.declared.statement.Directions.{Directions}
 use Rattle.bay_audit_rules.specs.declared.statement.Directions.TheVariants.{Opening, Closing, OpeningAndClosing, ClosingAndOpening}
 use Rattle.bay_audit_rules.specs.declared.token.Connector.TheVariants.{And, Or, End}
@@ -42,11 +42,11 @@ pub data IsComparison : List RuleToken → Bool → Type 0 where
 -- relation and a number
 pub data IsFact : NamedObject → List RuleToken → Items → Type 0 where
   alone : {named : NamedObject} → IsFact named [] (value_items named (Truth true))
-  valued : {named : NamedObject} {told : List RuleToken} {negated : Bool} (t : RuleToken)
+  valued : {named : NamedObject} {between : List RuleToken} {negated : Bool} (t : RuleToken)
       {value : TestValue}
-      {ts : List RuleToken} {c : Items} → IsComparison told negated → value_of t ≡ Some value
+      {ts : List RuleToken} {c : Items} → IsComparison between negated → value_of t ≡ Some value
       → AreValues named ts c
-      → IsFact named (told ++ (t ∷ ts)) (value_items named value ⊕ c ⊕ negation negated)
+      → IsFact named (between ++ (t ∷ ts)) (value_items named value ⊕ c ⊕ negation negated)
   related : {named : NamedObject} {relation : Relation} {n : Option ℤ}
       → IsFact named (token.Relation relation ∷ token.TestValue (Number n) ∷ [])
       (relation_items named relation n)
@@ -93,10 +93,10 @@ pub data IsWhen : List RuleToken → Items → Type 0 where
 
 -- the statement that the tokens of a line spell: nothing, the values of `look`, or a rule
 pub data Spells : List RuleToken → RuleStatement → Type 0 where
-  silence : Spells [] Silence
+  blank : Spells [] Blank
   look : {named : NamedObject} {ts : List RuleToken} {c : Items} → IsFact named ts c
       → Spells (token.Look ∷ token.Name named ∷ ts) (Looks c)
-  rule : {kind : RuleKind} {named : NamedObject} (ways : Directions) {us vs : List RuleToken}
+  rule : {kind : RuleKind} {named : NamedObject} (directions : Directions) {us vs : List RuleToken}
       {timed : Option HeldCondition} {c : Items} → IsTimed kind us timed → IsWhen vs c
-      → Spells (token.Kind kind ∷ token.Name named ∷ (direction_tokens ways ++ (us ++ vs)))
-      (Rule (record { kind = kind; named = named; ways = ways; timed = timed; when = c }))
+      → Spells (token.Kind kind ∷ token.Name named ∷ (direction_tokens directions ++ (us ++ vs)))
+      (Rule (record { kind = kind; named = named; directions = directions; timed = timed; when = c }))

@@ -22,5 +22,5 @@ pub mod Process
 pub mod Reading
 pub mod Running
 pub mod TokenParsing
-pub mod Turns
+pub mod Advances
 pub mod Words

@@ -51,7 +51,7 @@ line_tokens bay line = tokens_of bay (pieces Line (before_first is_comment line)
 
 -- a name of nothing in the bay
 abbrev pub is_nothing : NamedObject → Bool
-is_nothing named = is_none named.switch && is_none named.thing
+is_nothing named = is_none named.switch && is_none named.measurand
 
 -- whether a token is a name of nothing in the bay
 abbrev pub is_unknown : RuleToken → Bool
@@ -82,16 +82,16 @@ timing_of (Some since) = since.condition >>= λ c. option_map
 -- the rule of a line, for opening; none if the name is no switch, if another name has a value that
 -- it can't have, or if no timer can have the time
 abbrev pub template_of : ℕ → RuleLine → Option Rule
-template_of line said =
-    said.named.switch >>= λ switch. timing_of said.timed >>= λ timed. option_map
+template_of line rule_line =
+    rule_line.named.switch >>= λ switch. timing_of rule_line.timed >>= λ timed. option_map
     (λ when. record {
       line = line;
-      kind = said.kind;
+      kind = rule_line.kind;
       switch = switch;
       operation = operations.Open;
       when = when;
       timed = timed;
-    }) said.when
+    }) rule_line.when
 
 -- the rule for another operation
 abbrev pub rule_of : Rule → Operation → Rule
@@ -107,10 +107,10 @@ rule_of rule operation =
 
 -- the rules of a statement, one for each operation
 abbrev pub rules_of : ℕ → RuleStatement → Option (List Rule)
-rules_of line statement.Silence = Some []
+rules_of line statement.Blank = Some []
 rules_of line (statement.Looks c) = option_map (λ is. []) c
-rules_of line (statement.Rule said) =
-    option_map (λ rule. map (rule_of rule) (operations_of said.ways)) (template_of line said)
+rules_of line (statement.Rule rule_line) =
+    option_map (λ rule. map (rule_of rule) (operations_of rule_line.directions)) (template_of line rule_line)
 
 -- the rules that the tokens of a line spell, or the least fault
 pub data TokensRead (line : ℕ) (ts : List RuleToken) : Result (List Rule) RuleFault → Type 0 where

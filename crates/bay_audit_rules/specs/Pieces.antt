@@ -31,11 +31,11 @@ joins_piece cut a [] = false
 joins_piece cut a (b ∷ bs) = joins cut a b
 
 -- the pieces with an octet before them, which joins the first piece if both belong together
-abbrev pub before : Cut → ℕ → List (List ℕ) → List (List ℕ)
-before cut a [] = (a ∷ []) ∷ []
-before cut a (p ∷ ps) = if joins_piece cut a p then (a ∷ p) ∷ ps else (a ∷ []) ∷ p ∷ ps
+abbrev pub prepend : Cut → ℕ → List (List ℕ) → List (List ℕ)
+prepend cut a [] = (a ∷ []) ∷ []
+prepend cut a (p ∷ ps) = if joins_piece cut a p then (a ∷ p) ∷ ps else (a ∷ []) ∷ p ∷ ps
 
 -- the pieces of a list of octets
 abbrev pub pieces : Cut → List ℕ → List (List ℕ)
 pieces cut [] = []
-pieces cut (b ∷ bs) = before cut b (pieces cut bs)
+pieces cut (b ∷ bs) = prepend cut b (pieces cut bs)

@@ -7,7 +7,7 @@ use Rattle.bay_audit_rules.specs.declared.rule.RuleKind.{RuleKind}
 use Rattle.bay_audit_rules.specs.declared.rule.RuleKind.TheVariants.{Never, Always}
 use Rattle.bay_audit_rules.specs.declared.statement.HeldCondition.{HeldCondition}
 use Rattle.bay_audit_rules.specs.declared.statement.RuleStatement.{RuleStatement}
-use Rattle.bay_audit_rules.specs.declared.statement.RuleStatement.TheVariants.{Silence, Looks, Rule}
+use Rattle.bay_audit_rules.specs.declared.statement.RuleStatement.TheVariants.{Blank, Looks, Rule}
 use Rattle.bay_audit_rules.specs.declared.statement.Directions.{Directions}
 use Rattle.bay_audit_rules.specs.declared.statement.Directions.TheVariants.{Opening, Closing, OpeningAndClosing, ClosingAndOpening}
 use Rattle.bay_audit_rules.specs.declared.token.NamedObject.{NamedObject}
@@ -75,11 +75,11 @@ looks_at named ts =
 -- a rule
 abbrev pub rule_at : RuleKind → NamedObject → List RuleToken → Option RuleStatement
 rule_at kind named ts =
-    directions_at ts >>= λ ways. timed_at kind ways.1 >>= λ timed. option_map
+    directions_at ts >>= λ directions. timed_at kind directions.1 >>= λ timed. option_map
     (λ when. Rule (record {
       kind = kind;
       named = named;
-      ways = ways.0;
+      directions = directions.0;
       timed = timed.0;
       when = when;
     })) (when_at timed.1)
@@ -96,7 +96,7 @@ kind_at kind ts = None
 
 -- the statement that the tokens of a line spell
 abbrev pub statement_at : List RuleToken → Option RuleStatement
-statement_at [] = Some Silence
+statement_at [] = Some Blank
 statement_at (token.Look ∷ ts) = look_at ts
 statement_at (token.Kind kind ∷ ts) = kind_at kind ts
 statement_at ts = None

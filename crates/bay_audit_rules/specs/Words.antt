@@ -13,7 +13,7 @@ use Rattle.bay_audit_rules.specs.declared.rule.RuleKind.TheVariants.{Never, Alwa
 use Rattle.bay_audit_rules.specs.declared.token.Connector.TheVariants.{And, Or, End}
 use Rattle.bay_audit_rules.specs.declared.token.NamedObject.{NamedObject}
 use Rattle.bay_audit_rules.specs.declared.token.Measurand.{Measurand}
-use Rattle.bay_audit_rules.specs.declared.token.Measurand.TheVariants as things
+use Rattle.bay_audit_rules.specs.declared.token.Measurand.TheVariants as measurands
 use Rattle.bay_audit_rules.specs.declared.token.RuleToken.{RuleToken}
 use Rattle.bay_audit_rules.specs.declared.token.RuleToken.TheVariants as token
 use Rattle.bay_audit_rules.specs.declared.token.TestValue.TheVariants.{Position, Truth, Number}
@@ -57,10 +57,10 @@ unfoldable pub reserved_token : List ℕ → Option RuleToken
 reserved_token piece = option_map (λ entry. entry.1) (find (λ entry. same_name piece entry.0) words)
 
 -- the input or the measured value of a source; a name denotes no point of a switch
-abbrev pub thing_of : Source → Option Measurand
-thing_of (sources.Switch switch point) = None
-thing_of (sources.Input input) = Some (things.Input input)
-thing_of (sources.Meter meter field) = Some (things.Measure meter field)
+abbrev pub measurand_of : Source → Option Measurand
+measurand_of (sources.Switch switch point) = None
+measurand_of (sources.Input input) = Some (measurands.Input input)
+measurand_of (sources.Meter meter field) = Some (measurands.Measure meter field)
 
 -- the objects that a name denotes in a bay: the switch with this id, and the input or the measured
 -- value of the point with this name
@@ -68,7 +68,7 @@ abbrev pub named_in : Bay → List ℕ → NamedObject
 named_in bay name =
     record {
       switch = position (λ (s : Switch). same_name name s.id) bay.switches;
-      thing = option_and_then (λ p. thing_of p.source)
+      measurand = option_and_then (λ p. measurand_of p.source)
           (find (λ p. same_name name p.name) bay.points);
     }
 
@@ -82,20 +82,20 @@ name_of bay piece =
     if is_name piece then Some (token.Name (named_in bay piece)) else None
 
 -- the token of a time, if the piece is one; else that of a name
-abbrev pub other_of : Bay → List ℕ → Option (Option ℕ) → Option RuleToken
-other_of bay piece (Some time) = Some (token.Time time)
-other_of bay piece None = name_of bay piece
+abbrev pub time_or_name : Bay → List ℕ → Option (Option ℕ) → Option RuleToken
+time_or_name bay piece (Some time) = Some (token.Time time)
+time_or_name bay piece None = name_of bay piece
 
 -- the token of a number, if the piece is one; else that of a time or a name
-abbrev pub literal_of : Bay → List ℕ → Option (Option ℤ) → Option RuleToken
-literal_of bay piece (Some n) = Some (token.TestValue (Number n))
-literal_of bay piece None = other_of bay piece (time_in piece)
+abbrev pub number_or_time : Bay → List ℕ → Option (Option ℤ) → Option RuleToken
+number_or_time bay piece (Some n) = Some (token.TestValue (Number n))
+number_or_time bay piece None = time_or_name bay piece (time_in piece)
 
 -- the token of a word or a sign, if the piece is one; else that of a number, a time or a name
-abbrev pub known_of : Bay → List ℕ → Option RuleToken → Option RuleToken
-known_of bay piece (Some t) = Some t
-known_of bay piece None = literal_of bay piece (number_in piece)
+abbrev pub word_or_number : Bay → List ℕ → Option RuleToken → Option RuleToken
+word_or_number bay piece (Some t) = Some t
+word_or_number bay piece None = number_or_time bay piece (number_in piece)
 
 -- the token that a piece spells: a word or a sign, a number, a time or a name
 abbrev pub token_of : Bay → List ℕ → Option RuleToken
-token_of bay piece = known_of bay piece (reserved_token piece)
+token_of bay piece = word_or_number bay piece (reserved_token piece)

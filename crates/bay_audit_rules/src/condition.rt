@@ -4,7 +4,7 @@ ghost use Rattle.bay_audit_rules.specs.Grammar as grammar;
 ghost use Rattle.bay_audit_rules.specs.Running.{close_parenthesis as ends, more_at, or_alone, values_at, is_at, number_at, fact_at, state, append_operators, append_or, token_step, finish, condition_at};
 ghost use Rattle.bay_audit_rules.specs.declared.token.Connector.TheVariants.{End};
 ghost use Rattle.bay_audit_rules.specs.declared.token.RuleToken.TheVariants as token;
-ghost use Rattle.bay_audit_rules.specs.Turns.{Took, TookIf, phase_of, Goes, FoundIf};
+ghost use Rattle.bay_audit_rules.specs.Advances.{Consumed, ConsumedIf, phase_of, IsAdvance, IsReadCondition};
 
 use crate::draft::{ConditionDraft, Pending, PendingStack};
 use crate::rule::{ConditionItem, Relation};
@@ -38,12 +38,12 @@ fn value_of(token: RuleToken) -> Option<TestValue>
 }
 
 // Reads the further values at the start of the tokens, and returns the rest.
-fn more<'a>(
+fn read_more_values<'a>(
     draft: &mut ConditionDraft,
     named: NamedObject,
     tokens: &'a [RuleToken],
 ) -> Result<&'a [RuleToken], AllocError>
-    ensures { IfOk result (λ rest. Took (more_at named tokens.entry.now) draft.old draft.new
+    ensures { IfOk result (λ rest. Consumed (more_at named tokens.entry.now) draft.old draft.new
         tokens.entry.now rest.now) }
 {
     let mut rest = tokens;
@@ -61,13 +61,13 @@ fn more<'a>(
 }
 
 // Reads the values at the start of the tokens, and returns the rest; `None` if there is no value.
-fn values<'a>(
+fn read_values<'a>(
     draft: &mut ConditionDraft,
     named: NamedObject,
     negated: bool,
     tokens: &'a [RuleToken],
 ) -> Result<Option<&'a [RuleToken]>, AllocError>
-    ensures { IfOk result (TookIf (values_at named negated tokens.entry.now) draft.old draft.new
+    ensures { IfOk result (ConsumedIf (values_at named negated tokens.entry.now) draft.old draft.new
         tokens.entry.now) }
 {
     let Some((token, others)) = tokens.split_first() else {
@@ -77,23 +77,23 @@ fn values<'a>(
         return Ok(None);
     };
     draft.push_value(named, value)?;
-    let rest = more(draft, named, others)?;
+    let rest = read_more_values(draft, named, others)?;
     draft.push_negation(negated)?;
     Ok(Some(rest))
 }
 
 // Reads the values after `is`, with an optional `not`.
-fn is_values<'a>(
+fn read_values_after_is<'a>(
     draft: &mut ConditionDraft,
     named: NamedObject,
     tokens: &'a [RuleToken],
 ) -> Result<Option<&'a [RuleToken]>, AllocError>
-    ensures { IfOk result (TookIf (is_at named tokens.entry.now) draft.old draft.new
+    ensures { IfOk result (ConsumedIf (is_at named tokens.entry.now) draft.old draft.new
         tokens.entry.now) }
 {
     match tokens {
-        [RuleToken::Not, rest @ ..] => values(draft, named, true, rest),
-        _ => values(draft, named, false, tokens),
+        [RuleToken::Not, rest @ ..] => read_values(draft, named, true, rest),
+        _ => read_values(draft, named, false, tokens),
     }
 }
 
@@ -104,7 +104,7 @@ fn number<'a>(
     relation: Relation,
     tokens: &'a [RuleToken],
 ) -> Result<Option<&'a [RuleToken]>, AllocError>
-    ensures { IfOk result (TookIf (number_at named relation tokens.entry.now) draft.old draft.new
+    ensures { IfOk result (ConsumedIf (number_at named relation tokens.entry.now) draft.old draft.new
         tokens.entry.now) }
 {
     let [RuleToken::TestValue(TestValue::Number(number)), rest @ ..] = tokens else {
@@ -115,15 +115,15 @@ fn number<'a>(
 }
 
 // Reads values; without values, the fact is that an input is TRUE.
-fn values_or_none<'a>(
+fn read_values_or_none<'a>(
     draft: &mut ConditionDraft,
     named: NamedObject,
     tokens: &'a [RuleToken],
 ) -> Result<Option<&'a [RuleToken]>, AllocError>
-    ensures { IfOk result (TookIf (or_alone named (values_at named false tokens.entry.now))
+    ensures { IfOk result (ConsumedIf (or_alone named (values_at named false tokens.entry.now))
         draft.old draft.new tokens.entry.now) }
 {
-    if let Some(rest) = values(draft, named, false, tokens)? {
+    if let Some(rest) = read_values(draft, named, false, tokens)? {
         return Ok(Some(rest));
     }
     draft.push_value(named, TestValue::Truth(true))?;
@@ -132,24 +132,24 @@ fn values_or_none<'a>(
 
 /// Reads the fact at the start of the tokens, after its name, and returns the rest; `None` if there
 /// is no fact. Fails only if an allocation fails.
-pub fn fact<'a>(
+pub fn read_fact<'a>(
     draft: &mut ConditionDraft,
     named: NamedObject,
     tokens: &'a [RuleToken],
 ) -> Result<Option<&'a [RuleToken]>, AllocError>
-    ensures { IfOk result (TookIf (fact_at named tokens.entry.now) draft.old draft.new
+    ensures { IfOk result (ConsumedIf (fact_at named tokens.entry.now) draft.old draft.new
         tokens.entry.now) }
 {
     match tokens {
         [RuleToken::Relation(relation), rest @ ..] => number(draft, named, *relation, rest),
-        [RuleToken::Is, rest @ ..] => is_values(draft, named, rest),
-        [RuleToken::Not, rest @ ..] => values(draft, named, true, rest),
-        _ => values_or_none(draft, named, tokens),
+        [RuleToken::Is, rest @ ..] => read_values_after_is(draft, named, rest),
+        [RuleToken::Not, rest @ ..] => read_values(draft, named, true, rest),
+        _ => read_values_or_none(draft, named, tokens),
     }
 }
 
 // Appends the operators that are pending for the last operand alone, which is complete.
-fn settle(draft: &mut ConditionDraft, stack: &mut PendingStack) -> Result<(), AllocError>
+fn push_operators(draft: &mut ConditionDraft, stack: &mut PendingStack) -> Result<(), AllocError>
     ensures { OnOk result (state stack.new draft.new ≡ append_operators stack.old draft.old) }
 {
     loop {
@@ -163,7 +163,7 @@ fn settle(draft: &mut ConditionDraft, stack: &mut PendingStack) -> Result<(), Al
 }
 
 // Appends the `or` that is pending for the last operands joined by `and`, which are complete.
-fn close(draft: &mut ConditionDraft, stack: &mut PendingStack) -> Result<(), AllocError>
+fn push_or(draft: &mut ConditionDraft, stack: &mut PendingStack) -> Result<(), AllocError>
     ensures { OnOk result (state stack.new draft.new ≡ append_or (state stack.old draft.old)) }
 {
     if let Some(Pending::Or) = stack.top() {
@@ -174,19 +174,19 @@ fn close(draft: &mut ConditionDraft, stack: &mut PendingStack) -> Result<(), All
 }
 
 // Reads a token where an operand is expected.
-fn operand<'a>(
+fn read_operand<'a>(
     draft: &mut ConditionDraft,
     stack: &mut PendingStack,
     token: RuleToken,
     rest: &'a [RuleToken],
 ) -> Result<Advance<'a>, AllocError>
-    ensures { IfOk result (λ turn. Goes turn (state stack.new draft.new) token rest.entry.now
+    ensures { IfOk result (λ turn. IsAdvance turn (state stack.new draft.new) token rest.entry.now
         (token_step (phase_of true) (state stack.old draft.old) token rest.entry.now)) }
 {
     match token {
-        RuleToken::Name(named) => match fact(draft, named, rest)? {
+        RuleToken::Name(named) => match read_fact(draft, named, rest)? {
             Some(rest) => {
-                settle(draft, stack)?;
+                push_operators(draft, stack)?;
                 Ok(Advance::On {
                     expects: false,
                     rest,
@@ -213,19 +213,19 @@ fn operand<'a>(
 }
 
 // Reads a `)`.
-fn end<'a>(
+fn read_close<'a>(
     draft: &mut ConditionDraft,
     stack: &mut PendingStack,
     rest: &'a [RuleToken],
 ) -> Result<Advance<'a>, AllocError>
-    ensures { IfOk result (λ turn. Goes turn (state stack.new draft.new) (token.Connector End)
+    ensures { IfOk result (λ turn. IsAdvance turn (state stack.new draft.new) (token.Connector End)
         rest.entry.now (ends (append_or (state stack.old draft.old)))) }
 {
-    close(draft, stack)?;
+    push_or(draft, stack)?;
     match stack.top() {
         Some(Pending::Begin) => {
             stack.pop();
-            settle(draft, stack)?;
+            push_operators(draft, stack)?;
             Ok(Advance::On {
                 expects: false,
                 rest,
@@ -242,7 +242,7 @@ fn read_after_operand<'a>(
     token: RuleToken,
     rest: &'a [RuleToken],
 ) -> Result<Advance<'a>, AllocError>
-    ensures { IfOk result (λ turn. Goes turn (state stack.new draft.new) token rest.entry.now
+    ensures { IfOk result (λ turn. IsAdvance turn (state stack.new draft.new) token rest.entry.now
         (token_step (phase_of false) (state stack.old draft.old) token rest.entry.now)) }
 {
     match token {
@@ -254,14 +254,14 @@ fn read_after_operand<'a>(
             })
         }
         RuleToken::Connector(Connector::Or) => {
-            close(draft, stack)?;
+            push_or(draft, stack)?;
             stack.push(Pending::Or)?;
             Ok(Advance::On {
                 expects: true,
                 rest,
             })
         }
-        RuleToken::Connector(Connector::End) => end(draft, stack, rest),
+        RuleToken::Connector(Connector::End) => read_close(draft, stack, rest),
         _ => Ok(Advance::Stop),
     }
 }
@@ -274,11 +274,11 @@ fn read_token<'a>(
     token: RuleToken,
     rest: &'a [RuleToken],
 ) -> Result<Advance<'a>, AllocError>
-    ensures { IfOk result (λ turn. Goes turn (state stack.new draft.new) token rest.entry.now
+    ensures { IfOk result (λ turn. IsAdvance turn (state stack.new draft.new) token rest.entry.now
         (token_step (phase_of expects) (state stack.old draft.old) token rest.entry.now)) }
 {
     if expects {
-        operand(draft, stack, token, rest)
+        read_operand(draft, stack, token, rest)
     } else {
         read_after_operand(draft, stack, token, rest)
     }
@@ -290,9 +290,9 @@ fn end_condition<'a>(
     mut stack: PendingStack,
     rest: &'a [RuleToken],
 ) -> Result<Option<&'a [RuleToken]>, AllocError>
-    ensures { IfOk result (FoundIf (finish (state stack draft.old) rest.entry.now) draft.new) }
+    ensures { IfOk result (IsReadCondition (finish (state stack draft.old) rest.entry.now) draft.new) }
 {
-    close(draft, &mut stack)?;
+    push_or(draft, &mut stack)?;
     if stack.top().is_some() {
         return Ok(None);
     }
@@ -307,7 +307,7 @@ pub fn condition<'a>(
     tokens: &'a [RuleToken],
 ) -> Result<Option<&'a [RuleToken]>, AllocError>
     requires { draft.old ≡ Some [] }
-    ensures { IfOk result (FoundIf (condition_at tokens.entry.now) draft.new) }
+    ensures { IfOk result (IsReadCondition (condition_at tokens.entry.now) draft.new) }
 {
     let mut stack = PendingStack::new(alloc);
     let mut expects = true;

@@ -76,10 +76,10 @@ impl ConditionDraft {
     }
 
     // Appends the fact that an input has this truth value.
-    fn push_input(&mut self, thing: Option<Measurand>, truth: bool) -> Result<(), AllocError>
-        ensures { OnOk result (self.new ≡ self.old ⊕ input_items thing truth) }
+    fn push_input(&mut self, measurand: Option<Measurand>, truth: bool) -> Result<(), AllocError>
+        ensures { OnOk result (self.new ≡ self.old ⊕ input_items measurand truth) }
     {
-        match thing {
+        match measurand {
             Some(Measurand::Input(input)) => {
                 self.push(ConditionItem::Input { input })?;
                 self.push_negation(!truth)?;
@@ -92,13 +92,13 @@ impl ConditionDraft {
     // Appends the fact that a measured value has this relation to a number.
     fn push_measure(
         &mut self,
-        thing: Option<Measurand>,
+        measurand: Option<Measurand>,
         relation: Relation,
         value: i32,
     ) -> Result<(), AllocError>
-        ensures { OnOk result (self.new ≡ self.old ⊕ measure_items thing relation value) }
+        ensures { OnOk result (self.new ≡ self.old ⊕ measure_items measurand relation value) }
     {
-        match thing {
+        match measurand {
             Some(Measurand::Measure { meter, field }) => self.push(ConditionItem::Measure {
                 meter,
                 field,
@@ -111,15 +111,15 @@ impl ConditionDraft {
     }
 
     // Appends the fact that an input or a measured value is this number.
-    fn push_number(&mut self, thing: Option<Measurand>, number: i32) -> Result<(), AllocError>
-        ensures { OnOk result (self.new ≡ self.old ⊕ number_items thing number) }
+    fn push_number(&mut self, measurand: Option<Measurand>, number: i32) -> Result<(), AllocError>
+        ensures { OnOk result (self.new ≡ self.old ⊕ number_items measurand number) }
     {
-        match thing {
+        match measurand {
             Some(Measurand::Input(_)) => match truth(number) {
-                Some(truth) => self.push_input(thing, truth)?,
+                Some(truth) => self.push_input(measurand, truth)?,
                 None => self.refuse(),
             },
-            _ => self.push_measure(thing, Relation::Equal, number)?,
+            _ => self.push_measure(measurand, Relation::Equal, number)?,
         }
         Ok(())
     }
@@ -133,8 +133,8 @@ impl ConditionDraft {
                 Some(switch) => self.push(ConditionItem::Position { switch, position })?,
                 None => self.refuse(),
             },
-            TestValue::Truth(truth) => self.push_input(named.thing, truth)?,
-            TestValue::Number(Some(number)) => self.push_number(named.thing, number)?,
+            TestValue::Truth(truth) => self.push_input(named.measurand, truth)?,
+            TestValue::Number(Some(number)) => self.push_number(named.measurand, number)?,
             TestValue::Number(None) => self.refuse(),
         }
         Ok(())
@@ -159,7 +159,7 @@ impl ConditionDraft {
         ensures { OnOk result (self.new ≡ self.old ⊕ relation_items named relation number) }
     {
         match number {
-            Some(number) => self.push_measure(named.thing, relation, number)?,
+            Some(number) => self.push_measure(named.measurand, relation, number)?,
             None => self.refuse(),
         }
         Ok(())

@@ -3,7 +3,7 @@ ghost use Rattle.std.specs.Prelude.{◌≡◌, ◌&&◌, ◌||◌, map, find, po
 ghost use Rattle.std.specs.List.{list_all, before_first};
 ghost use Rattle.bay_base.specs.Names.{same_name};
 ghost use Rattle.bay_config.specs.Key as key;
-ghost use Rattle.bay_audit_rules.specs.Words.{reserved_token, thing_of, named_in, token_of};
+ghost use Rattle.bay_audit_rules.specs.Words.{reserved_token, measurand_of, named_in, token_of};
 ghost use Rattle.bay_audit_rules.specs.Words as spec;
 ghost use Rattle.bay_audit_rules.specs.Meaning.{is_comment, line_tokens};
 ghost use Rattle.bay_audit_rules.specs.Meaning as meaning;
@@ -90,15 +90,15 @@ fn token_at(entry: Option<&(&'static [u8], RuleToken)>) -> Option<RuleToken>
 }
 
 // Returns the token of a word or a sign, in letters of either case; `None` if there is none.
-fn word(piece: &[u8]) -> Option<RuleToken>
+fn find_reserved(piece: &[u8]) -> Option<RuleToken>
     ensures { result ≡ reserved_token piece.now }
 {
     token_at(entry_of(words(), piece))
 }
 
 // Returns the input or the measured value of a source; `None` for a point of a switch.
-fn thing(source: Source) -> Option<Measurand>
-    ensures { result ≡ thing_of source }
+fn measurand(source: Source) -> Option<Measurand>
+    ensures { result ≡ measurand_of source }
 {
     match source {
         Source::Switch { .. } => None,
@@ -126,24 +126,24 @@ fn point_named<'a>(points: &'a [Point], name: &[u8]) -> Option<&'a Point>
 }
 
 // Returns the input or the measured value of the point with this name; `None` if there is none.
-fn thing_named(points: &[Point], name: &[u8]) -> Option<Measurand>
+fn measurand_named(points: &[Point], name: &[u8]) -> Option<Measurand>
     ensures { result
-        ≡ option_and_then (λ p. thing_of p.source)
+        ≡ option_and_then (λ p. measurand_of p.source)
         (find (λ p. same_name name.now p.name) points.now) }
 {
     match point_named(points, name) {
-        Some(point) => thing(point.source),
+        Some(point) => measurand(point.source),
         None => None,
     }
 }
 
 // Returns the objects that a name denotes.
-fn named(bay: &Bay, name: &[u8]) -> NamedObject
+fn resolve_name(bay: &Bay, name: &[u8]) -> NamedObject
     ensures { result ≡ named_in bay.now name.now }
 {
     NamedObject {
         switch: switch_named(bay.switches.as_slice(), name),
-        thing: thing_named(bay.points.as_slice(), name),
+        measurand: measurand_named(bay.points.as_slice(), name),
     }
 }
 
@@ -175,7 +175,7 @@ fn has_name_characters(text: &[u8]) -> bool
 fn token(bay: &Bay, piece: &[u8]) -> Option<RuleToken>
     ensures { result ≡ token_of bay.now piece.now }
 {
-    if let Some(token) = word(piece) {
+    if let Some(token) = find_reserved(piece) {
         return Some(token);
     }
     if let Some(number) = number(piece) {
@@ -185,7 +185,7 @@ fn token(bay: &Bay, piece: &[u8]) -> Option<RuleToken>
         return Some(RuleToken::Time(time));
     }
     if begins_with_letter(piece) && has_name_characters(piece) {
-        return Some(RuleToken::Name(named(bay, piece)));
+        return Some(RuleToken::Name(resolve_name(bay, piece)));
     }
     None
 }

@@ -15,7 +15,7 @@ use bay_base::names::same_letters;
 const ENOUGH: u64 = 4_294_967_296;
 
 // Returns a number, or `ENOUGH` if it is larger.
-fn enough(number: u64) -> u64
+fn cap(number: u64) -> u64
     ensures { result ≡ min (2 ^ 32) number }
 {
     if number < ENOUGH { number } else { ENOUGH }
@@ -29,14 +29,14 @@ fn are_digits(word: &[u8]) -> bool
 }
 
 // Reads one or more decimal digits; `None` if the word is anything else.
-fn digits(word: &[u8]) -> Option<u64>
+fn read_digits(word: &[u8]) -> Option<u64>
     ensures { result ≡ option_map (min (2 ^ 32)) (digits_in word.now) }
 {
     if word.is_empty() || !are_digits(word) {
         return None;
     }
     match decimal(word) {
-        Some(number) => Some(enough(number)),
+        Some(number) => Some(cap(number)),
         None => Some(ENOUGH),
     }
 }
@@ -47,13 +47,13 @@ pub fn number(word: &[u8]) -> Option<Option<i32>>
     ensures { result ≡ number_in word.now }
 {
     match word {
-        [b'-', rest @ ..] => Some(negative(digits(rest)?)),
-        _ => Some(positive(digits(word)?)),
+        [b'-', rest @ ..] => Some(negative(read_digits(rest)?)),
+        _ => Some(positive(read_digits(word)?)),
     }
 }
 
 // Returns the length of a unit in milliseconds; `None` if the word is not a unit.
-fn unit(word: &[u8]) -> Option<u64>
+fn unit_milliseconds(word: &[u8]) -> Option<u64>
     ensures { result ≡ unit_of word.now }
 {
     if same_letters(word, b"ms") {
@@ -72,7 +72,7 @@ fn unit(word: &[u8]) -> Option<u64>
 }
 
 // Reads a number and its unit, and returns the rest.
-fn part(word: &[u8]) -> Option<(u64, &[u8])>
+fn read_part(word: &[u8]) -> Option<(u64, &[u8])>
     requires { 0 < length word.now }
     ensures read { MatchOption result (time_of (pieces Time word.now) ≡ None)
         (λ part. option_map (min (2 ^ 32)) (time_of (pieces Time word.now))
@@ -85,25 +85,25 @@ fn part(word: &[u8]) -> Option<(u64, &[u8])>
         return None;
     }
     let (name, rest) = split_piece(Cut::Time, behind);
-    Some((enough(digits(number)? * unit(name)?), rest))
+    Some((cap(read_digits(number)? * unit_milliseconds(name)?), rest))
 }
 
 // Reads a sequence of numbers, each with a unit, as milliseconds.
-fn milliseconds(word: &[u8]) -> Option<u64>
+fn read_milliseconds(word: &[u8]) -> Option<u64>
     ensures { result ≡ option_map (min (2 ^ 32)) (time_of (pieces Time word.now)) }
 {
     let mut total = 0;
     let mut rest = word;
     while !rest.is_empty() {
-        let (time, behind) = part(rest)?;
-        total = enough(total + time);
+        let (time, behind) = read_part(rest)?;
+        total = cap(total + time);
         rest = behind;
     }
     Some(total)
 }
 
 // Returns a time that a timer can have; `None` for any other.
-fn timer(time: u64) -> Option<u32>
+fn to_timer_time(time: u64) -> Option<u32>
     ensures { result ≡ timer_time time }
 {
     if 0 < time && time < 2_147_483_648 {
@@ -118,5 +118,5 @@ fn timer(time: u64) -> Option<u32>
 pub fn time(word: &[u8]) -> Option<Option<u32>>
     ensures { result ≡ time_in word.now }
 {
-    Some(timer(milliseconds(word)?))
+    Some(to_timer_time(read_milliseconds(word)?))
 }

@@ -10,7 +10,7 @@ ghost use Rattle.bay_audit_rules.specs.Reading.{Pushes, AppendsRules, rest_lines
 use crate::fault::RuleFault;
 use crate::lexer::tokens_of;
 use crate::rule::{ConditionItem, Rule, Timing};
-use crate::statement::{Directions, HeldCondition, RuleLine, RuleStatement, statement_of};
+use crate::statement::{Directions, HeldCondition, RuleLine, RuleStatement, read_statement};
 use crate::token::{Connector, RuleToken};
 use bay_base::listing::Listing;
 use bay_base::switch::Operation;
@@ -28,7 +28,7 @@ fn is_unknown(token: RuleToken) -> bool
     ensures { result ≡ spec.is_unknown token }
 {
     match token {
-        RuleToken::Name(named) => named.switch.is_none() && named.thing.is_none(),
+        RuleToken::Name(named) => named.switch.is_none() && named.measurand.is_none(),
         _ => false,
     }
 }
@@ -75,15 +75,15 @@ fn timing(timed: Option<HeldCondition>) -> Option<Option<Timing>>
 
 // Returns the rule of a line for opening the switch; `None` if the name is no switch, if another
 // name has a value that it can't have, or if no timer can have the time.
-fn template(line: usize, said: RuleLine) -> Option<Rule>
-    ensures { result ≡ spec.template_of line said }
+fn make_template(line: usize, rule_line: RuleLine) -> Option<Rule>
+    ensures { result ≡ spec.template_of line rule_line }
 {
-    let switch = said.named.switch?;
-    let timed = timing(said.timed)?;
-    let when = Listing::new(said.when.into_items()?);
+    let switch = rule_line.named.switch?;
+    let timed = timing(rule_line.timed)?;
+    let when = Listing::new(rule_line.when.into_items()?);
     Some(Rule {
         line,
-        kind: said.kind,
+        kind: rule_line.kind,
         switch,
         operation: Operation::Open,
         when,
@@ -92,7 +92,7 @@ fn template(line: usize, said: RuleLine) -> Option<Rule>
 }
 
 // Copies the items of a condition.
-fn copied(
+fn copy_items(
     alloc: Global,
     items: &Listing<ConditionItem>,
 ) -> Result<Listing<ConditionItem>, AllocError>
@@ -102,12 +102,12 @@ fn copied(
 }
 
 // Copies the time of a rule.
-fn copied_timing(alloc: Global, timed: &Option<Timing>) -> Result<Option<Timing>, AllocError>
+fn copy_timing(alloc: Global, timed: &Option<Timing>) -> Result<Option<Timing>, AllocError>
     ensures { IfOk result (λ copy. copy ≡ timed.now) }
 {
     match timed {
         Some(timing) => Ok(Some(Timing {
-            condition: copied(alloc, &timing.condition)?,
+            condition: copy_items(alloc, &timing.condition)?,
             time: timing.time,
         })),
         None => Ok(None),
@@ -124,8 +124,8 @@ fn push_rule(
     ensures { OnOk result (rules.new.items
         ≡ rules.old.items ++ spec.rule_of rule.now operation ∷ []) }
 {
-    let when = copied(alloc, &rule.when)?;
-    let timed = copied_timing(alloc, &rule.timed)?;
+    let when = copy_items(alloc, &rule.when)?;
+    let timed = copy_timing(alloc, &rule.timed)?;
     rules.push(Rule {
         line: rule.line,
         kind: rule.kind,
@@ -138,16 +138,16 @@ fn push_rule(
 }
 
 // Appends a rule for each of its directions.
-fn push_ways(
+fn push_directions(
     alloc: Global,
     rules: &mut Vec<Rule>,
     rule: &Rule,
-    ways: Directions,
+    directions: Directions,
 ) -> Result<(), AllocError>
     ensures { OnOk result
-        (rules.new.items ≡ rules.old.items ++ map (spec.rule_of rule.now) (spec.operations_of ways)) }
+        (rules.new.items ≡ rules.old.items ++ map (spec.rule_of rule.now) (spec.operations_of directions)) }
 {
-    match ways {
+    match directions {
         Directions::Opening => push_rule(alloc, rules, rule, Operation::Open),
         Directions::Closing => push_rule(alloc, rules, rule, Operation::Close),
         Directions::OpeningAndClosing => {
@@ -166,16 +166,16 @@ fn push_ways(
 fn push_rules_of_line(
     alloc: Global,
     line: usize,
-    said: RuleLine,
+    rule_line: RuleLine,
     rules: &mut Vec<Rule>,
 ) -> Result<bool, AllocError>
     ensures { IfOk result
-        (Pushes (rules_of line (statement.Rule said)) rules.old.items rules.new.items) }
+        (Pushes (rules_of line (statement.Rule rule_line)) rules.old.items rules.new.items) }
 {
-    let ways = said.ways;
-    match template(line, said) {
+    let directions = rule_line.directions;
+    match make_template(line, rule_line) {
         Some(rule) => {
-            push_ways(alloc, rules, &rule, ways)?;
+            push_directions(alloc, rules, &rule, directions)?;
             Ok(true)
         }
         None => Ok(false),
@@ -193,9 +193,9 @@ fn push_rules(
     ensures { IfOk result (Pushes (rules_of line statement) rules.old.items rules.new.items) }
 {
     match statement {
-        RuleStatement::Silence => Ok(true),
+        RuleStatement::Blank => Ok(true),
         RuleStatement::Looks(draft) => Ok(draft.into_items().is_some()),
-        RuleStatement::Rule(said) => push_rules_of_line(alloc, line, said, rules),
+        RuleStatement::Rule(rule_line) => push_rules_of_line(alloc, line, rule_line, rules),
     }
 }
 
@@ -208,7 +208,7 @@ fn read_tokens(
 ) -> Result<(), RuleFault>
     ensures { AppendsRules (TokensRead line tokens.now) rules.old.items rules.new.items result }
 {
-    let Some(statement) = statement_of(alloc, tokens)? else {
+    let Some(statement) = read_statement(alloc, tokens)? else {
         return Err(RuleFault::BadLine { line });
     };
     if has_unknown(tokens) {

@@ -3,7 +3,7 @@ ghost use Rattle.std.specs.Prelude.{◌≡◌, ◌<◌, length, Some, None, opti
 ghost use Rattle.bay_audit_rules.specs.TokenParsing.{directions_at, timed_at, when_at, looks_at, rule_at, statement_at};
 ghost use Rattle.bay_audit_rules.specs.TokenParsing as spec;
 
-use crate::condition::{condition, fact};
+use crate::condition::{condition, read_fact};
 use crate::draft::ConditionDraft;
 use crate::rule::{ConditionItem, RuleKind};
 use crate::token::{NamedObject, RuleToken};
@@ -31,7 +31,7 @@ pub struct HeldCondition {
 pub struct RuleLine {
     pub kind: RuleKind,
     pub named: NamedObject,
-    pub ways: Directions,
+    pub directions: Directions,
     pub timed: Option<HeldCondition>,
     pub when: ConditionDraft,
 }
@@ -39,14 +39,14 @@ pub struct RuleLine {
 /// The statement of a line.
 #[derive(Drop)]
 pub enum RuleStatement {
-    Silence,
+    Blank,
     /// The values of a `look` line, which `tools/audit` tries.
     Looks(ConditionDraft),
     Rule(RuleLine),
 }
 
 // Reads the directions at the start of the tokens, and returns the rest.
-fn read_ways(tokens: &[RuleToken]) -> Option<(Directions, &[RuleToken])>
+fn read_directions(tokens: &[RuleToken]) -> Option<(Directions, &[RuleToken])>
     ensures { option_map (λ r. (r.0, r.1.now)) result ≡ directions_at tokens.now }
 {
     match tokens {
@@ -110,7 +110,7 @@ fn read_looks(
     ensures { IfOk result (λ r. r ≡ looks_at named tokens.now) }
 {
     let mut draft = ConditionDraft::new(alloc);
-    let Some(rest) = fact(&mut draft, named, tokens)? else {
+    let Some(rest) = read_fact(&mut draft, named, tokens)? else {
         return Ok(None);
     };
     if !rest.is_empty() {
@@ -159,7 +159,7 @@ fn read_rule(
 ) -> Result<Option<RuleStatement>, AllocError>
     ensures { IfOk result (λ r. r ≡ rule_at kind named tokens.now) }
 {
-    let Some((ways, rest)) = read_ways(tokens) else {
+    let Some((directions, rest)) = read_directions(tokens) else {
         return Ok(None);
     };
     let Some((timed, rest)) = read_timed(alloc, kind, rest)? else {
@@ -169,7 +169,7 @@ fn read_rule(
         Some(when) => Ok(Some(RuleStatement::Rule(RuleLine {
             kind,
             named,
-            ways,
+            directions,
             timed,
             when,
         }))),
@@ -179,14 +179,14 @@ fn read_rule(
 
 /// Reads the statement of a line from its tokens; `None` if they are not a statement. Fails only if
 /// an allocation fails.
-pub fn statement_of(
+pub fn read_statement(
     alloc: Global,
     tokens: &[RuleToken],
 ) -> Result<Option<RuleStatement>, AllocError>
     ensures { IfOk result (λ r. r ≡ statement_at tokens.now) }
 {
     match tokens {
-        [] => Ok(Some(RuleStatement::Silence)),
+        [] => Ok(Some(RuleStatement::Blank)),
         [RuleToken::Look, RuleToken::Name(named), rest @ ..] => read_looks(alloc, *named, rest),
         [RuleToken::Kind(kind), RuleToken::Name(named), rest @ ..] => read_rule(
             alloc, *kind, *named, rest,

@@ -33,7 +33,7 @@ pub enum Measurand {
 #[derive(Clone, Copy)]
 pub struct NamedObject {
     pub switch: Option<usize>,
-    pub thing: Option<Measurand>,
+    pub measurand: Option<Measurand>,
 }
 
 /// A token.

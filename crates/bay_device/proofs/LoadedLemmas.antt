@@ -16,9 +16,9 @@ use Rattle.il_check.specs.Checking.{checked_of}
 use Rattle.il_check.specs.Program.{Checked}
 use Rattle.il_check.specs.declared.fault.CheckFault.{CheckFault}
 use Rattle.il_check.proofs.TypedLemmas.{typed-of}
-use Rattle.il_compile.specs.Correct.{DoesTheText}
+use Rattle.il_compile.specs.Correct.{ImplementsText}
 use Rattle.il_compile.proofs.CompiledLemmas.{does-the-text}
-use Rattle.il_image.specs.Decoding.{image_spelled}
+use Rattle.il_image.specs.Decoding.{decoded_image}
 use Rattle.il_image.specs.Images.{Image as Code}
 use Rattle.il_verify.specs.Verdicts.{IsVerified}
 use Rattle.bay_load.specs.Errors.{check_error}
@@ -88,13 +88,13 @@ text-runs file text s loaded sound =
     let fits : IsVerified loaded.bay.points loaded.image =
     verified loaded.bay.points loaded.made.program c loaded.made.passes typed loaded.image
     loaded.made.compiles in
-    let does : DoesTheText c loaded.image.code =
+    let does : ImplementsText c loaded.image.code =
     does-the-text c loaded.image typed loaded.made.compiles in
     let is = image-is c loaded.image loaded.made.compiles in
     subst (Runs c) (sym (loaded.is ∙ ap (initial_device loaded.bay) is))
     (runs-first c loaded.bay sound
     (subst (λ (i : Code). IsVerified loaded.bay.points i) is fits)
-    (subst (λ (i : Code). DoesTheText c i.code) is does))
+    (subst (λ (i : Code). ImplementsText c i.code) is does))
 
 pub loaded-runs : (bay logic : List ℕ) (s : State)
     (loaded : IsLoaded (file_of bay) (IsCompiled (text_of logic)) s)
@@ -140,16 +140,16 @@ module _ (bay logic : List ℕ) (one : is_utf8 bay ≡ true) (two : is_utf8 logi
 
 module _ (bay image : List ℕ) (one : is_utf8 bay ≡ true) where
   pub image-loaded : (s : State) → IsLoaded (file_of bay) (IsImageOf Image image) s
-      → IsLoaded (bay_of bay) (λ _ code. image_spelled image ≡ Ok code) s
+      → IsLoaded (bay_of bay) (λ _ code. decoded_image image ≡ Ok code) s
   image-loaded s loaded = rw one at loaded
 
   pub image-device : (s : State) → LoadsDevice bay Image image s
-      → LoadsAs (Loads (bay_of bay) (image_spelled image)) (Ok s)
+      → LoadsAs (Loads (bay_of bay) (decoded_image image)) (Ok s)
   image-device s is = (is.0, rw one at is.1, is.2)
 
   pub image-refused : (e : LoadError) → MayLoadTo bay Image image (Err e)
       → refusal_of e ≢ OutOfMemory
-      → LoadsAs (Loads (bay_of bay) (image_spelled image)) (Err (refusal_of e))
+      → LoadsAs (Loads (bay_of bay) (decoded_image image)) (Err (refusal_of e))
   image-refused e (inl loads) other = (e, rw one at loads, refl)
   image-refused e (inr memory) other =
       let is : e ≡ error.OutOfMemory = cc in absurd (other (ap refusal_of is))

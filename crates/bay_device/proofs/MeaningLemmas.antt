@@ -26,7 +26,7 @@ use Rattle.il_image.specs.Timers.{first_state}
 use Rattle.bay_base.specs.declared.types.TimerKind.{TimerKind}
 use Rattle.il_verify.specs.Verdicts.{IsVerified}
 use Rattle.il_compile.specs.Compiled.{image_of, point_of}
-use Rattle.il_compile.specs.Correct.{DoesTheText, Follows, HasTypes}
+use Rattle.il_compile.specs.Correct.{ImplementsText, ImplementsAt, HasTypes}
 use Rattle.bay_device.specs.Load.{initial_device}
 use Rattle.bay_process.proofs.SourceLemmas.{IsTyped, bay-typed, points-fit, reads-typed}
 use Rattle.il_compile.specs.Meaning.{Memory}
@@ -168,7 +168,7 @@ module _ (c : Checked) (s : State) (r : Runs c s) (now : ℕ) where
     timers = r.types.timers;
   }
 
-  follows : Follows c s.machine.image.code now before
+  follows : ImplementsAt c s.machine.image.code now before
   follows = r.does now before typed-before
 
   abbrev after : Memory
@@ -237,7 +237,7 @@ runs-as : (c : Checked) (s t : State) → Runs c s → t.machine ≡ s.machine �
     → Runs c t
 runs-as c s t r machine reads = record {
   points = ap (λ (h : MachineData). h.image.points) machine ∙ r.points;
-  does = subst (λ (h : MachineData). DoesTheText c h.image.code) (sym machine) r.does;
+  does = subst (λ (h : MachineData). ImplementsText c h.image.code) (sym machine) r.does;
   types = subst (λ (h : MachineData). HasTypes c (memory_of c h.slots h.timers)) (sym machine)
       r.types;
   reads = ap (map type_of_source) reads ∙ r.reads
@@ -361,7 +361,7 @@ timers-first [] = refl
 timers-first (t ∷ ts) = ap (λ (ks : List TimerKind). t.kind ∷ ks) (timers-first ts)
 
 pub runs-first : (c : Checked) (bay : Bay) → IsBay bay → IsVerified bay.points (image_of c)
-    → DoesTheText c (image_of c).code → Runs c (initial_device bay (image_of c))
+    → ImplementsText c (image_of c).code → Runs c (initial_device bay (image_of c))
 runs-first c bay is verified does = record {
   points = refl;
   does = does;

@@ -11,7 +11,7 @@ use Rattle.bay_base.specs.declared.point.SwitchPoint.{SwitchPoint}
 use Rattle.il_image.specs.Machine.{Halted, Ending, run_from}
 use Rattle.il_image.specs.declared.value.Value.{Value}
 use Rattle.il_image.specs.declared.value.Value.TheVariants.{Long}
-use Rattle.il_scan.specs.Places.{is_true}
+use Rattle.il_scan.specs.OutputValues.{is_true}
 use Rattle.il_scan.specs.Scans.{MachineData, Scans, outputs_of, scan_start}
 use Rattle.bay_connection.specs.ConnectionStates.{ConnectionState}
 use Rattle.bay_device.specs.Device.{State, Ran, after_run, ending_at, inputs_of, point_value, ran_at, ran_of, after_scan}

@@ -6,7 +6,7 @@ use Rattle.il_image.specs.declared.timer.TimerState.{TimerState}
 use Rattle.il_image.specs.declared.value.Value.{Value}
 use Rattle.il_check.specs.Program.{Checked}
 use Rattle.il_compile.specs.Compiled.{point_of}
-use Rattle.il_compile.specs.Correct.{DoesTheText, HasTypes}
+use Rattle.il_compile.specs.Correct.{ImplementsText, HasTypes}
 use Rattle.il_compile.specs.Meaning.{Memory, mean}
 use Rattle.il_verify.specs.Verdicts.{IsBudget}
 use Rattle.il_scan.specs.Scans.{outputs_of, read_only, scan_start, type_of_point}
@@ -76,6 +76,6 @@ MeansAt c now event old answer new = event ≡ Scan → IfOk answer (λ step. Me
 -- points have their types.
 pub record Runs (c : Checked) (s : State) : Type 0 where
   pub points : s.machine.image.points ≡ map point_of c.externals
-  pub does : DoesTheText c s.machine.image.code
+  pub does : ImplementsText c s.machine.image.code
   pub types : HasTypes c (memory_of c s.machine.slots s.machine.timers)
   pub reads : map type_of_source s.reads ≡ map type_of_point (read_only s.machine.image.points)

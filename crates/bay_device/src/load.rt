@@ -4,7 +4,7 @@ ghost use Rattle.bay_base.specs.Exact.{Gives};
 ghost use Rattle.bay_config.specs.Bay.{bay_of};
 ghost use Rattle.il_text.specs.Reading.{program_of};
 ghost use Rattle.il_check.specs.Program.{Checked};
-ghost use Rattle.il_image.specs.Decoding.{image_spelled};
+ghost use Rattle.il_image.specs.Decoding.{decoded_image};
 ghost use Rattle.bay_load.specs.Loads.{IsCompiled, IsImageOf, Loads, MayLoadTo, checked_in, file_of, of_bay};
 ghost use Rattle.bay_device.specs.Accepts.{IsRight};
 ghost use Rattle.bay_device.specs.Entries.{IsIdle};
@@ -69,14 +69,14 @@ pub fn load(alloc: Global, bay: &str, logic: &str) -> Result<Device, LoadFault>
 /// 100); or `OutOfMemory` if an allocation fails.
 pub fn load_image(alloc: Global, bay: &str, image: &[u8]) -> Result<Device, LoadFault>
     ensures ok { IfOk result
-        (λ device. LoadsAs (Loads (bay_of bay.now) (image_spelled image.now)) (Ok device)) }
+        (λ device. LoadsAs (Loads (bay_of bay.now) (decoded_image image.now)) (Ok device)) }
     ensures refused { IfErr result
         (λ e. e ≢ OutOfMemory
-        → LoadsAs (Loads (bay_of bay.now) (image_spelled image.now)) (Err e)) }
+        → LoadsAs (Loads (bay_of bay.now) (decoded_image image.now)) (Err e)) }
     // It is the device of the bay file and of the image that the octets encode, before its first
     // event: there is no selection, and no association is open.
     ensures loaded { IfOk result
-        (IsLoaded (bay_of bay.now) (λ _ program. image_spelled image.now ≡ Ok program)) }
+        (IsLoaded (bay_of bay.now) (λ _ program. decoded_image image.now ≡ Ok program)) }
     ensures idle { IfOk result IsIdle }
 {
     let device = load_device(alloc, bay.as_bytes(), Form::Image, image)?;

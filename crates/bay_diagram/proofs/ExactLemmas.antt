@@ -7,7 +7,7 @@ use Rattle.bay_diagram.specs.declared.network.Device.{Device}
 use Rattle.bay_diagram.specs.declared.network.Device.TheVariants.{Own, Other}
 use Rattle.bay_diagram.specs.Hazards.{is_hazard}
 use Rattle.bay_diagram.specs.Laws.{HazardsAreExact}
-use Rattle.bay_diagram.specs.Reading.{Allowed, IsOnly, IsWorse, best_of, is_closed, is_open, may_be_closed, may_be_neither, may_be_open, may_say, reading_of, is_true_input, worst_of}
+use Rattle.bay_diagram.specs.Reading.{Allowed, IsOnly, IsWorse, best_of, is_closed, is_open, may_be_closed, may_be_neither, may_be_open, may_have_value, reading_of, is_true_input, worst_of}
 use Rattle.bay_base.specs.Positions.{same_position}
 use Rattle.bay_audit_rules.specs.Process.{Process}
 use Rattle.bay_diagram.proofs.GrowthLemmas.{hazards-grow}
@@ -38,11 +38,11 @@ left-false false b h = refl
 -- ---- of an input
 
 module _ (a : Allowed) (p : Process) (only : IsOnly a p) where
-  says-true : (i : Option ℕ) → may_say a i true ≡ true → is_true_input p i ≡ true
+  says-true : (i : Option ℕ) → may_have_value a i true ≡ true → is_true_input p i ≡ true
   says-true None h = cc
   says-true (Some k) h = only.inputs k true h
 
-  says-false : (i : Option ℕ) → may_say a i false ≡ true → not (is_true_input p i) ≡ true
+  says-false : (i : Option ℕ) → may_have_value a i false ≡ true → not (is_true_input p i) ≡ true
   says-false None h = refl
   says-false (Some k) h = not-of-false (p.input k) (only.inputs k false h)
 
@@ -106,14 +106,14 @@ module _ (a : Allowed) (p : Process) (only : IsOnly a p) where
   open-only (Own k) h =
       subst (λ (x : Dbpos). same_position x Off ≡ true) (sym (only.positions k Off h)) refl
   open-only (Other closed opened) h =
-      both-of (may_say a opened true) (may_say a closed false) (is_true_input p opened)
+      both-of (may_have_value a opened true) (may_have_value a closed false) (is_true_input p opened)
       (not (is_true_input p closed)) (says-true a p only opened) (says-false a p only closed) h
 
   closed-only : (d : Device) → may_be_closed a d ≡ true → is_closed p d ≡ true
   closed-only (Own k) h =
       subst (λ (x : Dbpos). same_position x On ≡ true) (sym (only.positions k On h)) refl
   closed-only (Other closed opened) h =
-      both-of (may_say a closed true) (may_say a opened false) (is_true_input p closed)
+      both-of (may_have_value a closed true) (may_have_value a opened false) (is_true_input p closed)
       (not (is_true_input p opened)) (says-true a p only closed) (says-false a p only opened) h
 
   neither-only : (d : Device) → may_be_neither a d ≡ true
@@ -121,9 +121,9 @@ module _ (a : Allowed) (p : Process) (only : IsOnly a p) where
   neither-only (Own k) h =
       own-neither-only (a.position k) (p.position k) (only.positions k) h
   neither-only (Other closed opened) h =
-      neither-from (is_true_input p closed) (is_true_input p opened) (may_say a closed true)
-      (may_say a opened true)
-      (may_say a closed false) (may_say a opened false)
+      neither-from (is_true_input p closed) (is_true_input p opened) (may_have_value a closed true)
+      (may_have_value a opened true)
+      (may_have_value a closed false) (may_have_value a opened false)
       (says-true a p only closed) (says-true a p only opened)
       (says-false a p only closed) (says-false a p only opened) h
 
@@ -131,13 +131,13 @@ module _ (a : Allowed) (p : Process) (only : IsOnly a p) where
 
 may-exact : (c n po pc : Bool) → (c ≡ true → pc ≡ true) → (pc ≡ true → po ≡ false)
     → (n ≡ true → (po || pc) ≡ false) → (c || n) ≡ true → not po ≡ true
-may-exact true n po pc f g k h = not-of-false po (g (f refl))
+may_conduct-exact true n po pc f g k h = not-of-false po (g (f refl))
 may-exact false n po pc f g k h = left-false po pc (k h)
 
 sure-exact : (o n po pc : Bool) → (o ≡ true → po ≡ true) → (pc ≡ true → po ≡ false)
     → (n ≡ true → (po || pc) ≡ false) → pc ≡ true → not (o || n) ≡ true
-sure-exact false false po pc f g k h = refl
-sure-exact true n true pc f g k h = cc (g h)
+conducts-exact false false po pc f g k h = refl
+conducts-exact true n true pc f g k h = cc (g h)
 sure-exact true n false pc f g k h = absurd (no-yes (f refl))
 sure-exact false true true pc f g k h = cc (k refl)
 sure-exact false true false true f g k h = cc (k refl)
@@ -152,22 +152,22 @@ or-both false b false d f g h = g h
 
 worst-exact : (a : Allowed) (p : Process) → IsOnly a p → IsWorse (worst_of a) (reading_of p)
 worst-exact a p only = record {
-  may = λ d. may-exact (may_be_closed a d) (may_be_neither a d) (is_open p d) (is_closed p d)
+  may_conduct = λ d. may-exact (may_be_closed a d) (may_be_neither a d) (is_open p d) (is_closed p d)
       (closed-only a p only d) (closed-apart p d) (neither-only a p only d);
-  sure = λ d. sure-exact (may_be_open a d) (may_be_neither a d) (is_open p d) (is_closed p d)
+  conducts = λ d. sure-exact (may_be_open a d) (may_be_neither a d) (is_open p d) (is_closed p d)
       (open-only a p only d) (closed-apart p d) (neither-only a p only d);
-  moves = λ d h. not-of-false (is_open p d || is_closed p d) (neither-only a p only d h);
-  alive = λ i. says-false a p only i;
+  may_move = λ d h. not-of-false (is_open p d || is_closed p d) (neither-only a p only d h);
+  may_be_live = λ i. says-false a p only i;
 }
 
 best-exact : (a : Allowed) (p : Process) → IsOnly a p → IsWorse (reading_of p) (best_of a)
 best-exact a p only = record {
-  may = λ d. contrapose (may_be_open a d) (is_open p d) (open-only a p only d);
-  sure = λ d. closed-only a p only d;
-  moves = λ d. contrapose (may_be_open a d || may_be_closed a d) (is_open p d || is_closed p d)
+  may_conduct = λ d. contrapose (may_be_open a d) (is_open p d) (open-only a p only d);
+  conducts = λ d. closed-only a p only d;
+  may_move = λ d. contrapose (may_be_open a d || may_be_closed a d) (is_open p d || is_closed p d)
       (or-both (may_be_open a d) (may_be_closed a d) (is_open p d) (is_closed p d)
       (open-only a p only d) (closed-only a p only d));
-  alive = λ i. contrapose (may_say a i true) (is_true_input p i) (says-true a p only i);
+  may_be_live = λ i. contrapose (may_have_value a i true) (is_true_input p i) (says-true a p only i);
 }
 
 same-truth : (x y : Bool) → (x ≡ true → y ≡ true) → (y ≡ true → x ≡ true) → x ≡ y

@@ -132,39 +132,39 @@ module _ (net : Network) (r : Reading) (s : Branch) where
           net.nodes h)
 
       pub earth-found : (c : Branch)
-          → find (λ d. is_earthing d.kind && (not (d.number == s.number) && (r.may d.device
+          → find (λ d. is_earthing d.kind && (not (d.number == s.number) && (r.may_conduct d.device
           && joined_in labels a d.one))) net.branches ≡ Some c
           → IsEndOf net r s route a (ends_at_earth net r s)
           (record { node = c.one; earth = Some c.number })
       earth-found c h =
           let passes = find-passes (λ (d : Branch). is_earthing d.kind
-          && (not (d.number == s.number) && (r.may d.device && joined_in labels a d.one)))
+          && (not (d.number == s.number) && (r.may_conduct d.device && joined_in labels a d.one)))
           net.branches c h in
           let kind = and_parts (is_earthing c.kind) _ passes in
           let other = and_parts (not (c.number == s.number)) _ kind.1 in
-          let may = and_parts (r.may c.device) _ other.1 in
+          let may_conduct = and_parts (r.may_conduct c.device) _ other.1 in
           record {
             fits = find-any (λ (d : Branch). is_earthing d.kind
-                && (not (d.number == s.number) && (r.may d.device && joined_in labels a d.one)))
+                && (not (d.number == s.number) && (r.may_conduct d.device && joined_in labels a d.one)))
                 (λ (d : Branch). d.number == c.number && (is_earthing d.kind
-                && (not (d.number == s.number) && (r.may d.device && d.one == c.one))))
+                && (not (d.number == s.number) && (r.may_conduct d.device && d.one == c.one))))
                 net.branches c h
                 (λ h. and-true (c.number == c.number) _ (same-true c.number)
                 (and-true (is_earthing c.kind) _ kind.0
                 (and-true (not (c.number == s.number)) _ other.0
-                (and-true (r.may c.device) _ may.0 (same-true c.one)))));
-            joined = joined-ways net r route a c.one (leads-by c.one may.1);
+                (and-true (r.may_conduct c.device) _ may_conduct.0 (same-true c.one)))));
+            joined = joined-ways net r route a c.one (leads-by c.one may_conduct.1);
           }
 
       pub no-earth : find (λ d. is_earthing d.kind && (not (d.number == s.number)
-          && (r.may d.device && joined_in labels a d.one))) net.branches ≡ None
+          && (r.may_conduct d.device && joined_in labels a d.one))) net.branches ≡ None
           → reaches_earth net r s route a ≡ false
       no-earth h =
           subst (λ (joins : ℕ → ℕ → Bool). list_any (λ (d : Branch). is_earthing d.kind
-          && (not (d.number == s.number) && (r.may d.device && joins a d.one))) net.branches
+          && (not (d.number == s.number) && (r.may_conduct d.device && joins a d.one))) net.branches
           ≡ false) are
           (find-none (λ (d : Branch). is_earthing d.kind
-          && (not (d.number == s.number) && (r.may d.device && joined_in labels a d.one)))
+          && (not (d.number == s.number) && (r.may_conduct d.device && joined_in labels a d.one)))
           net.branches h)
 
   module _ (gapless inseparable : List ℕ)
@@ -173,7 +173,7 @@ module _ (net : Network) (r : Reading) (s : Branch) where
     -- the test of a source
     abbrev pub is_source_by : (ℕ → ℕ → Bool) → (ℕ → ℕ → Bool) → Node → Bool
     is_source_by joins apart x =
-        x.is_source && (joins s.one x.number && (r.alive x.dead || not (apart s.one x.number)))
+        x.is_source && (joins s.one x.number && (r.may_be_live x.dead || not (apart s.one x.number)))
 
     pub source-found : (x : Node)
         → find (is_source_by (joined_in gapless) (joined_in inseparable)) net.nodes ≡ Some x
@@ -190,7 +190,7 @@ module _ (net : Network) (r : Reading) (s : Branch) where
         source.1 in
         record {
           source = find-any (is_source_by (joined_in gapless) (joined_in inseparable))
-              (λ (y : Node). y.number == x.number && (y.is_source && (r.alive y.dead
+              (λ (y : Node). y.number == x.number && (y.is_source && (r.may_be_live y.dead
               || not (leads net r (without Inseparable s avoid.Nothing) s.one y.number))))
               net.nodes x h
               (λ h. and-true (x.number == x.number) _ (same-true x.number)

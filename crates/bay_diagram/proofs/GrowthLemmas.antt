@@ -14,12 +14,12 @@ use Rattle.bay_diagram.specs.declared.network.Node.{Node}
 use Rattle.bay_diagram.specs.declared.walk.Avoid.TheVariants as avoid
 use Rattle.bay_diagram.specs.declared.walk.Over.TheVariants.{Possible, Closed, Gapless, Inseparable}
 use Rattle.bay_diagram.specs.declared.walk.Route.{Route}
-use Rattle.bay_diagram.specs.Hazards.{bridges, bridges_from, breaks, breaks_from, comes_to, earths, endangers, endangers_by, energises, feeds_from, has_beside, is_earth_at, is_exposed, is_hazard, is_live, is_target, leaves, leaves_any, lies_beside, makes, makes_any, makes_from, makes_near, reaches, reaches_earth, without, without_both}
+use Rattle.bay_diagram.specs.Hazards.{bridges, bridges_from, breaks, breaks_from, reaches_both, earths, endangers, endangers_by, energises, feeds_from, has_beside, is_earth_at, is_exposed, is_hazard, is_live, is_target, leaves_current, leaves_any, lies_beside, makes_current, makes_any, makes_from, makes_near, reaches, reaches_earth, without, without_both}
 use Rattle.bay_diagram.specs.Joined.{IsOf, joined}
 use Rattle.bay_diagram.specs.Laws.{HazardsAreBounded, HazardsGrow}
 use Rattle.bay_diagram.specs.Network.{is_disconnector, is_earthing, is_own, is_source, is_terminal, is_terminal_kind, is_transformer}
 use Rattle.bay_diagram.specs.Reading.{IsWorse, Reading}
-use Rattle.bay_diagram.specs.Walks.{is_free, is_over, leads, may_lead_over}
+use Rattle.bay_diagram.specs.Walks.{is_free, may_cross, leads, may_lead_over}
 use Rattle.bay_diagram.proofs.JoinedLemmas.{joined-grows}
 use Rattle.bay_diagram.proofs.ReadingLemmas.{best-bounds, worst-bounds}
 
@@ -91,39 +91,39 @@ module _ (p q : Branch → Bool) (more : (b : Branch) → Le (p b) (q b)) where
 
 module _ (net : Network) where
   pub leads-more : (r w : Reading) (route : Route)
-      → ((b : Branch) → Le (is_over r route.over b) (is_over w route.over b))
+      → ((b : Branch) → Le (may_cross r route.over b) (may_cross w route.over b))
       → (a b : ℕ) → Le (leads net r route a b) (leads net w route a b)
   leads-more r w route more a b =
       joined-more (may_lead_over net r route) (may_lead_over net w route)
-      (λ c. le-and (is_over r route.over c) (is_over w route.over c)
+      (λ c. le-and (may_cross r route.over c) (may_cross w route.over c)
       (is_free net route c) (is_free net route c) (more c) (same (is_free net route c)))
       net.branches a b
 
   module _ (r w : Reading) (worse : IsWorse r w) where
-    pub possible : (b : Branch) → Le (is_over r Possible b) (is_over w Possible b)
-    possible b = record { gives = worse.may b.device }
+    pub possible : (b : Branch) → Le (may_cross r Possible b) (may_cross w Possible b)
+    possible b = record { gives = worse.may_conduct b.device }
 
-    pub gapless : (b : Branch) → Le (is_over r Gapless b) (is_over w Gapless b)
-    gapless b = le-or (not b.isolates) (not b.isolates) (r.may b.device) (w.may b.device)
+    pub gapless : (b : Branch) → Le (may_cross r Gapless b) (may_cross w Gapless b)
+    gapless b = le-or (not b.isolates) (not b.isolates) (r.may_conduct b.device) (w.may_conduct b.device)
         (same (not b.isolates)) (possible b)
 
-    pub inseparable : (b : Branch) → Le (is_over w Inseparable b) (is_over r Inseparable b)
+    pub inseparable : (b : Branch) → Le (may_cross w Inseparable b) (may_cross r Inseparable b)
     inseparable b = same (not b.isolates)
 
-    closed : (b : Branch) → Le (is_over w Closed b) (is_over r Closed b)
-    closed b = record { gives = worse.sure b.device }
+    closed : (b : Branch) → Le (may_cross w Closed b) (may_cross r Closed b)
+    closed b = record { gives = worse.conducts b.device }
 
     -- ---- where walks lead
 
     live-more : (s : Branch) (x : Node) → Le (is_live net r s x) (is_live net w s x)
     live-more s x =
         le-under x.is_source _ _
-        (le-not (list_any (λ c. is_earth_at s x.number c && r.sure c.device) net.branches)
-        (list_any (λ c. is_earth_at s x.number c && w.sure c.device) net.branches)
-        (le-any (λ (c : Branch). is_earth_at s x.number c && w.sure c.device)
-        (λ (c : Branch). is_earth_at s x.number c && r.sure c.device)
-        (λ c. le-under (is_earth_at s x.number c) (w.sure c.device) (r.sure c.device)
-        (record { gives = worse.sure c.device })) net.branches))
+        (le-not (list_any (λ c. is_earth_at s x.number c && r.conducts c.device) net.branches)
+        (list_any (λ c. is_earth_at s x.number c && w.conducts c.device) net.branches)
+        (le-any (λ (c : Branch). is_earth_at s x.number c && w.conducts c.device)
+        (λ (c : Branch). is_earth_at s x.number c && r.conducts c.device)
+        (λ c. le-under (is_earth_at s x.number c) (w.conducts c.device) (r.conducts c.device)
+        (record { gives = worse.conducts c.device })) net.branches))
 
     pub target-more : (s : Branch) (t : Target) (x : Node)
         → Le (is_target net r s t x) (is_target net w s t x)
@@ -132,7 +132,7 @@ module _ (net : Network) where
     target-more s Load x = same (is_terminal_kind x.kind && not x.is_source)
 
     reaches-more : (s : Branch) (route : Route)
-        → ((b : Branch) → Le (is_over r route.over b) (is_over w route.over b))
+        → ((b : Branch) → Le (may_cross r route.over b) (may_cross w route.over b))
         → (a : ℕ) (t : Target) → Le (reaches net r s route a t) (reaches net w s route a t)
     reaches-more s route more a t =
         le-any (λ (x : Node). is_target net r s t x && leads net r route a x.number)
@@ -142,20 +142,20 @@ module _ (net : Network) where
         (target-more s t x) (leads-more r w route more a x.number)) net.nodes
 
     earth-more : (s : Branch) (route : Route)
-        → ((b : Branch) → Le (is_over r route.over b) (is_over w route.over b))
+        → ((b : Branch) → Le (may_cross r route.over b) (may_cross w route.over b))
         → (a : ℕ) → Le (reaches_earth net r s route a) (reaches_earth net w s route a)
     earth-more s route more a =
         le-any (λ (c : Branch). is_earthing c.kind
-        && (not (c.number == s.number) && (r.may c.device && leads net r route a c.one)))
+        && (not (c.number == s.number) && (r.may_conduct c.device && leads net r route a c.one)))
         (λ (c : Branch). is_earthing c.kind
-        && (not (c.number == s.number) && (w.may c.device && leads net w route a c.one)))
+        && (not (c.number == s.number) && (w.may_conduct c.device && leads net w route a c.one)))
         (λ c. le-under (is_earthing c.kind)
-        (not (c.number == s.number) && (r.may c.device && leads net r route a c.one))
-        (not (c.number == s.number) && (w.may c.device && leads net w route a c.one))
-        (le-under (not (c.number == s.number)) (r.may c.device && leads net r route a c.one)
-        (w.may c.device && leads net w route a c.one)
-        (le-and (r.may c.device) (w.may c.device) (leads net r route a c.one)
-        (leads net w route a c.one) (record { gives = worse.may c.device })
+        (not (c.number == s.number) && (r.may_conduct c.device && leads net r route a c.one))
+        (not (c.number == s.number) && (w.may_conduct c.device && leads net w route a c.one))
+        (le-under (not (c.number == s.number)) (r.may_conduct c.device && leads net r route a c.one)
+        (w.may_conduct c.device && leads net w route a c.one)
+        (le-and (r.may_conduct c.device) (w.may_conduct c.device) (leads net r route a c.one)
+        (leads net w route a c.one) (record { gives = worse.may_conduct c.device })
         (leads-more r w route more a c.one)))) net.branches
 
     no-beside : (s e : Branch) → Le (not (has_beside net r s e)) (not (has_beside net w s e))
@@ -170,20 +170,20 @@ module _ (net : Network) where
     earths-more s =
         le-any (λ (x : Node). x.is_source
         && (leads net r (without Gapless s avoid.Nothing) s.one x.number
-        && (r.alive x.dead || not
+        && (r.may_be_live x.dead || not
         (leads net r (without Inseparable s avoid.Nothing) s.one x.number))))
         (λ (x : Node). x.is_source
         && (leads net w (without Gapless s avoid.Nothing) s.one x.number
-        && (w.alive x.dead || not
+        && (w.may_be_live x.dead || not
         (leads net w (without Inseparable s avoid.Nothing) s.one x.number))))
         (λ x. le-under x.is_source _ _
         (le-and (leads net r (without Gapless s avoid.Nothing) s.one x.number)
         (leads net w (without Gapless s avoid.Nothing) s.one x.number) _ _
         (leads-more r w (without Gapless s avoid.Nothing) gapless s.one x.number)
-        (le-or (r.alive x.dead) (w.alive x.dead)
+        (le-or (r.may_be_live x.dead) (w.may_be_live x.dead)
         (not (leads net r (without Inseparable s avoid.Nothing) s.one x.number))
         (not (leads net w (without Inseparable s avoid.Nothing) s.one x.number))
-        (record { gives = worse.alive x.dead })
+        (record { gives = worse.may_be_live x.dead })
         (le-not (leads net r (without Inseparable s avoid.Nothing) s.one x.number)
         (leads net w (without Inseparable s avoid.Nothing) s.one x.number)
         (leads-more w r (without Inseparable s avoid.Nothing) inseparable s.one x.number)))))
@@ -232,7 +232,7 @@ module _ (net : Network) where
 
     module _ (s d : Branch) where
       comes-more : (a b x y : ℕ) (p q : Target)
-          → Le (comes_to net r s d a b x y p q) (comes_to net w s d a b x y p q)
+          → Le (reaches_both net r s d a b x y p q) (reaches_both net w s d a b x y p q)
       comes-more a b x y p q =
           let of_b = without_both Possible s d (avoid.NodesAndEnd a x y) in
           let of_y = without_both Possible s d (avoid.NodesAndEnd a x b) in
@@ -247,9 +247,9 @@ module _ (net : Network) where
           le-under (not (is_terminal net a || is_terminal net x)) _ _
           (le-and (leads net r route a x) (leads net w route a x) _ _
           (leads-more r w route possible a x)
-          (le-or (comes_to net r s d a b x y Live Terminal)
-          (comes_to net w s d a b x y Live Terminal)
-          (comes_to net r s d a b x y Terminal Live) (comes_to net w s d a b x y Terminal Live)
+          (le-or (reaches_both net r s d a b x y Live Terminal)
+          (reaches_both net w s d a b x y Live Terminal)
+          (reaches_both net r s d a b x y Terminal Live) (reaches_both net w s d a b x y Terminal Live)
           (comes-more a b x y Live Terminal) (comes-more a b x y Terminal Live)))
 
       energises-more : (a b x y : ℕ)
@@ -268,7 +268,7 @@ module _ (net : Network) where
           (energises net r s d a b x y) (energises net w s d a b x y)
           (near-more a b x y) (energises-more a b x y))
 
-      pub makes-more : Le (makes net r s d) (makes net w s d)
+      pub makes-more : Le (makes_current net r s d) (makes_current net w s d)
       makes-more =
           le-or (makes_from net r s d s.one s.other d.one d.other)
           (makes_from net w s d s.one s.other d.one d.other) _ _
@@ -300,7 +300,7 @@ module _ (net : Network) where
           (reaches net r s of_y y Terminal) (reaches net w s of_y y Terminal)
           (reaches-more s of_x possible x Live) (reaches-more s of_y possible y Terminal)
 
-      pub leaves-more : Le (leaves net r s d) (leaves net w s d)
+      pub leaves-more : Le (leaves_current net r s d) (leaves_current net w s d)
       leaves-more =
           le-and (lies_beside net r s d s.one s.other || lies_beside net r s d s.other s.one)
           (lies_beside net w s d s.one s.other || lies_beside net w s d s.other s.one)
@@ -317,28 +317,28 @@ module _ (net : Network) where
       exposed-more =
           le-under (is_disconnector d.kind) _ _
           (le-under (not (d.number == s.number)) _ _
-          (le-and (r.moves d.device) (w.moves d.device)
+          (le-and (r.may_move d.device) (w.may_move d.device)
           (not (has_beside net r s d) && not (has_beside net r d s))
           (not (has_beside net w s d) && not (has_beside net w d s))
-          (record { gives = worse.moves d.device })
+          (record { gives = worse.may_move d.device })
           (le-and (not (has_beside net r s d)) (not (has_beside net w s d))
           (not (has_beside net r d s)) (not (has_beside net w d s))
           (no-beside s d) (no-beside d s))))
 
     pub makes-any-more : (s : Branch) → Le (makes_any net r s) (makes_any net w s)
     makes-any-more s =
-        le-any (λ (d : Branch). is_exposed net r s d && makes net r s d)
-        (λ (d : Branch). is_exposed net w s d && makes net w s d)
-        (λ d. le-and (is_exposed net r s d) (is_exposed net w s d) (makes net r s d)
-        (makes net w s d)
+        le-any (λ (d : Branch). is_exposed net r s d && makes_current net r s d)
+        (λ (d : Branch). is_exposed net w s d && makes_current net w s d)
+        (λ d. le-and (is_exposed net r s d) (is_exposed net w s d) (makes_current net r s d)
+        (makes_current net w s d)
         (exposed-more s d) (makes-more s d)) net.branches
 
     pub leaves-any-more : (s : Branch) → Le (leaves_any net r s) (leaves_any net w s)
     leaves-any-more s =
-        le-any (λ (d : Branch). is_exposed net r s d && leaves net r s d)
-        (λ (d : Branch). is_exposed net w s d && leaves net w s d)
-        (λ d. le-and (is_exposed net r s d) (is_exposed net w s d) (leaves net r s d)
-        (leaves net w s d)
+        le-any (λ (d : Branch). is_exposed net r s d && leaves_current net r s d)
+        (λ (d : Branch). is_exposed net w s d && leaves_current net w s d)
+        (λ d. le-and (is_exposed net r s d) (is_exposed net w s d) (leaves_current net r s d)
+        (leaves_current net w s d)
         (exposed-more s d) (leaves-more s d)) net.branches
 
     -- ---- an operation

@@ -11,7 +11,7 @@ use Rattle.bay_diagram.specs.Joined.{relabel}
 use Rattle.bay_diagram.specs.Reading.{Reading}
 use Rattle.bay_diagram.specs.Shown.{is_step, is_through, is_walk, leads_between, leaves_out, sides_from}
 use Rattle.bay_diagram.specs.Network.{is_earthing}
-use Rattle.bay_diagram.specs.Walks.{is_free, is_over, joined_in, label_in, label_next, label_within, leads, may_lead_over}
+use Rattle.bay_diagram.specs.Walks.{is_free, may_cross, joined_in, label_in, label_next, label_within, leads, may_lead_over}
 use Rattle.bay_diagram.proofs.WalkLemmas.{label-more}
 
 -- ---- truth values
@@ -69,7 +69,7 @@ differ x y h apart = grind arith
 -- how a branch joins two nodes that were apart: it may be led over, and its one node is joined to
 -- the one, its other node to the other
 record Joins (label : ℕ → ℕ) (over : Bool) (b : Branch) (x y : ℕ) : Type 0 where
-  may : over ≡ true
+  may_conduct : over ≡ true
   near : (label x == label b.one) ≡ true → label b.other ≡ label y
   far : (label x == label b.one) ≡ false → label x ≡ label b.other
   back : (label x == label b.one) ≡ false → label b.one ≡ label y
@@ -78,7 +78,7 @@ joins-by : (t : Bool) (label : ℕ → ℕ) (b : Branch) (x y : ℕ)
     → label_next t label b x ≡ label_next t label b y → (label x == label y) ≡ false
     → Joins label t b x y
 joins-by true label b x y h apart = record {
-  may = refl;
+  may_conduct = refl;
   near = relabel-near (label b.one) (label b.other) (label x) (label y) h apart;
   far = relabel-far (label b.one) (label b.other) (label x) (label y) h apart;
   back = relabel-back (label b.one) (label b.other) (label x) (label y) h apart;
@@ -117,12 +117,12 @@ module _ (net : Network) (over : Branch → Bool) where
       → over (get_or net.branches i d) ≡ true → (x y : ℕ)
       → leads_between (get_or net.branches i d) x y ≡ true
       → is_step net over x (record { branch = (get_or net.branches i d).number; node = y }) ≡ true
-  step-over i d within may x y leads =
+  step-over i d within may_conduct x y leads =
       let b = get_or net.branches i d in
       any-at (λ (c : Branch). c.number == b.number && (over c && leads_between c x y))
       net.branches i d within
       (and-true (b.number == b.number) _ (same-true b.number)
-      (and-true (over b) (leads_between b x y) may leads))
+      (and-true (over b) (leads_between b x y) may_conduct leads))
 
   -- a walk, a step and a walk are a walk
   pub walk-append : (ends : ℕ → Bool) (m : ℕ) (step : Step) (rest : List Step)
@@ -166,13 +166,13 @@ module _ (net : Network) (r : Reading) (route : Route) (last : ℕ) (d : Branch)
   sides-of true is joins = record {
     near = same-is _ _ is;
     far = joins.near is;
-    step = step-over net (may_lead_over net r route) last d within joins.may _ _
+    step = step-over net (may_lead_over net r route) last d within joins.may_conduct _ _
         (between-forth (get_or net.branches last d));
   }
   sides-of false is joins = record {
     near = joins.far is;
     far = joins.back is;
-    step = step-over net (may_lead_over net r route) last d within joins.may _ _
+    step = step-over net (may_lead_over net r route) last d within joins.may_conduct _ _
         (between-back (get_or net.branches last d));
   }
 
@@ -210,7 +210,7 @@ apart-of m n a b out free = grind arith
 pub free-apart : (net : Network) (r : Reading) (route : Route) (n : ℕ) → leaves_out route n ≡ true
     → (b : Branch) → may_lead_over net r route b ≡ true → (b.number == n) ≡ false
 free-apart net r route n out b h =
-    let free = (and_parts (is_over r route.over b) (is_free net route b) h).1 in
+    let free = (and_parts (may_cross r route.over b) (is_free net route b) h).1 in
     let rest = (and_parts (not (is_earthing b.kind)) _ free).1 in
     let kept =
     (and_parts (not (b.number == route.without || b.number == route.also_without)) _ rest).0 in

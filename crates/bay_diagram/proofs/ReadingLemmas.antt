@@ -4,7 +4,7 @@ use Rattle.bay_base.specs.declared.position.Dbpos.{Dbpos}
 use Rattle.bay_base.specs.declared.position.Dbpos.TheVariants.{Intermediate, Off, On, Bad}
 use Rattle.bay_diagram.specs.declared.network.Device.{Device}
 use Rattle.bay_diagram.specs.declared.network.Device.TheVariants.{Own, Other}
-use Rattle.bay_diagram.specs.Reading.{Allowed, IsAllowed, IsWorse, ReadingsBound, best_of, is_closed, is_open, may_be_closed, may_be_neither, may_be_open, may_say, reading_of, is_true_input, worst_of}
+use Rattle.bay_diagram.specs.Reading.{Allowed, IsAllowed, IsWorse, ReadingsBound, best_of, is_closed, is_open, may_be_closed, may_be_neither, may_be_open, may_have_value, reading_of, is_true_input, worst_of}
 use Rattle.bay_base.specs.Positions.{same_position}
 use Rattle.bay_audit_rules.specs.Process.{Process}
 
@@ -47,7 +47,7 @@ both-true true false c d f g h = cc
 both-true false b c d f g h = cc
 
 said-true : (a : Allowed) (p : Process) → IsAllowed a p → (i : Option ℕ)
-    → is_true_input p i ≡ true → may_say a i true ≡ true
+    → is_true_input p i ≡ true → may_have_value a i true ≡ true
 said-true a p is None h = cc
 said-true a p is (Some k) h = subst (λ (v : Bool). a.input k v ≡ true) h (is.inputs k)
 
@@ -60,7 +60,7 @@ not-true true h = cc
 not-true false h = refl
 
 said-false : (a : Allowed) (p : Process) → IsAllowed a p → (i : Option ℕ)
-    → not (is_true_input p i) ≡ true → may_say a i false ≡ true
+    → not (is_true_input p i) ≡ true → may_have_value a i false ≡ true
 said-false a p is None h = refl
 said-false a p is (Some k) h =
     subst (λ (v : Bool). a.input k v ≡ true) (not-true (p.input k) h) (is.inputs k)
@@ -81,25 +81,25 @@ open-allowed : (a : Allowed) (p : Process) → IsAllowed a p → (d : Device)
     → is_open p d ≡ true → may_be_open a d ≡ true
 open-allowed a p is (Own k) h = own-open (a.position k) (p.position k) (is.positions k) h
 open-allowed a p is (Other closed opened) h =
-    both-true (is_true_input p opened) (not (is_true_input p closed)) (may_say a opened true)
-    (may_say a closed false)
+    both-true (is_true_input p opened) (not (is_true_input p closed)) (may_have_value a opened true)
+    (may_have_value a closed false)
     (said-true a p is opened) (said-false a p is closed) h
 
 closed-allowed : (a : Allowed) (p : Process) → IsAllowed a p → (d : Device)
     → is_closed p d ≡ true → may_be_closed a d ≡ true
 closed-allowed a p is (Own k) h = own-closed (a.position k) (p.position k) (is.positions k) h
 closed-allowed a p is (Other closed opened) h =
-    both-true (is_true_input p closed) (not (is_true_input p opened)) (may_say a closed true)
-    (may_say a opened false)
+    both-true (is_true_input p closed) (not (is_true_input p opened)) (may_have_value a closed true)
+    (may_have_value a opened false)
     (said-true a p is closed) (said-false a p is opened) h
 
 neither-allowed : (a : Allowed) (p : Process) → IsAllowed a p → (d : Device)
     → (is_open p d || is_closed p d) ≡ false → may_be_neither a d ≡ true
 neither-allowed a p is (Own k) h = own-neither (a.position k) (p.position k) (is.positions k) h
 neither-allowed a p is (Other closed opened) h =
-    neither-of (is_true_input p closed) (is_true_input p opened) (may_say a closed true)
-    (may_say a closed false)
-    (may_say a opened true) (may_say a opened false)
+    neither-of (is_true_input p closed) (is_true_input p opened) (may_have_value a closed true)
+    (may_have_value a closed false)
+    (may_have_value a opened true) (may_have_value a opened false)
     (said-true a p is closed) (said-false a p is closed)
     (said-true a p is opened) (said-false a p is opened) h
 
@@ -139,23 +139,23 @@ best-alive = best-may
 pub worst-bounds : (a : Allowed) (p : Process) → IsAllowed a p
     → IsWorse (reading_of p) (worst_of a)
 worst-bounds a p is = record {
-  may = λ d. worst-may (is_open p d) (is_closed p d) (may_be_closed a d) (may_be_neither a d)
+  may_conduct = λ d. worst-may (is_open p d) (is_closed p d) (may_be_closed a d) (may_be_neither a d)
       (closed-allowed a p is d) (neither-allowed a p is d);
-  sure = λ d. worst-sure (is_open p d) (is_closed p d) (may_be_open a d) (may_be_neither a d)
+  conducts = λ d. worst-sure (is_open p d) (is_closed p d) (may_be_open a d) (may_be_neither a d)
       (open-allowed a p is d) (neither-allowed a p is d);
-  moves = λ d. worst-moves (is_open p d) (is_closed p d) (may_be_neither a d)
+  may_move = λ d. worst-moves (is_open p d) (is_closed p d) (may_be_neither a d)
       (neither-allowed a p is d);
-  alive = λ i. said-false a p is i;
+  may_be_live = λ i. said-false a p is i;
 }
 
 pub best-bounds : (a : Allowed) (p : Process) → IsAllowed a p
     → IsWorse (best_of a) (reading_of p)
 best-bounds a p is = record {
-  may = λ d. best-may (is_open p d) (may_be_open a d) (open-allowed a p is d);
-  sure = λ d. closed-allowed a p is d;
-  moves = λ d. best-moves (is_open p d) (is_closed p d) (may_be_open a d) (may_be_closed a d)
+  may_conduct = λ d. best-may (is_open p d) (may_be_open a d) (open-allowed a p is d);
+  conducts = λ d. closed-allowed a p is d;
+  may_move = λ d. best-moves (is_open p d) (is_closed p d) (may_be_open a d) (may_be_closed a d)
       (open-allowed a p is d) (closed-allowed a p is d);
-  alive = λ i. best-alive (is_true_input p i) (may_say a i true) (said-true a p is i);
+  may_be_live = λ i. best-alive (is_true_input p i) (may_have_value a i true) (said-true a p is i);
 }
 
 pub readings-bound : ReadingsBound

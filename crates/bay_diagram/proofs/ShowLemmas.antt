@@ -15,7 +15,7 @@ use Rattle.bay_diagram.specs.declared.shown.Step.{Step}
 use Rattle.bay_diagram.specs.declared.walk.Avoid.{Avoid}
 use Rattle.bay_diagram.specs.declared.walk.Avoid.TheVariants as avoid
 use Rattle.bay_diagram.specs.declared.walk.Over.TheVariants.{Possible, Gapless}
-use Rattle.bay_diagram.specs.Hazards.{endangers, is_exposed, is_hazard, leaves, lies_beside, makes, makes_from, without, without_both}
+use Rattle.bay_diagram.specs.Hazards.{endangers, is_exposed, is_hazard, leaves_current, lies_beside, makes_current, makes_from, without, without_both}
 use Rattle.bay_diagram.specs.Network.{is_own, is_transformer}
 use Rattle.bay_diagram.specs.Reading.{Reading}
 use Rattle.bay_diagram.specs.Shown.{IsEndOf, IsFound, IsPassShown, IsShownAt, IsShownBy, IsTargetOf, IsWalkThrough, can_be, ends_at_earth, ends_current, is_of_kind, is_shown, is_target_at, is_through, is_walk, shown_by, shows_break, shows_bridge, shows_by, shows_chain, shows_feed, shows_leave, shows_make, shows_make_from, shows_side}
@@ -106,7 +106,7 @@ module _ (net : Network) (r : Reading) (s : Branch) where
       → makes_from net r s d s.other s.one d.one d.other ≡ false
       → IsFound (λ walk. shows_make_from net r s d s.other s.one d.other d.one walk ≡ true)
       (makes_from net r s d s.other s.one d.other d.one) o
-      → IsFound (λ walk. shows_make net r s d walk ≡ true) (makes net r s d) o
+      → IsFound (λ walk. shows_make net r s d walk ≡ true) (makes_current net r s d) o
   make-last d None one two three four =
       or-none (makes_from net r s d s.one s.other d.one d.other) _ one
       (or-none (makes_from net r s d s.one s.other d.other d.one) _ two
@@ -117,7 +117,7 @@ module _ (net : Network) (r : Reading) (s : Branch) where
       (or-right (shows_make_from net r s d s.other s.one d.one d.other walk) _ four))
 
   pub makes-shown : (d : Branch)
-      → find (λ e. is_exposed net r s e && makes net r s e) net.branches ≡ Some d
+      → find (λ e. is_exposed net r s e && makes_current net r s e) net.branches ≡ Some d
       → (walk : ShownWalk) → shows_make net r s d walk ≡ true
       → IsShownBy net r s Makes (record {
         kind = Makes;
@@ -130,7 +130,7 @@ module _ (net : Network) (r : Reading) (s : Branch) where
   makes-shown d h walk shows = record {
     switch = refl;
     kind = refl;
-    shows = find-any (λ (e : Branch). is_exposed net r s e && makes net r s e)
+    shows = find-any (λ (e : Branch). is_exposed net r s e && makes_current net r s e)
         (λ (e : Branch). e.number == d.number
         && (is_exposed net r s e && shows_make net r s e walk))
         net.branches d h
@@ -139,16 +139,16 @@ module _ (net : Network) (r : Reading) (s : Branch) where
   }
 
   pub no-makes : (d : Branch)
-      → find (λ e. is_exposed net r s e && makes net r s e) net.branches ≡ Some d
-      → makes net r s d ≡ false → (b : Bool) → b ≡ false
+      → find (λ e. is_exposed net r s e && makes_current net r s e) net.branches ≡ Some d
+      → makes_current net r s d ≡ false → (b : Bool) → b ≡ false
   no-makes d h none b =
-      opposed (makes net r s d) b
+      opposed (makes_current net r s d) b
       (and_parts (is_exposed net r s d) _
-      (find-passes (λ (e : Branch). is_exposed net r s e && makes net r s e) net.branches d h)).1
+      (find-passes (λ (e : Branch). is_exposed net r s e && makes_current net r s e) net.branches d h)).1
       none
 
   pub leaves-shown : (d : Branch)
-      → find (λ e. is_exposed net r s e && leaves net r s e) net.branches ≡ Some d
+      → find (λ e. is_exposed net r s e && leaves_current net r s e) net.branches ≡ Some d
       → (beside walk : ShownWalk)
       → (shows_side net r s d s.one s.other beside || shows_side net r s d s.other s.one beside)
       ≡ true
@@ -164,7 +164,7 @@ module _ (net : Network) (r : Reading) (s : Branch) where
   leaves-shown d h beside walk side feed = record {
     switch = refl;
     kind = refl;
-    shows = find-any (λ (e : Branch). is_exposed net r s e && leaves net r s e)
+    shows = find-any (λ (e : Branch). is_exposed net r s e && leaves_current net r s e)
         (λ (e : Branch). e.number == d.number
         && (is_exposed net r s e && shows_leave net r s e (record {
           kind = Leaves;
@@ -181,11 +181,11 @@ module _ (net : Network) (r : Reading) (s : Branch) where
   }
 
   pub left-parts : (d : Branch)
-      → find (λ e. is_exposed net r s e && leaves net r s e) net.branches ≡ Some d
-      → leaves net r s d ≡ true
+      → find (λ e. is_exposed net r s e && leaves_current net r s e) net.branches ≡ Some d
+      → leaves_current net r s d ≡ true
   left-parts d h =
       (and_parts (is_exposed net r s d) _
-      (find-passes (λ (e : Branch). is_exposed net r s e && leaves net r s e) net.branches d h)).1
+      (find-passes (λ (e : Branch). is_exposed net r s e && leaves_current net r s e) net.branches d h)).1
 
   pub side-shown : (d : Branch) (a b : ℕ) (walk : ShownWalk)
       → lies_beside net r s d a b ≡ true

@@ -21,7 +21,7 @@ use Rattle.bay_diagram.specs.Laws.{ShownBest, ShownGrows}
 use Rattle.bay_diagram.specs.Network.{is_earthing, is_own, is_source, is_terminal, is_transformer}
 use Rattle.bay_diagram.specs.Reading.{IsWorse, Reading}
 use Rattle.bay_diagram.specs.Shown.{can_be, ends_at_earth, ends_current, is_number, is_of_kind, is_shown, is_step, is_target_at, is_through, is_unearthable, is_walk, leads_between, may_be_earthed_by, shows_beside, shows_break, shows_bridge, shows_by, shows_chain, shows_earths, shows_energising, shows_feed, shows_leave, shows_make, shows_make_from, shows_near, shows_side, shows_with}
-use Rattle.bay_diagram.specs.Walks.{is_free, is_over, leads, may_lead_over}
+use Rattle.bay_diagram.specs.Walks.{is_free, may_cross, leads, may_lead_over}
 use Rattle.bay_diagram.proofs.GrowthLemmas.{Le, bridges-more, breaks-more, earths-more, exposed-more, gapless, inseparable, le-and, le-any, le-not, le-or, le-under, leads-more, leaves-any-more, makes-any-more, possible, same, target-more}
 use Rattle.bay_diagram.proofs.ReadingLemmas.{best-bounds}
 
@@ -67,16 +67,16 @@ module _ (net : Network) (p q : Branch → Bool) (more : (b : Branch) → Le (p 
 
 module _ (net : Network) (r w : Reading) (worse : IsWorse r w) where
   over-more : (route : Route)
-      → ((b : Branch) → Le (is_over r route.over b) (is_over w route.over b))
+      → ((b : Branch) → Le (may_cross r route.over b) (may_cross w route.over b))
       → (b : Branch) → Le (may_lead_over net r route b) (may_lead_over net w route b)
   over-more route more b =
-      le-and (is_over r route.over b) (is_over w route.over b) (is_free net route b)
+      le-and (may_cross r route.over b) (may_cross w route.over b) (is_free net route b)
       (is_free net route b) (more b) (same (is_free net route b))
 
   -- a walk of two routes
   pass-more : (of_a of_b : Route)
-      → ((b : Branch) → Le (is_over r of_a.over b) (is_over w of_a.over b))
-      → ((b : Branch) → Le (is_over r of_b.over b) (is_over w of_b.over b))
+      → ((b : Branch) → Le (may_cross r of_a.over b) (may_cross w of_a.over b))
+      → ((b : Branch) → Le (may_cross r of_b.over b) (may_cross w of_b.over b))
       → (s : Branch) (a b : ℕ) (ends others : ℕ → Bool) → ((n : ℕ) → Le (ends n) (others n))
       → (walk : ShownWalk)
       → Le (is_through net (may_lead_over net r of_a) s a b
@@ -104,18 +104,18 @@ module _ (net : Network) (r w : Reading) (worse : IsWorse r w) where
       → Le (may_be_earthed_by net r s earth n) (may_be_earthed_by net w s earth n)
   earthed-by-more s earth n =
       le-any (λ (c : Branch). c.number == earth && (is_earthing c.kind
-      && (not (c.number == s.number) && (r.may c.device && c.one == n))))
+      && (not (c.number == s.number) && (r.may_conduct c.device && c.one == n))))
       (λ (c : Branch). c.number == earth && (is_earthing c.kind
-      && (not (c.number == s.number) && (w.may c.device && c.one == n))))
+      && (not (c.number == s.number) && (w.may_conduct c.device && c.one == n))))
       (λ c. le-under (c.number == earth)
-      (is_earthing c.kind && (not (c.number == s.number) && (r.may c.device && c.one == n)))
-      (is_earthing c.kind && (not (c.number == s.number) && (w.may c.device && c.one == n)))
-      (le-under (is_earthing c.kind) (not (c.number == s.number) && (r.may c.device && c.one == n))
-      (not (c.number == s.number) && (w.may c.device && c.one == n))
-      (le-under (not (c.number == s.number)) (r.may c.device && c.one == n)
-      (w.may c.device && c.one == n)
-      (le-and (r.may c.device) (w.may c.device) (c.one == n) (c.one == n)
-      (record { gives = worse.may c.device }) (same (c.one == n)))))) net.branches
+      (is_earthing c.kind && (not (c.number == s.number) && (r.may_conduct c.device && c.one == n)))
+      (is_earthing c.kind && (not (c.number == s.number) && (w.may_conduct c.device && c.one == n)))
+      (le-under (is_earthing c.kind) (not (c.number == s.number) && (r.may_conduct c.device && c.one == n))
+      (not (c.number == s.number) && (w.may_conduct c.device && c.one == n))
+      (le-under (not (c.number == s.number)) (r.may_conduct c.device && c.one == n)
+      (w.may_conduct c.device && c.one == n)
+      (le-and (r.may_conduct c.device) (w.may_conduct c.device) (c.one == n) (c.one == n)
+      (record { gives = worse.may_conduct c.device }) (same (c.one == n)))))) net.branches
 
   at-earth-more : (s : Branch) (earth : Option ℕ) (n : ℕ)
       → Le (ends_at_earth net r s earth n) (ends_at_earth net w s earth n)
@@ -130,21 +130,21 @@ module _ (net : Network) (r w : Reading) (worse : IsWorse r w) where
   unearthable-more : (s : Branch) (n : ℕ)
       → Le (is_unearthable net r s n) (is_unearthable net w s n)
   unearthable-more s n =
-      le-any (λ (x : Node). x.number == n && (x.is_source && (r.alive x.dead
+      le-any (λ (x : Node). x.number == n && (x.is_source && (r.may_be_live x.dead
       || not (leads net r (without Inseparable s avoid.Nothing) s.one x.number))))
-      (λ (x : Node). x.number == n && (x.is_source && (w.alive x.dead
+      (λ (x : Node). x.number == n && (x.is_source && (w.may_be_live x.dead
       || not (leads net w (without Inseparable s avoid.Nothing) s.one x.number))))
-      (λ x. le-under (x.number == n) (x.is_source && (r.alive x.dead
+      (λ x. le-under (x.number == n) (x.is_source && (r.may_be_live x.dead
       || not (leads net r (without Inseparable s avoid.Nothing) s.one x.number)))
-      (x.is_source && (w.alive x.dead
+      (x.is_source && (w.may_be_live x.dead
       || not (leads net w (without Inseparable s avoid.Nothing) s.one x.number)))
       (le-under x.is_source
-      (r.alive x.dead || not (leads net r (without Inseparable s avoid.Nothing) s.one x.number))
-      (w.alive x.dead || not (leads net w (without Inseparable s avoid.Nothing) s.one x.number))
-      (le-or (r.alive x.dead) (w.alive x.dead)
+      (r.may_be_live x.dead || not (leads net r (without Inseparable s avoid.Nothing) s.one x.number))
+      (w.may_be_live x.dead || not (leads net w (without Inseparable s avoid.Nothing) s.one x.number))
+      (le-or (r.may_be_live x.dead) (w.may_be_live x.dead)
       (not (leads net r (without Inseparable s avoid.Nothing) s.one x.number))
       (not (leads net w (without Inseparable s avoid.Nothing) s.one x.number))
-      (record { gives = worse.alive x.dead })
+      (record { gives = worse.may_be_live x.dead })
       (le-not (leads net r (without Inseparable s avoid.Nothing) s.one x.number)
       (leads net w (without Inseparable s avoid.Nothing) s.one x.number)
       (leads-more net w r (without Inseparable s avoid.Nothing) (inseparable net r w worse)

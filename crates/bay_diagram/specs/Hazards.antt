@@ -39,7 +39,7 @@ is_earth_at s n c = is_earthing c.kind && (not (c.number == s.number) && c.one =
 
 -- an earthing switch other than s surely earths the node
 abbrev pub is_earthed : Network → Reading → Branch → ℕ → Bool
-is_earthed net r s n = list_any (λ c. is_earth_at s n c && r.sure c.device) net.branches
+is_earthed net r s n = list_any (λ c. is_earth_at s n c && r.conducts c.device) net.branches
 
 -- a source is live unless an earthing switch at its own node is surely closed
 abbrev pub is_live : Network → Reading → Branch → Node → Bool
@@ -64,7 +64,7 @@ reaches net r s route a target = reaches_by net r s (leads net r route) a target
 abbrev pub reaches_earth_by : Network → Reading → Branch → (ℕ → ℕ → Bool) → ℕ → Bool
 reaches_earth_by net r s joins a =
     list_any (λ c. is_earthing c.kind
-    && (not (c.number == s.number) && (r.may c.device && joins a c.one))) net.branches
+    && (not (c.number == s.number) && (r.may_conduct c.device && joins a c.one))) net.branches
 
 -- a walk of the route leads from the node a to a node that an earthing switch other than s may
 -- earth
@@ -85,7 +85,7 @@ has_beside net r s e =
 -- the source is dead.
 abbrev pub earths_by : Network → Reading → Branch → (ℕ → ℕ → Bool) → (ℕ → ℕ → Bool) → Bool
 earths_by net r s gapless inseparable = list_any (λ x. x.is_source
-    && (gapless s.one x.number && (r.alive x.dead || not (inseparable s.one x.number)))) net.nodes
+    && (gapless s.one x.number && (r.may_be_live x.dead || not (inseparable s.one x.number)))) net.nodes
 
 -- the earthing switch would close onto a node that is not isolated
 abbrev pub earths : Network → Reading → Branch → Bool
@@ -126,8 +126,8 @@ breaks net r s =
 -- A: s would close the path  p .. b - s - a .. x - d - y .. q  of a current through d. Either the
 -- path passes no terminal between a and x, and one of p, q is live and the other a terminal; or it
 -- passes no source there, p is live, and q is a terminal that is no source: s energises it.
-abbrev pub comes_to : Network → Reading → Branch → Branch → ℕ → ℕ → ℕ → ℕ → Target → Target → Bool
-comes_to net r s d a b x y p q =
+abbrev pub reaches_both : Network → Reading → Branch → Branch → ℕ → ℕ → ℕ → ℕ → Target → Target → Bool
+reaches_both net r s d a b x y p q =
     reaches net r s (without_both Possible s d (avoid.NodesAndEnd a x y)) b p
     && reaches net r s (without_both Possible s d (avoid.NodesAndEnd a x b)) y q
 
@@ -136,7 +136,7 @@ abbrev pub makes_near : Network → Reading → Branch → Branch → ℕ → �
 makes_near net r s d a b x y =
     not (is_terminal net a || is_terminal net x)
     && (leads net r (without_both Possible s d (avoid.TerminalsAndNodes b y)) a x
-    && (comes_to net r s d a b x y Live Terminal || comes_to net r s d a b x y Terminal Live))
+    && (reaches_both net r s d a b x y Live Terminal || reaches_both net r s d a b x y Terminal Live))
 
 -- s would energise a terminal that is no source by a path through d, which passes no source between
 -- a and x
@@ -144,7 +144,7 @@ abbrev pub energises : Network → Reading → Branch → Branch → ℕ → ℕ
 energises net r s d a b x y =
     not (is_source net a || is_source net x)
     && (leads net r (without_both Possible s d (avoid.SourcesAndNodes b y)) a x
-    && comes_to net r s d a b x y Live Load)
+    && reaches_both net r s d a b x y Live Load)
 
 -- s would close a path of a current through d, with the sides a and x facing each other
 abbrev pub makes_from : Network → Reading → Branch → Branch → ℕ → ℕ → ℕ → ℕ → Bool
@@ -153,8 +153,8 @@ makes_from net r s d a b x y =
     && (makes_near net r s d a b x y || energises net r s d a b x y)
 
 -- s would close a path of a current through d, whichever sides of the two face each other
-abbrev pub makes : Network → Reading → Branch → Branch → Bool
-makes net r s d =
+abbrev pub makes_current : Network → Reading → Branch → Branch → Bool
+makes_current net r s d =
     makes_from net r s d s.one s.other d.one d.other
     || (makes_from net r s d s.one s.other d.other d.one
     || (makes_from net r s d s.other s.one d.one d.other
@@ -177,8 +177,8 @@ feeds_from net r s d x y =
     && reaches net r s (without_both Possible s d (avoid.Node x)) y Terminal
 
 -- s lies on a path beside d, and without s a current can flow through d
-abbrev pub leaves : Network → Reading → Branch → Branch → Bool
-leaves net r s d =
+abbrev pub leaves_current : Network → Reading → Branch → Branch → Bool
+leaves_current net r s d =
     (lies_beside net r s d s.one s.other || lies_beside net r s d s.other s.one)
     && (feeds_from net r s d d.one d.other || feeds_from net r s d d.other d.one)
 
@@ -186,16 +186,16 @@ leaves net r s d =
 -- stays closed
 abbrev pub is_exposed : Network → Reading → Branch → Branch → Bool
 is_exposed net r s d =
-    is_disconnector d.kind && (not (d.number == s.number) && (r.moves d.device
+    is_disconnector d.kind && (not (d.number == s.number) && (r.may_move d.device
     && (not (has_beside net r s d) && not (has_beside net r d s))))
 
 -- s would make a current through a disconnector that may be on its way
 abbrev pub makes_any : Network → Reading → Branch → Bool
-makes_any net r s = list_any (λ d. is_exposed net r s d && makes net r s d) net.branches
+makes_any net r s = list_any (λ d. is_exposed net r s d && makes_current net r s d) net.branches
 
 -- s would take away a path beside a disconnector that may be on its way
 abbrev pub leaves_any : Network → Reading → Branch → Bool
-leaves_any net r s = list_any (λ d. is_exposed net r s d && leaves net r s d) net.branches
+leaves_any net r s = list_any (λ d. is_exposed net r s d && leaves_current net r s d) net.branches
 
 -- ---- an operation
 

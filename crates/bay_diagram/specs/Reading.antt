@@ -15,20 +15,20 @@ use Rattle.bay_audit_rules.specs.Process.{Process}
 -- What is known of a switch, by its device, and of a source, by the input that shows it dead.
 pub record Reading : Type 0 where
   -- it may be closed: it is not known to be open
-  pub may : Device → Bool
+  pub may_conduct : Device → Bool
   -- it is known to be closed
-  pub sure : Device → Bool
+  pub conducts : Device → Bool
   -- it may be on its way: it is not known to be in an end position
-  pub moves : Device → Bool
+  pub may_move : Device → Bool
   -- it may be live: it is not known to be dead
-  pub alive : Option ℕ → Bool
+  pub may_be_live : Option ℕ → Bool
 
 -- In the second less is known, or as much.
 pub record IsWorse (r worse : Reading) : Type 0 where
-  pub may : (d : Device) → r.may d ≡ true → worse.may d ≡ true
-  pub sure : (d : Device) → worse.sure d ≡ true → r.sure d ≡ true
-  pub moves : (d : Device) → r.moves d ≡ true → worse.moves d ≡ true
-  pub alive : (i : Option ℕ) → r.alive i ≡ true → worse.alive i ≡ true
+  pub may_conduct : (d : Device) → r.may_conduct d ≡ true → worse.may_conduct d ≡ true
+  pub conducts : (d : Device) → worse.conducts d ≡ true → r.conducts d ≡ true
+  pub may_move : (d : Device) → r.may_move d ≡ true → worse.may_move d ≡ true
+  pub may_be_live : (i : Option ℕ) → r.may_be_live i ≡ true → worse.may_be_live i ≡ true
 
 -- ---- of a process
 
@@ -51,10 +51,10 @@ is_closed p (Other closed opened) = is_true_input p closed && not (is_true_input
 -- what is known from the values that a process reports
 abbrev pub reading_of : Process → Reading
 reading_of p = record {
-  may = λ d. not (is_open p d);
-  sure = λ d. is_closed p d;
-  moves = λ d. not (is_open p d || is_closed p d);
-  alive = λ i. not (is_true_input p i);
+  may_conduct = λ d. not (is_open p d);
+  conducts = λ d. is_closed p d;
+  may_move = λ d. not (is_open p d || is_closed p d);
+  may_be_live = λ i. not (is_true_input p i);
 }
 
 -- ---- of a case
@@ -76,43 +76,43 @@ pub record IsOnly (a : Allowed) (p : Process) : Type 0 where
   pub inputs : (k : ℕ) (value : Bool) → a.input k value ≡ true → p.input k ≡ value
 
 -- the input may have the value
-abbrev pub may_say : Allowed → Option ℕ → Bool → Bool
-may_say a None value = not value
-may_say a (Some k) value = a.input k value
+abbrev pub may_have_value : Allowed → Option ℕ → Bool → Bool
+may_have_value a None value = not value
+may_have_value a (Some k) value = a.input k value
 
 -- the switch may be known to be open
 abbrev pub may_be_open : Allowed → Device → Bool
 may_be_open a (Own k) = a.position k Off
-may_be_open a (Other closed opened) = may_say a opened true && may_say a closed false
+may_be_open a (Other closed opened) = may_have_value a opened true && may_have_value a closed false
 
 -- the switch may be known to be closed
 abbrev pub may_be_closed : Allowed → Device → Bool
 may_be_closed a (Own k) = a.position k On
-may_be_closed a (Other closed opened) = may_say a closed true && may_say a opened false
+may_be_closed a (Other closed opened) = may_have_value a closed true && may_have_value a opened false
 
 -- the switch may be known neither to be open nor to be closed
 abbrev pub may_be_neither : Allowed → Device → Bool
 may_be_neither a (Own k) = a.position k Intermediate || a.position k Bad
 may_be_neither a (Other closed opened) =
-    may_say a closed true && may_say a opened true
-    || may_say a closed false && may_say a opened false
+    may_have_value a closed true && may_have_value a opened true
+    || may_have_value a closed false && may_have_value a opened false
 
 -- the worst of what can be known in a case
 abbrev pub worst_of : Allowed → Reading
 worst_of a = record {
-  may = λ d. may_be_closed a d || may_be_neither a d;
-  sure = λ d. not (may_be_open a d || may_be_neither a d);
-  moves = λ d. may_be_neither a d;
-  alive = λ i. may_say a i false;
+  may_conduct = λ d. may_be_closed a d || may_be_neither a d;
+  conducts = λ d. not (may_be_open a d || may_be_neither a d);
+  may_move = λ d. may_be_neither a d;
+  may_be_live = λ i. may_have_value a i false;
 }
 
 -- the best of what can be known in a case
 abbrev pub best_of : Allowed → Reading
 best_of a = record {
-  may = λ d. not (may_be_open a d);
-  sure = λ d. may_be_closed a d;
-  moves = λ d. not (may_be_open a d || may_be_closed a d);
-  alive = λ i. not (may_say a i true);
+  may_conduct = λ d. not (may_be_open a d);
+  conducts = λ d. may_be_closed a d;
+  may_move = λ d. not (may_be_open a d || may_be_closed a d);
+  may_be_live = λ i. not (may_have_value a i true);
 }
 
 -- ---- as the program has it

@@ -76,7 +76,7 @@ is_target_at net r s target n =
 abbrev pub may_be_earthed_by : Network → Reading → Branch → ℕ → ℕ → Bool
 may_be_earthed_by net r s earth n =
     list_any (λ c. c.number == earth && (is_earthing c.kind
-    && (not (c.number == s.number) && (r.may c.device && c.one == n)))) net.branches
+    && (not (c.number == s.number) && (r.may_conduct c.device && c.one == n)))) net.branches
 
 -- the node n may be earthed by the earthing switch that is shown
 abbrev pub ends_at_earth : Network → Reading → Branch → Option ℕ → ℕ → Bool
@@ -95,7 +95,7 @@ ends_current net r s (Some earth) n = may_be_earthed_by net r s earth n
 -- parted
 abbrev pub is_unearthable : Network → Reading → Branch → ℕ → Bool
 is_unearthable net r s n =
-    list_any (λ x. x.number == n && (x.is_source && (r.alive x.dead
+    list_any (λ x. x.number == n && (x.is_source && (r.may_be_live x.dead
     || not (leads net r (without Inseparable s avoid.Nothing) s.one x.number)))) net.nodes
 
 -- E: from a source without a gap to the node of the earthing switch

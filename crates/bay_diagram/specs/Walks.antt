@@ -13,11 +13,11 @@ use Rattle.bay_diagram.specs.Reading.{Reading}
 
 -- a walk may lead over the branch: it may be closed, is surely closed, is no isolating gap, or
 -- never is one
-abbrev pub is_over : Reading → Over → Branch → Bool
-is_over r Possible b = r.may b.device
-is_over r Closed b = r.sure b.device
-is_over r Gapless b = not b.isolates || r.may b.device
-is_over r Inseparable b = not b.isolates
+abbrev pub may_cross : Reading → Over → Branch → Bool
+may_cross r Possible b = r.may_conduct b.device
+may_cross r Closed b = r.conducts b.device
+may_cross r Gapless b = not b.isolates || r.may_conduct b.device
+may_cross r Inseparable b = not b.isolates
 
 -- the walk must avoid the node
 abbrev pub avoids : Network → Avoid → ℕ → Bool
@@ -40,7 +40,7 @@ is_free net route b =
 
 -- a walk of the route may lead over the branch
 abbrev pub may_lead_over : Network → Reading → Route → Branch → Bool
-may_lead_over net r route b = is_over r route.over b && is_free net route b
+may_lead_over net r route b = may_cross r route.over b && is_free net route b
 
 -- a walk of the route leads from a node to another
 abbrev pub leads : Network → Reading → Route → ℕ → ℕ → Bool

@@ -86,7 +86,7 @@ fn earth_by<'a>(
     from: u8,
 ) -> Option<&'a Branch>
     ensures { option_copied result ≡ find (λ c. networks.is_earthing c.kind
-        && (not (c.number == switch.now.number) && ((reading_in known.now).may c.device
+        && (not (c.number == switch.now.number) && ((reading_in known.now).may_conduct c.device
         && joined_in labels.now from c.one))) network.now.branches }
 {
     network.branches.as_slice().iter().find(|branch| {
@@ -151,7 +151,7 @@ fn unearthable_by<'a>(
 ) -> Option<&'a Node>
     ensures { option_copied result ≡ find (λ x. x.is_source
         && (joined_in gapless.now switch.now.one x.number
-        && ((reading_in known.now).alive x.dead
+        && ((reading_in known.now).may_be_live x.dead
         || not (joined_in inseparable.now switch.now.one x.number)))) network.now.nodes }
 {
     network.nodes.as_slice().iter().find(|node| {

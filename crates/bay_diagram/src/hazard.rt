@@ -241,7 +241,7 @@ pub(crate) struct Ends {
 }
 
 // Returns whether walks lead from `b` and from `y` to nodes that they look for.
-fn comes_to(
+fn reaches_both(
     network: &Network,
     known: &Known,
     switch: &Branch,
@@ -250,7 +250,7 @@ fn comes_to(
     first: Target,
     last: Target,
 ) -> bool
-    ensures { result ≡ spec.comes_to network.now (reading_in known.now) switch.now other.now
+    ensures { result ≡ spec.reaches_both network.now (reading_in known.now) switch.now other.now
         ends.a ends.b ends.x ends.y first last }
 {
     let Ends { a, b, x, y } = ends;
@@ -270,7 +270,7 @@ fn makes_near(network: &Network, known: &Known, switch: &Branch, other: &Branch,
     let route = without_both(Over::Possible, switch, other, avoid);
     !(network.is_terminal(ends.a) || network.is_terminal(ends.x))
         && (leads(network, known, route, ends.a, ends.x)
-            && (comes_to(
+            && (reaches_both(
                 network,
                 known,
                 switch,
@@ -278,7 +278,7 @@ fn makes_near(network: &Network, known: &Known, switch: &Branch, other: &Branch,
                 ends,
                 Target::Live,
                 Target::Terminal,
-            ) || comes_to(
+            ) || reaches_both(
                 network,
                 known,
                 switch,
@@ -299,7 +299,7 @@ fn energises(network: &Network, known: &Known, switch: &Branch, other: &Branch, 
     let route = without_both(Over::Possible, switch, other, avoid);
     !(network.is_source(ends.a) || network.is_source(ends.x))
         && (leads(network, known, route, ends.a, ends.x)
-            && comes_to(
+            && reaches_both(
                 network,
                 known,
                 switch,
@@ -322,8 +322,8 @@ fn makes_from(network: &Network, known: &Known, switch: &Branch, other: &Branch,
 
 // Returns whether the switch would close a path of a current through the other one, whichever sides
 // of the two face each other.
-pub(crate) fn makes(network: &Network, known: &Known, switch: &Branch, other: &Branch) -> bool
-    ensures { result ≡ spec.makes network.now (reading_in known.now) switch.now other.now }
+pub(crate) fn makes_current(network: &Network, known: &Known, switch: &Branch, other: &Branch) -> bool
+    ensures { result ≡ spec.makes_current network.now (reading_in known.now) switch.now other.now }
 {
     let (u, v) = (switch.one, switch.other);
     let (x, y) = (other.one, other.other);
@@ -406,8 +406,8 @@ fn feeds_from(
 
 // Returns whether the switch would take away a path beside the other one, through which a current
 // can flow.
-pub(crate) fn leaves(network: &Network, known: &Known, switch: &Branch, other: &Branch) -> bool
-    ensures { result ≡ spec.leaves network.now (reading_in known.now) switch.now other.now }
+pub(crate) fn leaves_current(network: &Network, known: &Known, switch: &Branch, other: &Branch) -> bool
+    ensures { result ≡ spec.leaves_current network.now (reading_in known.now) switch.now other.now }
 {
     (lies_beside(network, known, switch, other, switch.one, switch.other)
         || lies_beside(network, known, switch, other, switch.other, switch.one))
@@ -432,7 +432,7 @@ pub(crate) fn makes_any(network: &Network, known: &Known, switch: &Branch) -> bo
     ensures { result ≡ spec.makes_any network.now (reading_in known.now) switch.now }
 {
     network.branches.as_slice().iter().any(|other| {
-        is_exposed(network, known, switch, other) && makes(network, known, switch, other)
+        is_exposed(network, known, switch, other) && makes_current(network, known, switch, other)
     })
 }
 
@@ -441,7 +441,7 @@ pub(crate) fn leaves_any(network: &Network, known: &Known, switch: &Branch) -> b
     ensures { result ≡ spec.leaves_any network.now (reading_in known.now) switch.now }
 {
     network.branches.as_slice().iter().any(|other| {
-        is_exposed(network, known, switch, other) && leaves(network, known, switch, other)
+        is_exposed(network, known, switch, other) && leaves_current(network, known, switch, other)
     })
 }
 

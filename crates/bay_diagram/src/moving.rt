@@ -8,7 +8,7 @@ ghost use Rattle.bay_diagram.specs.declared.shown.HazardKind.TheVariants as kind
 ghost use Rattle.bay_diagram.specs.declared.walk.Over.TheVariants as overs;
 
 use crate::ends::target_of;
-use crate::hazard::{Ends, Target, is_exposed, leaves, lies_beside, makes, without_both};
+use crate::hazard::{Ends, Target, is_exposed, leaves_current, lies_beside, makes_current, without_both};
 use crate::network::{Branch, Network};
 use crate::path::{walk_along, walk_over, walk_through};
 use crate::reading::Known;
@@ -35,7 +35,7 @@ fn show_chain(
         ends.a ends.b ends.x ends.y nodes first last walk ≡ true)
         (leads network.now (reading_in known.now)
         (hazards.without_both overs.Possible switch.now other.now nodes) ends.a ends.x
-        && hazards.comes_to network.now (reading_in known.now) switch.now other.now
+        && hazards.reaches_both network.now (reading_in known.now) switch.now other.now
         ends.a ends.b ends.x ends.y first last)) }
 {
     let Ends { a, b, x, y } = ends;
@@ -181,7 +181,7 @@ fn show_make(
     ensures { IfOk result (spec.IsFound
         (λ walk. spec.shows_make network.now (reading_in known.now) switch.now other.now walk
         ≡ true)
-        (hazards.makes network.now (reading_in known.now) switch.now other.now)) }
+        (hazards.makes_current network.now (reading_in known.now) switch.now other.now)) }
 {
     let (u, v) = (switch.one, switch.other);
     let (x, y) = (other.one, other.other);
@@ -208,10 +208,10 @@ fn show_make(
 fn made_through<'a>(network: &'a Network, known: &Known, switch: &Branch) -> Option<&'a Branch>
     ensures { option_copied result
         ≡ find (λ d. hazards.is_exposed network.now (reading_in known.now) switch.now d
-        && hazards.makes network.now (reading_in known.now) switch.now d) network.now.branches }
+        && hazards.makes_current network.now (reading_in known.now) switch.now d) network.now.branches }
 {
     network.branches.as_slice().iter().find(|other| {
-        is_exposed(network, known, switch, other) && makes(network, known, switch, other)
+        is_exposed(network, known, switch, other) && makes_current(network, known, switch, other)
     })
 }
 
@@ -369,10 +369,10 @@ fn show_feeds(
 fn left_to<'a>(network: &'a Network, known: &Known, switch: &Branch) -> Option<&'a Branch>
     ensures { option_copied result
         ≡ find (λ d. hazards.is_exposed network.now (reading_in known.now) switch.now d
-        && hazards.leaves network.now (reading_in known.now) switch.now d) network.now.branches }
+        && hazards.leaves_current network.now (reading_in known.now) switch.now d) network.now.branches }
 {
     network.branches.as_slice().iter().find(|other| {
-        is_exposed(network, known, switch, other) && leaves(network, known, switch, other)
+        is_exposed(network, known, switch, other) && leaves_current(network, known, switch, other)
     })
 }
 

@@ -68,8 +68,8 @@ impl Known {
     }
 
     // Returns whether an input that may be missing may have a value; a missing one is FALSE.
-    fn may_say(&self, input: Option<usize>, value: bool) -> bool
-        ensures { result ≡ spec.may_say (spec.allowed_by self.now) input value }
+    fn may_have_value(&self, input: Option<usize>, value: bool) -> bool
+        ensures { result ≡ spec.may_have_value (spec.allowed_by self.now) input value }
     {
         match input {
             Some(index) => self.allows_input(index, value),
@@ -86,7 +86,7 @@ impl Known {
             Device::Other {
                 closed_input,
                 open_input,
-            } => self.may_say(open_input, true) && self.may_say(closed_input, false),
+            } => self.may_have_value(open_input, true) && self.may_have_value(closed_input, false),
         }
     }
 
@@ -99,7 +99,7 @@ impl Known {
             Device::Other {
                 closed_input,
                 open_input,
-            } => self.may_say(closed_input, true) && self.may_say(open_input, false),
+            } => self.may_have_value(closed_input, true) && self.may_have_value(open_input, false),
         }
     }
 
@@ -116,15 +116,15 @@ impl Known {
                 closed_input,
                 open_input,
             } => {
-                self.may_say(closed_input, true) && self.may_say(open_input, true)
-                    || self.may_say(closed_input, false) && self.may_say(open_input, false)
+                self.may_have_value(closed_input, true) && self.may_have_value(open_input, true)
+                    || self.may_have_value(closed_input, false) && self.may_have_value(open_input, false)
             }
         }
     }
 
     /// Returns whether the switch may be closed.
     pub fn may_conduct(&self, device: Device) -> bool
-        ensures { result ≡ (spec.reading_in self.now).may device }
+        ensures { result ≡ (spec.reading_in self.now).may_conduct device }
     {
         match self.bound {
             Bound::Worst => self.may_be_closed(device) || self.may_be_neither(device),
@@ -134,7 +134,7 @@ impl Known {
 
     /// Returns whether the switch is surely closed.
     pub fn is_closed(&self, device: Device) -> bool
-        ensures { result ≡ (spec.reading_in self.now).sure device }
+        ensures { result ≡ (spec.reading_in self.now).conducts device }
     {
         match self.bound {
             Bound::Worst => !(self.may_be_open(device) || self.may_be_neither(device)),
@@ -144,7 +144,7 @@ impl Known {
 
     /// Returns whether the switch may be in no end position.
     pub fn may_move(&self, device: Device) -> bool
-        ensures { result ≡ (spec.reading_in self.now).moves device }
+        ensures { result ≡ (spec.reading_in self.now).may_move device }
     {
         match self.bound {
             Bound::Worst => self.may_be_neither(device),
@@ -154,11 +154,11 @@ impl Known {
 
     /// Returns whether a source may be live, by the input that shows it dead.
     pub fn may_be_live(&self, dead: Option<usize>) -> bool
-        ensures { result ≡ (spec.reading_in self.now).alive dead }
+        ensures { result ≡ (spec.reading_in self.now).may_be_live dead }
     {
         match self.bound {
-            Bound::Worst => self.may_say(dead, false),
-            Bound::Best => !self.may_say(dead, true),
+            Bound::Worst => self.may_have_value(dead, false),
+            Bound::Best => !self.may_have_value(dead, true),
         }
     }
 }

@@ -50,8 +50,8 @@ pub struct Route {
 }
 
 // Returns whether a walk may lead over the branch, by what is known of it.
-fn is_over(known: &Known, over: Over, branch: &Branch) -> bool
-    ensures { result ≡ spec.is_over (reading_in known.now) over branch.now }
+fn may_cross(known: &Known, over: Over, branch: &Branch) -> bool
+    ensures { result ≡ spec.may_cross (reading_in known.now) over branch.now }
 {
     match over {
         Over::Possible => known.may_conduct(branch.device),
@@ -86,7 +86,7 @@ fn avoids(network: &Network, avoid: Avoid, node: u8) -> bool
 fn may_lead_over(network: &Network, known: &Known, route: Route, branch: &Branch) -> bool
     ensures { result ≡ spec.may_lead_over network.now (reading_in known.now) route branch.now }
 {
-    is_over(known, route.over, branch)
+    may_cross(known, route.over, branch)
         && (!branch.is_earthing()
             && (!(branch.number == route.without || branch.number == route.also_without)
                 && !(avoids(network, route.avoid, branch.one)

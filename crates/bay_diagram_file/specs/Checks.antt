@@ -80,8 +80,8 @@ abbrev pub nodes_named : List NodeRow → List ℕ → ℕ
 nodes_named nodes name = length (filter (λ m. same_name name m.name) nodes)
 
 -- another node has the name of this one, too
-abbrev pub is_node_twice : List NodeRow → NodeRow → Bool
-is_node_twice nodes n = nat_lt 1 (nodes_named nodes n.name)
+abbrev pub is_duplicate_node : List NodeRow → NodeRow → Bool
+is_duplicate_node nodes n = nat_lt 1 (nodes_named nodes n.name)
 
 -- an earth or a junction is a source, or a node that is none has a key of sources
 abbrev pub is_bad_source : NodeRow → Bool
@@ -96,12 +96,12 @@ abbrev pub switches_at : List SwitchRow → NodeRow → ℕ
 switches_at switches n = length (filter (leads_to n) switches)
 
 -- a junction needs two switches, any other node one
-abbrev pub least_of : NodeWord → ℕ
-least_of word = if is_junction word then 2 else 1
+abbrev pub switches_needed : NodeWord → ℕ
+switches_needed word = if is_junction word then 2 else 1
 
 -- too few switches lead to the node
 abbrev pub is_loose : List SwitchRow → NodeRow → Bool
-is_loose switches n = nat_lt (switches_at switches n) (least_of n.kind)
+is_loose switches n = nat_lt (switches_at switches n) (switches_needed n.kind)
 
 -- ---- a switch
 
@@ -110,12 +110,12 @@ abbrev pub switches_named : List SwitchRow → List ℕ → ℕ
 switches_named switches name = length (filter (λ m. same_name name (name_of m)) switches)
 
 -- another switch has the name of this one, too
-abbrev pub is_switch_twice : List SwitchRow → SwitchRow → Bool
-is_switch_twice switches s = nat_lt 1 (switches_named switches (name_of s))
+abbrev pub is_duplicate_switch : List SwitchRow → SwitchRow → Bool
+is_duplicate_switch switches s = nat_lt 1 (switches_named switches (name_of s))
 
 -- a name of no node, no input or no switch of the bay
-abbrev pub has_no_name : Bay → List NodeRow → SwitchRow → Bool
-has_no_name bay nodes s =
+abbrev pub has_unknown_name : Bay → List NodeRow → SwitchRow → Bool
+has_unknown_name bay nodes s =
     is_none (node_named nodes s.one)
     || (is_none (node_named nodes s.other)
     || (is_no_switch bay.switches s.switch
@@ -160,13 +160,13 @@ has_bad_nodes switches nodes s =
     s.isolates
 
 -- the id is given, and is that of the switch of the bay
-abbrev pub is_of : Option (List ℕ) → Switch → Bool
-is_of None s = false
-is_of (Some id) s = same_name id s.id
+abbrev pub has_id : Option (List ℕ) → Switch → Bool
+has_id None s = false
+has_id (Some id) s = same_name id s.id
 
 -- a table is the switch of the bay
 abbrev pub is_present : List SwitchRow → Switch → Bool
-is_present rows s = list_any (λ row. is_of row.switch s) rows
+is_present rows s = list_any (λ row. has_id row.switch s) rows
 
 -- no table is the switch of the bay
 abbrev pub is_absent : List SwitchRow → Switch → Bool
@@ -180,9 +180,9 @@ refusal kind place None = None
 refusal kind place (Some i) = Some (record { kind = kind; place = place i })
 
 -- the first of two refusals
-abbrev pub or : Option DiagramFault → Option DiagramFault → Option DiagramFault
-or None other = other
-or (Some fault) other = Some fault
+abbrev pub first_refusal : Option DiagramFault → Option DiagramFault → Option DiagramFault
+first_refusal None other = other
+first_refusal (Some fault) other = Some fault
 
 -- the fault of a table by itself is this one
 abbrev pub is_fault : RowFault → Option RowFault → Bool
@@ -194,22 +194,22 @@ is_fault which found = false
 -- the refusal of the first table that has this fault by itself
 abbrev pub row_refusal : FaultKind → RowFault → List NodeRow → List SwitchRow → Option DiagramFault
 row_refusal kind which nodes switches =
-    or (refusal kind places.Node (position (λ n. is_fault which n.fault) nodes))
+    first_refusal (refusal kind places.Node (position (λ n. is_fault which n.fault) nodes))
     (refusal kind places.Between (position (λ s. is_fault which s.fault) switches))
 
 -- the refusal of the first name that two tables have, or that is unknown
 abbrev pub name_refusal : Bay → List NodeRow → List SwitchRow → Option DiagramFault
 name_refusal bay nodes switches =
-    or (refusal DuplicateName places.Node (position (is_node_twice nodes) nodes))
-    (or (refusal DuplicateName places.Between (position (is_switch_twice switches) switches))
-    (or (refusal UnknownName places.Node (position (λ n. is_no_input bay.inputs n.dead) nodes))
-    (refusal UnknownName places.Between (position (has_no_name bay nodes) switches))))
+    first_refusal (refusal DuplicateName places.Node (position (is_duplicate_node nodes) nodes))
+    (first_refusal (refusal DuplicateName places.Between (position (is_duplicate_switch switches) switches))
+    (first_refusal (refusal UnknownName places.Node (position (λ n. is_no_input bay.inputs n.dead) nodes))
+    (refusal UnknownName places.Between (position (has_unknown_name bay nodes) switches))))
 
 -- the refusal of the first bad source, or else of the first switch with bad keys, or with bad nodes
 abbrev pub shape_refusal : Bay → List NodeRow → List SwitchRow → Option DiagramFault
 shape_refusal bay nodes switches =
-    or (refusal BadSource places.Node (position is_bad_source nodes))
-    (or (refusal BadKeys places.Between (position (has_bad_keys bay.switches) switches))
+    first_refusal (refusal BadSource places.Node (position is_bad_source nodes))
+    (first_refusal (refusal BadKeys places.Between (position (has_bad_keys bay.switches) switches))
     (refusal BadNodes places.Between (position (has_bad_nodes bay.switches nodes) switches)))
 
 -- some node is a source
@@ -226,16 +226,16 @@ source_refusal nodes =
 -- switches, or of a diagram without a source
 abbrev pub whole_refusal : Bay → List NodeRow → List SwitchRow → Option DiagramFault
 whole_refusal bay nodes switches =
-    or (refusal Incomplete places.Switch (position (is_absent switches) bay.switches))
-    (or (refusal Incomplete places.Node (position (is_loose switches) nodes))
+    first_refusal (refusal Incomplete places.Switch (position (is_absent switches) bay.switches))
+    (first_refusal (refusal Incomplete places.Node (position (is_loose switches) nodes))
     (source_refusal nodes))
 
 -- the first refusal of the tables of a diagram: what is wrong with a table by itself, names, what a
 -- source and a switch may be, and what is missing
 abbrev pub tables_refusal : Bay → List NodeRow → List SwitchRow → Option DiagramFault
 tables_refusal bay nodes switches =
-    or (row_refusal UnknownKey row_fault.UnknownKey nodes switches)
-    (or (row_refusal MissingKey row_fault.MissingKey nodes switches)
-    (or (row_refusal BadValue row_fault.BadValue nodes switches)
-    (or (name_refusal bay nodes switches)
-    (or (shape_refusal bay nodes switches) (whole_refusal bay nodes switches)))))
+    first_refusal (row_refusal UnknownKey row_fault.UnknownKey nodes switches)
+    (first_refusal (row_refusal MissingKey row_fault.MissingKey nodes switches)
+    (first_refusal (row_refusal BadValue row_fault.BadValue nodes switches)
+    (first_refusal (name_refusal bay nodes switches)
+    (first_refusal (shape_refusal bay nodes switches) (whole_refusal bay nodes switches)))))

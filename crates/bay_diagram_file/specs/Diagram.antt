@@ -7,9 +7,9 @@ use Rattle.bay_config.specs.Bay.{document_of}
 use Rattle.bay_config.specs.Key.{has_unknown}
 use Rattle.bay_config.specs.declared.bay.Bay.{Bay}
 use Rattle.bay_diagram.specs.declared.network.Network.{Network}
-use Rattle.bay_diagram_file.specs.Checks.{name_of, or, tables_refusal}
-use Rattle.bay_diagram_file.specs.Parts.{network_of}
-use Rattle.bay_diagram_file.specs.Row.{list_of, node_row_of, switch_row_of, values_in}
+use Rattle.bay_diagram_file.specs.Checks.{name_of, first_refusal, tables_refusal}
+use Rattle.bay_diagram_file.specs.Parts.{network_of_tables}
+use Rattle.bay_diagram_file.specs.Row.{list_of, node_row_of_value, switch_row_of_value, values_in}
 use Rattle.bay_diagram_file.specs.declared.diagram.Diagram.{Diagram}
 use Rattle.bay_diagram_file.specs.declared.fault.DiagramFault.{DiagramFault}
 use Rattle.bay_diagram_file.specs.declared.fault.FaultKind.{FaultKind}
@@ -21,62 +21,62 @@ use Rattle.bay_diagram_file.specs.declared.row.SwitchRow.{SwitchRow}
 -- ---- the sections
 
 -- a fault of the file as a whole
-abbrev pub of_file : FaultKind → DiagramFault
-of_file kind = record { kind = kind; place = File }
+abbrev pub file_fault : FaultKind → DiagramFault
+file_fault kind = record { kind = kind; place = File }
 
 -- the file has no other section
 abbrev pub keys_refusal : Members → Option DiagramFault
 keys_refusal file =
-    if has_unknown (codes "node" ∷ codes "between" ∷ []) file then Some (of_file UnknownKey)
+    if has_unknown (codes "node" ∷ codes "between" ∷ []) file then Some (file_fault UnknownKey)
     else None
 
 -- a section is a list of 1 to 64 values
 abbrev pub count_refusal : ℕ → Option DiagramFault
 count_refusal n =
-    if nat_lt n 1 then Some (of_file MissingKey)
-    else if nat_lt 64 n then Some (of_file TooMany) else None
+    if nat_lt n 1 then Some (file_fault MissingKey)
+    else if nat_lt 64 n then Some (file_fault TooMany) else None
 
 -- the refusal of a section that must be a list; `None` is a section that is not a list
 abbrev pub list_refusal : Option Items → Option DiagramFault
-list_refusal None = Some (of_file BadValue)
+list_refusal None = Some (file_fault BadValue)
 list_refusal (Some items) = count_refusal (length (list_of items))
 
 -- the refusal of a section, which may not be missing
 abbrev pub section_refusal : Option Data → Option DiagramFault
-section_refusal None = Some (of_file MissingKey)
+section_refusal None = Some (file_fault MissingKey)
 section_refusal (Some d) = list_refusal (as_array d)
 
 -- the first refusal of the sections of a file
 abbrev pub sections_refusal : Members → Option DiagramFault
 sections_refusal file =
-    or (keys_refusal file)
-    (or (section_refusal (get_member (codes "node") file))
+    first_refusal (keys_refusal file)
+    (first_refusal (section_refusal (get_member (codes "node") file))
     (section_refusal (get_member (codes "between") file)))
 
 -- ---- the diagram
 
 -- the tables of the section `node`
 abbrev pub node_rows : Members → List NodeRow
-node_rows file = map node_row_of (values_in file (codes "node"))
+node_rows file = map node_row_of_value (values_in file (codes "node"))
 
 -- the tables of the section `between`
 abbrev pub switch_rows : Members → List SwitchRow
-switch_rows file = map switch_row_of (values_in file (codes "between"))
+switch_rows file = map switch_row_of_value (values_in file (codes "between"))
 
 -- the first refusal of a file: its sections, then their tables
 abbrev pub file_refusal : Bay → Members → Option DiagramFault
 file_refusal bay file =
-    or (sections_refusal file) (tables_refusal bay (node_rows file) (switch_rows file))
+    first_refusal (sections_refusal file) (tables_refusal bay (node_rows file) (switch_rows file))
 
 -- the diagram of a file, or its first refusal
-abbrev pub network_in : Bay → Members → Result Network DiagramFault
-network_in bay file =
-    unless_refused (file_refusal bay file) (network_of bay (node_rows file) (switch_rows file))
+abbrev pub network_of_file : Bay → Members → Result Network DiagramFault
+network_of_file bay file =
+    unless_refused (file_refusal bay file) (network_of_tables bay (node_rows file) (switch_rows file))
 
 -- a text that is not TOML is refused first
 abbrev pub network_of_document : Bay → Option Members → Result Network DiagramFault
-network_of_document bay None = Err (of_file BadToml)
-network_of_document bay (Some file) = network_in bay file
+network_of_document bay None = Err (file_fault BadToml)
+network_of_document bay (Some file) = network_of_file bay file
 
 -- the diagram of a text, or its first refusal
 abbrev pub diagram_of : Bay → List ℕ → Result Network DiagramFault
@@ -87,7 +87,7 @@ diagram_of bay text = network_of_document bay (document_of text)
 -- the diagram of the tables, with the names of its nodes and switches
 abbrev pub named_of : Bay → List NodeRow → List SwitchRow → Diagram
 named_of bay nodes switches = record {
-  network = network_of bay nodes switches;
+  network = network_of_tables bay nodes switches;
   nodes = map (λ n. n.name) nodes;
   switches = map name_of switches;
 }
@@ -99,7 +99,7 @@ named_in bay file =
 
 -- a text that is not TOML is refused first
 abbrev pub named_in_document : Bay → Option Members → Result Diagram DiagramFault
-named_in_document bay None = Err (of_file BadToml)
+named_in_document bay None = Err (file_fault BadToml)
 named_in_document bay (Some file) = named_in bay file
 
 -- the diagram of a text with its names, or the first refusal: that of `diagram_of`
@@ -109,4 +109,4 @@ named_diagram_of bay text = named_in_document bay (document_of text)
 -- the diagram of the octets of a file, which are refused first if they are no text
 abbrev pub diagram_of_file : Bay → List ℕ → Result Diagram DiagramFault
 diagram_of_file bay octets =
-    if is_utf8 octets then named_diagram_of bay octets else Err (of_file BadToml)
+    if is_utf8 octets then named_diagram_of bay octets else Err (file_fault BadToml)

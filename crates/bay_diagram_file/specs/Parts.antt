@@ -79,8 +79,8 @@ branches_from bay nodes i (s ∷ switches) =
     branch_of bay nodes i s ∷ branches_from bay nodes (suc i) switches
 
 -- the diagram of the tables
-abbrev pub network_of : Bay → List NodeRow → List SwitchRow → Network
-network_of bay nodes switches = record {
+abbrev pub network_of_tables : Bay → List NodeRow → List SwitchRow → Network
+network_of_tables bay nodes switches = record {
   nodes = nodes_from bay.inputs 0 nodes;
   branches = branches_from bay nodes 0 switches;
 }

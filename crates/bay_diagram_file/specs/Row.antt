@@ -15,8 +15,8 @@ use Rattle.bay_diagram_file.specs.declared.row.SwitchRow.{SwitchRow}
 -- ---- values at keys
 
 -- the table has the key
-abbrev pub has : Members → List ℕ → Bool
-has table name = is_some (get_member name table)
+abbrev pub has_key : Members → List ℕ → Bool
+has_key table name = is_some (get_member name table)
 
 -- the value is a text
 abbrev pub is_text : Data → Bool
@@ -27,9 +27,9 @@ abbrev pub is_truth : Data → Bool
 is_truth d = is_some (as_bool d)
 
 -- the value passes a test, or there is none
-abbrev pub fits : (Data → Bool) → Option Data → Bool
-fits test None = true
-fits test (Some d) = test d
+abbrev pub may_be : (Data → Bool) → Option Data → Bool
+may_be test None = true
+may_be test (Some d) = test d
 
 -- the text at a key, if it has one
 abbrev pub text_of : Members → List ℕ → Option (List ℕ)
@@ -80,25 +80,25 @@ abbrev pub has_node_values : Members → Bool
 has_node_values table =
     has_name table (codes "name")
     && (is_some (node_kind_in table)
-    && (fits is_truth (get_member (codes "source") table)
-    && (fits is_text (get_member (codes "system") table)
-    && fits is_text (get_member (codes "dead") table))))
+    && (may_be is_truth (get_member (codes "source") table)
+    && (may_be is_text (get_member (codes "system") table)
+    && may_be is_text (get_member (codes "dead") table))))
 
 -- what is wrong with the table of a node by itself
 abbrev pub node_fault : Members → Option RowFault
 node_fault table =
     if has_unknown node_keys table then Some UnknownKey
-    else if not (has table (codes "name") && has table (codes "kind")) then Some MissingKey
+    else if not (has_key table (codes "name") && has_key table (codes "kind")) then Some MissingKey
     else if not (has_node_values table) then Some BadValue else None
 
 -- the table of a node, with what is wrong with it
-abbrev pub node_row : Members → NodeRow
-node_row table = record {
+abbrev pub node_row_of_table : Members → NodeRow
+node_row_of_table table = record {
   fault = node_fault table;
   name = text_in table (codes "name");
   kind = unwrap_or (node_kind_in table) Earth;
   is_source = truth_in table (codes "source");
-  has_system = has table (codes "system");
+  has_system = has_key table (codes "system");
   dead = text_of table (codes "dead");
 }
 
@@ -114,13 +114,13 @@ bad_node_row = record {
 }
 
 -- the row of a table of a node, or of a value that is no table
-abbrev pub node_row_from : Option Members → NodeRow
-node_row_from None = bad_node_row
-node_row_from (Some table) = node_row table
+abbrev pub node_row_or_bad : Option Members → NodeRow
+node_row_or_bad None = bad_node_row
+node_row_or_bad (Some table) = node_row_of_table table
 
 -- the row of a value of the section `node`
-abbrev pub node_row_of : Data → NodeRow
-node_row_of d = node_row_from (as_table d)
+abbrev pub node_row_of_value : Data → NodeRow
+node_row_of_value d = node_row_or_bad (as_table d)
 
 -- ---- a switch
 
@@ -152,24 +152,24 @@ text_at ds i = option_and_then as_str (slice_get ds i)
 -- the value at each key of the table of a switch is one that it may have
 abbrev pub has_switch_values : Members → Bool
 has_switch_values table =
-    (not (has table (codes "switch")) || has_name table (codes "switch"))
-    && ((not (has table (codes "name")) || has_name table (codes "name"))
-    && ((not (has table (codes "kind")) || is_some (switch_kind_in table))
+    (not (has_key table (codes "switch")) || has_name table (codes "switch"))
+    && ((not (has_key table (codes "name")) || has_name table (codes "name"))
+    && ((not (has_key table (codes "kind")) || is_some (switch_kind_in table))
     && (has_nodes table
-    && (fits is_text (get_member (codes "closed") table)
-    && (fits is_text (get_member (codes "open") table)
-    && fits is_truth (get_member (codes "isolates") table))))))
+    && (may_be is_text (get_member (codes "closed") table)
+    && (may_be is_text (get_member (codes "open") table)
+    && may_be is_truth (get_member (codes "isolates") table))))))
 
 -- what is wrong with the table of a switch by itself
 abbrev pub switch_fault : Members → Option RowFault
 switch_fault table =
     if has_unknown switch_keys table then Some UnknownKey
-    else if not (has table (codes "nodes")) then Some MissingKey
+    else if not (has_key table (codes "nodes")) then Some MissingKey
     else if not (has_switch_values table) then Some BadValue else None
 
 -- the table of a switch, with what is wrong with it
-abbrev pub switch_row : Members → SwitchRow
-switch_row table = record {
+abbrev pub switch_row_of_table : Members → SwitchRow
+switch_row_of_table table = record {
   fault = switch_fault table;
   switch = text_of table (codes "switch");
   name = text_of table (codes "name");
@@ -196,10 +196,10 @@ bad_switch_row = record {
 }
 
 -- the row of a table of a switch, or of a value that is no table
-abbrev pub switch_row_from : Option Members → SwitchRow
-switch_row_from None = bad_switch_row
-switch_row_from (Some table) = switch_row table
+abbrev pub switch_row_or_bad : Option Members → SwitchRow
+switch_row_or_bad None = bad_switch_row
+switch_row_or_bad (Some table) = switch_row_of_table table
 
 -- the row of a value of the section `between`
-abbrev pub switch_row_of : Data → SwitchRow
-switch_row_of d = switch_row_from (as_table d)
+abbrev pub switch_row_of_value : Data → SwitchRow
+switch_row_of_value d = switch_row_or_bad (as_table d)

@@ -112,8 +112,8 @@ fn nodes_named(nodes: &[NodeRow], name: &str) -> usize
 }
 
 // Returns whether another node has the name, too.
-fn is_node_twice(nodes: &[NodeRow], node: &NodeRow) -> bool
-    ensures { result ≡ spec.is_node_twice nodes.now node.now }
+fn is_duplicate_node(nodes: &[NodeRow], node: &NodeRow) -> bool
+    ensures { result ≡ spec.is_duplicate_node nodes.now node.now }
 {
     1 < nodes_named(nodes, node.name.as_str())
 }
@@ -146,8 +146,8 @@ fn switches_at(switches: &[SwitchRow], node: &NodeRow) -> usize
 }
 
 // Returns how many switches must lead to a node: two to a junction, one to any other.
-fn least_of(kind: NodeWord) -> usize
-    ensures { result ≡ spec.least_of kind }
+fn switches_needed(kind: NodeWord) -> usize
+    ensures { result ≡ spec.switches_needed kind }
 {
     match kind {
         NodeWord::Kind(NodeKind::Junction) => 2,
@@ -159,7 +159,7 @@ fn least_of(kind: NodeWord) -> usize
 fn is_loose(switches: &[SwitchRow], node: &NodeRow) -> bool
     ensures { result ≡ spec.is_loose switches.now node.now }
 {
-    switches_at(switches, node) < least_of(node.kind)
+    switches_at(switches, node) < switches_needed(node.kind)
 }
 
 // Returns the number of switches with a name.
@@ -173,15 +173,15 @@ fn switches_named(switches: &[SwitchRow], name: &str) -> usize
 }
 
 // Returns whether another switch has the name, too.
-fn is_switch_twice(switches: &[SwitchRow], row: &SwitchRow) -> bool
-    ensures { result ≡ spec.is_switch_twice switches.now row.now }
+fn is_duplicate_switch(switches: &[SwitchRow], row: &SwitchRow) -> bool
+    ensures { result ≡ spec.is_duplicate_switch switches.now row.now }
 {
     1 < switches_named(switches, name_of(row))
 }
 
 // Returns whether a switch has a name of no node, no input or no switch of the bay.
-fn has_no_name(bay: &Bay, nodes: &[NodeRow], row: &SwitchRow) -> bool
-    ensures { result ≡ spec.has_no_name bay.now nodes.now row.now }
+fn has_unknown_name(bay: &Bay, nodes: &[NodeRow], row: &SwitchRow) -> bool
+    ensures { result ≡ spec.has_unknown_name bay.now nodes.now row.now }
 {
     let inputs = bay.inputs.as_slice();
     node_named(nodes, row.one.as_str()).is_none()
@@ -265,8 +265,8 @@ fn has_bad_nodes(switches: &[Switch], nodes: &[NodeRow], row: &SwitchRow) -> boo
 }
 
 // Returns whether a table is a switch of the bay.
-fn is_of(id: &Option<Text>, switch: &Switch) -> bool
-    ensures { result ≡ spec.is_of id.now switch.now }
+fn has_id(id: &Option<Text>, switch: &Switch) -> bool
+    ensures { result ≡ spec.has_id id.now switch.now }
 {
     match id {
         Some(id) => same_name(id.as_str(), switch.id.as_str()),
@@ -278,7 +278,7 @@ fn is_of(id: &Option<Text>, switch: &Switch) -> bool
 fn is_present(rows: &[SwitchRow], switch: &Switch) -> bool
     ensures { result ≡ spec.is_present rows.now switch.now }
 {
-    rows.iter().any(|row| is_of(&row.switch, switch))
+    rows.iter().any(|row| has_id(&row.switch, switch))
 }
 
 // Returns whether no table is the switch of the bay.
@@ -328,8 +328,8 @@ fn switch_refusal(kind: FaultKind, found: Option<usize>) -> Option<DiagramFault>
 }
 
 /// Returns the first of two refusals.
-pub fn first(one: Option<DiagramFault>, other: Option<DiagramFault>) -> Option<DiagramFault>
-    ensures { result ≡ spec.or one other }
+pub fn first_refusal(one: Option<DiagramFault>, other: Option<DiagramFault>) -> Option<DiagramFault>
+    ensures { result ≡ spec.first_refusal one other }
 {
     match one {
         Some(fault) => Some(fault),
@@ -374,27 +374,27 @@ fn row_refusal(
 {
     let node = faulty_node(which, nodes);
     let between = faulty_switch(which, switches);
-    first(node_refusal(kind, node), between_refusal(kind, between))
+    first_refusal(node_refusal(kind, node), between_refusal(kind, between))
 }
 
 // Returns the first node whose name another node has, too.
-fn twice_node(nodes: &[NodeRow]) -> Option<usize>
-    ensures { result ≡ position (spec.is_node_twice nodes.now) nodes.now }
+fn duplicate_node(nodes: &[NodeRow]) -> Option<usize>
+    ensures { result ≡ position (spec.is_duplicate_node nodes.now) nodes.now }
 {
-    nodes.iter().position(|node| is_node_twice(nodes, node))
+    nodes.iter().position(|node| is_duplicate_node(nodes, node))
 }
 
 // Returns the first switch whose name another switch has, too.
-fn twice_switch(switches: &[SwitchRow]) -> Option<usize>
-    ensures { result ≡ position (spec.is_switch_twice switches.now) switches.now }
+fn duplicate_switch(switches: &[SwitchRow]) -> Option<usize>
+    ensures { result ≡ position (spec.is_duplicate_switch switches.now) switches.now }
 {
     switches
         .iter()
-        .position(|row| is_switch_twice(switches, row))
+        .position(|row| is_duplicate_switch(switches, row))
 }
 
 // Returns the first node whose input is none of the bay.
-fn nameless_node(inputs: &[Text], nodes: &[NodeRow]) -> Option<usize>
+fn unknown_input_node(inputs: &[Text], nodes: &[NodeRow]) -> Option<usize>
     ensures { result ≡ position (λ n. spec.is_no_input inputs.now n.dead) nodes.now }
 {
     nodes
@@ -403,23 +403,23 @@ fn nameless_node(inputs: &[Text], nodes: &[NodeRow]) -> Option<usize>
 }
 
 // Returns the first switch with a name of no node, no input or no switch of the bay.
-fn nameless_switch(bay: &Bay, nodes: &[NodeRow], switches: &[SwitchRow]) -> Option<usize>
-    ensures { result ≡ position (spec.has_no_name bay.now nodes.now) switches.now }
+fn unknown_name_switch(bay: &Bay, nodes: &[NodeRow], switches: &[SwitchRow]) -> Option<usize>
+    ensures { result ≡ position (spec.has_unknown_name bay.now nodes.now) switches.now }
 {
-    switches.iter().position(|row| has_no_name(bay, nodes, row))
+    switches.iter().position(|row| has_unknown_name(bay, nodes, row))
 }
 
 // Returns the refusal of the first name that two tables have, or that is unknown.
 fn name_refusal(bay: &Bay, nodes: &[NodeRow], switches: &[SwitchRow]) -> Option<DiagramFault>
     ensures { result ≡ spec.name_refusal bay.now nodes.now switches.now }
 {
-    let node = node_refusal(FaultKind::DuplicateName, twice_node(nodes));
-    let switch = between_refusal(FaultKind::DuplicateName, twice_switch(switches));
-    let no_input = nameless_node(bay.inputs.as_slice(), nodes);
+    let node = node_refusal(FaultKind::DuplicateName, duplicate_node(nodes));
+    let switch = between_refusal(FaultKind::DuplicateName, duplicate_switch(switches));
+    let no_input = unknown_input_node(bay.inputs.as_slice(), nodes);
     let input = node_refusal(FaultKind::UnknownName, no_input);
-    let no_name = nameless_switch(bay, nodes, switches);
+    let no_name = unknown_name_switch(bay, nodes, switches);
     let name = between_refusal(FaultKind::UnknownName, no_name);
-    first(node, first(switch, first(input, name)))
+    first_refusal(node, first_refusal(switch, first_refusal(input, name)))
 }
 
 // Returns the first node that may not be a source, or not have a key of sources.
@@ -454,7 +454,7 @@ fn shape_refusal(bay: &Bay, nodes: &[NodeRow], switches: &[SwitchRow]) -> Option
     let source = node_refusal(FaultKind::BadSource, bad_source(nodes));
     let keys = between_refusal(FaultKind::BadKeys, bad_keys(own, switches));
     let ends = between_refusal(FaultKind::BadNodes, bad_nodes(own, nodes, switches));
-    first(source, first(keys, ends))
+    first_refusal(source, first_refusal(keys, ends))
 }
 
 // Returns whether a node is a source.
@@ -499,7 +499,7 @@ fn whole_refusal(bay: &Bay, nodes: &[NodeRow], switches: &[SwitchRow]) -> Option
     let absent = absent_switch(bay.switches.as_slice(), switches);
     let switch = switch_refusal(FaultKind::Incomplete, absent);
     let node = node_refusal(FaultKind::Incomplete, loose_node(nodes, switches));
-    first(switch, first(node, source_refusal(nodes)))
+    first_refusal(switch, first_refusal(node, source_refusal(nodes)))
 }
 
 /// Returns the first refusal of the tables of a diagram.
@@ -512,8 +512,8 @@ pub fn tables_refusal(bay: &Bay, nodes: &[NodeRow], switches: &[SwitchRow]) -> O
     let name = name_refusal(bay, nodes, switches);
     let shape = shape_refusal(bay, nodes, switches);
     let whole = whole_refusal(bay, nodes, switches);
-    first(
+    first_refusal(
         unknown,
-        first(missing, first(bad, first(name, first(shape, whole)))),
+        first_refusal(missing, first_refusal(bad, first_refusal(name, first_refusal(shape, whole)))),
     )
 }

@@ -52,7 +52,7 @@ pub fn has_key(table: &Table, key: &str) -> bool
 
 /// Returns whether the value at a key is a text, or is missing.
 pub fn may_be_text(table: &Table, key: &str) -> bool
-    ensures { result ≡ spec.fits spec.is_text (get_member key.now (table_view table.now)) }
+    ensures { result ≡ spec.may_be spec.is_text (get_member key.now (table_view table.now)) }
 {
     match find(table, key) {
         Some(value) => value.is_str(),
@@ -62,7 +62,7 @@ pub fn may_be_text(table: &Table, key: &str) -> bool
 
 /// Returns whether the value at a key is a truth value, or is missing.
 pub fn may_be_truth(table: &Table, key: &str) -> bool
-    ensures { result ≡ spec.fits spec.is_truth (get_member key.now (table_view table.now)) }
+    ensures { result ≡ spec.may_be spec.is_truth (get_member key.now (table_view table.now)) }
 {
     match find(table, key) {
         Some(value) => value.is_bool(),
@@ -105,7 +105,7 @@ pub fn values_at<'a>(table: &'a Table, key: &str) -> &'a [Value]
 }
 
 /// Copies the text at a key; `None` if there is none. Fails only if the allocation fails.
-pub fn copied_at(alloc: Global, table: &Table, key: &str) -> Result<Option<Text>, AllocError>
+pub fn copy_text_at(alloc: Global, table: &Table, key: &str) -> Result<Option<Text>, AllocError>
     ensures { IfOk result (λ text. text
         ≡ option_and_then as_str (get_member key.now (table_view table.now))) }
 {
@@ -116,7 +116,7 @@ pub fn copied_at(alloc: Global, table: &Table, key: &str) -> Result<Option<Text>
 }
 
 /// Copies a text; an empty one for `None`. Fails only if the allocation fails.
-pub fn copied_or_empty(alloc: Global, text: Option<&str>) -> Result<Text, AllocError>
+pub fn copy_or_empty(alloc: Global, text: Option<&str>) -> Result<Text, AllocError>
     ensures { IfOk result (λ copy. copy ≡ unwrap_or (option_copied text.entry) []) }
 {
     match text {

@@ -136,13 +136,13 @@ fn branches_of(
 }
 
 // Returns the nodes and branches of the tables.
-fn network_of(
+fn network_of_tables(
     alloc: Global,
     bay: &Bay,
     nodes: &[NodeRow],
     rows: &[SwitchRow],
 ) -> Result<Network, AllocError>
-    ensures { IfOk result (λ network. network ≡ spec.network_of bay.now nodes.now rows.now) }
+    ensures { IfOk result (λ network. network ≡ spec.network_of_tables bay.now nodes.now rows.now) }
 {
     Ok(Network {
         nodes: Listing::new(nodes_of(alloc, bay.inputs.as_slice(), nodes)?),
@@ -182,7 +182,7 @@ pub fn diagram_of(
     ensures { IfOk result (λ diagram. diagram ≡ named_of bay.now nodes.now rows.now) }
 {
     Ok(Diagram {
-        network: network_of(alloc, bay, nodes, rows)?,
+        network: network_of_tables(alloc, bay, nodes, rows)?,
         nodes: Listing::new(node_names(alloc, nodes)?),
         switches: Listing::new(switch_names(alloc, rows)?),
     })

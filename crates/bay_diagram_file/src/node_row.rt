@@ -6,7 +6,7 @@ ghost use Rattle.bay_config.specs.Key as key;
 ghost use Rattle.bay_diagram_file.specs.Row as spec;
 
 use crate::keys::{
-    copied_at, copied_or_empty, has_key, has_unknown_key, may_be_text, may_be_truth, text_at,
+    copy_text_at, copy_or_empty, has_key, has_unknown_key, may_be_text, may_be_truth, text_at,
     truth_at,
 };
 use crate::row::{NodeRow, NodeWord, RowFault};
@@ -108,10 +108,10 @@ fn fault_of(table: &Table) -> Option<RowFault>
 
 // Reads a table.
 fn row_of(alloc: Global, table: &Table) -> Result<NodeRow, AllocError>
-    ensures { IfOk result (λ row. row ≡ spec.node_row (table_view table.now)) }
+    ensures { IfOk result (λ row. row ≡ spec.node_row_of_table (table_view table.now)) }
 {
-    let name = copied_or_empty(alloc, text_at(table, "name"))?;
-    let dead = copied_at(alloc, table, "dead")?;
+    let name = copy_or_empty(alloc, text_at(table, "name"))?;
+    let dead = copy_text_at(alloc, table, "dead")?;
     Ok(NodeRow {
         fault: fault_of(table),
         name,
@@ -128,7 +128,7 @@ fn bad_row(alloc: Global) -> Result<NodeRow, AllocError>
 {
     Ok(NodeRow {
         fault: Some(RowFault::BadValue),
-        name: copied_or_empty(alloc, None)?,
+        name: copy_or_empty(alloc, None)?,
         kind: NodeWord::Earth,
         is_source: false,
         has_system: false,
@@ -138,7 +138,7 @@ fn bad_row(alloc: Global) -> Result<NodeRow, AllocError>
 
 // Reads a value of the section.
 fn row_from(alloc: Global, value: &Value) -> Result<NodeRow, AllocError>
-    ensures { IfOk result (λ row. row ≡ spec.node_row_of (view value.now)) }
+    ensures { IfOk result (λ row. row ≡ spec.node_row_of_value (view value.now)) }
 {
     match value.as_table() {
         Some(table) => row_of(alloc, table),
@@ -149,7 +149,7 @@ fn row_from(alloc: Global, value: &Value) -> Result<NodeRow, AllocError>
 /// Reads the values of the section. Fails only if an allocation fails.
 pub fn node_rows(alloc: Global, values: &[Value]) -> Result<Vec<NodeRow>, AllocError>
     ensures { IfOk result (λ rows. rows.items
-        ≡ map spec.node_row_of (map (λ v. view v) values.now)) }
+        ≡ map spec.node_row_of_value (map (λ v. view v) values.now)) }
 {
     let mut rows = Vec::new(alloc);
     for value in values {

@@ -9,7 +9,7 @@ ghost use Rattle.bay_diagram_file.specs.Code.{out_of_memory};
 ghost use Rattle.bay_diagram_file.specs.Diagram as spec;
 ghost use Rattle.bay_diagram_file.specs.declared.fault.FaultKind.TheVariants.{BadToml};
 
-use crate::checks::{first, tables_refusal};
+use crate::checks::{first_refusal, tables_refusal};
 use crate::diagram::Diagram;
 use crate::fault::{DiagramFault, FaultKind, Place};
 use crate::keys::{find, has_unknown_key, values_at};
@@ -28,8 +28,8 @@ const MAX_OCTETS: usize = 262_144;
 const MAX_TABLES: usize = 64;
 
 // Returns a fault of the file, or of a section, as a whole.
-fn of_file(kind: FaultKind) -> DiagramFault
-    ensures { result ≡ spec.of_file kind }
+fn file_fault(kind: FaultKind) -> DiagramFault
+    ensures { result ≡ spec.file_fault kind }
 {
     DiagramFault {
         kind,
@@ -42,7 +42,7 @@ fn keys_refusal(file: &Table) -> Option<DiagramFault>
     ensures { result ≡ spec.keys_refusal (table_view file.now) }
 {
     if has_unknown_key(file, &["node", "between"]) {
-        Some(of_file(FaultKind::UnknownKey))
+        Some(file_fault(FaultKind::UnknownKey))
     } else {
         None
     }
@@ -53,9 +53,9 @@ fn count_refusal(count: usize) -> Option<DiagramFault>
     ensures { result ≡ spec.count_refusal count }
 {
     if count < 1 {
-        Some(of_file(FaultKind::MissingKey))
+        Some(file_fault(FaultKind::MissingKey))
     } else if MAX_TABLES < count {
-        Some(of_file(FaultKind::TooMany))
+        Some(file_fault(FaultKind::TooMany))
     } else {
         None
     }
@@ -68,9 +68,9 @@ fn section_refusal(file: &Table, name: &str) -> Option<DiagramFault>
     match find(file, name) {
         Some(value) => match value.as_array() {
             Some(values) => count_refusal(values.as_slice().len()),
-            None => Some(of_file(FaultKind::BadValue)),
+            None => Some(file_fault(FaultKind::BadValue)),
         },
-        None => Some(of_file(FaultKind::MissingKey)),
+        None => Some(file_fault(FaultKind::MissingKey)),
     }
 }
 
@@ -80,7 +80,7 @@ fn sections_refusal(file: &Table) -> Option<DiagramFault>
 {
     let nodes = section_refusal(file, "node");
     let switches = section_refusal(file, "between");
-    first(keys_refusal(file), first(nodes, switches))
+    first_refusal(keys_refusal(file), first_refusal(nodes, switches))
 }
 
 // Reads the diagram in the table of a file.
@@ -102,18 +102,18 @@ fn diagram_from(alloc: Global, bay: &Bay, file: &Table) -> Result<Diagram, Diagr
 #[tactic(auto, unfolding(bay_config::specs::Bay::document_of))]
 fn document_at(alloc: Global, text: &str) -> Result<Table, DiagramFault>
     ensures { Gives out_of_memory table_view result
-        (ok_or (document_of text.now) (spec.of_file BadToml)) }
+        (ok_or (document_of text.now) (spec.file_fault BadToml)) }
 {
     if text.len() > MAX_OCTETS {
-        return Err(of_file(FaultKind::BadToml));
+        return Err(file_fault(FaultKind::BadToml));
     }
     match toml::table_from_str(alloc, text) {
         Ok(file) => Ok(file),
         Err(error) => {
             if error.is_memory() {
-                Err(of_file(FaultKind::OutOfMemory))
+                Err(file_fault(FaultKind::OutOfMemory))
             } else {
-                Err(of_file(FaultKind::BadToml))
+                Err(file_fault(FaultKind::BadToml))
             }
         }
     }
@@ -151,6 +151,6 @@ pub fn diagram_in(alloc: Global, bay: &Bay, octets: &[u8]) -> Result<Diagram, Di
 {
     match std::str::from_utf8(octets) {
         Ok(text) => named_diagram(alloc, bay, text),
-        Err(_) => Err(of_file(FaultKind::BadToml)),
+        Err(_) => Err(file_fault(FaultKind::BadToml)),
     }
 }

@@ -6,7 +6,7 @@ ghost use Rattle.bay_config.specs.Switch.{kinds};
 ghost use Rattle.bay_diagram_file.specs.Row as spec;
 
 use crate::keys::{
-    copied_at, copied_or_empty, has_key, has_unknown_key, may_be_text, may_be_truth, text_at,
+    copy_text_at, copy_or_empty, has_key, has_unknown_key, may_be_text, may_be_truth, text_at,
     truth_at, values_at,
 };
 use crate::node_row::has_name;
@@ -89,15 +89,15 @@ fn fault_of(table: &Table) -> Option<RowFault>
 
 // Reads a table.
 fn row_of(alloc: Global, table: &Table) -> Result<SwitchRow, AllocError>
-    ensures { IfOk result (λ row. row ≡ spec.switch_row (table_view table.now)) }
+    ensures { IfOk result (λ row. row ≡ spec.switch_row_of_table (table_view table.now)) }
 {
     let nodes = values_at(table, "nodes");
-    let switch = copied_at(alloc, table, "switch")?;
-    let name = copied_at(alloc, table, "name")?;
-    let one = copied_or_empty(alloc, text_among(nodes, 0))?;
-    let other = copied_or_empty(alloc, text_among(nodes, 1))?;
-    let closed = copied_at(alloc, table, "closed")?;
-    let opened = copied_at(alloc, table, "open")?;
+    let switch = copy_text_at(alloc, table, "switch")?;
+    let name = copy_text_at(alloc, table, "name")?;
+    let one = copy_or_empty(alloc, text_among(nodes, 0))?;
+    let other = copy_or_empty(alloc, text_among(nodes, 1))?;
+    let closed = copy_text_at(alloc, table, "closed")?;
+    let opened = copy_text_at(alloc, table, "open")?;
     Ok(SwitchRow {
         fault: fault_of(table),
         switch,
@@ -115,8 +115,8 @@ fn row_of(alloc: Global, table: &Table) -> Result<SwitchRow, AllocError>
 fn bad_row(alloc: Global) -> Result<SwitchRow, AllocError>
     ensures { IfOk result (λ row. row ≡ spec.bad_switch_row) }
 {
-    let one = copied_or_empty(alloc, None)?;
-    let other = copied_or_empty(alloc, None)?;
+    let one = copy_or_empty(alloc, None)?;
+    let other = copy_or_empty(alloc, None)?;
     Ok(SwitchRow {
         fault: Some(RowFault::BadValue),
         switch: None,
@@ -132,7 +132,7 @@ fn bad_row(alloc: Global) -> Result<SwitchRow, AllocError>
 
 // Reads a value of the section.
 fn row_from(alloc: Global, value: &Value) -> Result<SwitchRow, AllocError>
-    ensures { IfOk result (λ row. row ≡ spec.switch_row_of (view value.now)) }
+    ensures { IfOk result (λ row. row ≡ spec.switch_row_of_value (view value.now)) }
 {
     match value.as_table() {
         Some(table) => row_of(alloc, table),
@@ -143,7 +143,7 @@ fn row_from(alloc: Global, value: &Value) -> Result<SwitchRow, AllocError>
 /// Reads the values of the section. Fails only if an allocation fails.
 pub fn switch_rows(alloc: Global, values: &[Value]) -> Result<Vec<SwitchRow>, AllocError>
     ensures { IfOk result (λ rows. rows.items
-        ≡ map spec.switch_row_of (map (λ v. view v) values.now)) }
+        ≡ map spec.switch_row_of_value (map (λ v. view v) values.now)) }
 {
     let mut rows = Vec::new(alloc);
     for value in values {

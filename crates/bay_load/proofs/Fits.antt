@@ -29,10 +29,10 @@ use Rattle.il_image.specs.declared.opcode.SlotUse.TheVariants.{Load, Store, SetI
 use Rattle.il_image.proofs.KindLemmas.{same-is, same-self}
 use Rattle.il_image.specs.Machine.{most_slots, most_timers}
 use Rattle.il_check.specs.Checking.{checked_of, checked_program, faults_of, initial_progress}
-use Rattle.il_check.specs.Declaring.{declaration_faults, declarations_faults, external_at, external_in, externals_of, is_typed, names_in, point_of as declared_point, is_name}
+use Rattle.il_check.specs.Declaring.{declaration_faults, declarations_faults, point_external, declared_external, externals_of, is_typed, names_in, point_of as declared_point, is_name}
 use Rattle.il_check.specs.Faults.{fault_if, least_fault}
 use Rattle.il_check.specs.Program.{Checked}
-use Rattle.il_check.specs.Sound.{AreApart, name_at}
+use Rattle.il_check.specs.Sound.{AreDistinct, name_at}
 use Rattle.il_check.specs.TypedProgram.{IsTyped}
 use Rattle.il_check.specs.WellTyped.{items_faults}
 use Rattle.il_check.specs.declared.fault.CheckFault.{CheckFault}
@@ -43,7 +43,7 @@ use Rattle.il_check.proofs.NotedLemmas.{append-none, least_fault-none}
 use Rattle.il_verify.specs.Binding.{are_points, fits, is_point}
 use Rattle.il_verify.specs.Judging.{is_read_only, writes_read_only}
 use Rattle.il_verify.specs.Slots.{point_slot, slots_of, variable_slot}
-use Rattle.il_verify.specs.Verdicts.{IsVerified, KeepsReadOnly}
+use Rattle.il_verify.specs.Verdicts.{IsVerified, WritesNoReadOnly}
 use Rattle.il_compile.specs.Code.{program_code}
 use Rattle.il_compile.specs.Compiled.{compiled_of, image_of, image_size, point_of, most_octets}
 use Rattle.il_compile.specs.declared.fault.CompileFault.TheVariants.{CodeTooLong}
@@ -108,7 +108,7 @@ named-so name other h =
 bound-at : (points : List Point) (name : List ℕ) (kind : ElementaryType) (o : Option Point)
     (es : List External) → declared_point points name ≡ o
     → is_typed scope.External (type.Elementary kind) o None ≡ true → Each (IsBound points) es
-    → Each (IsBound points) (cons_option (external_at name kind o) es)
+    → Each (IsBound points) (cons_option (point_external name kind o) es)
 bound-at points name kind None es e t rest = rest
 bound-at points name kind (Some p) es e t rest =
     let e : find (λ q. same_name q.name name) points ≡ Some p =
@@ -129,10 +129,10 @@ bound-at points name kind (Some p) es e t rest =
       rest,
     )
 
-bound-in : (points : List Point) (d : text.Declared) (s : VariableScope) (k : DeclaredType)
+bound-in : (points : List Point) (d : text.DeclaredName) (s : VariableScope) (k : DeclaredType)
     (given : Option Literal) (es : List External)
     → is_typed s k (declared_point points d.name) given ≡ true → Each (IsBound points) es
-    → Each (IsBound points) (cons_option (external_in points d s k) es)
+    → Each (IsBound points) (cons_option (declared_external points d s k) es)
 bound-in points d scope.External (type.Elementary kind) given es t rest =
     bound-at points d.name kind (declared_point points d.name) es refl t rest
 bound-in points d scope.External (type.Timer kind) given es t rest = rest
@@ -143,7 +143,7 @@ no_fault : (test : Bool) (f : CheckFault) → fault_if test f ≡ [] → test �
 no_fault true f none = absurd cc
 no_fault false f none = refl
 
-all-bound : (points : List Point) (before ds : List text.Declared)
+all-bound : (points : List Point) (before ds : List text.DeclaredName)
     → declarations_faults points before ds ≡ [] → Each (IsBound points) (externals_of points ds)
 all-bound points before [] none = tt
 all-bound points before (d ∷ ds) none =
@@ -171,11 +171,11 @@ none-alike name (e ∷ es) ns h =
     (subst (λ x. same_name name x ≡ false) same first) (same-self-name name))))
     (none-alike name es ns (λ j lt. h (suc j) (omega arith)))
 
-apart-rest : (x : List ℕ) (xs : List (List ℕ)) → AreApart (x ∷ xs) → AreApart xs
+apart-rest : (x : List ℕ) (xs : List (List ℕ)) → AreDistinct (x ∷ xs) → AreDistinct xs
 apart-rest x xs h i j lt within = h (suc i) (suc j) (omega arith) (omega arith)
 
 points-fit : (points : List Point) (es : List External) (ns : List (List ℕ))
-    → Each (IsBound points) es → AreApart (map (λ e. e.name) es ++ ns)
+    → Each (IsBound points) es → AreDistinct (map (λ e. e.name) es ++ ns)
     → are_points points (map point_of es) ≡ true
 points-fit points [] ns h apart = refl
 points-fit points (e ∷ es) ns h apart =
@@ -260,7 +260,7 @@ module _ (c : Checked) where
   keeps-read-only (Slot ResetIf n) h = may-be-written n h
   keeps-read-only i h = refl
 
-  pub writes : IsTyped c → Each IsInstr (program_code c) → KeepsReadOnly (image_of c)
+  pub writes : IsTyped c → Each IsInstr (program_code c) → WritesNoReadOnly (image_of c)
   writes ok are place i next p e = keeps-read-only i (keeps-at c ok are place i next p e)
 
 -- ---- all of it

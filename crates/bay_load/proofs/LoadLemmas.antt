@@ -22,7 +22,7 @@ use Rattle.il_check.specs.declared.fault.CheckFault.{CheckFault}
 use Rattle.il_check.proofs.TypedLemmas.{typed-of}
 use Rattle.il_compile.specs.Compiled.{compiled_of}
 use Rattle.il_compile.specs.declared.fault.CompileFault.{CompileFault}
-use Rattle.il_image.specs.Decoding.{image_spelled}
+use Rattle.il_image.specs.Decoding.{decoded_image}
 use Rattle.il_image.specs.Images.{Image as Code}
 use Rattle.il_image.specs.declared.fault.ImageFault.{ImageFault}
 use Rattle.il_verify.specs.Refusals.{IsRefusal}
@@ -127,13 +127,13 @@ module _ (bay program : List ℕ) (b : Bay) (is : file_of bay ≡ Ok b) where
   logic-refused (Err e) (inr held) = inl (rw is held)
 
   pub decoded-ok : (r : Result LoadData LoadError)
-      → IfOk r (λ l. LoadsRead b (image_spelled program) (Ok l))
+      → IfOk r (λ l. LoadsRead b (decoded_image program) (Ok l))
       → IfOk r (λ l. LoadsTo bay Image program (Ok l))
   decoded-ok (Ok l) loads = rw is loads
   decoded-ok (Err e) loads = tt
 
   pub decoded-refused : (r : Result LoadData LoadError)
-      → IfErr r (λ e. e ≢ OutOfMemory → LoadsRead b (image_spelled program) (Err e))
+      → IfErr r (λ e. e ≢ OutOfMemory → LoadsRead b (decoded_image program) (Err e))
       → IfErr r (λ e. MayLoadTo bay Image program (Err e))
   decoded-refused (Ok l) refused = tt
   decoded-refused (Err e) refused =
@@ -209,5 +209,5 @@ load-made bay Logic program l e =
     let m = text-made (file_of bay) (text_of program) l e in
     record { read = m.read; named = m.named; made = m.made; verified = m.verified }
 load-made bay Image program l e =
-    let m = image-made (file_of bay) (image_spelled program) l e in
+    let m = image-made (file_of bay) (decoded_image program) l e in
     record { read = m.read; named = m.named; made = m.made; verified = m.verified }

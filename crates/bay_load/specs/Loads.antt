@@ -6,14 +6,14 @@ use Rattle.bay_config.specs.Laws.{IsBay}
 use Rattle.bay_config.specs.declared.bay.Bay.{Bay}
 use Rattle.bay_config.specs.declared.fault.BayFault.{BayFault}
 use Rattle.bay_config.specs.declared.fault.BayFault.TheVariants.{BadToml}
-use Rattle.il_text.specs.Listing.{Declared, PlainProgram}
+use Rattle.il_text.specs.Listing.{DeclaredName, PlainProgram}
 use Rattle.il_text.specs.Reading.{program_of}
 use Rattle.il_text.specs.declared.fault.TextFault.{TextFault}
 use Rattle.il_text.specs.declared.fault.TextFault.TheVariants.{BadToken}
 use Rattle.il_check.specs.Checking.{checked_of}
 use Rattle.il_check.specs.Program.{Checked}
 use Rattle.il_check.specs.declared.fault.CheckFault.{CheckFault}
-use Rattle.il_image.specs.Decoding.{image_spelled}
+use Rattle.il_image.specs.Decoding.{decoded_image}
 use Rattle.il_image.specs.Images.{Image as Code}
 use Rattle.il_image.specs.declared.fault.ImageFault.{ImageFault}
 use Rattle.il_compile.specs.Compiled.{compiled_of}
@@ -134,7 +134,7 @@ load_of bay logic = of_bay (file_of bay) (text_of logic)
 -- this error
 abbrev pub LoadsTo : List ℕ → Form → List ℕ → Result LoadData LoadError → Type 0
 LoadsTo bay Logic program loaded = load_of bay program ≡ loaded
-LoadsTo bay Image program loaded = Loads (file_of bay) (image_spelled program) loaded
+LoadsTo bay Image program loaded = Loads (file_of bay) (decoded_image program) loaded
 
 -- This is loaded or refused as `LoadsTo` says, or memory ran out.
 abbrev pub MayLoadTo : List ℕ → Form → List ℕ → Result LoadData LoadError → Type 0
@@ -143,15 +143,15 @@ MayLoadTo bay form program loaded = LoadsTo bay form program loaded ⊎ (loaded 
 -- the image of the octets of a program or an image, for a bay
 abbrev pub IsImageOf : Form → List ℕ → Bay → Code → Type 0
 IsImageOf Logic program bay image = IsCompiled (text_of program) bay image
-IsImageOf Image program bay image = image_spelled program ≡ Ok image
+IsImageOf Image program bay image = decoded_image program ≡ Ok image
 
 -- the declarations of a program, if the text is one
-abbrev pub declarations_of : Result PlainProgram TextFault → List Declared
+abbrev pub declarations_of : Result PlainProgram TextFault → List DeclaredName
 declarations_of (Ok program) = program.declarations
 declarations_of (Err fault) = []
 
 -- the declarations in the octets of a program; an image has none
-abbrev pub declared_in : Form → List ℕ → List Declared
+abbrev pub declared_in : Form → List ℕ → List DeclaredName
 declared_in Logic program = declarations_of (text_of program)
 declared_in Image program = []
 

@@ -1,7 +1,7 @@
 -- The names that a program declares.
 use Rattle.std.specs.Prelude.{ℕ, List, [], ◌∷◌, ◌++◌}
 use Rattle.std.specs.List.{flat_map}
-use Rattle.il_text.specs.Listing.{Declared}
+use Rattle.il_text.specs.Listing.{DeclaredName}
 use Rattle.il_text.specs.declared.program.DeclaredType.{DeclaredType}
 use Rattle.il_text.specs.declared.program.DeclaredType.TheVariants.{Elementary, Timer}
 use Rattle.il_text.specs.declared.program.VariableScope.{VariableScope}
@@ -25,15 +25,15 @@ timer_in Local (Timer kind) name = name ∷ []
 timer_in External kind name = []
 
 -- the names of the variables that are declared, in their order
-abbrev pub variable_names : List Declared → List (List ℕ)
+abbrev pub variable_names : List DeclaredName → List (List ℕ)
 variable_names = flat_map (λ d. variable_in d.scope d.kind d.name)
 
 -- the names of the timers that are declared, in their order
-abbrev pub timer_names : List Declared → List (List ℕ)
+abbrev pub timer_names : List DeclaredName → List (List ℕ)
 timer_names = flat_map (λ d. timer_in d.scope d.kind d.name)
 
 -- the names of the variables and of the timers that are declared
-abbrev pub names_of : List Declared → NamesData
+abbrev pub names_of : List DeclaredName → NamesData
 names_of declared =
     record { variables = variable_names declared; timers = timer_names declared }
 
@@ -42,7 +42,7 @@ abbrev pub no_names : NamesData
 no_names = names_of []
 
 -- the name of a declaration is added after these names
-abbrev pub with_declared : NamesData → Declared → NamesData
+abbrev pub with_declared : NamesData → DeclaredName → NamesData
 with_declared names d = record {
   variables = names.variables ++ variable_in d.scope d.kind d.name;
   timers = names.timers ++ timer_in d.scope d.kind d.name;

@@ -6,7 +6,7 @@ ghost use Rattle.il_text.specs.Views.{plain_program};
 ghost use Rattle.il_text.specs.declared.fault.TextFault.TheVariants as text_fault;
 ghost use Rattle.il_check.specs.Checking.{checked_of};
 ghost use Rattle.il_check.specs.ProgramViews.{checked_view};
-ghost use Rattle.il_image.specs.Decoding.{image_spelled};
+ghost use Rattle.il_image.specs.Decoding.{decoded_image};
 ghost use Rattle.il_compile.specs.Compiled.{compiled_of};
 ghost use Rattle.il_verify.specs.Refusals.{IsRefusal};
 ghost use Rattle.il_verify.specs.Verdicts.{IsVerified};
@@ -121,9 +121,9 @@ fn load_logic(alloc: Global, bay: Box<Bay>, logic: &[u8]) -> Result<Loaded, Load
 fn load_image(alloc: Global, bay: Box<Bay>, image: &[u8]) -> Result<Loaded, LoadError>
     requires { IsRead bay.value }
     ensures ok { IfOk result
-        (λ loaded. LoadsRead bay.value (image_spelled image.now) (Ok loaded)) }
+        (λ loaded. LoadsRead bay.value (decoded_image image.now) (Ok loaded)) }
     ensures refused { IfErr result
-        (λ e. e ≢ OutOfMemory → LoadsRead bay.value (image_spelled image.now) (Err e)) }
+        (λ e. e ≢ OutOfMemory → LoadsRead bay.value (decoded_image image.now) (Err e)) }
 {
     let image = decode(alloc, image)?;
     load_decoded(alloc, bay, DeclaredNames::none(alloc), image)

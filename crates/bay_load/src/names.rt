@@ -1,6 +1,6 @@
 // The names that a program declares.
 ghost use Rattle.std.specs.Prelude.{◌≡◌, IfOk, OnOk, map};
-ghost use Rattle.il_text.specs.ItemViews.{declared_of};
+ghost use Rattle.il_text.specs.ItemViews.{declared_name};
 ghost use Rattle.bay_load.specs.Names.{no_names, with_declared};
 ghost use Rattle.bay_load.specs.Names as spec;
 
@@ -52,7 +52,7 @@ impl DeclaredNames {
 
     // Adds the name of a declaration, if it is a variable or a timer of the program.
     fn add(&mut self, alloc: Global, declared: &Declaration<'_>) -> Result<(), AllocError>
-        ensures { OnOk result (self.new ≡ with_declared self.old (declared_of declared.now)) }
+        ensures { OnOk result (self.new ≡ with_declared self.old (declared_name declared.now)) }
     {
         match (declared.scope, declared.kind) {
             (VariableScope::External, _) => {}
@@ -74,7 +74,7 @@ pub(crate) fn names_of(
     alloc: Global,
     declarations: &[Declaration<'_>],
 ) -> Result<DeclaredNames, AllocError>
-    ensures { IfOk result (λ names. names ≡ spec.names_of (map declared_of declarations.now)) }
+    ensures { IfOk result (λ names. names ≡ spec.names_of (map declared_name declarations.now)) }
 {
     let mut names = DeclaredNames::none(alloc);
     for declared in declarations {

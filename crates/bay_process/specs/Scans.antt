@@ -9,7 +9,7 @@ use Rattle.bay_base.specs.declared.point.Source.TheVariants as source
 use Rattle.bay_base.specs.declared.point.SwitchPoint.{SwitchPoint}
 use Rattle.il_image.specs.declared.value.Value.{Value}
 use Rattle.il_image.specs.declared.value.Value.TheVariants.{Truth, Long}
-use Rattle.il_scan.specs.Places.{is_true}
+use Rattle.il_scan.specs.OutputValues.{is_true}
 use Rattle.il_scan.specs.declared.span.Span.{Span}
 use Rattle.bay_process.specs.Values.{number_of_leaf, output_at, position_value, with_output}
 use Rattle.bay_process.specs.Layout.{Layout, field_rows, layout_of, name_in, switch_in}

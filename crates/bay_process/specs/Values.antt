@@ -20,7 +20,7 @@ use Rattle.bay_base.specs.declared.point.SwitchPoint.{SwitchPoint}
 use Rattle.bay_base.specs.declared.point.SwitchPoint.TheVariants.{Position, Open, Closed, EnableOpen, EnableClose}
 use Rattle.il_image.specs.declared.value.Value.{Value}
 use Rattle.il_image.specs.declared.value.Value.TheVariants.{Truth, Short}
-use Rattle.il_scan.specs.Places.{is_true}
+use Rattle.il_scan.specs.OutputValues.{is_true}
 use Rattle.bay_nodes.specs.Names.{StatusNames, SwitchNames, switch_names, meter_names}
 use Rattle.bay_process.specs.Names.{field_names}
 

@@ -7,7 +7,7 @@ ghost use Rattle.bay_tree.specs.declared.leaf.Leaf.TheVariants as leaves;
 ghost use Rattle.il_image.specs.Images.{IsValue};
 ghost use Rattle.il_image.specs.Values.{type_of};
 ghost use Rattle.bay_base.specs.declared.types.ElementaryType.TheVariants as elementary;
-ghost use Rattle.il_scan.specs.Places.{is_true};
+ghost use Rattle.il_scan.specs.OutputValues.{is_true};
 ghost use Rattle.bay_process.specs.Values.{output_at, with_enabled, with_output};
 ghost use Rattle.bay_process.specs.Values as spec_values;
 ghost use Rattle.bay_process.specs.Layout.{layout_of, status_in, switch_in, switches_of, AreStatusRows, AreSwitchRows, AreLeafTyped, AreMetersLeafTyped};

@@ -4,7 +4,7 @@ use Rattle.std.specs.List.{list_all}
 use Rattle.std.proofs.lemmas.Grind.{flat_map-append}
 use Rattle.std.proofs.lemmas.List.{map-append}
 use Rattle.std.proofs.lemmas.List.Folds.{list_all-append}
-use Rattle.bay_audit.specs.Rules.{BoundProgram, program_of, ways}
+use Rattle.bay_audit.specs.Rules.{BoundProgram, program_of, directions}
 use Rattle.bay_base.specs.declared.switch.Operation.{Operation}
 use Rattle.bay_config.specs.declared.bay.Bay.{Bay}
 use Rattle.bay_diagram.specs.declared.network.Network.{Network}
@@ -103,7 +103,7 @@ module _ {W : Type 0} {contents : W → Option (List ℕ)} {does : W → WriteCa
       releases = [];
       right = tt;
       said = inr (record {
-        later = ways (length loaded.bay.switches);
+        later = directions (length loaded.bay.switches);
         first = refl;
         said = refl;
         ends = refl;
@@ -112,7 +112,7 @@ module _ {W : Type 0} {contents : W → Option (List ℕ)} {does : W → WriteCa
   }
 
   pub cut-judged : (g : BoundProgram) (these : List (ℕ × Operation)) {old new : Writing W}
-      → g ≡ program_of loaded.bay loaded.image → these ≡ ways (length loaded.bay.switches)
+      → g ≡ program_of loaded.bay loaded.image → these ≡ directions (length loaded.bay.switches)
       → PutsFirstJudged contents does loaded.bay d g these old new
       → PutsText contents does (Judgements loaded d) (codes "fault memory\n") 3 old new
   cut-judged g these {old} {new} f all p = record {
@@ -132,7 +132,7 @@ module _ {W : Type 0} {contents : W → Option (List ℕ)} {does : W → WriteCa
 
   pub whole-judged : (g : BoundProgram) (these : List (ℕ × Operation)) (passed : Bool)
       {old new : Writing W}
-      → g ≡ program_of loaded.bay loaded.image → these ≡ ways (length loaded.bay.switches)
+      → g ≡ program_of loaded.bay loaded.image → these ≡ directions (length loaded.bay.switches)
       → PutsJudged contents does loaded.bay d g these passed old new
       → PutsText contents does (Judgements loaded d) [] (status_of passed) old new
   whole-judged g these passed {old} {new} f all p = record {
@@ -153,7 +153,7 @@ module _ {W : Type 0} {contents : W → Option (List ℕ)} {does : W → WriteCa
 pub judged-of : {W : Type 0} (contents : W → Option (List ℕ)) (does : W → WriteCall → W → Type 0)
     (loaded : LoadData) (d : Diagram) (g : BoundProgram) (these : List (ℕ × Operation)) {E : Type 0}
     (old new : Writing W) (r : Result Bool E)
-    → g ≡ program_of loaded.bay loaded.image → these ≡ ways (length loaded.bay.switches)
+    → g ≡ program_of loaded.bay loaded.image → these ≡ directions (length loaded.bay.switches)
     → MatchResult r (λ passed. PutsJudged contents does loaded.bay d g these passed old new)
     (λ e. PutsFirstJudged contents does loaded.bay d g these old new)
     → MatchResult r

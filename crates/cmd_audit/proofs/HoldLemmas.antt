@@ -2,7 +2,7 @@
 use Rattle.std.proofs.Common.{◌≡◌, ◌⊎◌, inl, inr, ℕ, List, [], ◌∷◌, ◌++◌, codes, zip, refl, sym, subst}
 use Rattle.bay_config.specs.declared.bay.Bay.{Bay}
 use Rattle.bay_audit_rules.specs.declared.rule.Rule.{Rule}
-use Rattle.bay_audit.specs.Rules.{AreRight, BoundProgram, program_of}
+use Rattle.bay_audit.specs.Rules.{AreRightAnswers, BoundProgram, program_of}
 use Rattle.bay_audit.specs.declared.answer.RuleAnswer.{RuleAnswer}
 use Rattle.bay_audit.specs.declared.answer.Release.{Release}
 use Rattle.bay_replay_laws.proofs.LineLemmas.{AreLines, each-line, map-lines, more-lines, no-lines, one-line}
@@ -19,7 +19,7 @@ module _ (bay : Bay) (names : Known) (g : BoundProgram) (words : HasWords bay)
 
   -- the answers that were printed before memory ran out are some of all
   answers-parts : (rules : List Rule) (answers : List RuleAnswer)
-      (shown hidden : List (Rule × RuleAnswer)) → AreRight g rules answers
+      (shown hidden : List (Rule × RuleAnswer)) → AreRightAnswers g rules answers
       → zip rules answers ≡ shown ++ hidden
       → AreLines (Said (zip rules answers)) (spec.answers_text bay names shown)
   answers-parts rules answers [] hidden right parts = no-lines
@@ -45,7 +45,7 @@ module _ (bay : Bay) (names : Known) (g : BoundProgram) (words : HasWords bay)
       (lines.says-word bay names g words known pairs (codes "fault memory") refl)
 
   said-lines : (rules : List Rule) (answers : List RuleAnswer) (releases : List Release)
-      (text : List ℕ) (status : ℕ) → AreRight g rules answers
+      (text : List ℕ) (status : ℕ) → AreRightAnswers g rules answers
       → IsWhole bay names rules answers releases text status
       ⊎ IsCut bay names rules answers releases text status
       → AreLines (Said (zip rules answers)) text

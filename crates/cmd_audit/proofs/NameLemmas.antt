@@ -27,16 +27,16 @@ use Rattle.bay_load.proofs.LoadLemmas.{load-made}
 use Rattle.il_image.specs.Images.{Each, HasName, is_name_octet}
 use Rattle.il_image.specs.declared.image.ImagePoint.{ImagePoint}
 use Rattle.il_text.specs.Characters.{are_linked, begins_name, begins_word, is_blank, is_word}
-use Rattle.il_text.specs.Forms.{acts, declaration, instruction, keyword_line, label_parts, named_line, operator_parts, other_line, parenthesis, parts_of, statement, whole_line}
+use Rattle.il_text.specs.Forms.{only_action, declaration, instruction, keyword_line, label_parts, named_line, operator_parts, other_line, parenthesis, parts_of, statement, whole_line}
 use Rattle.il_text.specs.Grammar.{Block, Declaration, Derives, Numbered, block_declared, block_parts, declaration_part, names_declared}
-use Rattle.il_text.specs.Listing.{Action, Declared, PlainProgram}
-use Rattle.il_text.specs.Literals.{halves, is_hash}
-use Rattle.il_text.specs.Parts.{LineContent, declaring}
-use Rattle.il_text.specs.Pieces.{join, joins, pieces, without_comments}
+use Rattle.il_text.specs.Listing.{Action, DeclaredName, PlainProgram}
+use Rattle.il_text.specs.Literals.{split_at_hash, is_hash}
+use Rattle.il_text.specs.Parts.{LineContent, names_part}
+use Rattle.il_text.specs.Lexemes.{join, joins_lexeme, lexemes, without_comments}
 use Rattle.il_text.specs.Places.{last_line}
 use Rattle.il_text.specs.Reading.{lines, prepend_lexeme, program_of, tokens_of}
-use Rattle.il_text.specs.Symbols.{is_line_end, literal_piece, mark_of, mark_piece, name_or_reserved, piece, pieces_of, plain_word, word}
-use Rattle.il_text.specs.Texts.{Allowed, OnParts, OnTokens, Reads, ReadsAs, Refused, TextLine, all_parts, numbered_parts}
+use Rattle.il_text.specs.Symbols.{is_line_end, literal_lexeme, mark_of, mark_lexeme, name_or_reserved, lexeme_of, text_lexemes, plain_word, word}
+use Rattle.il_text.specs.Texts.{AreAllowed, ReadsParts, ReadsTokens, ReadsLines, ReadsAs, IsFaultyLine, TextLine, all_parts, numbered_parts}
 use Rattle.il_text.specs.TokenForms.{Form as LineForm, no_token, spelled_names}
 use Rattle.il_text.specs.Tokens.{Symbol, name, keyword_word, mnemonic_word, mark_symbol, LexemeData, blank, line_end, token, bad_token, bad_literal}
 use Rattle.il_text.specs.Words.{reserved_symbol, symbol_of_word}
@@ -93,8 +93,8 @@ whole-one : (x : ℕ) → Whole (x ∷ [])
 whole-one x is hash = let two =
     or_parts (is_hash x) false hash in rw (word-character x is two.0) refl
 
-whole-more : (x : ℕ) (p : List ℕ) → joins x p ≡ true → Whole p → Whole (x ∷ p)
-unfolding joins
+whole-more : (x : ℕ) (p : List ℕ) → joins_lexeme x p ≡ true → Whole p → Whole (x ∷ p)
+unfolding joins_lexeme
 whole-more x p joined whole is hash =
     let two = or_parts (is_hash x) (list_any is_hash p) hash in
     rw (
@@ -104,17 +104,17 @@ whole-more x p joined whole is hash =
 
 whole-join : (x : ℕ) (ps : List (List ℕ)) → Each Whole ps → Each Whole (join x ps)
 whole-join x [] all = (whole-one x, tt)
-whole-join x (p ∷ ps) all = by-test (joins x p) refl
+whole-join x (p ∷ ps) all = by-test (joins_lexeme x p) refl
   where
-    by-test : (b : Bool) → joins x p ≡ b
+    by-test : (b : Bool) → joins_lexeme x p ≡ b
         → Each Whole (cond b ((x ∷ p) ∷ ps) ((x ∷ []) ∷ p ∷ ps))
     by-test true joined = (whole-more x p joined all.0, all.1)
     by-test false apart = (whole-one x, all)
 
-whole-pieces : (text : List ℕ) → Each Whole (pieces text)
-unfolding pieces
+whole-pieces : (text : List ℕ) → Each Whole (lexemes text)
+unfolding lexemes
 whole-pieces [] = tt
-whole-pieces (x ∷ text) = whole-join x (pieces text) (whole-pieces text)
+whole-pieces (x ∷ text) = whole-join x (lexemes text) (whole-pieces text)
 
 -- ---- tokens
 
@@ -128,7 +128,7 @@ IsPieceNamed (token s) = IsNamed s
 IsPieceNamed other = Unit {0}
 
 IsMaybe : Option Symbol → Type 0
-IsMaybe o = IsPieceNamed (mark_piece o)
+IsMaybe o = IsPieceNamed (mark_lexeme o)
 
 no-mark : IsMaybe None
 unfolding IsMaybe
@@ -150,7 +150,7 @@ mark-named p =
     (mark-or _ (mnemonic_word (Combine And false)) _ tt
     (mark-or _ (mnemonic_word (Combine And true)) _ tt no-mark))))))))
 
-literal-named : (r : Result Literal LiteralFault) → IsPieceNamed (literal_piece r)
+literal-named : (r : Result Literal LiteralFault) → IsPieceNamed (literal_lexeme r)
 literal-named (Ok value) = tt
 literal-named (Err Malformed) = tt
 literal-named (Err OutOfRange) = tt
@@ -167,8 +167,8 @@ hash-place (x ∷ w) any = by-test (is_hash x) refl (λ more. hash-place w more)
         let more : position_or_len is_hash w < length w = again (rw not at any) in
         rw not (omega (arith, more))
 
-no-hash : (w : List ℕ) → halves w ≡ None → list_any is_hash w ≡ false
-unfolding halves
+no-hash : (w : List ℕ) → split_at_hash w ≡ None → list_any is_hash w ≡ false
+unfolding split_at_hash
 no-hash w none = by-test (list_any is_hash w) refl
   where
     by-test : (b : Bool) → list_any is_hash w ≡ b → b ≡ false
@@ -191,33 +191,33 @@ reserved-named w named = by-word (reserved_of w)
     by-word (Some r) = rw (no-name r) tt
 
 word-named : (p : List ℕ) → Whole p → begins_word (slice_index p 0) ≡ true → IsPieceNamed (word p)
-word-named p whole begins = by-halves (halves p) refl
+word-named p whole begins = by-halves (split_at_hash p) refl
   where
-    by-first : (b : Bool) → halves p ≡ None → begins_name (slice_index p 0) ≡ b
+    by-first : (b : Bool) → split_at_hash p ≡ None → begins_name (slice_index p 0) ≡ b
         → IsPieceNamed (word p)
     by-first true none is =
         rw (word-name p none is)
         (reserved-named p (whole (name-begins (slice_index p 0) is) (no-hash p none)))
     by-first false none not = rw (word-number p none not) (literal-named _)
 
-    by-halves : (o : Option (List ℕ × List ℕ)) → halves p ≡ o → IsPieceNamed (word p)
+    by-halves : (o : Option (List ℕ × List ℕ)) → split_at_hash p ≡ o → IsPieceNamed (word p)
     by-halves None none = by-first (begins_name (slice_index p 0)) none refl
     by-halves (Some h) is = rw (word-some p h (sym is)) (literal-named _)
 
-piece-named : (p : List ℕ) → Whole p → IsPieceNamed (piece p)
-unfolding piece IsMaybe
-piece-named p whole =
+piece-named : (p : List ℕ) → Whole p → IsPieceNamed (lexeme_of p)
+unfolding lexeme_of IsMaybe
+lexeme_of-named p whole =
     either IsPieceNamed (is_blank (slice_index p 0)) tt
     (either IsPieceNamed (is_line_end p) tt (by-first (begins_word (slice_index p 0)) refl))
   where
     by-first : (b : Bool) → begins_word (slice_index p 0) ≡ b
-        → IsPieceNamed (cond b (word p) (mark_piece (mark_of p)))
+        → IsPieceNamed (cond b (word p) (mark_lexeme (mark_of p)))
     by-first true is = word-named p whole is
     by-first false not = mark-named p
 
-pieces-named : (ps : List (List ℕ)) → Each Whole ps → Each IsPieceNamed (map piece ps)
+pieces-named : (ps : List (List ℕ)) → Each Whole ps → Each IsPieceNamed (map lexeme_of ps)
 pieces-named [] all = tt
-pieces-named (p ∷ ps) all = (piece-named p all.0, pieces-named ps all.1)
+lexemes-named (p ∷ ps) all = (piece-named p all.0, pieces-named ps all.1)
 
 -- ---- lines
 
@@ -258,7 +258,7 @@ tokens-named line (bad_literal ∷ ps) all = tt
 -- ---- parts
 
 abbrev IsPartNamed : LineContent → Type 0
-IsPartNamed (declaring names kind initial) = Each IsWord names
+IsPartNamed (names_part names kind initial) = Each IsWord names
 IsPartNamed other = Unit {0}
 
 spelled-named : (n : List ℕ) (ns : List (List ℕ)) → Each IsNamed (spelled_names n ns)
@@ -282,7 +282,7 @@ record NamesNone (f : LineForm (List LineContent)) : Type 0 where
 none-of : (ps : List LineContent) → Each IsPartNamed ps → NamesNone (no_token ps)
 none-of ps named = record { are = λ ts qs s. subst (Each IsPartNamed) s.1 named }
 
-acts-none : (f : LineForm Action) → NamesNone (acts f)
+acts-none : (f : LineForm Action) → NamesNone (only_action f)
 acts-none f = record { are = λ ts ps s. subst (Each IsPartNamed) s.2 (tt, tt) }
 
 parenthesis-none : (o : Operator) (n : Bool) → NamesNone (parenthesis o n)
@@ -358,7 +358,7 @@ all-named before l all more =
 
 -- ---- declarations
 
-abbrev IsDeclaredNamed : Declared → Type 0
+abbrev IsDeclaredNamed : DeclaredName → Type 0
 IsDeclaredNamed d = IsWord d.name
 
 names-named : (scope : VariableScope) (d : Declaration) (names : List (List ℕ)) → Each IsWord names
@@ -402,7 +402,7 @@ derived-named ps p d all =
 reads-named : (last : ℕ) (before : List TextLine) (n : ℕ) (ls : List (List LexemeData))
     (p : PlainProgram)
     → Each IsNumberedNamed (all_parts before) → Each (Each IsPieceNamed) ls
-    → Reads last before n ls (Ok p) → Each IsDeclaredNamed p.declarations
+    → ReadsLines last before n ls (Ok p) → Each IsDeclaredNamed p.declarations
 reads-named last before n [] p all rest derives = derived-named (all_parts before) p derives all
 reads-named last before n (l ∷ ls) p all rest reads =
     by-tokens (tokens_of n l) (tokens-named n l rest.0) reads
@@ -411,13 +411,13 @@ reads-named last before n (l ∷ ls) p all rest reads =
   where
     Goes : List LineContent → Type 0
     Goes ps =
-        (Allowed (before ++ (n, ps) ∷ []) × Reads last (before ++ (n, ps) ∷ []) (n + 1) ls (Ok p))
-        ⊎ Refused last n (before ++ (n, ps) ∷ []) (Ok p)
+        (AreAllowed (before ++ (n, ps) ∷ []) × ReadsLines last (before ++ (n, ps) ∷ []) (n + 1) ls (Ok p))
+        ⊎ IsFaultyLine last n (before ++ (n, ps) ∷ []) (Ok p)
 
     Again : Type 0
     Again =
         (ps : List LineContent) → Each IsPartNamed ps
-        → Reads last (before ++ (n, ps) ∷ []) (n + 1) ls (Ok p)
+        → ReadsLines last (before ++ (n, ps) ∷ []) (n + 1) ls (Ok p)
         → Each IsDeclaredNamed p.declarations
 
     by-turn : (ps : List LineContent) → Each IsPartNamed ps → Goes ps → Again
@@ -427,29 +427,29 @@ reads-named last before n (l ∷ ls) p all rest reads =
 
     by-parts : (ts : List Symbol) (o : Option (List LineContent)) → parts_of ts ≡ o
         → Each IsNamed ts
-        → OnParts n Goes o (Ok p) → Again → Each IsDeclaredNamed p.declarations
+        → ReadsParts n Goes o (Ok p) → Again → Each IsDeclaredNamed p.declarations
     by-parts ts None is named reads again = absurd cc
     by-parts ts (Some ps) is named reads again =
         by-turn ps (line-named ts ps named ((lines_are_produced ts ps).1 is)) reads again
 
-    by-tokens : (r : Result (List Symbol) TextFault) → AreNamed r → OnTokens n Goes r (Ok p) → Again
+    by-tokens : (r : Result (List Symbol) TextFault) → AreNamed r → ReadsTokens n Goes r (Ok p) → Again
         → Each IsDeclaredNamed p.declarations
     by-tokens (Ok ts) named reads again = by-parts ts (parts_of ts) refl named reads again
     by-tokens (Err fault) named reads again = absurd cc
 
 program-named : (text : List ℕ) (p : PlainProgram) → program_of text ≡ Ok p
     → Each IsDeclaredNamed p.declarations
-unfolding ReadsAs pieces_of
+unfolding ReadsAs text_lexemes
 program-named text p is =
-    reads-named (last_line text) [] 1 (lines (pieces_of false text)) p tt
-    (lines-named (map piece (pieces (without_comments false text)))
-    (pieces-named (pieces (without_comments false text))
+    reads-named (last_line text) [] 1 (lines (text_lexemes false text)) p tt
+    (lines-named (map lexeme_of (lexemes (without_comments false text)))
+    (pieces-named (lexemes (without_comments false text))
     (whole-pieces (without_comments false text))))
     ((program_is_read text (Ok p)).1 is)
 
 -- ---- what a program keeps
 
-variables-named : (ds : List Declared) → Each IsDeclaredNamed ds → Each IsWord (variable_names ds)
+variables-named : (ds : List DeclaredName) → Each IsDeclaredNamed ds → Each IsWord (variable_names ds)
 variables-named [] all = tt
 variables-named (d ∷ ds) all =
     each-append IsWord (variable_in d.scope d.kind d.name) (variable_names ds)
@@ -461,7 +461,7 @@ variables-named (d ∷ ds) all =
     by-kind Local (Timer type) = tt
     by-kind External kind = tt
 
-timers-named : (ds : List Declared) → Each IsDeclaredNamed ds → Each IsWord (timer_names ds)
+timers-named : (ds : List DeclaredName) → Each IsDeclaredNamed ds → Each IsWord (timer_names ds)
 timers-named [] all = tt
 timers-named (d ∷ ds) all =
     each-append IsWord (timer_in d.scope d.kind d.name) (timer_names ds)

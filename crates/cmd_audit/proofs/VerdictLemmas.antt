@@ -18,11 +18,11 @@ use Rattle.bay_config.specs.Key.{is_name_character}
 use Rattle.bay_config.specs.declared.bay.Bay.{Bay}
 use Rattle.bay_audit_rules.specs.declared.rule.Rule.{Rule}
 use Rattle.bay_audit.specs.Cases.{high_of, input_may, low_of, may_be}
-use Rattle.bay_audit.specs.Rules.{AreRight, BoundProgram, IsRight}
+use Rattle.bay_audit.specs.Rules.{AreRightAnswers, BoundProgram, IsRightAnswer}
 use Rattle.bay_audit.specs.declared.answer.RuleAnswer.{RuleAnswer}
 use Rattle.bay_audit.specs.declared.answer.RuleAnswer.TheVariants as answer
 use Rattle.bay_audit.specs.declared.answer.CaseRelease.{CaseRelease}
-use Rattle.bay_audit.specs.declared.answer.CaseRelease.TheVariants as told
+use Rattle.bay_audit.specs.declared.answer.CaseRelease.TheVariants as release
 use Rattle.bay_audit.specs.declared.answer.StateDependencies.{StateDependencies}
 use Rattle.bay_audit.specs.declared.answer.Release.{Release}
 use Rattle.bay_audit.specs.declared.answer.ReportedCase.{ReportedCase}
@@ -229,7 +229,7 @@ told-read : (line id : List ℕ) (operation : Operation) (hold : PrintedHold)
     → (let o : Option PrintedHold =
     Some (record { line = line; id = id; operation = operation }) in o) ≡ Some hold
     → AreRead line id operation hold
-told-read line id operation hold e = record { line = cc; id = cc; operation = cc }
+release-read line id operation hold e = record { line = cc; id = cc; operation = cc }
 
 hold-read : (line id : List ℕ) (operation : Operation) (ws : List (List ℕ)) (hold : PrintedHold)
     → hold_in (codes "rule" ∷ line ∷ id ∷ operation_word operation ∷ ws) ≡ Some hold
@@ -320,7 +320,7 @@ module _ (bay : Bay) (names : Known) (g : BoundProgram) (words : HasWords bay)
       (word-free 32 refl (rule_id rule) (rule-id-word rule)))
 
   says-holds : (rule : Rule) (a : RuleAnswer) (rest : List ℕ) (pairs : List (Rule × RuleAnswer))
-      → Contains pairs (rule, a) → IsRight g rule a → spec.is_passed a ≡ true
+      → Contains pairs (rule, a) → IsRightAnswer g rule a → spec.is_passed a ≡ true
       → Says pairs (spec.rule_start_text bay rule ++ 32 ∷ rest)
   says-holds rule a rest pairs among right holds hold e =
       let read =
@@ -346,7 +346,7 @@ module _ (bay : Bay) (names : Known) (g : BoundProgram) (words : HasWords bay)
       (words_in rest) other)
 
   says-answer : (rule : Rule) (a : RuleAnswer) (pairs : List (Rule × RuleAnswer))
-      → Contains pairs (rule, a) → IsRight g rule a
+      → Contains pairs (rule, a) → IsRightAnswer g rule a
       → Says pairs (spec.rule_start_text bay rule ++ spec.verdict_text bay names a)
   says-answer rule (answer.Holds cases) pairs among right =
       says-holds rule (answer.Holds cases) (codes "holds cases=" ++ decimal cases) pairs among right
@@ -429,7 +429,7 @@ module _ (bay : Bay) (names : Known) (g : BoundProgram) (words : HasWords bay)
 
   pub answer-lines : (rule : Rule) (a : RuleAnswer) (pairs : List (Rule × RuleAnswer))
       → Contains pairs (rule, a)
-      → IsRight g rule a → AreLines (Says pairs) (spec.answer_text bay names (rule, a))
+      → IsRightAnswer g rule a → AreLines (Says pairs) (spec.answer_text bay names (rule, a))
   answer-lines rule a pairs among right =
       let front : List ℕ = spec.rule_start_text bay rule in
       let said : List ℕ = spec.verdict_text bay names a in
@@ -437,7 +437,7 @@ module _ (bay : Bay) (names : Known) (g : BoundProgram) (words : HasWords bay)
       (one-line (front ++ said) (free-append 10 front said (front-free rule) (said-free a))
       (says-answer rule a pairs among right))
 
-  pub answers-lines : (rules : List Rule) (answers : List RuleAnswer) → AreRight g rules answers
+  pub answers-lines : (rules : List Rule) (answers : List RuleAnswer) → AreRightAnswers g rules answers
       → AreLines (Says (zip rules answers)) (spec.answers_text bay names (zip rules answers))
   answers-lines [] [] right = no-lines
   answers-lines [] (a ∷ answers) right = absurd right
@@ -464,17 +464,17 @@ module _ (bay : Bay) (names : Known) (g : BoundProgram) (words : HasWords bay)
 
   told-lines : (pairs : List (Rule × RuleAnswer)) (case : List TestAnswer) (t : CaseRelease)
       → AreLines (Says pairs) (spec.case_release_text bay names case t ++ codes "\n")
-  told-lines pairs case told.Released =
+  told-lines pairs case release.Released =
       one-line (codes "released" ++ spec.case_text bay case)
       (free-append 10 (codes "released") (spec.case_text bay case) refl (case-free bay case words))
       (says-word pairs (codes "released" ++ spec.case_text bay case)
       (two-other 114 101 (words_in (codes "leased" ++ spec.case_text bay case)) refl))
-  told-lines pairs case told.Refused =
+  told-lines pairs case release.Refused =
       one-line (codes "blocked" ++ spec.case_text bay case)
       (free-append 10 (codes "blocked") (spec.case_text bay case) refl (case-free bay case words))
       (says-word pairs (codes "blocked" ++ spec.case_text bay case)
       (one-other 98 (words_in (codes "locked" ++ spec.case_text bay case)) refl))
-  told-lines pairs case (told.Hangs kept) =
+  told-lines pairs case (release.Depends kept) =
       let rest : List ℕ =
       spec.case_text bay case ++ spec.dependencies_text (codes " on") names kept in
       one-line (codes "depends" ++ rest)
@@ -513,12 +513,12 @@ module _ (bay : Bay) (names : Known) (g : BoundProgram) (words : HasWords bay)
   cases-lines pairs id o cases is =
       let way : List ℕ = spec.switch_operation_text (codes "release ") id o in
       let count : List ℕ = codes " cases=" ++ decimal (length cases) in
-      let told : List ℕ = flat_map (spec.reported_case_text bay names) cases in
-      let whole : ((way ++ count) ++ codes "\n") ++ told
+      let release : List ℕ = flat_map (spec.reported_case_text bay names) cases in
+      let whole : ((way ++ count) ++ codes "\n") ++ release
       ≡ way ++ spec.cases_text bay names cases =
-      append_assoc (way ++ count) (codes "\n") told
-      ∙ append_assoc way count (10 ∷ told)
-      ∙ ap (λ t. way ++ t) (sym (append_assoc count (codes "\n") told)) in
+      append_assoc (way ++ count) (codes "\n") release
+      ∙ append_assoc way count (10 ∷ release)
+      ∙ ap (λ t. way ++ t) (sym (append_assoc count (codes "\n") release)) in
       subst (AreLines (Says pairs)) whole
       (more-lines
       (one-line (way ++ count)
@@ -526,7 +526,7 @@ module _ (bay : Bay) (names : Known) (g : BoundProgram) (words : HasWords bay)
       (free-append 10 (codes " cases=") (decimal (length cases)) refl (number-free (length cases))))
       (head-says pairs id o count))
       (flat-lines (spec.reported_case_text bay names) pairs cases
-      (λ c. told-lines pairs c.case c.told)))
+      (λ c. told-lines pairs c.case c.release)))
 
   release-lines : (pairs : List (Rule × RuleAnswer)) (r : Release) (s : Option Switch)
       → Maybe (λ s. IsWord s.id) s → AreLines (Says pairs) (spec.switch_release bay names r s)
@@ -541,9 +541,9 @@ module _ (bay : Bay) (names : Known) (g : BoundProgram) (words : HasWords bay)
       by-test false = many-lines pairs switch.id r.operation is
 
   lost-free : (t : CaseRelease) → IsFree (spec.lost_release_text names t)
-  lost-free told.Released = refl
-  lost-free told.Refused = refl
-  lost-free (told.Hangs kept) =
+  lost-free release.Released = refl
+  lost-free release.Refused = refl
+  lost-free (release.Depends kept) =
       free-append 10 (codes " depends") (spec.dependencies_text (codes " on") names kept) refl
       (kept-free (codes " on") names kept refl known)
 

@@ -4,7 +4,7 @@ use Rattle.std.specs.List.{flat_map, list_all}
 use Rattle.std.proofs.lemmas.Grind.{flat_map-append}
 use Rattle.std.proofs.lemmas.List.{map-append}
 use Rattle.std.proofs.lemmas.List.Folds.{list_all-append}
-use Rattle.bay_audit.specs.Rules.{AreRight, BoundProgram, IsAnswer, IsRight, IsTimely, plain_demand, program_of, way_of, ways}
+use Rattle.bay_audit.specs.Rules.{AreRightAnswers, BoundProgram, IsAnswer, IsRightAnswer, IsTimedAnswerOf, plain_demand, program_of, direction_of, directions}
 use Rattle.bay_audit.specs.declared.answer.Release.{Release}
 use Rattle.bay_audit.specs.declared.answer.RuleAnswer.{RuleAnswer}
 use Rattle.bay_audit.specs.declared.answer.RuleAnswer.TheVariants.{TooMany}
@@ -38,24 +38,24 @@ when-err F (Err e) is p = p
 
 many-of : (g : BoundProgram) (rule : Rule) (timed : Option Timing)
     → MatchOption timed (IsAnswer g (plain_demand rule) TooMany)
-    (λ timing. IsTimely rule.kind g rule timing TooMany)
+    (λ timing. IsTimedAnswerOf rule.kind g rule timing TooMany)
 many-of g rule None = tt
 many-of g rule (Some timing) = by-kind rule.kind
   where
-    by-kind : (kind : RuleKind) → IsTimely kind g rule timing TooMany
+    by-kind : (kind : RuleKind) → IsTimedAnswerOf kind g rule timing TooMany
     by-kind Never = tt
     by-kind Always = tt
 
 abbrev too_many : Rule → RuleAnswer
 too_many rule = TooMany
 
-many-right : (g : BoundProgram) (rules : List Rule) → AreRight g rules (map too_many rules)
+many-right : (g : BoundProgram) (rules : List Rule) → AreRightAnswers g rules (map too_many rules)
 many-right g [] = tt
 many-right g (rule ∷ rules) = (many-of g rule rule.timed, many-right g rules)
 
 right-append : (g : BoundProgram) (rules others : List Rule) (answers more : List RuleAnswer)
-    → AreRight g rules answers → AreRight g others more
-    → AreRight g (rules ++ others) (answers ++ more)
+    → AreRightAnswers g rules answers → AreRightAnswers g others more
+    → AreRightAnswers g (rules ++ others) (answers ++ more)
 right-append g [] others [] more all rest = rest
 right-append g (r ∷ rules) others (a ∷ answers) more all rest =
     (all.0, right-append g rules others answers more all.1 rest)
@@ -63,7 +63,7 @@ right-append g [] others (a ∷ answers) more all rest = absurd all
 right-append g (r ∷ rules) others [] more all rest = absurd all
 
 zip-parts : (g : BoundProgram) (rules others : List Rule) (answers more : List RuleAnswer)
-    → AreRight g rules answers
+    → AreRightAnswers g rules answers
     → zip (rules ++ others) (answers ++ more) ≡ zip rules answers ++ zip others more
 zip-parts g [] others [] more all = refl
 zip-parts g (r ∷ rules) others (a ∷ answers) more all =
@@ -73,48 +73,48 @@ zip-parts g (r ∷ rules) others [] more all = absurd all
 
 -- ---- switches and operations
 
-ways-plus : (k d : ℕ) → (later : List (ℕ × Operation)) × (ways (k + d) ≡ ways k ++ later)
+ways-plus : (k d : ℕ) → (later : List (ℕ × Operation)) × (directions (k + d) ≡ directions k ++ later)
 ways-plus k zero =
-    let e : k + 0 ≡ k = omega arith in ([], ap ways e ∙ sym (append-nil (ways k)))
+    let e : k + 0 ≡ k = omega arith in ([], ap directions e ∙ sym (append-nil (directions k)))
 ways-plus k (suc d) =
     let before = ways-plus k d in
     let e : k + suc d ≡ suc (k + d) = omega arith in
     let two : List (ℕ × Operation) = (k + d, operations.Open) ∷ (k + d, operations.Close) ∷ [] in (
       before.0 ++ two,
-      ap ways e ∙ ap (λ ws. ws ++ two) before.1 ∙ append_assoc (ways k) before.0 two,
+      ap directions e ∙ ap (λ ws. ws ++ two) before.1 ∙ append_assoc (directions k) before.0 two,
     )
 
 -- those of the first switches are the first of all
-ways-rest : (k n : ℕ) → k ≤ n → (later : List (ℕ × Operation)) × (ways n ≡ ways k ++ later)
+directions-rest : (k n : ℕ) → k ≤ n → (later : List (ℕ × Operation)) × (directions n ≡ directions k ++ later)
 ways-rest k n low =
     let more = ways-plus k (n - k) in
     let e : n ≡ k + (n - k) = omega (arith, low) in
-    (more.0, ap ways e ∙ more.1)
+    (more.0, ap directions e ∙ more.1)
 
 pub ways-at : (k n : ℕ) → k + 1 ≤ n
     → (later : List (ℕ × Operation))
-    × (ways n ≡ ways k ++ (k, operations.Open) ∷ (k, operations.Close) ∷ later)
+    × (directions n ≡ directions k ++ (k, operations.Open) ∷ (k, operations.Close) ∷ later)
 ways-at k n low =
     let more = ways-rest (suc k) n (omega (arith, low)) in (
       more.0,
-      more.1 ∙ append_assoc (ways k) ((k, operations.Open) ∷ (k, operations.Close) ∷ []) more.0,
+      more.1 ∙ append_assoc (directions k) ((k, operations.Open) ∷ (k, operations.Close) ∷ []) more.0,
     )
 
 pub ways-next : (k : ℕ)
-    → (ways k ++ (k, operations.Open) ∷ []) ++ (k, operations.Close) ∷ [] ≡ ways (k + 1)
+    → (directions k ++ (k, operations.Open) ∷ []) ++ (k, operations.Close) ∷ [] ≡ directions (k + 1)
 ways-next k =
     let e : suc k ≡ k + 1 = omega arith in
-    append_assoc (ways k) ((k, operations.Open) ∷ []) ((k, operations.Close) ∷ []) ∙ ap ways e
+    append_assoc (directions k) ((k, operations.Open) ∷ []) ((k, operations.Close) ∷ []) ∙ ap directions e
 
 pub ways-half : (k n : ℕ) → k + 1 ≤ n
     → (later : List (ℕ × Operation))
-    × (ways n ≡ (ways k ++ (k, operations.Open) ∷ []) ++ (k, operations.Close) ∷ later)
+    × (directions n ≡ (directions k ++ (k, operations.Open) ∷ []) ++ (k, operations.Close) ∷ later)
 ways-half k n low =
     let more = ways-rest (suc k) n (omega (arith, low)) in (
       more.0,
       more.1
-          ∙ append_assoc (ways k) ((k, operations.Open) ∷ (k, operations.Close) ∷ []) more.0
-          ∙ sym (append_assoc (ways k) ((k, operations.Open) ∷ [])
+          ∙ append_assoc (directions k) ((k, operations.Open) ∷ (k, operations.Close) ∷ []) more.0
+          ∙ sym (append_assoc (directions k) ((k, operations.Open) ∷ [])
           ((k, operations.Close) ∷ more.0)),
     )
 
@@ -148,7 +148,7 @@ module _ {W : Type 0} {contents : W → Option (List ℕ)} {does : W → WriteCa
 
     pub more-answers : (rules : List Rule) (passed : Bool) (rule : Rule) (answer : RuleAnswer)
         {old mid new : Writing W} → PutsAnswers contents does bay names g rules passed old mid
-        → IsRight g rule answer → Puts contents does mid (answer_text bay names (rule, answer)) new
+        → IsRightAnswer g rule answer → Puts contents does mid (answer_text bay names (rule, answer)) new
         → PutsAnswers contents does bay names g (rules ++ rule ∷ []) (passed && is_passed answer)
         old new
     more-answers rules passed rule answer {old} {mid} {new} p right put =
@@ -197,7 +197,7 @@ module _ {W : Type 0} {contents : W → Option (List ℕ)} {does : W → WriteCa
         (answer : RuleAnswer) (text : List ℕ) {old mid new : Writing W}
         → take (k + 1) rules ≡ take k rules ++ rule ∷ []
         → PutsAnswers contents does bay names g (take k rules) passed old mid
-        → IsRight g rule answer → text ≡ answer_text bay names (rule, answer)
+        → IsRightAnswer g rule answer → text ≡ answer_text bay names (rule, answer)
         → Puts contents does mid text new
         → PutsAnswers contents does bay names g (take (k + 1) rules) (passed && is_passed answer)
         old new
@@ -226,7 +226,7 @@ module _ {W : Type 0} {contents : W → Option (List ℕ)} {does : W → WriteCa
         (append-nil (release_text bay names r)) in
         record {
           right = releases-more bay g releases r p.right q.right;
-          all = map-append way_of releases (r ∷ [])
+          all = map-append direction_of releases (r ∷ [])
               ∙ ap₂ (λ ws w. ws ++ w ∷ []) p.all q.is;
           put = Puts-as (flat_map (release_text bay names) (releases ++ r ∷ [])) (sym said)
               (Puts-then p.put q.put);
@@ -272,7 +272,7 @@ module _ {W : Type 0} {contents : W → Option (List ℕ)} {does : W → WriteCa
           put = p.put.put;
           says = record {
             answers = p.put.answers ++ many;
-            right = subst (λ rs. AreRight (program_of loaded.bay loaded.image) rs
+            right = subst (λ rs. AreRightAnswers (program_of loaded.bay loaded.image) rs
                 (p.put.answers ++ many))
                 (sym p.parts)
                 (right-append (program_of loaded.bay loaded.image) p.answered p.others p.put.answers
@@ -288,7 +288,7 @@ module _ {W : Type 0} {contents : W → Option (List ℕ)} {does : W → WriteCa
                   ∙ zip-parts (program_of loaded.bay loaded.image) p.answered p.others p.put.answers
                   many
                   p.put.right;
-              later = ways (length loaded.bay.switches);
+              later = directions (length loaded.bay.switches);
               first = refl;
               order = inr refl;
               said = refl;
@@ -308,7 +308,7 @@ module _ {W : Type 0} {contents : W → Option (List ℕ)} {does : W → WriteCa
         → PutsAnswers contents does loaded.bay (known_of loaded)
         (program_of loaded.bay loaded.image) rules passed old mid
         → PutsSome contents does loaded.bay (known_of loaded) (program_of loaded.bay loaded.image)
-        (ways (length loaded.bay.switches)) mid
+        (directions (length loaded.bay.switches)) mid
         new
         → PutsText contents does (Answers loaded rules) (codes "fault memory\n") 3 old new
     cut-releases passed {old} {mid} {new} a s =
@@ -340,7 +340,7 @@ module _ {W : Type 0} {contents : W → Option (List ℕ)} {does : W → WriteCa
         → PutsAnswers contents does loaded.bay (known_of loaded)
         (program_of loaded.bay loaded.image) rules passed old mid
         → PutsReleases contents does loaded.bay (known_of loaded)
-        (program_of loaded.bay loaded.image) (ways (length loaded.bay.switches))
+        (program_of loaded.bay loaded.image) (directions (length loaded.bay.switches))
         releases mid last
         → Puts contents does last (states_text loaded.bay (known_of loaded) releases) new
         → PutsText contents does (Answers loaded rules) [] (status_of passed) old new
@@ -382,7 +382,7 @@ module _ {W : Type 0} {contents : W → Option (List ℕ)} {does : W → WriteCa
 
         pub stopped-releases : (passed : Bool) {old mid new : Writing W}
             → PutsAnswers contents does loaded.bay these g rules passed old mid
-            → PutsSome contents does loaded.bay these g (ways (length loaded.bay.switches)) mid new
+            → PutsSome contents does loaded.bay these g (directions (length loaded.bay.switches)) mid new
             → PutsText contents does (Answers loaded rules) (codes "fault memory\n") 3 old new
         stopped-releases passed {old} {mid} {new} a s =
             cut-releases passed
@@ -395,14 +395,14 @@ module _ {W : Type 0} {contents : W → Option (List ℕ)} {does : W → WriteCa
             f a))
             (subst (λ (n : Known). PutsSome contents does loaded.bay n
             (program_of loaded.bay loaded.image)
-            (ways (length loaded.bay.switches)) mid new) e
+            (directions (length loaded.bay.switches)) mid new) e
             (subst (λ (h : BoundProgram). PutsSome contents does loaded.bay these h
-            (ways (length loaded.bay.switches)) mid new) f s))
+            (directions (length loaded.bay.switches)) mid new) f s))
 
         pub whole : (passed : Bool) (releases : List Release) (text : List ℕ)
             {old mid last new : Writing W}
             → PutsAnswers contents does loaded.bay these g rules passed old mid
-            → PutsReleases contents does loaded.bay these g (ways (length loaded.bay.switches))
+            → PutsReleases contents does loaded.bay these g (directions (length loaded.bay.switches))
             releases mid last
             → text ≡ states_text loaded.bay these releases
             → Puts contents does last text new
@@ -418,8 +418,8 @@ module _ {W : Type 0} {contents : W → Option (List ℕ)} {does : W → WriteCa
             f a))
             (subst (λ (n : Known). PutsReleases contents does loaded.bay n
             (program_of loaded.bay loaded.image)
-            (ways (length loaded.bay.switches)) releases mid last) e
+            (directions (length loaded.bay.switches)) releases mid last) e
             (subst (λ (h : BoundProgram). PutsReleases contents does loaded.bay these h
-            (ways (length loaded.bay.switches)) releases mid last) f r))
+            (directions (length loaded.bay.switches)) releases mid last) f r))
             (Puts-as (states_text loaded.bay (known_of loaded) releases)
             (is ∙ ap (λ (n : Known). states_text loaded.bay n releases) e) put)

@@ -1,7 +1,7 @@
 -- What an audit of files prints, with which status, and which line is logged then, if any.
 use Rattle.std.specs.Prelude.{◌≡◌, ℕ, ◌==◌, Bool, List, [], ◌++◌, codes, length, flat_map, map, zip, Option, None, Some, option_map, Result, Ok, Err, ◌⊎◌, if◌then◌else◌}
 use Rattle.std.specs.List.{list_all}
-use Rattle.bay_audit.specs.Rules.{AreReleases, AreRight, program_of, way_of, ways}
+use Rattle.bay_audit.specs.Rules.{AreReleases, AreRightAnswers, program_of, direction_of, directions}
 use Rattle.bay_audit.specs.declared.answer.RuleAnswer.{RuleAnswer}
 use Rattle.bay_audit.specs.declared.answer.Release.{Release}
 use Rattle.bay_base.specs.declared.switch.Operation.{Operation}
@@ -42,7 +42,7 @@ status_of passed = if passed then 0 else 4
 -- operation, also while the process is lost.
 pub record IsWhole (bay : Bay) (names : Known) (rules : List Rule) (answers : List RuleAnswer)
     (releases : List Release) (text : List ℕ) (status : ℕ) : Type 0 where
-  pub all : map way_of releases ≡ ways (length bay.switches)
+  pub all : map direction_of releases ≡ directions (length bay.switches)
   pub said : text
       ≡ answers_text bay names (zip rules answers) ++ releases_text bay names releases
   pub ends : status ≡ status_of (list_all is_passed answers)
@@ -55,7 +55,7 @@ pub record IsCut (bay : Bay) (names : Known) (rules : List Rule) (answers : List
   pub hidden : List (Rule × RuleAnswer)
   pub parts : zip rules answers ≡ shown ++ hidden
   pub later : List (ℕ × Operation)
-  pub first : map way_of releases ++ later ≡ ways (length bay.switches)
+  pub first : map direction_of releases ++ later ≡ directions (length bay.switches)
   pub order : (hidden ≡ []) ⊎ (releases ≡ [])
   pub said : text ≡ answers_text bay names shown
       ++ (flat_map (release_text bay names) releases ++ codes "fault memory\n")
@@ -67,7 +67,7 @@ pub record IsCut (bay : Bay) (names : Known) (rules : List Rule) (answers : List
 pub record Answers (loaded : LoadData) (rules : List Rule) (text : List ℕ) (status : ℕ)
     : Type 0 where
   pub answers : List RuleAnswer
-  pub right : AreRight (program_of loaded.bay loaded.image) rules answers
+  pub right : AreRightAnswers (program_of loaded.bay loaded.image) rules answers
   pub releases : List Release
   pub released : AreReleases loaded.bay (program_of loaded.bay loaded.image) releases
   pub said : IsWhole loaded.bay (known_of loaded) rules answers releases text status
@@ -78,7 +78,7 @@ pub record Answers (loaded : LoadData) (rules : List Rule) (text : List ℕ) (st
 -- The text has the line of each release.
 pub record AreAllJudged (bay : Bay) (d : Diagram) (releases : List JudgedRelease) (text : List ℕ)
     (status : ℕ) : Type 0 where
-  pub all : map judged_way releases ≡ ways (length bay.switches)
+  pub all : map judged_way releases ≡ directions (length bay.switches)
   pub said : text ≡ hazard_lines bay d releases
   pub ends : status ≡ status_of (list_all is_safe releases)
 
@@ -86,7 +86,7 @@ pub record AreAllJudged (bay : Bay) (d : Diagram) (releases : List JudgedRelease
 pub record AreSomeJudged (bay : Bay) (d : Diagram) (releases : List JudgedRelease) (text : List ℕ)
     (status : ℕ) : Type 0 where
   pub later : List (ℕ × Operation)
-  pub first : map judged_way releases ++ later ≡ ways (length bay.switches)
+  pub first : map judged_way releases ++ later ≡ directions (length bay.switches)
   pub said : text ≡ hazard_lines bay d releases ++ codes "fault memory\n"
   pub ends : status ≡ 3
 

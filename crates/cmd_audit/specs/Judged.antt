@@ -1,7 +1,7 @@
 -- The releases of a bay's switches, judged by the hazards in its single line diagram.
 use Rattle.std.specs.Prelude.{ℕ, ◌≡◌, Bool, true, false, List, [], ◌∷◌, Option, None}
 use Rattle.bay_audit.specs.Rules.{BoundProgram}
-use Rattle.bay_audit_hazards.specs.Judged.{IsExplained, IsJudged}
+use Rattle.bay_audit_hazards.specs.Judged.{IsExplained, IsHazardAnswer}
 use Rattle.bay_audit_hazards.specs.declared.answer.HazardAnswer.{HazardAnswer}
 use Rattle.bay_audit_hazards.specs.declared.answer.HazardAnswer.TheVariants.{Holds, Broken, Open, Undecided}
 use Rattle.bay_base.specs.declared.switch.Operation.{Operation}
@@ -25,7 +25,7 @@ IsShown net k operation Undecided shown = shown ≡ None
 
 -- The answer to the release is right, and so is what is shown of it.
 pub record IsJudgedRelease (g : BoundProgram) (net : Network) (r : JudgedRelease) : Type 0 where
-  pub right : IsJudged g net r.switch r.operation r.answer
+  pub right : IsHazardAnswer g net r.switch r.operation r.answer
   pub shown : IsShown net r.switch r.operation r.answer r.shown
 
 -- Each of the releases is judged so.

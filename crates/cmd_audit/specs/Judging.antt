@@ -2,7 +2,7 @@
 use Rattle.std.specs.Prelude.{◌≡◌, ◌⊎◌, ℕ, true, false, List, ◌++◌, codes, length, zip, flat_map, Option, None, Result, Ok, Err, if◌then◌else◌, []}
 use Rattle.std.specs.Fmt.{decimal}
 use Rattle.std.specs.List.{list_all}
-use Rattle.bay_audit.specs.Rules.{AreRight, program_of}
+use Rattle.bay_audit.specs.Rules.{AreRightAnswers, program_of}
 use Rattle.bay_audit.specs.declared.answer.RuleAnswer.{RuleAnswer}
 use Rattle.bay_config.specs.declared.bay.Bay.{Bay}
 use Rattle.bay_load.specs.Loads.{LoadData}
@@ -38,7 +38,7 @@ IsJudged bay names rules answers OutOfMemory = ⊥
 pub record Judges (loaded : LoadData) (rules : List Rule) (verdict : RulesVerdict)
     : Type 0 where
   pub answers : List RuleAnswer
-  pub right : AreRight (program_of loaded.bay loaded.image) rules answers
+  pub right : AreRightAnswers (program_of loaded.bay loaded.image) rules answers
   pub judged : IsJudged loaded.bay (known_of loaded) rules answers verdict
 
 -- the verdict on the rules of a text, or on a text that has a fault

@@ -3,7 +3,7 @@
 use Rattle.std.specs.Prelude.{◌≡◌, ◌⊎◌, ℕ, true, false, List, ◌++◌, codes, length, map, Option, None, Result, Ok, Err}
 use Rattle.std.specs.Fmt.{decimal}
 use Rattle.std.specs.List.{list_all}
-use Rattle.bay_audit.specs.Rules.{program_of, ways}
+use Rattle.bay_audit.specs.Rules.{program_of, directions}
 use Rattle.bay_config.specs.declared.bay.Bay.{Bay}
 use Rattle.bay_diagram_file.specs.Diagram.{diagram_of_file}
 use Rattle.bay_diagram_file.specs.declared.diagram.Diagram.{Diagram}
@@ -33,7 +33,7 @@ pub record JudgesDiagram (loaded : LoadData) (d : Diagram) (verdict : DiagramVer
   where
     pub releases : List JudgedRelease
     pub right : AreJudged (program_of loaded.bay loaded.image) d.network releases
-    pub all : map judged_way releases ≡ ways (length loaded.bay.switches)
+    pub all : map judged_way releases ≡ directions (length loaded.bay.switches)
     pub judged : IsVerdictOf loaded.bay d releases verdict
 
 -- the verdict on the diagram of a text, or on a text that has a fault

@@ -7,7 +7,7 @@ use Rattle.bay_audit.specs.declared.answer.RuleAnswer.TheVariants as answer
 use Rattle.bay_audit.specs.declared.answer.StateDependencies.{StateDependencies}
 use Rattle.bay_audit.specs.declared.answer.Release.{Release}
 use Rattle.bay_audit.specs.declared.answer.CaseRelease.{CaseRelease}
-use Rattle.bay_audit.specs.declared.answer.CaseRelease.TheVariants as told
+use Rattle.bay_audit.specs.declared.answer.CaseRelease.TheVariants as release
 use Rattle.bay_audit.specs.declared.answer.ReportedCase.{ReportedCase}
 use Rattle.bay_audit.specs.Cases.{may_be, input_may, low_of, high_of}
 use Rattle.bay_audit.specs.declared.case.TestAnswer.{TestAnswer}
@@ -181,13 +181,13 @@ is_passed (answer.Since n cases) = true
 -- a case in which a switch is released, in which it is not, or in which that depends on what the
 -- program retains
 abbrev pub case_release_text : Bay → Known → List TestAnswer → CaseRelease → List ℕ
-case_release_text bay names case told.Released = codes "released" ++ case_text bay case
-case_release_text bay names case told.Refused = codes "blocked" ++ case_text bay case
-case_release_text bay names case (told.Hangs kept) =
+case_release_text bay names case release.Released = codes "released" ++ case_text bay case
+case_release_text bay names case release.Refused = codes "blocked" ++ case_text bay case
+case_release_text bay names case (release.Depends kept) =
     codes "depends" ++ case_text bay case ++ dependencies_text (codes " on") names kept
 
 abbrev pub reported_case_text : Bay → Known → ReportedCase → List ℕ
-reported_case_text bay names c = case_release_text bay names c.case c.told ++ codes "\n"
+reported_case_text bay names c = case_release_text bay names c.case c.release ++ codes "\n"
 
 abbrev pub cases_text : Bay → Known → List ReportedCase → List ℕ
 cases_text bay names cases =
@@ -214,9 +214,9 @@ release_text bay names r = switch_release bay names r (slice_get bay.switches r.
 
 -- a release while the process is lost or by the first scan, followed by what it depends on
 abbrev pub lost_release_text : Known → CaseRelease → List ℕ
-lost_release_text names told.Released = codes " released"
-lost_release_text names told.Refused = codes " blocked"
-lost_release_text names (told.Hangs kept) =
+lost_release_text names release.Released = codes " released"
+lost_release_text names release.Refused = codes " blocked"
+lost_release_text names (release.Depends kept) =
     codes " depends" ++ dependencies_text (codes " on") names kept
 
 abbrev pub lost_line : Known → List ℕ → Release → List ℕ

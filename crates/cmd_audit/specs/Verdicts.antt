@@ -7,7 +7,7 @@ use Rattle.bay_base.specs.declared.switch.Operation.{Operation}
 use Rattle.bay_base.specs.declared.switch.Operation.TheVariants as operations
 use Rattle.bay_config.specs.declared.bay.Bay.{Bay}
 use Rattle.bay_audit_rules.specs.declared.rule.Rule.{Rule}
-use Rattle.bay_audit.specs.Rules.{BoundProgram, IsRight, program_of}
+use Rattle.bay_audit.specs.Rules.{BoundProgram, IsRightAnswer, program_of}
 use Rattle.bay_audit.specs.declared.answer.RuleAnswer.{RuleAnswer}
 use Rattle.bay_load.specs.Loads.{LoadData}
 use Rattle.bay_replay_laws.specs.Printed.{lines_in, words_in}
@@ -54,7 +54,7 @@ pub record IsHold (bay : Bay) (g : BoundProgram) (pairs : List (Rule × RuleAnsw
   pub switch : id_of (slice_get bay.switches pair.0.switch) ≡ hold.id
   pub operation : pair.0.operation ≡ hold.operation
   pub holds : is_passed pair.1 ≡ true
-  pub right : IsRight g pair.0 pair.1
+  pub right : IsRightAnswer g pair.0 pair.1
 
 -- Each such line of the answers to rules is that of such a rule.
 abbrev pub HoldsAreRead : Type 0

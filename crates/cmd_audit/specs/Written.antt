@@ -1,7 +1,7 @@
 -- Inner: what was put into a writer so far.
 use Rattle.std.specs.Prelude.{◌≡◌, ℕ, Bool, List, [], ◌++◌, ◌⊎◌, codes, flat_map, map, zip, Option, None}
 use Rattle.std.specs.List.{list_all}
-use Rattle.bay_audit.specs.Rules.{AreReleases, AreRight, IsRelease, BoundProgram, way_of}
+use Rattle.bay_audit.specs.Rules.{AreReleases, AreRightAnswers, IsRelease, BoundProgram, direction_of}
 use Rattle.bay_audit.specs.declared.answer.Release.{Release}
 use Rattle.bay_audit.specs.declared.answer.RuleAnswer.{RuleAnswer}
 use Rattle.bay_audit_rules.specs.declared.rule.Rule.{Rule}
@@ -26,7 +26,7 @@ module _ {W : Type 0} (contents : W → Option (List ℕ)) (does : W → WriteCa
   pub record PutsAnswers (bay : Bay) (names : Known) (g : BoundProgram) (rules : List Rule)
       (passed : Bool) (old new : Writing W) : Type 0 where
     pub answers : List RuleAnswer
-    pub right : AreRight g rules answers
+    pub right : AreRightAnswers g rules answers
     pub so : passed ≡ list_all is_passed answers
     pub put : Puts contents does old (answers_text bay names (zip rules answers)) new
 
@@ -43,7 +43,7 @@ module _ {W : Type 0} (contents : W → Option (List ℕ)) (does : W → WriteCa
   pub record PutsRelease (bay : Bay) (names : Known) (g : BoundProgram) (way : ℕ × Operation)
       (r : Release) (old new : Writing W) : Type 0 where
     pub right : IsRelease bay g r
-    pub is : way_of r ≡ way
+    pub is : direction_of r ≡ way
     pub put : Puts contents does old (release_text bay names r) new
 
   -- the lines of a right release of this switch and operation, or nothing
@@ -57,7 +57,7 @@ module _ {W : Type 0} (contents : W → Option (List ℕ)) (does : W → WriteCa
       (these : List (ℕ × Operation)) (releases : List Release) (old new : Writing W)
       : Type 0 where
     pub right : AreReleases bay g releases
-    pub all : map way_of releases ≡ these
+    pub all : map direction_of releases ≡ these
     pub put : Puts contents does old (flat_map (release_text bay names) releases) new
 
   -- the lines of right releases of the first of these switches and operations

@@ -1,7 +1,7 @@
 // The releases of a bay's switches, judged by the hazards in its single line diagram.
 ghost use Rattle.std.specs.Prelude.{◌≡◌, IfOk, length, map};
 ghost use Rattle.std.specs.List.{list_all};
-ghost use Rattle.bay_audit.specs.Rules.{ways};
+ghost use Rattle.bay_audit.specs.Rules.{directions};
 ghost use Rattle.cmd_audit.specs.Judged.{AreJudged, IsJudgedRelease, IsShown, judged_way};
 ghost use Rattle.cmd_audit.specs.Judged as spec;
 
@@ -31,7 +31,7 @@ pub struct JudgedRelease {
 /// Returns each switch of a bay with each operation, opening first. Fails only if an allocation
 /// fails.
 pub(crate) fn ways_of(alloc: Global, bay: &Bay) -> Result<Vec<(usize, Operation)>, AllocError>
-    ensures { IfOk result (λ these. these.items ≡ ways (length bay.now.switches)) }
+    ensures { IfOk result (λ these. these.items ≡ directions (length bay.now.switches)) }
 {
     let mut these = Vec::new(alloc);
     for switch in 0..bay.switches.as_slice().len() {
@@ -102,7 +102,7 @@ pub(crate) fn judge_releases(
     budget: &mut PassBudget,
 ) -> Result<Vec<JudgedRelease>, AllocError>
     ensures right { IfOk result (λ releases. AreJudged program.now network.now releases.items) }
-    ensures all { IfOk result (λ releases. map judged_way releases.items ≡ ways.now) }
+    ensures all { IfOk result (λ releases. map judged_way releases.items ≡ directions.now) }
 {
     let mut releases = Vec::new(alloc);
     for way in ways {

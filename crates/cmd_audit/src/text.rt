@@ -233,19 +233,19 @@ fn put_dependencies(
     text: &mut Vec<u8>,
     word: &[u8],
     names: &StateNames<'_>,
-    kept: &StateDependencies,
+    depends_on: &StateDependencies,
 ) -> Result<(), AllocError>
     ensures { OnOk result
-        (text.new.items ≡ text.old.items ++ spec.dependencies_text word.now names.now kept.now) }
+        (text.new.items ≡ text.old.items ++ spec.dependencies_text word.now names.now depends_on.now) }
 {
-    if kept.slots.as_slice().is_empty() && kept.timers.as_slice().is_empty() {
+    if depends_on.slots.as_slice().is_empty() && depends_on.timers.as_slice().is_empty() {
         return Ok(());
     }
     text.extend_from_slice(word)?;
-    for slot in kept.slots.as_slice() {
+    for slot in depends_on.slots.as_slice() {
         put_slot(text, names, *slot)?;
     }
-    for timer in kept.timers.as_slice() {
+    for timer in depends_on.timers.as_slice() {
         put_timer(text, names, *timer)?;
     }
     Ok(())
@@ -323,10 +323,10 @@ fn put_rule_answer(
             text.extend_from_slice(b" broken")?;
             put_case(text, bay, case)
         }
-        RuleAnswer::Open { case, kept } => {
+        RuleAnswer::Open { case, depends_on } => {
             text.extend_from_slice(b" open")?;
             put_case(text, bay, case)?;
-            put_dependencies(text, b" by", names, kept)
+            put_dependencies(text, b" by", names, depends_on)
         }
         RuleAnswer::Since { timer, cases } => {
             put_held(text, *cases)?;
@@ -367,17 +367,17 @@ fn put_case_of_release(
     text: &mut Vec<u8>,
     bay: &Bay,
     names: &StateNames<'_>,
-    told: &ReportedCase,
+    release: &ReportedCase,
 ) -> Result<(), AllocError>
     ensures { OnOk result (text.new.items ≡ text.old.items
-        ++ spec.case_release_text bay.now names.now told.now.case told.now.told) }
+        ++ spec.case_release_text bay.now names.now release.now.case release.now.release) }
 {
-    match &told.told {
-        CaseRelease::Released => put_word(text, bay, b"released", &told.case),
-        CaseRelease::Refused => put_word(text, bay, b"blocked", &told.case),
-        CaseRelease::Hangs(kept) => {
-            put_word(text, bay, b"depends", &told.case)?;
-            put_dependencies(text, b" on", names, kept)
+    match &release.release {
+        CaseRelease::Released => put_word(text, bay, b"released", &release.case),
+        CaseRelease::Refused => put_word(text, bay, b"blocked", &release.case),
+        CaseRelease::Depends(depends_on) => {
+            put_word(text, bay, b"depends", &release.case)?;
+            put_dependencies(text, b" on", names, depends_on)
         }
     }
 }
@@ -387,12 +387,12 @@ fn put_case_line(
     text: &mut Vec<u8>,
     bay: &Bay,
     names: &StateNames<'_>,
-    told: &ReportedCase,
+    release: &ReportedCase,
 ) -> Result<(), AllocError>
     ensures { OnOk result
-        (text.new.items ≡ text.old.items ++ spec.reported_case_text bay.now names.now told.now) }
+        (text.new.items ≡ text.old.items ++ spec.reported_case_text bay.now names.now release.now) }
 {
-    put_case_of_release(text, bay, names, told)?;
+    put_case_of_release(text, bay, names, release)?;
     text.extend_from_slice(b"\n")
 }
 
@@ -409,8 +409,8 @@ fn put_cases(
     text.extend_from_slice(b" cases=")?;
     put_number(text, cases.len() as u64)?;
     text.extend_from_slice(b"\n")?;
-    for told in cases {
-        put_case_line(text, bay, names, told)?;
+    for release in cases {
+        put_case_line(text, bay, names, release)?;
     }
     Ok(())
 }
@@ -457,19 +457,19 @@ fn put_state(
     word: &[u8],
     id: &str,
     operation: Operation,
-    told: &CaseRelease,
+    release: &CaseRelease,
 ) -> Result<(), AllocError>
     ensures { OnOk result (text.new.items
         ≡ text.old.items ++ (spec.switch_operation_text word.now id.now operation
-        ++ (spec.lost_release_text names.now told.now ++ codes "\n"))) }
+        ++ (spec.lost_release_text names.now release.now ++ codes "\n"))) }
 {
     put_way(text, word, id, operation)?;
-    match told {
+    match release {
         CaseRelease::Released => text.extend_from_slice(b" released\n"),
         CaseRelease::Refused => text.extend_from_slice(b" blocked\n"),
-        CaseRelease::Hangs(kept) => {
+        CaseRelease::Depends(depends_on) => {
             text.extend_from_slice(b" depends")?;
-            put_dependencies(text, b" on", names, kept)?;
+            put_dependencies(text, b" on", names, depends_on)?;
             text.extend_from_slice(b"\n")
         }
     }

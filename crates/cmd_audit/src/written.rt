@@ -1,6 +1,6 @@
 // Answers rules and finds releases, and writes the lines of each as soon as it is known.
 ghost use Rattle.std.specs.Prelude.{◌≡◌, ◌&&◌, [], codes, length, MatchResult};
-ghost use Rattle.bay_audit.specs.Rules.{ways};
+ghost use Rattle.bay_audit.specs.Rules.{directions};
 ghost use Rattle.bay_io.specs.Sent.{Puts};
 ghost use Rattle.cmd_audit.specs.Auditing.{Answers, status_of};
 ghost use Rattle.cmd_audit.specs.Written.{PutsAnswers, PutsFirst, PutsMaybe, PutsRelease, PutsReleases, PutsSome, PutsText};
@@ -99,9 +99,9 @@ fn write_releases<W: Sink>(
 ) -> Result<Vec<Release>, Stopped>
     ensures { MatchResult result
         (λ releases. PutsReleases W.contents W.does bay.now names.now program.now
-        (ways (length bay.now.switches)) releases.items writer.old writer.new)
+        (directions (length bay.now.switches)) releases.items writer.old writer.new)
         (λ _. PutsSome W.contents W.does bay.now names.now program.now
-        (ways (length bay.now.switches)) writer.old writer.new) }
+        (directions (length bay.now.switches)) writer.old writer.new) }
 {
     let mut releases = Vec::new(alloc);
     for switch in 0..bay.switches.as_slice().len() {

@@ -1,7 +1,7 @@
 -- What an audit answers of octets, and a device that they load to.
 use Rattle.std.proofs.Common.{◌≡◌, ◌⊎◌, ◌<◌, ℕ, zero, suc, List, [], ◌∷◌, length, Option, Some, None, Result, Ok, Err, inl, inr, ap, sym, subst, ◌∙◌}
 use Rattle.std.specs.Prelude.{MatchOption, slice_get}
-use Rattle.bay_audit.specs.Rules.{AreRight, BoundProgram, IsAnswer, IsByTimer, IsRight, IsRule, IsTimely, IsUntil, plain_demand, program_of}
+use Rattle.bay_audit.specs.Rules.{AreRightAnswers, BoundProgram, IsAnswer, IsByTimer, IsRightAnswer, RuleHolds, IsTimedAnswerOf, IsTimedAnswer, plain_demand, program_of}
 use Rattle.bay_audit.specs.declared.answer.RuleAnswer.{RuleAnswer}
 use Rattle.bay_audit.specs.declared.answer.RuleAnswer.TheVariants.{Broken, Holds, Open, Since, TooMany}
 use Rattle.cmd_audit.specs.Auditing.{AnswersIf, AreAnswered, AuditOctets, AuditReport, DiagramRead, IsTextFor, IsTextOf, IsTextWith, JudgementsIf, RulesRead, status_of}
@@ -28,7 +28,7 @@ use Rattle.bay_audit_rules.specs.declared.rule.RuleKind.TheVariants.{Never}
 use Rattle.bay_audit_rules.specs.declared.rule.Timing.{Timing}
 use Rattle.il_check.specs.Checking.{checked_of}
 use Rattle.il_compile.specs.Compiled.{compiled_of}
-use Rattle.il_image.specs.Decoding.{image_spelled}
+use Rattle.il_image.specs.Decoding.{decoded_image}
 use Rattle.il_image.specs.Images.{Image}
 use Rattle.il_image.specs.Octets.{AreOctets}
 use Rattle.il_verify.specs.Verdicts.{IsVerified}
@@ -42,45 +42,45 @@ use Rattle.cmd_audit_laws.proofs.SoundLemmas.{Steady, image-sound}
 
 -- ---- what an audit answers
 
-right-at : (g : BoundProgram) (rules : List Rule) (answers : List RuleAnswer) (place : ℕ)
+right-at : (g : BoundProgram) (rules : List Rule) (answers : List RuleAnswer) (index : ℕ)
     (rule : Rule)
-    (answer : RuleAnswer) → AreRight g rules answers → slice_get rules place ≡ Some rule
-    → slice_get answers place ≡ Some answer → IsRight g rule answer
-right-at g [] answers place rule answer right here told = absurd cc
-right-at g (r ∷ rules) [] place rule answer right here told = absurd right
-right-at g (r ∷ rules) (a ∷ answers) zero rule answer right here told =
+    (answer : RuleAnswer) → AreRightAnswers g rules answers → slice_get rules index ≡ Some rule
+    → slice_get answers index ≡ Some answer → IsRightAnswer g rule answer
+right-at g [] answers index rule answer right here answered = absurd cc
+right-at g (r ∷ rules) [] index rule answer right here answered = absurd right
+right-at g (r ∷ rules) (a ∷ answers) zero rule answer right here answered =
     let same : r ≡ rule = cc in
     let is : a ≡ answer = cc in
-    subst (λ (r : Rule). IsRight g r answer) same (subst (IsRight g r) is right.0)
-right-at g (r ∷ rules) (a ∷ answers) (suc place) rule answer right here told =
-    right-at g rules answers place rule answer right.1 here told
+    subst (λ (r : Rule). IsRightAnswer g r answer) same (subst (IsRightAnswer g r) is right.0)
+right-at g (r ∷ rules) (a ∷ answers) (suc index) rule answer right here answered =
+    right-at g rules answers index rule answer right.1 here answered
 
 -- a rule that forbids, and is answered so, holds whether it has a time or not
 pub right-rule : (g : BoundProgram) (rule : Rule) (answer : RuleAnswer) → rule.kind ≡ Never
-    → Plainly answer → IsRight g rule answer → IsRule g rule
-right-rule g rule (Holds cases) never so right = by-timed rule.timed right
+    → Plainly answer → IsRightAnswer g rule answer → RuleHolds g rule
+right-rule g rule (Holds cases) never how right = by-timed rule.timed right
   where
     by-timed : (timed : Option Timing) → MatchOption timed
         (IsAnswer g (plain_demand rule) (Holds cases))
-        (λ timing. IsUntil g rule timing (Holds cases)) → IsRule g rule
+        (λ timing. IsTimedAnswer g rule timing (Holds cases)) → RuleHolds g rule
     by-timed None h = h
     by-timed (Some timing) h =
-        subst (λ (kind : RuleKind). IsTimely kind g rule timing (Holds cases)) never h
-right-rule g rule (Broken case) never so right = absurd so
-right-rule g rule (Open case kept) never so right = absurd so
-right-rule g rule TooMany never so right = absurd so
-right-rule g rule (Since n cases) never so right = absurd so
+        subst (λ (kind : RuleKind). IsTimedAnswerOf kind g rule timing (Holds cases)) never h
+right-rule g rule (Broken case) never how right = absurd how
+right-rule g rule (Open case kept) never how right = absurd how
+right-rule g rule TooMany never how right = absurd how
+right-rule g rule (Since n cases) never how right = absurd how
 
 -- so does each rule without a time
 pub plain-rule : (g : BoundProgram) (rule : Rule) (answer : RuleAnswer) → rule.timed ≡ None
-    → Plainly answer → IsRight g rule answer → IsRule g rule
-plain-rule g rule (Holds cases) plain so right =
+    → Plainly answer → IsRightAnswer g rule answer → RuleHolds g rule
+plain-rule g rule (Holds cases) plain how right =
     subst (λ (o : Option Timing). MatchOption o (IsAnswer g (plain_demand rule) (Holds cases))
-    (λ timing. IsUntil g rule timing (Holds cases))) plain right
-plain-rule g rule (Broken case) plain so right = absurd so
-plain-rule g rule (Open case kept) plain so right = absurd so
-plain-rule g rule TooMany plain so right = absurd so
-plain-rule g rule (Since n cases) plain so right = absurd so
+    (λ timing. IsTimedAnswer g rule timing (Holds cases))) plain right
+plain-rule g rule (Broken case) plain how right = absurd how
+plain-rule g rule (Open case kept) plain how right = absurd how
+plain-rule g rule TooMany plain how right = absurd how
+plain-rule g rule (Since n cases) plain how right = absurd how
 
 -- A timer bears a rule with a time that forbids.
 pub record Borne (g : BoundProgram) (rule : Rule) (timing : Timing) : Type 0 where
@@ -88,24 +88,24 @@ pub record Borne (g : BoundProgram) (rule : Rule) (timing : Timing) : Type 0 whe
   pub bears : IsByTimer g rule timing timer
 
 pub right-timer : (g : BoundProgram) (rule : Rule) (timing : Timing) (answer : RuleAnswer)
-    → rule.kind ≡ Never → rule.timed ≡ Some timing → ByTimer answer → IsRight g rule answer
+    → rule.kind ≡ Never → rule.timed ≡ Some timing → ByTimer answer → IsRightAnswer g rule answer
     → Borne g rule timing
-right-timer g rule timing (Since n cases) never timed so right =
-    let until : IsUntil g rule timing (Since n cases) =
+right-timer g rule timing (Since n cases) never timed how right =
+    let until : IsTimedAnswer g rule timing (Since n cases) =
     subst (λ (o : Option Timing). MatchOption o (IsAnswer g (plain_demand rule) (Since n cases))
-    (λ timing. IsUntil g rule timing (Since n cases))) timed right in
+    (λ timing. IsTimedAnswer g rule timing (Since n cases))) timed right in
     record {
       timer = n;
-      bears = subst (λ (kind : RuleKind). IsTimely kind g rule timing (Since n cases)) never until;
+      bears = subst (λ (kind : RuleKind). IsTimedAnswerOf kind g rule timing (Since n cases)) never until;
     }
-right-timer g rule timing (Holds cases) never timed so right = absurd so
-right-timer g rule timing (Broken case) never timed so right = absurd so
-right-timer g rule timing (Open case kept) never timed so right = absurd so
-right-timer g rule timing TooMany never timed so right = absurd so
+right-timer g rule timing (Holds cases) never timed how right = absurd how
+right-timer g rule timing (Broken case) never timed how right = absurd how
+right-timer g rule timing (Open case kept) never timed how right = absurd how
+right-timer g rule timing TooMany never timed how right = absurd how
 
 -- A rule of a switch of the bay is answered so, and rightly, of the program that octets come to on
 -- it.
-pub record OfOctets (So : RuleAnswer → Type 0) (bay : List ℕ) (form : Form) (program : List ℕ)
+pub record OfOctets (How : RuleAnswer → Type 0) (bay : List ℕ) (form : Form) (program : List ℕ)
     (rule : Rule) : Type 0 where
   pub own : Bay
   pub read : file_of bay ≡ Ok own
@@ -113,8 +113,8 @@ pub record OfOctets (So : RuleAnswer → Type 0) (bay : List ℕ) (form : Form) 
   pub made : IsImageOf form program own image
   pub there : rule.switch < length own.switches
   pub answer : RuleAnswer
-  pub so : So answer
-  pub right : IsRight (program_of own image) rule answer
+  pub how : How answer
+  pub right : IsRightAnswer (program_of own image) rule answer
 
 -- A release of a switch of the bay is harmless in a network, of the program that octets come to on
 -- it.
@@ -191,11 +191,11 @@ module _ (Is : OnAnswers) (f : Form) (octets : AuditOctets) where
       within-load load.loaded load.loads _ log load.tells.rest status load.tells.says h
 
 module _ (bay : List ℕ) (f : Form) (program : List ℕ) where
-  module _ (So : RuleAnswer → Type 0) (rule : Rule) where
+  module _ (How : RuleAnswer → Type 0) (rule : Rule) where
     of-answers : (l : LoadData) → LoadsTo bay f program (Ok l) → (rules : List ℕ)
         (meant : Option (List Rule)) → RulesRead l.bay (Some rules) (Ok meant) → (text : List ℕ)
         (status : ℕ) (says : AnswersIf l meant text status)
-        → AnswersRule So rule l meant text status says → OfOctets So bay f program rule
+        → AnswersRule How rule l meant text status says → OfOctets How bay f program rule
     of-answers l loads rules None means text status says h = absurd means
     of-answers l loads rules (Some rs) means text status says h =
         let made = load-made bay f program l loads in
@@ -204,28 +204,28 @@ module _ (bay : List ℕ) (f : Form) (program : List ℕ) where
           read = made.read;
           image = l.image;
           made = made.made;
-          there = rule-there l.bay rules rs means h.place rule h.here;
+          there = rule-there l.bay rules rs means h.index rule h.here;
           answer = h.answer;
-          so = h.so;
-          right = right-at (program_of l.bay l.image) rs says.answers h.place rule h.answer
-              says.right h.here h.told;
+          how = h.how;
+          right = right-at (program_of l.bay l.image) rs says.answers h.index rule h.answer
+              says.right h.here h.answered;
         }
 
     of-both : (l : LoadData) → LoadsTo bay f program (Ok l) → (rules : List ℕ)
         (meant : Option (List Rule)) → RulesRead l.bay (Some rules) (Ok meant)
         → (d : Option Diagram) (text : List ℕ) (status : ℕ)
         (says : AreAnswered l meant d text status)
-        → AnswersRuleIn So rule l meant d text status says → OfOctets So bay f program rule
+        → AnswersRuleIn How rule l meant d text status says → OfOctets How bay f program rule
     of-both l loads rules meant means d text status (inl both) h =
         of-answers l loads rules meant means both.answered (status_of both.passed) both.answers h
     of-both l loads rules meant means d text status (inr cut) h =
         of-answers l loads rules meant means text 3 cut.1 h
 
     -- What is answered of a rule is right.
-    pub audited : (rules : List ℕ) → IsAudited So bay f program rules rule
-        → OfOctets So bay f program rule
+    pub audited : (rules : List ℕ) → IsAudited How bay f program rules rule
+        → OfOctets How bay f program rule
     audited rules is =
-        let w = within (AnswersRuleIn So rule) f
+        let w = within (AnswersRuleIn How rule) f
         (octets_with bay program (Some rules) is.diagram) is.log is.text is.status is.audit is.says
         in
         of-both w.loaded w.loads rules w.rules w.means w.drawn w.text w.status w.says w.is
@@ -308,7 +308,7 @@ text-begins bay program device loaded runs own image read made =
 
 image-begins : (bay program : List ℕ) (device : State)
     → LoadsDevice bay form.Image program device → (own : Bay) (image : Image)
-    → file_of bay ≡ Ok own → image_spelled program ≡ Ok image → AreOctets program
+    → file_of bay ≡ Ok own → decoded_image program ≡ Ok image → AreOctets program
     → Begins own image device
 image-begins bay program device is own image read made octets =
     let l = is.0 in

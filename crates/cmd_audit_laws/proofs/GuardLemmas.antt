@@ -3,7 +3,7 @@ use Rattle.std.proofs.Common.{◌≡◌, ◌∙◌, ◌<◌, ℕ, zero, suc, Boo
 use Rattle.std.specs.Prelude.{MatchOption, slice_get}
 use Rattle.std.specs.List.{list_all}
 use Rattle.std.proofs.lemmas.Bool.{and_parts}
-use Rattle.bay_audit.specs.Rules.{AreRight, BoundProgram, IsAnswer, IsRight, IsUntil, plain_demand, program_of}
+use Rattle.bay_audit.specs.Rules.{AreRightAnswers, BoundProgram, IsAnswer, IsRightAnswer, IsTimedAnswer, plain_demand, program_of}
 use Rattle.bay_audit.specs.declared.answer.RuleAnswer.{RuleAnswer}
 use Rattle.bay_audit.specs.declared.answer.RuleAnswer.TheVariants.{Broken, Holds, Open, Since, TooMany}
 use Rattle.bay_audit_rules.specs.Meaning.{TextRead}
@@ -53,10 +53,10 @@ use Rattle.cmd_audit_laws.proofs.ServeLemmas.{DiagramHolds, RulesHold, files-is,
 record Passed (g : BoundProgram) (rule : Rule) : Type 0 where
   pub answer : RuleAnswer
   pub passed : is_passed answer ≡ true
-  pub right : IsRight g rule answer
+  pub right : IsRightAnswer g rule answer
 
 passed-at : (g : BoundProgram) (rules : List Rule) (answers : List RuleAnswer)
-    → AreRight g rules answers → list_all is_passed answers ≡ true
+    → AreRightAnswers g rules answers → list_all is_passed answers ≡ true
     → (place : ℕ) (rule : Rule) → slice_get rules place ≡ Some rule → Passed g rule
 passed-at g [] answers right all place rule here = absurd cc
 passed-at g (r ∷ rules) [] right all place rule here = absurd right
@@ -73,10 +73,10 @@ passed-at g (r ∷ rules) (a ∷ answers) right all (suc place) rule here =
 
 -- no timer establishes a rule without a time
 plain-since : (g : BoundProgram) (rule : Rule) (n cases : ℕ) → rule.timed ≡ None
-    → IsRight g rule (Since n cases) → ⊥
+    → IsRightAnswer g rule (Since n cases) → ⊥
 plain-since g rule n cases plain right =
     subst (λ (o : Option Timing). MatchOption o (IsAnswer g (plain_demand rule) (Since n cases))
-    (λ timing. IsUntil g rule timing (Since n cases))) plain right
+    (λ timing. IsTimedAnswer g rule timing (Since n cases))) plain right
 
 -- commands that obey a rule wait for its time
 waits-so : (rule : Rule) (timing : Timing) → rule.kind ≡ Never → (first : State) (h : ServerData)
@@ -84,8 +84,8 @@ waits-so : (rule : Rule) (timing : Timing) → rule.kind ≡ Never → (first : 
     → OrdersObey rule first h past ts → OrdersWait rule timing first h scans past ts
 waits-so rule timing never first h scans past [] obeys = tt
 waits-so rule timing never first h scans past (t ∷ ts) obeys = (
-  λ command o switch operation so.
-      let both : false ≡ true = sym (obeys.0 command o switch operation) ∙ so in absurd cc,
+  λ command o switch operation how.
+      let both : false ≡ true = sym (obeys.0 command o switch operation) ∙ how in absurd cc,
   waits-so rule timing never first (server_after t h)
       (scans_after_events timing.condition t.now (turn_events t.now t.given t.script h) h.device
       scans)
@@ -119,7 +119,7 @@ module _ (f : Form) (both : FilesData) (device : State)
   passed-obeys : (own : Bay) (image : Image) → file_of both.bay ≡ Ok own
       → IsImageOf f both.program own image → rule.switch < length own.switches
       → (answer : RuleAnswer) → is_passed answer ≡ true
-      → IsRight (program_of own image) rule answer → TurnsObey rule (made_of device) ts
+      → IsRightAnswer (program_of own image) rule answer → TurnsObey rule (made_of device) ts
   passed-obeys own image read made there (Holds cases) passed right =
       plainly-obeys (record {
         own = own;
@@ -128,7 +128,7 @@ module _ (f : Form) (both : FilesData) (device : State)
         made = made;
         there = there;
         answer = Holds cases;
-        so = tt;
+        how = tt;
         right = right;
       })
   passed-obeys own image read made there (Since n cases) passed right =
@@ -139,7 +139,7 @@ module _ (f : Form) (both : FilesData) (device : State)
         made = made;
         there = there;
         answer = Since n cases;
-        so = tt;
+        how = tt;
         right = right;
       }) (λ plain. plain-since (program_of own image) rule n cases plain right)
   passed-obeys own image read made there (Broken case) passed right = absurd cc

@@ -4,8 +4,8 @@ use Rattle.std.specs.List.{Contains, list_all}
 use Rattle.std.proofs.lemmas.Bool.{and_parts}
 use Rattle.std.proofs.lemmas.Bool.Decides.{nat_tests}
 use Rattle.std.proofs.lemmas.List.Elements.{Contains-append_cases, Contains-append_left, Contains-append_right}
-use Rattle.bay_audit.specs.Rules.{BoundProgram, ways}
-use Rattle.bay_audit_hazards.specs.Judged.{IsHarmless, IsJudged}
+use Rattle.bay_audit.specs.Rules.{BoundProgram, directions}
+use Rattle.bay_audit_hazards.specs.Judged.{IsHarmless, IsHazardAnswer}
 use Rattle.bay_audit_hazards.specs.declared.answer.HazardAnswer.{HazardAnswer}
 use Rattle.bay_audit_hazards.specs.declared.answer.HazardAnswer.TheVariants.{Holds, Broken, Open, Undecided}
 use Rattle.bay_base.specs.declared.switch.Operation.{Operation}
@@ -25,9 +25,9 @@ abbrev last_ways : ℕ → List (ℕ × Operation)
 last_ways n = (n, operations.Open) ∷ (n, operations.Close) ∷ []
 
 -- each of them is of one of its switches
-ways-below : (n : ℕ) (way : ℕ × Operation) → Contains (ways n) way → way.0 < n
-ways-below zero way c = absurd (let low = c.1 in omega (arith, low))
-ways-below (suc n) way c = elim (Contains-append_cases (ways n) (last_ways n) way c) [
+directions-below : (n : ℕ) (way : ℕ × Operation) → Contains (directions n) way → way.0 < n
+directions-below zero way c = absurd (let low = c.1 in omega (arith, low))
+ways-below (suc n) way c = elim (Contains-append_cases (directions n) (last_ways n) way c) [
   | inl before ↦ (let low = ways-below n way before in omega (arith, low))
   | inr last ↦ by-last last
 ]
@@ -44,18 +44,18 @@ last-way n operations.Open = (0, omega arith, refl)
 last-way n operations.Close = (1, omega arith, refl)
 
 -- each operation of each of its switches is there
-ways-have : (n k : ℕ) (operation : Operation) → k < n → Contains (ways n) (k, operation)
+directions-have : (n k : ℕ) (operation : Operation) → k < n → Contains (directions n) (k, operation)
 ways-have zero k operation lt = absurd (omega (arith, lt))
 ways-have (suc n) k operation lt = by-case (nat_lt k n) refl (ways-have n k operation)
   where
-    by-case : (b : Bool) → nat_lt k n ≡ b → (k < n → Contains (ways n) (k, operation))
-        → Contains (ways (suc n)) (k, operation)
+    by-case : (b : Bool) → nat_lt k n ≡ b → (k < n → Contains (directions n) (k, operation))
+        → Contains (directions (suc n)) (k, operation)
     by-case true less before =
-        Contains-append_left (ways n) (last_ways n) (k, operation)
+        Contains-append_left (directions n) (last_ways n) (k, operation)
         (before (grind (arith, nat_tests)))
     by-case false less before =
         let same : n ≡ k = grind (arith, nat_tests) in
-        Contains-append_right (ways n) (last_ways n) (k, operation)
+        Contains-append_right (directions n) (last_ways n) (k, operation)
         (subst (λ (j : ℕ). Contains (last_ways n) (j, operation)) same (last-way n operation))
 
 -- ---- releases that are judged
@@ -74,13 +74,13 @@ pub said-ways : (bay : Bay) (d : Diagram) (releases : List JudgedRelease) (text 
     (status : ℕ)
     → AreAllJudged bay d releases text status ⊎ AreSomeJudged bay d releases text status
     → (later : List (ℕ × Operation))
-    × (map judged_way releases ++ later ≡ ways (length bay.switches))
+    × (map judged_way releases ++ later ≡ directions (length bay.switches))
 said-ways bay d releases text status (inl all) =
     ([], append-nil (map judged_way releases) ∙ all.all)
 said-ways bay d releases text status (inr some) = (some.later, some.first)
 
 pub judged-there : (n : ℕ) (releases : List JudgedRelease) (k : ℕ) (operation : Operation)
-    → (later : List (ℕ × Operation)) × (map judged_way releases ++ later ≡ ways n)
+    → (later : List (ℕ × Operation)) × (map judged_way releases ++ later ≡ directions n)
     → IsHeld releases k operation → k < n
 judged-there n releases k operation first h =
     ways-below n (k, operation)
@@ -90,7 +90,7 @@ judged-there n releases k operation first h =
     (way-among releases h.release h.among))))
 
 harmless-by : (g : BoundProgram) (net : Network) (k : ℕ) (operation : Operation)
-    (answer : HazardAnswer) → is_harmless answer ≡ true → IsJudged g net k operation answer
+    (answer : HazardAnswer) → is_harmless answer ≡ true → IsHazardAnswer g net k operation answer
     → IsHarmless g net k operation
 harmless-by g net k operation (Holds cases) safe right = right
 harmless-by g net k operation (Broken case) safe right = absurd cc
@@ -112,14 +112,14 @@ held-harmless g net releases right k operation h =
         → Safe g net (judged_way h.release)
     among [] right c = absurd (let low = c.1 in omega (arith, low))
     among (r ∷ rs) right (zero, low, is) =
-        let own = subst (λ x. IsJudged g net x.switch x.operation x.answer) is right.0.right in
+        let own = subst (λ x. IsHazardAnswer g net x.switch x.operation x.answer) is right.0.right in
         harmless-by g net h.release.switch h.release.operation h.release.answer h.safe own
     among (r ∷ rs) right (suc j, low, is) = among rs right.1 (j, omega (arith, low), is)
 
 -- so is each release of the bay, where each of them holds
 pub all-harmless : (g : BoundProgram) (net : Network) (n : ℕ) (releases : List JudgedRelease)
     → AreJudged g net releases → list_all is_safe releases ≡ true
-    → map judged_way releases ≡ ways n → (k : ℕ) (operation : Operation) → k < n
+    → map judged_way releases ≡ directions n → (k : ℕ) (operation : Operation) → k < n
     → IsHarmless g net k operation
 all-harmless g net n releases right all are k operation lt =
     find releases right all

@@ -44,7 +44,7 @@ use Rattle.il_image.specs.Images.{Image, IsImage}
 use Rattle.il_image.proofs.ImageLemmas.{spelled-image}
 use Rattle.cmd_audit_laws.specs.Audited.{AfterLoad, AnswersRuleIn, ByTimer, IfDrawn, IfRead, IsAnswered, IsAudited, Plainly, octets_with}
 use Rattle.cmd_audit_laws.specs.Served.{IsFile}
-use Rattle.cmd_audit_laws.specs.Told.{HoldsAreAudited, IsOfRule}
+use Rattle.cmd_audit_laws.specs.PrintedHolds.{HoldsAreAudited, IsLineOfRule}
 
 -- ---- the image of a program
 
@@ -141,11 +141,11 @@ zip-at (r ∷ rules) (a ∷ answers) pair (suc k, low, is) =
     (suc rest.0, rest.1, rest.2)
 
 passed : (answer : RuleAnswer) → is_passed answer ≡ true → Plainly answer ⊎ ByTimer answer
-passed (Holds cases) so = inl tt
-passed (Since timer cases) so = inr tt
-passed (Broken case) so = absurd cc
-passed (Open case kept) so = absurd cc
-passed TooMany so = absurd cc
+passed (Holds cases) how = inl tt
+passed (Since timer cases) how = inr tt
+passed (Broken case) how = absurd cc
+passed (Open case kept) how = absurd cc
+passed TooMany how = absurd cc
 
 -- ---- an audit
 
@@ -160,8 +160,8 @@ module _ (bay : List ℕ) (f : Form) (program rules : List ℕ) (log : Option (L
     (e : printed_hold line ≡ Some hold) where
   of-answers : (l : LoadData) → LoadsTo bay f program (Ok l) → (rs : List Rule)
       (text : List ℕ) (ended : ℕ) (said : Answers l rs text ended) → Contains (lines_in text) line
-      → ((So : RuleAnswer → Type 0) (rule : Rule) → IsAnswered So rs said.answers rule
-      → IsAudited So bay f program rules rule) → IsOfRule bay f program rules hold
+      → ((How : RuleAnswer → Type 0) (rule : Rule) → IsAnswered How rs said.answers rule
+      → IsAudited How bay f program rules rule) → IsLineOfRule bay f program rules hold
   of-answers l loads rs text ended said at more =
       let made = load-made bay f program l loads in
       let kept : IsImage l.image = image-kept f program l.bay l.image file made.made in
@@ -169,7 +169,7 @@ module _ (bay : List ℕ) (f : Form) (program rules : List ℕ) (log : Option (L
       let h =
       holds-are-read l rs text ended (bays-have-words bay l.bay made.read) known said line hold at e
       in
-      let place = zip-at rs said.answers h.pair h.among in
+      let index = zip-at rs said.answers h.pair h.among in
       record {
         own = l.bay;
         read = made.read;
@@ -178,28 +178,28 @@ module _ (bay : List ℕ) (f : Form) (program rules : List ℕ) (log : Option (L
         switch = h.switch;
         operation = h.operation;
         audited = elim (passed h.pair.1 h.holds) [
-          | inl so ↦ inl (more Plainly h.pair.0 (record {
-            place = place.0;
-            here = place.1;
+          | inl how ↦ inl (more Plainly h.pair.0 (record {
+            index = index.0;
+            here = index.1;
             answer = h.pair.1;
-            told = place.2;
-            so = so;
+            answered = index.2;
+            how = how;
           }))
-          | inr so ↦ inr (more ByTimer h.pair.0 (record {
-            place = place.0;
-            here = place.1;
+          | inr how ↦ inr (more ByTimer h.pair.0 (record {
+            index = index.0;
+            here = index.1;
             answer = h.pair.1;
-            told = place.2;
-            so = so;
+            answered = index.2;
+            how = how;
           }))
         ];
       }
 
   of-both : (l : LoadData) → LoadsTo bay f program (Ok l) → (rs : List Rule) (text : List ℕ)
       (says : AreAnswered l (Some rs) None text status) → Contains (lines_in text) line
-      → ((So : RuleAnswer → Type 0) (rule : Rule)
-      → AnswersRuleIn So rule l (Some rs) None text status says
-      → IsAudited So bay f program rules rule) → IsOfRule bay f program rules hold
+      → ((How : RuleAnswer → Type 0) (rule : Rule)
+      → AnswersRuleIn How rule l (Some rs) None text status says
+      → IsAudited How bay f program rules rule) → IsLineOfRule bay f program rules hold
   of-both l loads rs text (inl both) at more =
       of-answers l loads rs both.answered (status_of both.passed) both.answers
       (subst (λ t. Contains (lines_in t) line)
@@ -210,9 +210,9 @@ module _ (bay : List ℕ) (f : Form) (program rules : List ℕ) (log : Option (L
   of-drawn : (l : LoadData) → LoadsTo bay f program (Ok l) → (rs : List Rule)
       (meant : Result (Option Diagram) DiagramFault) → meant ≡ Ok None → (text : List ℕ)
       (says : IsTextWith l (Some rs) meant log text status) → Contains (lines_in text) line
-      → ((So : RuleAnswer → Type 0) (rule : Rule)
-      → IfDrawn (AnswersRuleIn So rule) l (Some rs) meant log text status says
-      → IsAudited So bay f program rules rule) → IsOfRule bay f program rules hold
+      → ((How : RuleAnswer → Type 0) (rule : Rule)
+      → IfDrawn (AnswersRuleIn How rule) l (Some rs) meant log text status says
+      → IsAudited How bay f program rules rule) → IsLineOfRule bay f program rules hold
   of-drawn l loads rs (Ok None) none text says at more = of-both l loads rs text says.1 at more
   of-drawn l loads rs (Ok (Some d)) none text says at more = absurd cc
   of-drawn l loads rs (Err fault) none text says at more = absurd cc
@@ -221,9 +221,9 @@ module _ (bay : List ℕ) (f : Form) (program rules : List ℕ) (log : Option (L
       → (meant : Result (Option (List Rule)) RuleFault) → RulesRead l.bay (Some rules) meant
       → (text : List ℕ) (says : IsTextOf l meant None log text status)
       → Contains (lines_in text) line
-      → ((So : RuleAnswer → Type 0) (rule : Rule)
-      → IfRead (AnswersRuleIn So rule) l meant None log text status says
-      → IsAudited So bay f program rules rule) → IsOfRule bay f program rules hold
+      → ((How : RuleAnswer → Type 0) (rule : Rule)
+      → IfRead (AnswersRuleIn How rule) l meant None log text status says
+      → IsAudited How bay f program rules rule) → IsLineOfRule bay f program rules hold
   of-rules l loads (Err fault) means text says at more =
       absurd (no-line text line hold
       (subst (AreLines SaysNone) (sym says.1.0) (rules-lines (code_of fault) (line_of fault))) at e)
@@ -257,13 +257,13 @@ module _ (bay : List ℕ) (f : Form) (program rules : List ℕ) (log : Option (L
       by-case first none (inl (suc k, low, same)) = absurd (omega (arith, low))
 
   of-audit : (audit : AuditReport f (octets_with bay program (Some rules) None) log whole status)
-      → Contains (lines_in whole) line → IsOfRule bay f program rules hold
+      → Contains (lines_in whole) line → IsLineOfRule bay f program rules hold
   of-audit (inr refused) at =
       absurd (no-line whole line hold
       (subst (AreLines SaysNone) (sym refused.tells.1.0) (refused-lines refused.error)) at e)
   of-audit (inl load) at =
       of-says load.tells.says (of-load load.tells.report load.tells.rest load.tells.whole at)
-      (λ So rule says. record {
+      (λ How rule says. record {
         diagram = None;
         log = log;
         text = whole;
@@ -275,11 +275,11 @@ module _ (bay : List ℕ) (f : Form) (program rules : List ℕ) (log : Option (L
       of-says : (says : IsTextFor load.loaded (Some rules) None log load.tells.rest status
           ⊎ IsReported None (codes "fault memory\n") 3 log load.tells.rest status)
           → Contains (lines_in load.tells.rest) line
-          → ((So : RuleAnswer → Type 0) (rule : Rule)
-          → AfterLoad (AnswersRuleIn So rule) _ load.loaded (Some rules) None log load.tells.rest
+          → ((How : RuleAnswer → Type 0) (rule : Rule)
+          → AfterLoad (AnswersRuleIn How rule) _ load.loaded (Some rules) None log load.tells.rest
           status says
-          → IsAudited So bay f program rules rule)
-          → IsOfRule bay f program rules hold
+          → IsAudited How bay f program rules rule)
+          → IsLineOfRule bay f program rules hold
       of-says (inr memory) there more =
           absurd (no-line load.tells.rest line hold
           (subst (AreLines SaysNone) (sym memory.1.0) (one-line (codes "fault memory") refl refl))

@@ -4,7 +4,7 @@ use Rattle.std.proofs.Common.{◌≡◌, ◌+◌, ℕ, ◌<◌, Bool, true, fals
 use Rattle.std.specs.Prelude.{IfSome}
 use Rattle.std.proofs.lemmas.List.Elements.{All-cons, All-head, All-nil, All-tail, All-weaker}
 use Rattle.std.specs.declared.net.socket_addr.SocketAddrV4.{SocketAddrV4}
-use Rattle.bay_audit.specs.Rules.{IsRule, program_of}
+use Rattle.bay_audit.specs.Rules.{RuleHolds, program_of}
 use Rattle.bay_audit_laws.specs.Laws.{CommandsOutsideAt, IsOfType, IsOutside, ScanObeysAt, process_of}
 use Rattle.bay_audit_laws.proofs.LawLemmas.{IsRefusedWhere, Led, Standing, Turned, commands-outside, led-step, outside, process-so, scan-obeys, standing-first, turned}
 use Rattle.bay_base.specs.declared.switch.Operation.{Operation}
@@ -257,7 +257,7 @@ module _ (bay : Bay) (image : Image) (is_bay : IsBay bay) where
         )
 
   pub past-scans : (rule : Rule) → rule.switch < length bay.switches
-      → IsRule (program_of bay image) rule → (first : State) (past : List Past)
+      → RuleHolds (program_of bay image) rule → (first : State) (past : List Past)
       → EachPast Steps first past → AreTypedPast first past → Good first
       → EachPast (ScanObeysAt rule) first past
   past-scans rule there holds_so first past steps typed g =

@@ -163,7 +163,7 @@ module _ (parts : ScenarioParts) (first : State) (text : List ℕ) (status : ℕ
       let o = audited parts.bay Logic parts.logic Plainly rule rules is in
       run-avoids o.own o.image o.read o.made (holds rule.when) rule.switch rule.operation o.there
       (rule-refuses (program_of o.own o.image) rule
-      (right-rule (program_of o.own o.image) rule o.answer never o.so o.right) never)
+      (right-rule (program_of o.own o.image) rule o.answer never o.how o.right) never)
 
   run-scans : (rules : List ℕ) (rule : Rule) → rule.timed ≡ None
       → IsAudited Plainly parts.bay Logic parts.logic rules rule
@@ -171,7 +171,7 @@ module _ (parts : ScenarioParts) (first : State) (text : List ℕ) (status : ℕ
   run-scans rules rule plain is =
       let o = audited parts.bay Logic parts.logic Plainly rule rules is in
       past-scans o.own o.image (begun o.own o.image o.read o.made).sound rule o.there
-      (plain-rule (program_of o.own o.image) rule o.answer plain o.so o.right) first run.past
+      (plain-rule (program_of o.own o.image) rule o.answer plain o.how o.right) first run.past
       run.steps typed-past (good o.own o.image o.read o.made)
 
   run-harmless : (diagram : List ℕ) (net : Network) (k : ℕ) (operation : Operation)
@@ -191,7 +191,7 @@ module _ (parts : ScenarioParts) (first : State) (text : List ℕ) (status : ℕ
       let own = audited parts.bay Logic parts.logic ByTimer rule rules is in
       let b = begun own.own own.image own.read own.made in
       let borne = right-timer (program_of own.own own.image) rule timing own.answer never timed
-      own.so own.right in
+      own.how own.right in
       (past-waits own.own own.image rule timing borne.timer b.sound own.there borne.bears first
       run.past run.steps typed-past
       (subst (Ready own.own own.image rule timing borne.timer b.sound own.there borne.bears [])

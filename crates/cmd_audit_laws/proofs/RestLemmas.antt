@@ -7,16 +7,16 @@ use Rattle.il_image.specs.Octets.{AreOctets}
 use Rattle.il_image.specs.Tables.{slot_types}
 use Rattle.il_image.specs.Values.{type_of}
 use Rattle.il_verify.specs.Verdicts.{IsSafe}
-use Rattle.il_scan.specs.Laws.{Ends}
+use Rattle.il_scan.specs.Laws.{ScanEnds}
 use Rattle.il_scan.specs.Scans.{AreInputs, MachineData, machine_data, with_inputs}
-use Rattle.il_scan.specs.MachineStates.{IsHeld, RunsTo, Turns, Typed, first_state, words_at}
+use Rattle.il_scan.specs.MachineStates.{EncodesMemory, RunsTo, StepsTo, HaveTypes, first_state, words_at}
 use Rattle.il_scan.specs.Words.{values_of, words_of}
-use Rattle.il_scan.specs.Working.{Words, leads, words_after}
+use Rattle.il_scan.specs.WordEffects.{Words, next_offset, words_after}
 use Rattle.il_scan.proofs.RunLemmas.{Comes, comes-next, forward, run-ends, starts}
 use Rattle.il_scan.proofs.ScanLemmas.{held-taken, scanned}
 use Rattle.il_scan.proofs.SlotLemmas.{outputs_are}
-use Rattle.il_scan.proofs.StandLemmas.{held-by, held-typed, stand-again}
-use Rattle.il_scan.proofs.TurnLemmas.{place-within, turned}
+use Rattle.il_scan.proofs.EncodingLemmas.{held-by, held-typed, stand-again}
+use Rattle.il_scan.proofs.StepLemmas.{place-within, turned}
 
 -- the run from these slots and timers ends somewhere
 record RunRests (image : Image) (now : ℕ) (slots : List ℤ) (timers : List TimerState) : Type 0 where
@@ -26,30 +26,30 @@ record RunRests (image : Image) (now : ℕ) (slots : List ℤ) (timers : List Ti
   runs : RunsTo image now slots timers new_slots new_timers steps
 
 module _ (image : Image) (now : ℕ) (slots : List ℤ) (timers : List TimerState) (safe : IsSafe image)
-    (is-held : IsHeld image slots timers) where
+    (is-held : EncodesMemory image slots timers) where
   -- a run that has come to a place goes on to its end
-  goes_on : (left place steps : ℕ) (w : Words)
-      (c : Comes image now (first_state image slots timers) place steps w)
-      → length image.code ≤ place + left → RunRests image now slots timers
-  goes_on zero place steps w c past =
-      let within = place-within image now c.state c.stands.standing in
-      let there : c.state.place ≡ place = c.stands.there in
+  goes_on : (left offset steps : ℕ) (w : Words)
+      (c : Comes image now (first_state image slots timers) offset steps w)
+      → length image.code ≤ offset + left → RunRests image now slots timers
+  goes_on zero offset steps w c past =
+      let within = place-within image now c.state c.stands.allowed in
+      let there : c.state.offset ≡ offset = c.stands.there in
       absurd (omega arith)
-  goes_on (suc left) place steps w c past =
-      let h = c.stands.standing in
-      let a = h.agrees.allowed c.state.place h.kinds h.here in
+  goes_on (suc left) offset steps w c past =
+      let h = c.stands.allowed in
+      let a = h.agrees.allowed c.state.offset h.kinds h.here in
       let within = place-within image now c.state h in
-      let there : c.state.place ≡ place = c.stands.there in
-      let less : place < length image.code = omega arith in
+      let there : c.state.offset ≡ offset = c.stands.there in
+      let less : offset < length image.code = omega arith in
       let after : Words = words_after now a.instr (words_at c.state) in
       let turn =
       turned image now c.state h a.instr a.next a.here c.octets
-      (leads a.instr a.next (words_at c.state).stack) after refl refl in
-      next-turn (leads a.instr a.next (words_at c.state).stack) after less turn
+      (next_offset a.instr a.next (words_at c.state).stack) after refl refl in
+      next-turn (next_offset a.instr a.next (words_at c.state).stack) after less turn
       (λ to later. goes_on left to (steps + 1) after later)
     where
-      next-turn : (to : Option ℕ) (after : Words) → place < length image.code
-          → Turns image now c.state to after
+      next-turn : (to : Option ℕ) (after : Words) → offset < length image.code
+          → StepsTo image now c.state to after
           → ((q : ℕ) → Comes image now (first_state image slots timers) q (steps + 1) after
           → length image.code ≤ q + left → RunRests image now slots timers)
           → RunRests image now slots timers
@@ -57,26 +57,26 @@ module _ (image : Image) (now : ℕ) (slots : List ℤ) (timers : List TimerStat
         new_slots = after.slots;
         new_timers = after.timers;
         steps = steps + 1;
-        runs = run-ends image now slots timers place steps w c less safe is-held after turn;
+        runs = run-ends image now slots timers offset steps w c less safe is-held after turn;
       }
       next-turn (Some to) after less turn more =
-          let on : place < to =
-          forward image now (first_state image slots timers) place steps w c less to after turn
+          let on : offset < to =
+          forward image now (first_state image slots timers) offset steps w c less to after turn
           in
-          more to (comes-next image now (first_state image slots timers) place steps w c less to
+          more to (comes-next image now (first_state image slots timers) offset steps w c less to
           after turn) (omega arith)
 
 -- A scan ends, and what it leaves has its types.
 pub record Rests (old : MachineData) (inputs : List Value) (now : ℕ) : Type 0 where
-  pub ends : Ends old inputs now
-  pub typed : Typed (slot_types old.image) (length old.image.timers) ends.new.slots ends.new.timers
+  pub ends : ScanEnds old inputs now
+  pub typed : HaveTypes (slot_types old.image) (length old.image.timers) ends.new.slots ends.new.timers
 
 words-rest : (image : Image) (inputs : List Value) (now : ℕ) (slots : List ℤ)
-    (timers : List TimerState) → AreOctets image.code → IsSafe image → IsHeld image slots timers
+    (timers : List TimerState) → AreOctets image.code → IsSafe image → EncodesMemory image slots timers
     → AreInputs image.points inputs → Rests (machine_data image slots timers) inputs now
 words-rest image inputs now slots timers octets safe is-held are =
     let taken : List ℤ = with_inputs image.points (words_of inputs) slots in
-    let before : IsHeld image taken timers =
+    let before : EncodesMemory image taken timers =
     held-taken image image.points refl inputs now slots timers is-held are taken refl in
     let e : RunRests image now taken timers =
     goes_on image now taken timers safe before (length image.code) 0 0 _
@@ -95,10 +95,10 @@ words-rest image inputs now slots timers octets safe is-held are =
 -- so it is from slots and timers of their types
 pub scan-rests : (image : Image) (slots : List Value) (timers : List TimerState)
     (inputs : List Value) (now : ℕ) → AreOctets image.code → IsSafe image
-    → Typed (slot_types image) (length image.timers) slots timers → AreInputs image.points inputs
+    → HaveTypes (slot_types image) (length image.timers) slots timers → AreInputs image.points inputs
     → Rests (record { image = image; slots = slots; timers = timers }) inputs now
 scan-rests image slots timers inputs now octets safe typed are =
-    let is-held : IsHeld image (words_of slots) timers =
+    let is-held : EncodesMemory image (words_of slots) timers =
     held-by image (words_of slots) slots timers refl typed in
     let same : values_of (slot_types image) (words_of slots) ≡ slots =
     stand-again (slot_types image) (words_of slots) slots

@@ -13,7 +13,7 @@ use Rattle.bay_audit_rules.specs.Grammar.{Spells}
 use Rattle.bay_audit_rules.specs.Meaning.{LineRead, LinesRead, TextRead, TokensRead, is_blank_piece, is_comment, is_line_end, line_tokens, prepend_rules, operations_of, rule_of, rules_of, some_rule, template_of, timing_of, tokens_of}
 use Rattle.bay_audit_rules.specs.Numbers.{number_in, time_in}
 use Rattle.bay_audit_rules.specs.Pieces.{pieces}
-use Rattle.bay_audit_rules.specs.Words.{is_name, known_of, literal_of, named_in, other_of, token_of, reserved_token, words}
+use Rattle.bay_audit_rules.specs.Words.{is_name, word_or_number, number_or_time, named_in, time_or_name, token_of, reserved_token, words}
 use Rattle.bay_audit_rules.specs.declared.fault.RuleFault.{RuleFault}
 use Rattle.bay_audit_rules.specs.declared.pieces.Cut.TheVariants.{Line}
 use Rattle.bay_audit_rules.specs.declared.rule.Rule.{Rule}
@@ -86,17 +86,17 @@ module _ (bay : Bay) where
   token-fits : (piece : List ℕ) → IfSome (token_of bay piece) Fits
   token-fits piece = by-word (reserved_token piece) (word-fits piece)
     where
-      by-time : (o : Option (Option ℕ)) → IfSome (other_of bay piece o) Fits
+      by-time : (o : Option (Option ℕ)) → IfSome (time_or_name bay piece o) Fits
       by-time (Some time) = tt
       by-time None =
           cond-some Fits (is_name piece) (Some (token.Name (named_in bay piece))) None
           (position-there (λ (s : Switch). same_name piece s.id) bay.switches) tt
 
-      by-word : (o : Option RuleToken) → IfSome o Fits → IfSome (known_of bay piece o) Fits
+      by-word : (o : Option RuleToken) → IfSome o Fits → IfSome (word_or_number bay piece o) Fits
       by-word (Some t) h = h
       by-word None h = by-number (number_in piece)
         where
-          by-number : (o : Option (Option ℤ)) → IfSome (literal_of bay piece o) Fits
+          by-number : (o : Option (Option ℤ)) → IfSome (number_or_time bay piece o) Fits
           by-number (Some n) = tt
           by-number None = by-time (time_in piece)
 

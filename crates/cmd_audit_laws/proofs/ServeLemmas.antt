@@ -51,7 +51,7 @@ use Rattle.bay_audit_rules.specs.declared.rule.Rule.{Rule}
 use Rattle.bay_audit_rules.specs.declared.rule.RuleKind.TheVariants.{Never}
 use Rattle.bay_audit_rules.specs.declared.rule.Timing.{Timing}
 use Rattle.cmd_replay.specs.History.{EachPast}
-use Rattle.cmd_audit_laws.specs.Served.{InPermit, IsFile, ObeyAuditsOf, OfBound, OfFiles, OfPorts, OfRules, OrdersAvoid, OrdersObey, ServedCommandsObey}
+use Rattle.cmd_audit_laws.specs.Served.{InPermit, IsFile, ObeyAuditsOf, HoldsIfBound, HoldsIfRead, HoldsIfOpened, HoldsWithRules, OrdersAvoid, OrdersObey, ServedCommandsObey}
 use Rattle.cmd_audit_laws.specs.Waits.{OrdersWait}
 use Rattle.cmd_audit_laws.proofs.AuditLemmas.{OfOctets, audited, begins, held, plain-rule, right-rule, right-timer}
 use Rattle.cmd_audit_laws.proofs.ObeyLemmas.{AreGiven, Good, good-first, past-scans, turns-avoid, turns-typed}
@@ -160,7 +160,7 @@ module _ (f : Form) (both : FilesData) (device : State)
         orders-avoid own.own own.image own.read own.made (holds rule.when) rule.switch
         rule.operation own.there
         (rule-refuses (program_of own.own own.image) rule
-        (right-rule (program_of own.own own.image) rule own.answer never own.so own.right) never)
+        (right-rule (program_of own.own own.image) rule own.answer never own.how own.right) never)
 
     pub orders-wait : (timing : Timing) → rule.kind ≡ Never → rule.timed ≡ Some timing
         → OfOctets ByTimer both.bay f both.program rule
@@ -169,7 +169,7 @@ module _ (f : Form) (both : FilesData) (device : State)
         let b = begins both.bay f both.program device loads file own.own own.image own.read own.made
         in
         let borne = right-timer (program_of own.own own.image) rule timing own.answer never timed
-        own.so own.right in
+        own.how own.right in
         turns-wait own.own own.image rule timing borne.timer b.sound own.there borne.bears device ts
         (made_of device) [] [] are given
         (subst (Ready own.own own.image rule timing borne.timer b.sound own.there borne.bears [])
@@ -186,7 +186,7 @@ module _ (f : Form) (both : FilesData) (device : State)
         stands-turns device ts (made_of device) []
         (stands-first device (own.own, own.image, b.is)) in
         past-scans own.own own.image b.sound rule own.there
-        (plain-rule (program_of own.own own.image) rule own.answer plain own.so own.right) device
+        (plain-rule (program_of own.own own.image) rule own.answer plain own.how own.right) device
         (past_of ts (made_of device) []) stands.steps
         (turns-typed device ts (made_of device) [] are given tt)
         (subst (Good own.own own.image b.sound) (sym b.is)
@@ -290,7 +290,7 @@ module _ {L H W : Type 0} (step : L → Call → L → Type 0) (acts : H → Hos
         (λ ports. ServesBound step acts contents asks numbers served ports loaded.trace.items host
         after old new answer)
         (λ why. EndsUnserved contents asks why old new answer × (after ≡ host)))
-        → OfBound step acts contents asks Is numbers served loaded.trace.items host after old new
+        → HoldsIfBound step acts contents asks Is numbers served loaded.trace.items host after old new
         answer bound goes
     bound-is served duties before host after old new answer (Ok ports) binds goes =
         let run = goes.5 in
@@ -307,7 +307,7 @@ module _ {L H W : Type 0} (step : L → Call → L → Type 0) (acts : H → Hos
         (answer : Result ℕ WriteFault)
         (ports : ServesPorts step acts contents asks numbers loaded held before after old new
         answer)
-        → OfPorts step acts contents asks Is numbers loaded held before after old new answer ports
+        → HoldsIfOpened step acts contents asks Is numbers loaded held before after old new answer ports
     ports-is held before after old new answer ports =
         bound-is (served_of loaded held) _ before ports.host after old new answer ports.bound
         ports.binds ports.goes_on
@@ -328,7 +328,7 @@ module _ {L H W : Type 0} (step : L → Call → L → Type 0) (acts : H → Hos
       → Is (made_of (state_of loaded)) ts) (numbers : Numbers) where
     rules-is : (before after : H) (old new : Writing W) (answer : Result ℕ WriteFault)
         (serves : ServesRules step acts contents asks numbers loaded before after old new answer)
-        → OfRules step acts contents asks Is numbers loaded before after old new answer serves
+        → HoldsWithRules step acts contents asks Is numbers loaded before after old new answer serves
     rules-is before after old new answer serves =
         in-permit _ _ serves.permit serves.goes_on _
         (λ rules granted drawn. in-permit _ _ drawn.permit drawn.goes_on _
@@ -353,7 +353,7 @@ module _ {L H W : Type 0} (step : L → Call → L → Type 0) (acts : H → Hos
         → (goes : MatchResult loaded
         (λ all. ServesLoaded step acts contents asks numbers all before after old new answer)
         (λ why. EndsUnserved contents asks why old new answer × (after ≡ before)))
-        → OfFiles step acts contents asks Is numbers before after old new answer loaded goes
+        → HoldsIfRead step acts contents asks Is numbers before after old new answer loaded goes
     files-is numbers before after old new answer (Ok loaded) loads goes =
         later-is _ _ goes.told goes.goes_on _
         (rules-is (Is (data_of loaded)) loaded (each loaded loads) numbers before after goes.middle

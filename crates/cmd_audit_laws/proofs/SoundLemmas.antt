@@ -34,7 +34,7 @@ use Rattle.bay_base.specs.declared.position.Dbpos.TheVariants.{Intermediate, Off
 use Rattle.bay_tree.specs.declared.leaf.Leaf.TheVariants as leaf
 use Rattle.cmd_replay.proofs.BudgetLemmas.{step-halts}
 use Rattle.il_check.specs.Program.{Checked}
-use Rattle.il_image.specs.Decoding.{image_spelled}
+use Rattle.il_image.specs.Decoding.{decoded_image}
 use Rattle.il_image.specs.Images.{Each, Image, IsImage, IsValue, count_and_items, image_octets, mark, point_octets, timer_octets, variable_octets, version_octet}
 use Rattle.il_image.proofs.ImageLemmas.{spelled-image}
 use Rattle.il_image.specs.declared.opcode.Version.{Version}
@@ -45,7 +45,7 @@ use Rattle.il_image.specs.Timers.{first_state}
 use Rattle.il_image.specs.Values.{is_between, type_of}
 use Rattle.il_image.specs.declared.value.Value.TheVariants.{Long}
 use Rattle.il_scan.specs.Scans.{AreInputs, MachineData, read_only, type_of_point}
-use Rattle.il_scan.specs.MachineStates.{Typed}
+use Rattle.il_scan.specs.MachineStates.{HaveTypes}
 use Rattle.il_scan.specs.Words.{AreTyped}
 use Rattle.il_scan.proofs.SlotLemmas.{first-stand, times-first}
 use Rattle.il_scan.proofs.ValueLemmas.{truth-value}
@@ -108,7 +108,7 @@ sources-typed p is (o ∷ os) (t ∷ types) e =
 pub record Sound (s : State) : Type 0 where
   pub octets : AreOctets s.machine.image.code
   pub safe : IsSafe s.machine.image
-  pub typed : Typed (slot_types s.machine.image) (length s.machine.image.timers) s.machine.slots
+  pub typed : HaveTypes (slot_types s.machine.image) (length s.machine.image.timers) s.machine.slots
       s.machine.timers
   pub reads : map type_of_source s.reads
       ≡ map type_of_point (read_only s.machine.image.points)
@@ -143,7 +143,7 @@ module _ (s : State) (sound : Sound s) (is : IsProcess (process_of s)) (now : �
   scan-sound = record {
     octets = sound.octets;
     safe = sound.safe;
-    typed = subst (λ (x : Ran). Typed (slot_types s.machine.image)
+    typed = subst (λ (x : Ran). HaveTypes (slot_types s.machine.image)
         (length s.machine.image.timers) x.slots x.timers) (sym ran) rests.typed;
     reads = sound.reads;
   }
@@ -164,7 +164,7 @@ sound-as : (s t : State) → t.machine ≡ s.machine → t.reads ≡ s.reads →
 sound-as s t machine reads sound = record {
   octets = subst (λ (h : MachineData). AreOctets h.image.code) (sym machine) sound.octets;
   safe = subst (λ (h : MachineData). IsSafe h.image) (sym machine) sound.safe;
-  typed = subst (λ (h : MachineData). Typed (slot_types h.image) (length h.image.timers) h.slots
+  typed = subst (λ (h : MachineData). HaveTypes (slot_types h.image) (length h.image.timers) h.slots
       h.timers)
       (sym machine) sound.typed;
   reads = ap (map type_of_source) reads ∙ sound.reads
@@ -246,7 +246,7 @@ sound-first bay image is verified kept octets = record {
   safe = verified.safe;
   typed = record {
     of_types = (first-stand image _ kept.values refl).typed;
-    so_many = length-map image.timers first_state;
+    timer_count = length-map image.timers first_state;
     times = times-first _ image.timers refl;
   };
   reads = reads-typed bay.points
@@ -257,7 +257,7 @@ sound-first bay image is verified kept octets = record {
 
 -- a device that was loaded from octets of an image
 pub image-sound : (program : List ℕ) (bay : Bay) (image : Image) → IsBay bay → AreOctets program
-    → image_spelled program ≡ Ok image → IsVerified bay.points image
+    → decoded_image program ≡ Ok image → IsVerified bay.points image
     → Sound (initial_device bay image)
 image-sound program bay image is octets spelled verified =
     let read = spelled-image program image octets spelled in

@@ -76,30 +76,30 @@ ByTimer (Since timer cases) = Unit {0}
 ByTimer other = ⊥
 
 -- The rule is one of these, and has such an answer.
-pub record IsAnswered (So : RuleAnswer → Type 0) (rules : List Rule) (answers : List RuleAnswer)
+pub record IsAnswered (How : RuleAnswer → Type 0) (rules : List Rule) (answers : List RuleAnswer)
     (rule : Rule) : Type 0 where
-  pub place : ℕ
-  pub here : slice_get rules place ≡ Some rule
+  pub index : ℕ
+  pub here : slice_get rules index ≡ Some rule
   pub answer : RuleAnswer
-  pub told : slice_get answers place ≡ Some answer
-  pub so : So answer
+  pub answered : slice_get answers index ≡ Some answer
+  pub how : How answer
 
 -- the rule has such an answer in the text for rules
-abbrev pub AnswersRule : (So : RuleAnswer → Type 0) → Rule → (loaded : LoadData)
+abbrev pub AnswersRule : (How : RuleAnswer → Type 0) → Rule → (loaded : LoadData)
     (rules : Option (List Rule)) (text : List ℕ) (status : ℕ) → AnswersIf loaded rules text status
     → Type 0
-AnswersRule So rule loaded (Some rules) text status says = IsAnswered So rules says.answers rule
-AnswersRule So rule loaded None text status says = ⊥
+AnswersRule How rule loaded (Some rules) text status says = IsAnswered How rules says.answers rule
+AnswersRule How rule loaded None text status says = ⊥
 
 -- the same in the text for rules and a diagram, which memory may have cut
-abbrev pub AnswersRuleIn : (So : RuleAnswer → Type 0) → Rule → OnAnswers
-AnswersRuleIn So rule loaded rules d text status (inl both) =
-    AnswersRule So rule loaded rules both.answered (status_of both.passed) both.answers
-AnswersRuleIn So rule loaded rules d text status (inr cut) =
-    AnswersRule So rule loaded rules text 3 cut.1
+abbrev pub AnswersRuleIn : (How : RuleAnswer → Type 0) → Rule → OnAnswers
+AnswersRuleIn How rule loaded rules d text status (inl both) =
+    AnswersRule How rule loaded rules both.answered (status_of both.passed) both.answers
+AnswersRuleIn How rule loaded rules d text status (inr cut) =
+    AnswersRule How rule loaded rules text 3 cut.1
 
 -- An audit of these octets, with a diagram or without, gives the rule such an answer.
-pub record IsAudited (So : RuleAnswer → Type 0) (bay : List ℕ) (form : Form)
+pub record IsAudited (How : RuleAnswer → Type 0) (bay : List ℕ) (form : Form)
     (program rules : List ℕ)
     (rule : Rule) : Type 0 where
   pub diagram : Option (List ℕ)
@@ -107,7 +107,7 @@ pub record IsAudited (So : RuleAnswer → Type 0) (bay : List ℕ) (form : Form)
   pub text : List ℕ
   pub status : ℕ
   pub audit : AuditReport form (octets_with bay program (Some rules) diagram) log text status
-  pub says : InAudit (AnswersRuleIn So rule) form (octets_with bay program (Some rules) diagram)
+  pub says : InAudit (AnswersRuleIn How rule) form (octets_with bay program (Some rules) diagram)
       log text status audit
 
 -- ---- a diagram

@@ -23,7 +23,7 @@ use Rattle.bay_server.specs.Host.{HostCall}
 use Rattle.cmd_serve.specs.Serve.{FileNames, ServesFiles}
 use Rattle.cmd_serve.specs.Service.{DoneTurn, past_of}
 use Rattle.cmd_serve.specs.declared.serve.Numbers.{Numbers}
-use Rattle.cmd_audit_laws.specs.Served.{IsFile, OfFiles, OrdersAreHarmless, OrdersObey}
+use Rattle.cmd_audit_laws.specs.Served.{IsFile, HoldsIfRead, OrdersAreHarmless, OrdersObey}
 use Rattle.cmd_audit_laws.specs.Waits.{OrdersWait}
 
 -- Turns of a server, from its first on, obey a rule. Each scan in them obeys a rule without a time;
@@ -76,7 +76,7 @@ module _ {F L H W : Type 0} (step : L → Call → L → Type 0) (acts : H → H
       (answer : Result ℕ WriteFault)
       (serves : ServesFiles step acts contents asks reads guards files named numbers before after
       old new answer) (name : List ℕ) → file_in named ≡ Some name
-      → OfFiles step acts contents asks (ObeyFile reads Obey files name named.form) numbers before
+      → HoldsIfRead step acts contents asks (ObeyFile reads Obey files name named.form) numbers before
       after old new answer serves.loaded serves.goes_on
 
   -- The turns of each service with rules obey the rules in their file.

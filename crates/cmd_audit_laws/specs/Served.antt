@@ -113,7 +113,7 @@ InPermit Ends Goes (Err fault) goes more = Unit {0}
 module _ {L H W : Type 0} (step : L → Call → L → Type 0) (acts : H → HostCall L → H → Type 0)
     (contents : W → Option (List ℕ)) (asks : W → WriteCall → W → Type 0) where
   -- the statement holds for the turns that were served, if the ports could be bound
-  abbrev pub OfBound : (Is : ServerData → List DoneTurn → Type 0) (numbers : Numbers)
+  abbrev pub HoldsIfBound : (Is : ServerData → List DoneTurn → Type 0) (numbers : Numbers)
       (served : ServedFiles) (trace : List ℕ)
       (host after : H) (old new : Writing W) (answer : Result ℕ WriteFault)
       (bound : Result (Bound L) ServeStartFault) → MatchResult bound
@@ -121,18 +121,18 @@ module _ {L H W : Type 0} (step : L → Call → L → Type 0) (acts : H → Hos
       answer)
       (λ why. EndsUnserved contents asks why old new answer × (after ≡ host))
       → Type 0
-  OfBound Is numbers served trace host after old new answer (Ok ports) goes =
+  HoldsIfBound Is numbers served trace host after old new answer (Ok ports) goes =
       Is ports.server goes.5.done
-  OfBound Is numbers served trace host after old new answer (Err why) goes = Unit {0}
+  HoldsIfBound Is numbers served trace host after old new answer (Err why) goes = Unit {0}
 
   -- the statement holds for the turns that were served, if the ports could be opened
-  abbrev pub OfPorts : (Is : ServerData → List DoneTurn → Type 0) (numbers : Numbers)
+  abbrev pub HoldsIfOpened : (Is : ServerData → List DoneTurn → Type 0) (numbers : Numbers)
       (loaded : LoadedFiles) (held : HeldCounts)
       (before after : H) (old new : Writing W) (answer : Result ℕ WriteFault)
       → ServesPorts step acts contents asks numbers loaded held before after old new answer
       → Type 0
-  OfPorts Is numbers loaded held before after old new answer ports =
-      OfBound Is numbers (served_of loaded held) loaded.trace.items ports.host after old new answer
+  HoldsIfOpened Is numbers loaded held before after old new answer ports =
+      HoldsIfBound Is numbers (served_of loaded held) loaded.trace.items ports.host after old new answer
       ports.bound ports.goes_on
 
   -- the statement holds for the turns that were served, if the releases hold by the diagram, or
@@ -144,39 +144,39 @@ module _ {L H W : Type 0} (step : L → Call → L → Type 0) (acts : H → Hos
       → Type 0
   OfDiagram Is numbers loaded rules before after old new answer serves =
       InPermit _ _ serves.permit serves.goes_on
-      (λ releases. OfPorts Is numbers loaded (record { rules = rules; releases = releases }) before
+      (λ releases. HoldsIfOpened Is numbers loaded (record { rules = rules; releases = releases }) before
       after serves.middle new answer)
 
   -- the statement holds for the turns that were served, if the rules hold, or there are none
-  abbrev pub OfRules : (Is : ServerData → List DoneTurn → Type 0) (numbers : Numbers)
+  abbrev pub HoldsWithRules : (Is : ServerData → List DoneTurn → Type 0) (numbers : Numbers)
       (loaded : LoadedFiles)
       (before after : H) (old new : Writing W) (answer : Result ℕ WriteFault)
       → ServesRules step acts contents asks numbers loaded before after old new answer → Type 0
-  OfRules Is numbers loaded before after old new answer serves =
+  HoldsWithRules Is numbers loaded before after old new answer serves =
       InPermit _ _ serves.permit serves.goes_on
       (λ rules. OfDiagram Is numbers loaded rules before after serves.middle new answer)
 
   -- the statement holds for the turns that were served, if the line of the load could be written
-  abbrev pub OfLoaded : (Is : ServerData → List DoneTurn → Type 0) (numbers : Numbers)
+  abbrev pub HoldsIfLoaded : (Is : ServerData → List DoneTurn → Type 0) (numbers : Numbers)
       (loaded : LoadedFiles)
       (before after : H) (old new : Writing W) (answer : Result ℕ WriteFault)
       → ServesLoaded step acts contents asks numbers loaded before after old new answer → Type 0
-  OfLoaded Is numbers loaded before after old new answer serves =
+  HoldsIfLoaded Is numbers loaded before after old new answer serves =
       InLater _ _ serves.told serves.goes_on
-      (OfRules Is numbers loaded before after serves.middle new answer)
+      (HoldsWithRules Is numbers loaded before after serves.middle new answer)
 
   -- the statement holds for the turns that were served, if the files could be read and loaded: with
   -- the octets of the bay file and of the program
-  abbrev pub OfFiles : (Is : FilesData → ServerData → List DoneTurn → Type 0)
+  abbrev pub HoldsIfRead : (Is : FilesData → ServerData → List DoneTurn → Type 0)
       (numbers : Numbers) (before after : H) (old new : Writing W)
       (answer : Result ℕ WriteFault) (loaded : Result LoadedFiles ServeStartFault)
       → MatchResult loaded
       (λ all. ServesLoaded step acts contents asks numbers all before after old new answer)
       (λ why. EndsUnserved contents asks why old new answer × (after ≡ before))
       → Type 0
-  OfFiles Is numbers before after old new answer (Ok loaded) goes =
-      OfLoaded (Is (data_of loaded)) numbers loaded before after old new answer goes
-  OfFiles Is numbers before after old new answer (Err why) goes = Unit {0}
+  HoldsIfRead Is numbers before after old new answer (Ok loaded) goes =
+      HoldsIfLoaded (Is (data_of loaded)) numbers loaded before after old new answer goes
+  HoldsIfRead Is numbers before after old new answer (Err why) goes = Unit {0}
 
 -- ---- the turns of the files
 
@@ -190,5 +190,5 @@ module _ {F L H W : Type 0} (step : L → Call → L → Type 0) (acts : H → H
       (answer : Result ℕ WriteFault)
       (serves : ServesFiles step acts contents asks reads guards files named numbers before after
       old new answer)
-      → OfFiles step acts contents asks (ObeyAuditsOf named.form) numbers before after old new
+      → HoldsIfRead step acts contents asks (ObeyAuditsOf named.form) numbers before after old new
       answer serves.loaded serves.goes_on

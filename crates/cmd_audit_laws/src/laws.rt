@@ -16,7 +16,7 @@ ghost use Rattle.cmd_audit_laws.specs.Orders.{five_milliseconds, octets_arrived,
 ghost use Rattle.cmd_replay.specs.History.{EachPast};
 ghost use Rattle.cmd_audit_laws.specs.Replayed.{ReplayedCommandsObey};
 ghost use Rattle.cmd_audit_laws.specs.Served.{ServedCommandsObey};
-ghost use Rattle.cmd_audit_laws.specs.Told.{HoldsAreAudited};
+ghost use Rattle.cmd_audit_laws.specs.PrintedHolds.{HoldsAreAudited};
 ghost use Rattle.bay_server_turn.specs.Calls.{Called};
 ghost use Rattle.bay_server_turn.specs.Turns.{ServerData};
 ghost use Rattle.bay_server_turn.specs.declared.turn_report.Turn.{Turn};

@@ -11,10 +11,10 @@ use Rattle.il_compile.specs.declared.fault.CompileFault.TheVariants.{CodeTooLong
 use Rattle.il_compile.proofs.CompiledLemmas.{is-image}
 use Rattle.il_image.specs.Arithmetic.{computation_of, comparison_holds, wider_value}
 use Rattle.il_image.specs.Images.{Image}
-use Rattle.il_image.specs.Machine.{State as Machine, StepResult, Goes, Halts as Stops, Traps, MissingSlot, MissingTimer, WrongKind, ZeroDivisor, Halted, act, as_number, as_span, as_truth, divides, ending_of, continues_at, is_comparable, pushes, run_from, stores, step_of_read, value_of_width, with_slot, with_timer, with_top, with_truths, with_two}
-use Rattle.il_image.specs.Offsets.{begun_at, is_instruction_offset}
+use Rattle.il_image.specs.Machine.{State as Machine, StepResult, Continues, Halts as Stops, Traps, MissingSlot, MissingTimer, WrongKind, ZeroDivisor, Halted, act, as_number, as_span, as_truth, divides, ending_of, continues_at, is_comparable, pushes, run_from, stores, step_of_read, value_of_width, with_slot, with_timer, with_top, with_truths, with_two}
+use Rattle.il_image.specs.Offsets.{aligned_instr, is_instruction_offset}
 use Rattle.il_image.specs.Reading.{instr_at}
-use Rattle.il_image.specs.Tables.{Ends, LeadsTo, Path}
+use Rattle.il_image.specs.Tables.{HaltPath, LeadsTo, Path}
 use Rattle.il_image.specs.Values.{number_of, type_of}
 use Rattle.il_image.specs.declared.arithmetic.Width.{Width}
 use Rattle.il_image.specs.declared.instr.Instr.{Instr}
@@ -33,7 +33,7 @@ use Rattle.il_verify.proofs.LengthLemmas.{path-short}
 
 -- Where it goes on, the place is one of these; where it halts, this is so.
 abbrev Lands : (ℕ → Type 0) → Type 0 → StepResult → Type 0
-Lands P H (Goes s) = P s.place
+Lands P H (Continues s) = P s.offset
 Lands P H Stops = H
 Lands P H (Traps trap) = Unit {0}
 
@@ -169,44 +169,44 @@ begun-is true o r e = e
 begun-is false o r e = absurd cc
 
 module _ (code : List ℕ) (now most k : ℕ) (slots : List Value) (timers : List TimerState) (n : ℕ)
-    (more : (after : Machine) → Path code (suc (suc k)) after.place
-    → run_from code now most after (k + 1) ≡ Halted slots timers n → Ends code n) (s : Machine)
-    (path : Path code (suc k) s.place) where
-  by-turn : (i : Instr) (next : ℕ) (t : StepResult) → instr_at code s.place ≡ Some (i, next)
+    (more : (after : Machine) → Path code (suc (suc k)) after.offset
+    → run_from code now most after (k + 1) ≡ Halted slots timers n → HaltPath code n) (s : Machine)
+    (path : Path code (suc k) s.offset) where
+  by-turn : (i : Instr) (next : ℕ) (t : StepResult) → instr_at code s.offset ≡ Some (i, next)
       → Lands (λ to. LeadsTo i next to) (i ≡ Halt) t
       → ending_of t s (k + 1) (λ after. run_from code now most after (k + 1))
       ≡ Halted slots timers n
-      → Ends code n
-  by-turn i next (Goes after) here lands-so e =
-      more after (s.place, path, record { instr = i; next = next; here = here; leads = lands-so }) e
+      → HaltPath code n
+  by-turn i next (Continues after) here lands-so e =
+      more after (s.offset, path, record { instr = i; next = next; here = here; leads = lands-so }) e
   by-turn i next Stops here is e =
       let counted : suc k ≡ n = let same : k + 1 ≡ n = cc in omega arith in
-      subst (Ends code) counted
-      (s.place, path, (next, here ∙ ap (λ (j : Instr). Some (j, next)) is))
+      subst (HaltPath code) counted
+      (s.offset, path, (next, here ∙ ap (λ (j : Instr). Some (j, next)) is))
   by-turn i next (Traps trap) here lands-so e = absurd cc
 
-  by-read : (o : Option (Instr × ℕ)) → begun_at code s.place ≡ o
+  by-read : (o : Option (Instr × ℕ)) → aligned_instr code s.offset ≡ o
       → ending_of (step_of_read now o s) s (k + 1) (λ after. run_from code now most after (k + 1))
       ≡ Halted slots timers n
-      → Ends code n
+      → HaltPath code n
   by-read None here e = absurd cc
   by-read (Some r) here e =
       by-turn r.0 r.1 (act now r.0 r.1 s)
-      (begun-is (is_instruction_offset code s.place) (instr_at code s.place) r here)
+      (begun-is (is_instruction_offset code s.offset) (instr_at code s.offset) r here)
       (lands now r.0 r.1 s) e
 
 -- A run that halts is a path to a HALT.
 pub run-ends : (code : List ℕ) (now most k : ℕ) (s : Machine) (slots : List Value)
-    (timers : List TimerState) (n : ℕ) → Path code (suc k) s.place
-    → run_from code now most s k ≡ Halted slots timers n → Ends code n
+    (timers : List TimerState) (n : ℕ) → Path code (suc k) s.offset
+    → run_from code now most s k ≡ Halted slots timers n → HaltPath code n
 unfolding run_from
 run-ends code now zero k s slots timers n path e = absurd cc
 run-ends code now (suc most) k s slots timers n path e =
     by-read code now most k slots timers n
     (λ after longer halted. run-ends code now most (k + 1) after slots timers n
     (let same : suc (suc k) ≡ suc (k + 1) = omega arith in
-    subst (λ m. Path code m after.place) same longer) halted)
-    s path (begun_at code s.place) refl e
+    subst (λ m. Path code m after.offset) same longer) halted)
+    s path (aligned_instr code s.offset) refl e
 
 -- ---- how large a budget may be
 

@@ -14,9 +14,9 @@ use Rattle.il_text.specs.declared.program.DeclaredType.TheVariants as type
 use Rattle.il_text.specs.declared.program.VariableScope.{VariableScope}
 use Rattle.il_text.specs.declared.program.VariableScope.TheVariants as scope
 use Rattle.il_image.specs.declared.value.Value.{Value}
-use Rattle.il_check.specs.Declaring.{meanings_of, looked_up, declarations_faults, declaration_faults, externals_of, variables_of, external_in, external_at, variable_in, variable_at, initial_in, meaning_at, counts_of, point_of}
+use Rattle.il_check.specs.Declaring.{meanings_of, looked_up, declarations_faults, declaration_faults, externals_of, variables_of, declared_external, point_external, declared_variable, valued_variable, initial_value, meaning_at, counts_of, point_of}
 use Rattle.il_check.specs.Faults.{fault_if}
-use Rattle.il_check.specs.Sound.{AreApart, name_at}
+use Rattle.il_check.specs.Sound.{AreDistinct, name_at}
 use Rattle.il_check.specs.declared.source_operand.Meaning.{Meaning}
 use Rattle.il_check.specs.declared.fault.CheckFault.{CheckFault}
 use Rattle.il_check.specs.declared.typed.External.{External}
@@ -37,7 +37,7 @@ absent-at x (y ∷ ys) zero none within =
 absent-at x (y ∷ ys) (suc j) none within =
     absent-at x ys j (or_parts (same_name x y) (list_any (same_name x) ys) none).1 (omega arith)
 
-pub distinct-apart : (xs : List (List ℕ)) → Distinct xs → AreApart xs
+pub distinct-apart : (xs : List (List ℕ)) → Distinct xs → AreDistinct xs
 distinct-apart [] d i j below within = absurd (omega arith)
 distinct-apart (x ∷ xs) d zero zero below within = absurd (omega arith)
 distinct-apart (x ∷ xs) d zero (suc j) below within = absent-at x xs j d.0 (omega arith)
@@ -79,7 +79,7 @@ inserted x (y ∷ ys) zs e f d =
     (between y x ys zs (same-other x y both.0) d.0, inserted x ys zs both.1 f d.1)
 
 -- what a declaration is known to differ from
-abbrev Fresh : List ℕ → List text.Declared → Type 0
+abbrev Fresh : List ℕ → List text.DeclaredName → Type 0
 Fresh k [] = Unit {0}
 Fresh k (d ∷ ds) = (bytes_eq k (upper d.name) ≡ false) × Fresh k ds
 
@@ -87,7 +87,7 @@ no_fault : (test : Bool) (f : CheckFault) → fault_if test f ≡ [] → test �
 no_fault true f none = absurd (cc)
 no_fault false f none = refl
 
-not-declared : (points : List Point) (before : List text.Declared) (d : text.Declared)
+not-declared : (points : List Point) (before : List text.DeclaredName) (d : text.DeclaredName)
     → declaration_faults points before d ≡ []
     → is_some (looked_up (meanings_of points before) (upper d.name)) ≡ false
 not-declared points before d none = no_fault _ _ (append-none _ _ (append-none _ _ none).1).0
@@ -103,7 +103,7 @@ last-known None false m e = absurd (cc)
 last-known (Some n) same m e = refl
 
 -- what is known of a key in one declaration more
-known-more : (points : List Point) (before : List text.Declared) (d : text.Declared) (k : List ℕ)
+known-more : (points : List Point) (before : List text.DeclaredName) (d : text.DeclaredName) (k : List ℕ)
     → is_some (looked_up (meanings_of points before) k) ≡ true
     → is_some (looked_up (meanings_of points (before ++ d ∷ [])) k) ≡ true
 known-more points before d k known =
@@ -116,7 +116,7 @@ known-more points before d k known =
 self-same : (a : List ℕ) → bytes_eq a a ≡ true
 self-same a = (bytes_eq-Decides a a).1 refl
 
-known-last : (points : List Point) (before : List text.Declared) (d : text.Declared)
+known-last : (points : List Point) (before : List text.DeclaredName) (d : text.DeclaredName)
     → is_some (looked_up (meanings_of points (before ++ d ∷ [])) (upper d.name)) ≡ true
 known-last points before d =
     ap (λ (es : List (List ℕ × Meaning)). is_some (looked_up es (upper d.name)))
@@ -127,7 +127,7 @@ known-last points before d =
     ∙ last-known (looked_up (meanings_of points before) (upper d.name))
     (bytes_eq (upper d.name) (upper d.name)) _ (self-same (upper d.name))
 
-fresh : (points : List Point) (before ds : List text.Declared)
+fresh : (points : List Point) (before ds : List text.DeclaredName)
     → declarations_faults points before ds ≡ [] → (k : List ℕ)
     → is_some (looked_up (meanings_of points before) k) ≡ true → Fresh k ds
 fresh points before [] none k known = tt
@@ -155,17 +155,17 @@ upper-other a b e =
 external-at-other : (x name : List ℕ) (kind : ElementaryType) (p : Option Point)
     (es : List External) → same_name x (upper name) ≡ false
     → list_any (same_name x) (map (λ e. e.name) es) ≡ false
-    → list_any (same_name x) (map (λ e. e.name) (cons_option (external_at name kind p) es))
+    → list_any (same_name x) (map (λ e. e.name) (cons_option (point_external name kind p) es))
     ≡ false
 external-at-other x name kind None es e f = f
 external-at-other x name kind (Some p) es e f =
     or_from (same_name x (upper name)) (list_any (same_name x) (map (λ e. e.name) es)) e f
 
 -- a name is none of those that a declaration adds
-external-other : (x : List ℕ) (points : List Point) (d : text.Declared) (s : VariableScope)
+external-other : (x : List ℕ) (points : List Point) (d : text.DeclaredName) (s : VariableScope)
     (k : DeclaredType) (es : List External) → same_name x (upper d.name) ≡ false
     → list_any (same_name x) (map (λ e. e.name) es) ≡ false
-    → list_any (same_name x) (map (λ e. e.name) (cons_option (external_in points d s k) es))
+    → list_any (same_name x) (map (λ e. e.name) (cons_option (declared_external points d s k) es))
     ≡ false
 external-other x points d scope.External (type.Elementary kind) es e f =
     external-at-other x d.name kind (point_of points d.name) es e f
@@ -176,29 +176,29 @@ external-other x points d scope.Local (type.Timer kind) es e f = f
 variable-at-other : (x name : List ℕ) (v : Option Value) (vs : List Variable)
     → same_name x (upper name) ≡ false
     → list_any (same_name x) (map (λ v. v.name) vs) ≡ false
-    → list_any (same_name x) (map (λ v. v.name) (cons_option (variable_at name v) vs)) ≡ false
+    → list_any (same_name x) (map (λ v. v.name) (cons_option (valued_variable name v) vs)) ≡ false
 variable-at-other x name None vs e f = f
 variable-at-other x name (Some v) vs e f =
     or_from (same_name x (upper name)) (list_any (same_name x) (map (λ v. v.name) vs)) e f
 
-variable-other : (x : List ℕ) (d : text.Declared) (s : VariableScope) (k : DeclaredType)
+variable-other : (x : List ℕ) (d : text.DeclaredName) (s : VariableScope) (k : DeclaredType)
     (vs : List Variable) → same_name x (upper d.name) ≡ false
     → list_any (same_name x) (map (λ v. v.name) vs) ≡ false
-    → list_any (same_name x) (map (λ v. v.name) (cons_option (variable_in d s k) vs)) ≡ false
+    → list_any (same_name x) (map (λ v. v.name) (cons_option (declared_variable d s k) vs)) ≡ false
 variable-other x d scope.Local (type.Elementary kind) vs e f =
-    variable-at-other x d.name (initial_in kind d.initial) vs e f
+    variable-at-other x d.name (initial_value kind d.initial) vs e f
 variable-other x d scope.Local (type.Timer kind) vs e f = f
 variable-other x d scope.External (type.Elementary kind) vs e f = f
 variable-other x d scope.External (type.Timer kind) vs e f = f
 
-externals-other : (a : List ℕ) (points : List Point) (ds : List text.Declared) → Fresh (upper a) ds
+externals-other : (a : List ℕ) (points : List Point) (ds : List text.DeclaredName) → Fresh (upper a) ds
     → list_any (same_name (upper a)) (map (λ e. e.name) (externals_of points ds)) ≡ false
 externals-other a points [] f = refl
 externals-other a points (d ∷ ds) f =
     external-other (upper a) points d d.scope d.kind (externals_of points ds)
     (upper-other a d.name f.0) (externals-other a points ds f.1)
 
-variables-other : (a : List ℕ) (ds : List text.Declared) → Fresh (upper a) ds
+variables-other : (a : List ℕ) (ds : List text.DeclaredName) → Fresh (upper a) ds
     → list_any (same_name (upper a)) (map (λ v. v.name) (variables_of ds)) ≡ false
 variables-other a [] f = refl
 variables-other a (d ∷ ds) f =
@@ -210,7 +210,7 @@ external-step : (name : List ℕ) (kind : ElementaryType) (p : Option Point) (es
     → list_any (same_name (upper name)) (map (λ e. e.name) es) ≡ false
     → list_any (same_name (upper name)) ns ≡ false
     → Distinct (map (λ e. e.name) es ++ ns)
-    → Distinct (map (λ e. e.name) (cons_option (external_at name kind p) es) ++ ns)
+    → Distinct (map (λ e. e.name) (cons_option (point_external name kind p) es) ++ ns)
 external-step name kind None es ns e f d = d
 external-step name kind (Some p) es ns e f d =
     (absent-append (upper name) (map (λ e. e.name) es) ns e f, d)
@@ -219,25 +219,25 @@ variable-step : (name : List ℕ) (v : Option Value) (ns : List (List ℕ)) (vs 
     → list_any (same_name (upper name)) ns ≡ false
     → list_any (same_name (upper name)) (map (λ v. v.name) vs) ≡ false
     → Distinct (ns ++ map (λ v. v.name) vs)
-    → Distinct (ns ++ map (λ v. v.name) (cons_option (variable_at name v) vs))
+    → Distinct (ns ++ map (λ v. v.name) (cons_option (valued_variable name v) vs))
 variable-step name None ns vs e f d = d
 variable-step name (Some v) ns vs e f d = inserted (upper name) ns (map (λ v. v.name) vs) e f d
 
-one-step : (points : List Point) (d : text.Declared) (s : VariableScope) (k : DeclaredType)
+one-step : (points : List Point) (d : text.DeclaredName) (s : VariableScope) (k : DeclaredType)
     (es : List External) (vs : List Variable)
     → list_any (same_name (upper d.name)) (map (λ e. e.name) es) ≡ false
     → list_any (same_name (upper d.name)) (map (λ v. v.name) vs) ≡ false
     → Distinct (map (λ e. e.name) es ++ map (λ v. v.name) vs)
-    → Distinct (map (λ e. e.name) (cons_option (external_in points d s k) es)
-    ++ map (λ v. v.name) (cons_option (variable_in d s k) vs))
+    → Distinct (map (λ e. e.name) (cons_option (declared_external points d s k) es)
+    ++ map (λ v. v.name) (cons_option (declared_variable d s k) vs))
 one-step points d scope.External (type.Elementary kind) es vs e f x =
     external-step d.name kind (point_of points d.name) es (map (λ v. v.name) vs) e f x
 one-step points d scope.Local (type.Elementary kind) es vs e f x =
-    variable-step d.name (initial_in kind d.initial) (map (λ e. e.name) es) vs e f x
+    variable-step d.name (initial_value kind d.initial) (map (λ e. e.name) es) vs e f x
 one-step points d scope.External (type.Timer kind) es vs e f x = x
 one-step points d scope.Local (type.Timer kind) es vs e f x = x
 
-distinct-names : (points : List Point) (before ds : List text.Declared)
+distinct-names : (points : List Point) (before ds : List text.DeclaredName)
     → declarations_faults points before ds ≡ []
     → Distinct (map (λ e. e.name) (externals_of points ds) ++ map (λ v. v.name) (variables_of ds))
 distinct-names points before [] none = tt
@@ -252,9 +252,9 @@ distinct-names points before (d ∷ ds) none =
     (distinct-names points (before ++ d ∷ []) ds two.1)
 
 -- where no declaration has a fault, no two names are the same
-pub all-apart : (points : List Point) (ds : List text.Declared)
+pub all-apart : (points : List Point) (ds : List text.DeclaredName)
     → declarations_faults points [] ds ≡ []
-    → AreApart (map (λ e. e.name) (externals_of points ds) ++ map (λ v. v.name) (variables_of ds))
+    → AreDistinct (map (λ e. e.name) (externals_of points ds) ++ map (λ v. v.name) (variables_of ds))
 all-apart points ds none =
     distinct-apart (map (λ e. e.name) (externals_of points ds)
     ++ map (λ v. v.name) (variables_of ds)) (distinct-names points [] ds none)

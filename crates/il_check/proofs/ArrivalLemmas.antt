@@ -9,7 +9,7 @@ use Rattle.il_text.specs.Listing as text
 use Rattle.il_image.proofs.KindLemmas.{same-is, same-self}
 use Rattle.il_image.proofs.SetLemmas.{set-here, set-elsewhere}
 use Rattle.il_check.specs.SourceOperands.{ProgramNames, resolution_of}
-use Rattle.il_check.specs.Labelling.{Labelling, Becomes, Jumps, is_named, with_target}
+use Rattle.il_check.specs.Labelling.{Labelling, Becomes, JumpAgrees, is_named, with_target}
 use Rattle.il_check.specs.Rules.{jumps_back, target_of}
 use Rattle.il_check.specs.WellTyped.{same_result, join_types, join, no_reach, arrival, arrival_at}
 use Rattle.il_check.specs.declared.reach.Reach.{Reach}
@@ -213,7 +213,7 @@ brings (Some m) now named arrivals count reached range b =
 pub brings-under : (labels : Labelling) (target : Option ℕ) (now : Reach)
     (t : Option ElementaryType)
     (named : List ℕ) (arrivals : List Reach) (count : ℕ) → now.is_reached ≡ true
-    → Becomes now.kind t → Jumps labels target t
+    → Becomes now.kind t → JumpAgrees labels target t
     → ((n : ℕ) → target ≡ Some n → n < count) → Brought named arrivals count
     → ((n : ℕ) → is_named named n ≡ true → Becomes (arrival (slice_get arrivals n)).kind (labels n))
     → (n : ℕ) → is_named (with_target target named) n ≡ true

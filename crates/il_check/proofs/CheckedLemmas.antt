@@ -6,7 +6,7 @@ use Rattle.bay_base.specs.Exact.{unless_refused}
 use Rattle.bay_base.specs.Names.{upper}
 use Rattle.bay_base.specs.declared.point.Point.{Point}
 use Rattle.il_text.specs.Listing as text
-use Rattle.il_text.specs.Views.{plain_program, declared_of, entry_of}
+use Rattle.il_text.specs.Views.{plain_program, declared_name, entry_of}
 use Rattle.il_text.specs.declared.program.Declaration.{Declaration}
 use Rattle.il_text.specs.declared.program.Item as source
 use Rattle.il_text.specs.declared.program.Program as program
@@ -18,7 +18,7 @@ use Rattle.il_check.specs.LabelsView.{AreLabels}
 use Rattle.il_check.specs.NamesView.{names_of}
 use Rattle.il_check.specs.Program.{Checked, ProgramItem}
 use Rattle.il_check.specs.DeclarationsView.{AreDeclarations}
-use Rattle.il_check.specs.WellTyped.{Progress, start_progress, no_reach, items_faults, progress_after_items}
+use Rattle.il_check.specs.WellTyped.{Progress, start_progress, no_reach, items_faults, typed_items_of}
 use Rattle.il_check.specs.declared.declare.Declarations.{Declarations}
 use Rattle.il_check.specs.declared.labels.Labels.{Labels}
 use Rattle.il_check.specs.declared.source_operand.Meaning.{Meaning}
@@ -27,7 +27,7 @@ use Rattle.il_check.specs.declared.fault.CheckFault.{CheckFault}
 use Rattle.il_check.specs.declared.typed.External.{External}
 use Rattle.il_check.specs.declared.typed.Variable.{Variable}
 use Rattle.il_check.specs.declared.typed.Timer.{Timer}
-use Rattle.il_check.specs.Sound.{AreApart}
+use Rattle.il_check.specs.Sound.{AreDistinct}
 use Rattle.il_check.proofs.ApartLemmas.{all-apart}
 use Rattle.il_check.proofs.NotedLemmas.{noted-append, least_fault-none, append-none}
 
@@ -41,7 +41,7 @@ pub record IsRead (points : List Point) (program : text.PlainProgram) (d : Decla
   pub meanings : names.meanings ≡ d.meanings
   pub numbers : names.labels ≡ l.numbers
   pub items_read : answer ≡ None
-      → items ≡ progress_after_items (names_of names) program.items
+      → items ≡ typed_items_of (names_of names) program.items
       (start_progress l.arrivals.items)
   pub found : answer ≡ first_fault_of d.found
       (items_faults (names_of names) program.items (start_progress l.arrivals.items))
@@ -99,14 +99,14 @@ module _ (points : List Point) (program : text.PlainProgram) (d : Declarations) 
       (sym found-is ∙ is)
 
   items-same : answer ≡ None
-      → items ≡ progress_after_items (names_in points program) program.items
+      → items ≡ typed_items_of (names_in points program) program.items
       (start_progress (map (λ x. no_reach) (labels_from 0 program.items)))
   items-same none =
       read.items_read none
-      ∙ ap (λ (n : ProgramNames). progress_after_items n program.items
+      ∙ ap (λ (n : ProgramNames). typed_items_of n program.items
       (start_progress l.arrivals.items))
       names-same
-      ∙ ap (λ (s : Progress). progress_after_items (names_in points program) program.items s)
+      ∙ ap (λ (s : Progress). typed_items_of (names_in points program) program.items s)
       started
 
   -- no declaration has a fault where none is found
@@ -124,7 +124,7 @@ module _ (points : List Point) (program : text.PlainProgram) (d : Declarations) 
       })
   passed none =
       let left : List ProgramItem =
-      progress_after_items (names_in points program) program.items
+      typed_items_of (names_in points program) program.items
       (start_progress (map (λ x. no_reach) (labels_from 0 program.items))) in
       let with_all : List External → List Variable → List Timer → List ProgramItem → Checked =
       λ es vs ts is. record { externals = es; variables = vs; timers = ts; items = is } in
@@ -143,11 +143,11 @@ module _ (points : List Point) (program : text.PlainProgram) (d : Declarations) 
 
   -- without a fault, the names of the slots differ
   pub apart-names : answer ≡ None
-      → AreApart (map (λ e. e.name) d.externals.items ++ map (λ v. v.name) d.variables.items)
+      → AreDistinct (map (λ e. e.name) d.externals.items ++ map (λ v. v.name) d.variables.items)
   apart-names none =
-      subst (λ (vs : List Variable). AreApart
+      subst (λ (vs : List Variable). AreDistinct
       (map (λ e. e.name) d.externals.items ++ map (λ v. v.name) vs)) (sym read.stands.variables)
-      (subst (λ (es : List External). AreApart
+      (subst (λ (es : List External). AreDistinct
       (map (λ e. e.name) es ++ map (λ v. v.name) (variables_of program.declarations)))
       (sym read.stands.externals)
       (all-apart points program.declarations (declared-right none)))
@@ -156,10 +156,10 @@ pub is_read : (points : List Point) (p : program.Program) (declarations : List D
     (first_items items : List source.Item) (d : Declarations) (l : Labels) (left : List ProgramItem)
     (answer : Option CheckFault)
     → declarations ≡ p.declarations.items → first_items ≡ p.items.items → items ≡ p.items.items
-    → AreDeclarations points (map declared_of declarations) d
-    → d.found ≡ least_fault (declarations_faults points [] (map declared_of declarations))
+    → AreDeclarations points (map declared_name declarations) d
+    → d.found ≡ least_fault (declarations_faults points [] (map declared_name declarations))
     → AreLabels (labels_from 0 (map entry_of first_items)) l
-    → (answer ≡ None → left ≡ progress_after_items
+    → (answer ≡ None → left ≡ typed_items_of
     (names_of (record { meanings = d.meanings; labels = l.numbers })) (map entry_of items)
     (start_progress l.arrivals.items))
     → answer ≡ first_fault_of d.found
@@ -170,11 +170,11 @@ pub is_read : (points : List Point) (p : program.Program) (declarations : List D
 is_read points p declarations first_items items d l left answer these those them stands declared
     labels read found = record {
       stands =
-          subst (λ (ds : List Declaration). AreDeclarations points (map declared_of ds) d) these
+          subst (λ (ds : List Declaration). AreDeclarations points (map declared_name ds) d) these
           stands;
       declared =
           declared ∙ ap (λ (ds : List Declaration). least_fault
-          (declarations_faults points [] (map declared_of ds))) these;
+          (declarations_faults points [] (map declared_name ds))) these;
       labels =
           subst (λ (is : List source.Item). AreLabels (labels_from 0 (map entry_of is)) l) those
           labels;
@@ -182,7 +182,7 @@ is_read points p declarations first_items items d l left answer these those them
       numbers = refl;
       items_read =
           λ (none : answer ≡ None). read none
-          ∙ ap (λ (is : List source.Item). progress_after_items
+          ∙ ap (λ (is : List source.Item). typed_items_of
           (names_of (record { meanings = d.meanings; labels = l.numbers })) (map entry_of is)
           (start_progress l.arrivals.items)) them;
       found = found ∙ ap (λ (is : List source.Item). first_fault_of d.found

@@ -20,7 +20,7 @@ use Rattle.il_image.specs.declared.value.Value.{Value}
 use Rattle.il_image.specs.declared.value.Value.TheVariants as value
 use Rattle.il_image.proofs.KindLemmas.{same-is}
 use Rattle.il_image.proofs.ValueLemmas.{value_is}
-use Rattle.il_check.specs.Declaring.{labels_from, point_of, of_type, literal_value, initial_in, is_typed, is_external, external_at, external_in, variable_at, variable_in, timer_in, externals_of, variables_of, timers_of, declarations_faults}
+use Rattle.il_check.specs.Declaring.{labels_from, point_of, of_type, literal_value, initial_value, is_typed, is_external, point_external, declared_external, valued_variable, declared_variable, declared_timer, externals_of, variables_of, timers_of, declarations_faults}
 use Rattle.il_check.specs.SourceOperands.{typed_value}
 use Rattle.il_check.specs.Keeping.{label_names, IsValueOf, BeginsWith, AreDeclared, IsDeclaredAs}
 use Rattle.il_check.specs.declared.typed.External.{External}
@@ -61,7 +61,7 @@ default-zero elementary.Dint = refl
 default-zero elementary.Lint = refl
 default-zero elementary.Time = refl
 
-begins : (kind : ElementaryType) (o : Option Literal) (v : Value) → initial_in kind o ≡ Some v
+begins : (kind : ElementaryType) (o : Option Literal) (v : Value) → initial_value kind o ≡ Some v
     → BeginsWith o v
 begins kind None v e =
     subst (λ (x : Value). number_of x ≡ pos 0) (same_Some (default_value kind) v e)
@@ -70,14 +70,14 @@ begins kind (Some l) v e = literal-begins kind l v e
 
 -- ---- declarations
 
-module _ (points : List Point) (d : text.Declared)
+module _ (points : List Point) (d : text.DeclaredName)
     (later : List External → List Variable → List Timer → Type 0) where
   external-kept : (kind : ElementaryType) (o : Option Point) (es : List External)
       (vs : List Variable) (ts : List Timer) → point_of points d.name ≡ o
       → is_none o ≡ false → is_typed scope.External (type.Elementary kind) o d.initial ≡ true
       → later es vs ts
       → IsDeclaredAs points d scope.External (type.Elementary kind)
-      (cons_option (external_at d.name kind o) es) vs ts later
+      (cons_option (point_external d.name kind o) es) vs ts later
   external-kept kind None es vs ts is there right more = absurd (cc)
   external-kept kind (Some p) es vs ts is there right more = (
     record {
@@ -93,10 +93,10 @@ module _ (points : List Point) (d : text.Declared)
   )
 
   initial-kept : (kind : ElementaryType) (o : Option Value) (es : List External)
-      (vs : List Variable) (ts : List Timer) → initial_in kind d.initial ≡ o → is_some o ≡ true
+      (vs : List Variable) (ts : List Timer) → initial_value kind d.initial ≡ o → is_some o ≡ true
       → later es vs ts
       → IsDeclaredAs points d scope.Local (type.Elementary kind) es
-      (cons_option (variable_at d.name o) vs) ts later
+      (cons_option (valued_variable d.name o) vs) ts later
   initial-kept kind None es vs ts is right more = absurd (cc)
   initial-kept kind (Some v) es vs ts is right more = (
     record {
@@ -111,16 +111,16 @@ module _ (points : List Point) (d : text.Declared)
       (vs : List Variable)
       (ts : List Timer) → is_external stands && is_none (point_of points d.name) ≡ false
       → is_typed stands kind (point_of points d.name) d.initial ≡ true → later es vs ts
-      → IsDeclaredAs points d stands kind (cons_option (external_in points d stands kind) es)
-      (cons_option (variable_in d stands kind) vs) (cons_option (timer_in d kind) ts) later
+      → IsDeclaredAs points d stands kind (cons_option (declared_external points d stands kind) es)
+      (cons_option (declared_variable d stands kind) vs) (cons_option (declared_timer d kind) ts) later
   one-declared scope.Local (type.Elementary kind) es vs ts there right more =
-      initial-kept kind (initial_in kind d.initial) es vs ts refl right more
+      initial-kept kind (initial_value kind d.initial) es vs ts refl right more
   one-declared scope.External (type.Elementary kind) es vs ts there right more =
       external-kept kind (point_of points d.name) es vs ts refl there right more
   one-declared scope.Local (type.Timer kind) es vs ts there right more = (refl, more)
   one-declared scope.External (type.Timer kind) es vs ts there right more = (refl, more)
 
-pub declared-kept : (points : List Point) (before ds : List text.Declared)
+pub declared-kept : (points : List Point) (before ds : List text.DeclaredName)
     → declarations_faults points before ds ≡ []
     → AreDeclared points ds (externals_of points ds) (variables_of ds) (timers_of ds)
 declared-kept points before [] none = (refl, refl, refl)

@@ -8,12 +8,12 @@ use Rattle.std.specs.BTreeMap.{get_by_text}
 use Rattle.bay_base.specs.Names.{upper}
 use Rattle.bay_base.specs.declared.point.Point.{Point}
 use Rattle.il_text.specs.Listing as text
-use Rattle.il_text.specs.Views.{declared_of}
+use Rattle.il_text.specs.Views.{declared_name}
 use Rattle.il_text.specs.declared.program.Declaration.{Declaration}
 use Rattle.il_check.specs.Faults.{first_fault_of, least_fault}
 use Rattle.il_check.specs.NamesView.{with_value}
-use Rattle.il_check.specs.Declaring.{Counts, externals_of, variables_of, external_in, variable_in, timer_in, counts_of, meaning_at, point_of, meanings_from, meanings_of, looked_up, name_faults, is_full, declaration_faults, declarations_faults}
-use Rattle.il_check.specs.DeclarationsView.{counts_in, Takes, AreDeclarations}
+use Rattle.il_check.specs.Declaring.{Counts, externals_of, variables_of, declared_external, declared_variable, declared_timer, counts_of, meaning_at, point_of, meanings_from, meanings_of, looked_up, name_faults, is_full, declaration_faults, declarations_faults}
+use Rattle.il_check.specs.DeclarationsView.{counts_in, IsAfterDeclaration, AreDeclarations}
 use Rattle.il_check.specs.declared.declare.Declarations.{Declarations}
 use Rattle.il_check.specs.declared.source_operand.Meaning.{Meaning}
 use Rattle.il_check.specs.declared.fault.CheckFault.{CheckFault}
@@ -37,7 +37,7 @@ filter_map-more {X} {Y} f (y ∷ ys) x =
     ∙ option-ahead (f y) (filter_map f ys) (option_to_list (f x))
 
 -- the meaning of one name more
-pub meanings-more : (points : List Point) (before ds : List text.Declared) (d : text.Declared)
+pub meanings-more : (points : List Point) (before ds : List text.DeclaredName) (d : text.DeclaredName)
     → meanings_from points before (ds ++ d ∷ [])
     ≡ meanings_from points before ds
     ++ (
@@ -46,7 +46,7 @@ pub meanings-more : (points : List Point) (before ds : List text.Declared) (d : 
           (point_of points d.name),
     ) ∷ []
 meanings-more points before [] d =
-    let one : List text.Declared
+    let one : List text.DeclaredName
     → List (List ℕ × Meaning) =
     λ ds. (
       upper d.name,
@@ -58,7 +58,7 @@ meanings-more points before (x ∷ xs) d =
     let entry : List ℕ × Meaning =
     (upper x.name, meaning_at (counts_of points before) x.scope x.kind (point_of points x.name))
     in
-    let one : List text.Declared
+    let one : List text.DeclaredName
     → List (List ℕ × Meaning) =
     λ ds. (
       upper d.name,
@@ -67,10 +67,10 @@ meanings-more points before (x ∷ xs) d =
     ) ∷ [] in
     ap (λ (es : List (List ℕ × Meaning)). entry ∷ es)
     (meanings-more points (before ++ x ∷ []) xs d
-    ∙ ap (λ (ds : List text.Declared). meanings_from points (before ++ x ∷ []) xs ++ one ds)
+    ∙ ap (λ (ds : List text.DeclaredName). meanings_from points (before ++ x ∷ []) xs ++ one ds)
     (append_assoc before (x ∷ []) xs))
 
-counts-same : (points : List Point) (before : List text.Declared) (d : Declarations)
+counts-same : (points : List Point) (before : List text.DeclaredName) (d : Declarations)
     → AreDeclarations points before d → counts_in d ≡ counts_of points before
 counts-same points before d known =
     let with_all : ℕ → ℕ → ℕ → Counts =
@@ -88,18 +88,18 @@ grown : {X Y : Type 0} → (f : X → Option Y) (before : List X) (x : X) (old n
 grown {X} {Y} f before x old new was e =
     e ∙ ap (λ (ys : List Y). ys ++ option_to_list (f x)) was ∙ sym (filter_map-more f before x)
 
-pub stands-more : (points : List Point) (before : List text.Declared) (x : text.Declared)
+pub stands-more : (points : List Point) (before : List text.DeclaredName) (x : text.DeclaredName)
     (old new : Declarations)
-    → AreDeclarations points before old → Takes points x old new
+    → AreDeclarations points before old → IsAfterDeclaration points x old new
     → AreDeclarations points (before ++ x ∷ []) new
 stands-more points before x old new known taken = record {
   externals =
-      grown (λ (d : text.Declared). external_in points d d.scope d.kind) before x _ _
+      grown (λ (d : text.DeclaredName). declared_external points d d.scope d.kind) before x _ _
       known.externals taken.externals;
   variables =
-      grown (λ (d : text.Declared). variable_in d d.scope d.kind) before x _ _ known.variables
+      grown (λ (d : text.DeclaredName). declared_variable d d.scope d.kind) before x _ _ known.variables
       taken.variables;
-  timers = grown (λ (d : text.Declared). timer_in d d.kind) before x _ _ known.timers taken.timers;
+  timers = grown (λ (d : text.DeclaredName). declared_timer d d.kind) before x _ _ known.timers taken.timers;
   meanings = λ name.
       let meant : Counts → Meaning = λ c. meaning_at c x.scope x.kind (point_of points x.name) in
       taken.meanings name
@@ -114,9 +114,9 @@ stands-more points before x old new known taken = record {
 }
 
 -- the faults so far and those to come are all that there are
-found-more : (points : List Point) (before after : List text.Declared) (x : text.Declared)
+found-more : (points : List Point) (before after : List text.DeclaredName) (x : text.DeclaredName)
     (old new : Declarations) (all : Option CheckFault)
-    → AreDeclarations points before old → Takes points x old new
+    → AreDeclarations points before old → IsAfterDeclaration points x old new
     → first_fault_of old.found (declarations_faults points before (x ∷ after)) ≡ all
     → first_fault_of new.found (declarations_faults points (before ++ x ∷ []) after) ≡ all
 found-more points before after x old new all known taken total =
@@ -145,36 +145,36 @@ take-all xs i h = grind (arith, common_steps)
 -- what is known after so many declarations
 pub record SoFar (points : List Point) (all : List Declaration) (i : ℕ) (d : Declarations)
     : Type 0 where
-  pub stands : AreDeclarations points (map declared_of (take i all)) d
+  pub stands : AreDeclarations points (map declared_name (take i all)) d
   pub found : first_fault_of d.found
-      (declarations_faults points (map declared_of (take i all)) (map declared_of (drop i all)))
-      ≡ least_fault (declarations_faults points [] (map declared_of all))
+      (declarations_faults points (map declared_name (take i all)) (map declared_name (drop i all)))
+      ≡ least_fault (declarations_faults points [] (map declared_name all))
 
 pub so_far-more : (points : List Point) (all : List Declaration) (i : ℕ) (other : Declaration)
     (old new : Declarations)
     → i < length all → SoFar points all i old
-    → Takes points (declared_of (get_or all i other)) old new → SoFar points all (i + 1) new
+    → IsAfterDeclaration points (declared_name (get_or all i other)) old new → SoFar points all (i + 1) new
 so_far-more points all i other old new within so_far taken =
     let x : Declaration = get_or all i other in
-    let before : List text.Declared = map declared_of (take i all) in
-    let after : List text.Declared = map declared_of (drop (i + 1) all) in
-    let longer : before ++ declared_of x ∷ [] ≡ map declared_of (take (i + 1) all) =
-    sym (map_more declared_of all i other within) in
+    let before : List text.DeclaredName = map declared_name (take i all) in
+    let after : List text.DeclaredName = map declared_name (drop (i + 1) all) in
+    let longer : before ++ declared_name x ∷ [] ≡ map declared_name (take (i + 1) all) =
+    sym (map_more declared_name all i other within) in
     let front : drop i all ≡ x ∷ drop (i + 1) all = rw (add-one, drop-cons all i other) refl in
-    let left : map declared_of (drop i all) ≡ declared_of x ∷ after = ap (map declared_of) front in
-    let total : first_fault_of old.found (declarations_faults points before (declared_of x ∷ after))
-    ≡ least_fault (declarations_faults points [] (map declared_of all)) =
-    ap (λ (ds : List text.Declared). first_fault_of old.found
+    let left : map declared_name (drop i all) ≡ declared_name x ∷ after = ap (map declared_name) front in
+    let total : first_fault_of old.found (declarations_faults points before (declared_name x ∷ after))
+    ≡ least_fault (declarations_faults points [] (map declared_name all)) =
+    ap (λ (ds : List text.DeclaredName). first_fault_of old.found
     (declarations_faults points before ds))
     (sym left) ∙ so_far.found in
     record {
       stands =
-          subst (λ (ds : List text.Declared). AreDeclarations points ds new) longer
-          (stands-more points before (declared_of x) old new so_far.stands taken);
-      found = subst (λ (ds : List text.Declared). first_fault_of new.found
+          subst (λ (ds : List text.DeclaredName). AreDeclarations points ds new) longer
+          (stands-more points before (declared_name x) old new so_far.stands taken);
+      found = subst (λ (ds : List text.DeclaredName). first_fault_of new.found
           (declarations_faults points ds after)
-          ≡ least_fault (declarations_faults points [] (map declared_of all))) longer
-          (found-more points before after (declared_of x) old new _ so_far.stands taken total);
+          ≡ least_fault (declarations_faults points [] (map declared_name all))) longer
+          (found-more points before after (declared_name x) old new _ so_far.stands taken total);
     }
 
 pub so_far-none : (points : List Point) (all : List Declaration) (d : Declarations)
@@ -182,22 +182,22 @@ pub so_far-none : (points : List Point) (all : List Declaration) (d : Declaratio
 so_far-none points all d known none = record {
   stands = known;
   found = ap (λ (o : Option CheckFault). first_fault_of o
-      (declarations_faults points [] (map declared_of all))) none;
+      (declarations_faults points [] (map declared_name all))) none;
 }
 
 -- after all declarations
 pub so_far-stands : (points : List Point) (all : List Declaration) (i : ℕ) (d : Declarations)
-    → length all ≤ i → SoFar points all i d → AreDeclarations points (map declared_of all) d
+    → length all ≤ i → SoFar points all i d → AreDeclarations points (map declared_name all) d
 so_far-stands points all i d within so_far =
-    subst (λ (ds : List Declaration). AreDeclarations points (map declared_of ds) d)
+    subst (λ (ds : List Declaration). AreDeclarations points (map declared_name ds) d)
     (take-all all i within) so_far.stands
 
 pub so_far-found : (points : List Point) (all : List Declaration) (i : ℕ) (d : Declarations)
     → length all ≤ i → SoFar points all i d
-    → d.found ≡ least_fault (declarations_faults points [] (map declared_of all))
+    → d.found ≡ least_fault (declarations_faults points [] (map declared_name all))
 so_far-found points all i d within so_far =
     let left : drop i all ≡ [] = none-left all i within in
     sym (noted-nil d.found)
     ∙ ap (λ (ds : List Declaration). first_fault_of d.found
-    (declarations_faults points (map declared_of (take i all)) (map declared_of ds))) (sym left)
+    (declarations_faults points (map declared_name (take i all)) (map declared_name ds))) (sym left)
     ∙ so_far.found

@@ -28,10 +28,10 @@ use Rattle.il_image.specs.declared.value.Value.TheVariants as value
 use Rattle.il_image.proofs.KindLemmas.{same-is}
 use Rattle.il_image.proofs.ValueLemmas.{default-typed, value_is}
 use Rattle.il_image.specs.Machine.{most_slots, most_timers}
-use Rattle.il_check.specs.Declaring.{may_be_in_name, is_name, point_of, of_type, literal_value, initial_in, is_typed, is_external, is_writable, external_at, external_in, variable_at, variable_in, timer_in, externals_of, variables_of, timers_of, counts_of, meaning_at, meanings_of, looked_up, is_full, declaration_faults, declarations_faults}
+use Rattle.il_check.specs.Declaring.{may_be_in_name, is_name, point_of, of_type, literal_value, initial_value, is_typed, is_external, is_writable, point_external, declared_external, valued_variable, declared_variable, declared_timer, externals_of, variables_of, timers_of, counts_of, meaning_at, meanings_of, looked_up, is_full, declaration_faults, declarations_faults}
 use Rattle.il_check.specs.SourceOperands.{typed_value}
-use Rattle.il_check.specs.Rules.{number_in}
-use Rattle.il_check.specs.TypedProgram.{HasName, BeginsRight}
+use Rattle.il_check.specs.Rules.{typed_number}
+use Rattle.il_check.specs.TypedProgram.{HasName, HasValidInitial}
 use Rattle.il_check.specs.declared.source_operand.Meaning.{Meaning}
 use Rattle.il_check.specs.declared.source_operand.Meaning.TheVariants as meaning
 use Rattle.il_check.specs.declared.typed.External.{External}
@@ -65,7 +65,7 @@ typed-is (literal.Dint z) v e = (is_value elementary.Dint z v e).0
 typed-is (literal.Lint z) v e = (is_value elementary.Lint z v e).0
 typed-is (literal.Time n) v e = (is_value elementary.Time (pos n) v e).0
 
-pub number-is : (kind : ElementaryType) (z : ℤ) (v : Value) → number_in kind z ≡ Some v
+pub number-is : (kind : ElementaryType) (z : ℤ) (v : Value) → typed_number kind z ≡ Some v
     → value_of kind z ≡ Some v
 number-is elementary.Bool z v e = e
 number-is elementary.Int z v e = e
@@ -94,7 +94,7 @@ literal-value-is kind (literal.Lint z) v e = of_literal kind (literal.Lint z) v 
 literal-value-is kind (literal.Time n) v e = of_literal kind (literal.Time n) v e
 
 pub initial-is : (kind : ElementaryType) (o : Option Literal) (v : Value)
-    → initial_in kind o ≡ Some v → IsValue v × (type_of v ≡ kind)
+    → initial_value kind o ≡ Some v → IsValue v × (type_of v ≡ kind)
 initial-is kind None v e =
     subst (λ (x : Value). IsValue x × (type_of x ≡ kind)) (same_Some (default_value kind) v e)
     (let h = default-typed kind in (h.1, h.0))
@@ -170,14 +170,14 @@ record IsAdded (es es2 : List External) (vs vs2 : List Variable) (ts ts2 : List 
   slots : length (es ++ es2) + length (vs ++ vs2) ≤ most_slots
   timers : length (ts ++ ts2) ≤ most_timers
   names : Each HasName es2
-  initial : Each BeginsRight vs2
+  initial : Each HasValidInitial vs2
   meant : IsMeant (es ++ es2) (vs ++ vs2) (ts ++ ts2) m
 
 external_added : (name : List ℕ) (kind : ElementaryType) (o : Option Point) (es : List External)
     (vs : List Variable) (ts : List Timer) → is_none o ≡ false
     → ((p : Point) → o ≡ Some p → IsName (upper name)) → length es + length vs < most_slots
     → length ts ≤ most_timers
-    → IsAdded es (option_to_list (external_at name kind o)) vs [] ts []
+    → IsAdded es (option_to_list (point_external name kind o)) vs [] ts []
     (meaning.Variable (slot.External (length es)) kind (is_writable o))
 external_added name kind None es vs ts there named few timers = absurd (cc)
 external_added name kind (Some p) es vs ts there named few timers =
@@ -196,7 +196,7 @@ variable_added : (name : List ℕ) (kind : ElementaryType) (o : Option Value) (e
     → ((v : Value) → o ≡ Some v → IsValue v × (type_of v ≡ kind))
     → length es + length vs < most_slots
     → length ts ≤ most_timers
-    → IsAdded es [] vs (option_to_list (variable_at name o)) ts []
+    → IsAdded es [] vs (option_to_list (valued_variable name o)) ts []
     (meaning.Variable (slot.Variable (length vs)) kind true)
 variable_added name kind None es vs ts there right few timers = absurd (cc)
 variable_added name kind (Some w) es vs ts there right few timers =
@@ -227,15 +227,15 @@ few-slots n h = grind (arith, nat_tests)
 few-timers : (n : ℕ) → nat_le most_timers n ≡ false → n < most_timers
 few-timers n h = grind (arith, nat_tests)
 
-added : (points : List Point) (d : text.Declared) (s : VariableScope) (k : DeclaredType)
+added : (points : List Point) (d : text.DeclaredName) (s : VariableScope) (k : DeclaredType)
     (es : List External) (vs : List Variable) (ts : List Timer)
     → is_external s && is_none (point_of points d.name) ≡ false
     → is_typed s k (point_of points d.name) d.initial ≡ true
     → is_full (record { externals = length es; variables = length vs; timers = length ts }) k
     ≡ false
     → length es + length vs ≤ most_slots → length ts ≤ most_timers
-    → IsAdded es (option_to_list (external_in points d s k)) vs (option_to_list (variable_in d s k))
-    ts (option_to_list (timer_in d k))
+    → IsAdded es (option_to_list (declared_external points d s k)) vs (option_to_list (declared_variable d s k))
+    ts (option_to_list (declared_timer d k))
     (meaning_at (record { externals = length es; variables = length vs; timers = length ts }) s k
     (point_of points d.name))
 added points d scope.External (type.Elementary kind) es vs ts there right room slots timers =
@@ -244,7 +244,7 @@ added points d scope.External (type.Elementary kind) es vs ts there right room s
 added points d scope.External (type.Timer kind) es vs ts there right room slots timers =
     timer_added (record { name = upper d.name; kind = kind }) es vs ts slots (few-timers _ room)
 added points d scope.Local (type.Elementary kind) es vs ts there right room slots timers =
-    variable_added d.name kind (initial_in kind d.initial) es vs ts right
+    variable_added d.name kind (initial_value kind d.initial) es vs ts right
     (λ v e. initial-is kind d.initial v e) (few-slots _ room) timers
 added points d scope.Local (type.Timer kind) es vs ts there right room slots timers =
     timer_added (record { name = upper d.name; kind = kind }) es vs ts slots (few-timers _ room)
@@ -257,7 +257,7 @@ pub record AreDeclared (es : List External) (vs : List Variable) (ts : List Time
   pub slots : length es + length vs ≤ most_slots
   pub timers : length ts ≤ most_timers
   pub names : Each HasName es
-  pub initial : Each BeginsRight vs
+  pub initial : Each HasValidInitial vs
   pub meant : (key : List ℕ) (m : Meaning) → looked_up ms key ≡ Some m → IsMeant es vs ts m
 
 either-found : {A : Type 0} (o : Option A) (b : Bool) (x y : A)
@@ -274,7 +274,7 @@ declared-added es es2 vs vs2 ts ts2 ms name m known more = record {
   slots = more.slots;
   timers = more.timers;
   names = each-more HasName es es2 known.names more.names;
-  initial = each-more BeginsRight vs vs2 known.initial more.initial;
+  initial = each-more HasValidInitial vs vs2 known.initial more.initial;
   meant = λ key n e. elim (either-found (looked_up ms key) (bytes_eq name key) m n
       (sym (looked_up-more ms name m key) ∙ e)) [
         | inl is ↦ meant-more es es2 vs vs2 ts ts2 n (known.meant key n is)
@@ -282,11 +282,11 @@ declared-added es es2 vs vs2 ts ts2 ms name m known more = record {
       ];
 }
 
-abbrev Declares : List Point → List text.Declared → Type 0
+abbrev Declares : List Point → List text.DeclaredName → Type 0
 Declares points ds =
     AreDeclared (externals_of points ds) (variables_of ds) (timers_of ds) (meanings_of points ds)
 
-declares-more : (points : List Point) (before : List text.Declared) (d : text.Declared)
+declares-more : (points : List Point) (before : List text.DeclaredName) (d : text.DeclaredName)
     → Declares points before → declaration_faults points before d ≡ []
     → Declares points (before ++ d ∷ [])
 declares-more points before d known none =
@@ -302,28 +302,28 @@ declares-more points before d known none =
     added points d d.scope d.kind es vs ts (if-none _ _ missing.0)
     (not-false _ (if-none _ _ wrong.0)) (if-none _ _ wrong.1) known.slots known.timers in
     let is =
-    declared-added es (option_to_list (external_in points d d.scope d.kind)) vs
-    (option_to_list (variable_in d d.scope d.kind)) ts (option_to_list (timer_in d d.kind))
+    declared-added es (option_to_list (declared_external points d d.scope d.kind)) vs
+    (option_to_list (declared_variable d d.scope d.kind)) ts (option_to_list (declared_timer d d.kind))
     (meanings_of points before) (upper d.name) m known more in
     subst (λ (xs : List External). AreDeclared xs (variables_of (before ++ d ∷ []))
     (timers_of (before ++ d ∷ [])) (meanings_of points (before ++ d ∷ [])))
-    (sym (filter_map-more (λ (x : text.Declared). external_in points x x.scope x.kind) before d))
+    (sym (filter_map-more (λ (x : text.DeclaredName). declared_external points x x.scope x.kind) before d))
     (subst (λ (xs : List Variable). AreDeclared
-    (es ++ option_to_list (external_in points d d.scope d.kind)) xs
+    (es ++ option_to_list (declared_external points d d.scope d.kind)) xs
     (timers_of (before ++ d ∷ [])) (meanings_of points (before ++ d ∷ [])))
-    (sym (filter_map-more (λ (x : text.Declared). variable_in x x.scope x.kind) before d))
+    (sym (filter_map-more (λ (x : text.DeclaredName). declared_variable x x.scope x.kind) before d))
     (subst (λ (xs : List Timer). AreDeclared
-    (es ++ option_to_list (external_in points d d.scope d.kind))
-    (vs ++ option_to_list (variable_in d d.scope d.kind)) xs
+    (es ++ option_to_list (declared_external points d d.scope d.kind))
+    (vs ++ option_to_list (declared_variable d d.scope d.kind)) xs
     (meanings_of points (before ++ d ∷ [])))
-    (sym (filter_map-more (λ (x : text.Declared). timer_in x x.kind) before d))
+    (sym (filter_map-more (λ (x : text.DeclaredName). declared_timer x x.kind) before d))
     (subst (λ (xs : List (List ℕ × Meaning)). AreDeclared
-    (es ++ option_to_list (external_in points d d.scope d.kind))
-    (vs ++ option_to_list (variable_in d d.scope d.kind))
-    (ts ++ option_to_list (timer_in d d.kind)) xs)
+    (es ++ option_to_list (declared_external points d d.scope d.kind))
+    (vs ++ option_to_list (declared_variable d d.scope d.kind))
+    (ts ++ option_to_list (declared_timer d d.kind)) xs)
     (sym (meanings-more points [] before d)) is)))
 
-declares-all : (points : List Point) (before ds : List text.Declared) → Declares points before
+declares-all : (points : List Point) (before ds : List text.DeclaredName) → Declares points before
     → declarations_faults points before ds ≡ [] → Declares points (before ++ ds)
 declares-all points before [] known none = subst (Declares points) (sym (append-nil before)) known
 declares-all points before (d ∷ ds) known none =
@@ -333,7 +333,7 @@ declares-all points before (d ∷ ds) known none =
     two.1)
 
 -- where no declaration has a fault, all is declared as it should be
-pub declares : (points : List Point) (ds : List text.Declared)
+pub declares : (points : List Point) (ds : List text.DeclaredName)
     → declarations_faults points [] ds ≡ []
     → AreDeclared (externals_of points ds) (variables_of ds) (timers_of ds) (meanings_of points ds)
 declares points ds none =

@@ -11,7 +11,7 @@ use Rattle.il_text.specs.declared.program.Condition.TheVariants.{Always, IfTrue,
 use Rattle.il_check.specs.Faults.{fault_if}
 use Rattle.il_check.specs.SourceOperands.{ProgramNames, resolution_of}
 use Rattle.il_check.specs.Labelling.{Becomes, IsRight, IsCombined, IsRightEntry, AreRightEntries}
-use Rattle.il_check.specs.Rules.{is_wrong, is_unset, type_after, allows, uses_result, any_type, combines_unset, type_of_result}
+use Rattle.il_check.specs.Rules.{is_wrong, is_unset, type_after, is_valid_on, uses_result, any_type, combines_unset, type_of_result}
 use Rattle.il_check.specs.WellTyped.{type_after_entry, type_after_entries, instruction_faults, entry_faults, entries_faults}
 use Rattle.il_check.specs.declared.source_operand.Resolved.{Resolved}
 use Rattle.il_check.specs.declared.source_operand.Resolved.TheVariants.{Load, Store, Combine, Not, Convert, Jump, Return, Call}
@@ -183,7 +183,7 @@ becomes-under f t u (inr e) = inr (ap (option_map f) e)
 
 -- an instruction that does not use the result is right on each, or on none
 pub same-for-all : (r : Resolved) (k : ElementaryType) → uses_result r ≡ false
-    → allows r k ≡ allows r elementary.Bool
+    → is_valid_on r k ≡ is_valid_on r elementary.Bool
 same-for-all (Load negated given) k e = refl
 same-for-all (Store how target) k e = absurd (cc)
 same-for-all (Combine operator negated given is_nonzero) k e = absurd (cc)
@@ -205,12 +205,12 @@ pub right-typed : (r : Resolved) (t u : Option ElementaryType) → uses_result r
     → is_wrong r None ≡ false → is_wrong r t ≡ false
 right-typed r None u e ok = ok
 right-typed r (Some k) u e ok =
-    let all : any_type (allows r) ≡ allows r elementary.Bool =
-    any_of (allows r elementary.Bool) (allows r elementary.Int) (allows r elementary.Dint)
-    (allows r elementary.Lint) (allows r elementary.Time)
+    let all : any_type (is_valid_on r) ≡ is_valid_on r elementary.Bool =
+    any_of (is_valid_on r elementary.Bool) (is_valid_on r elementary.Int) (is_valid_on r elementary.Dint)
+    (is_valid_on r elementary.Lint) (is_valid_on r elementary.Time)
     (same-for-all r elementary.Int e) (same-for-all r elementary.Dint e)
     (same-for-all r elementary.Lint e) (same-for-all r elementary.Time e) in
-    let some : any_type (allows r) ≡ true = not-false (any_type (allows r)) ok in
+    let some : any_type (is_valid_on r) ≡ true = not-false (any_type (is_valid_on r)) ok in
     ap not (same-for-all r k e ∙ sym all ∙ some)
 
 pub unset-unused : (r : Resolved) → is_unset r None ≡ false → uses_result r ≡ false

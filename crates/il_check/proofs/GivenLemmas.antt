@@ -24,9 +24,9 @@ use Rattle.il_check.specs.SourceOperands.{ProgramNames, source_operand, literal_
 use Rattle.il_check.specs.Labelling.{Becomes, IsRight}
 use Rattle.il_check.specs.Program.{Checked}
 use Rattle.il_check.specs.Rules as rules
-use Rattle.il_check.specs.Rules.{operand_in, number_in, own_type, load_type, fits, works, may_negate, is_plain, divides, type_of_result, converted_from, allows, uses_result, is_wrong, type_after, falls_through}
+use Rattle.il_check.specs.Rules.{typed_operand, typed_number, own_type, load_type, operand_fits, works, may_negate, is_plain, divides, type_of_result, converted_from, is_valid_on, uses_result, is_wrong, type_after, falls_through}
 use Rattle.il_check.specs.TypedProgram.{slot_type, may_write, is_writable, IsOperand, is_divisor, IsOperation}
-use Rattle.il_check.specs.Typing.{load_operation, load_in, slot_in, target_slot, store_operation, combine_operation, operation_in}
+use Rattle.il_check.specs.Typing.{load_operation, typed_load, slot_in, target_slot, store_operation, combine_operation, typed_operation}
 use Rattle.il_check.specs.declared.source_operand.Meaning.{Meaning}
 use Rattle.il_check.specs.declared.source_operand.Meaning.TheVariants as meaning
 use Rattle.il_check.specs.declared.source_operand.SourceOperand.{SourceOperand}
@@ -112,7 +112,7 @@ output-is c (Some (meaning.Timer n)) what meant =
     ((meant (meaning.Timer n) refl, refl), λ yes. absurd (cc))
 
 operand-case : (c : Checked) (kind : ElementaryType) (z : ℤ) (w : Option Value) (x : TypedOperand)
-    → number_in kind z ≡ w → option_map (λ v. operand.Literal v) w ≡ Some x → IsOperand c x kind
+    → typed_number kind z ≡ w → option_map (λ v. operand.Literal v) w ≡ Some x → IsOperand c x kind
 operand-case c kind z None x is e = absurd (cc)
 operand-case c kind z (Some v) x is e =
     subst (λ (y : TypedOperand). IsOperand c y kind) (same_Some (operand.Literal v) x e)
@@ -120,12 +120,12 @@ operand-case c kind z (Some v) x is e =
 
 pub operand-typed : (c : Checked) (kind : ElementaryType) (g : SourceOperand) (x : TypedOperand)
     → IsGiven c g
-    → operand_in kind g ≡ Some x → IsOperand c x kind
+    → typed_operand kind g ≡ Some x → IsOperand c x kind
 operand-typed c kind (Known source) x given e =
     let h = cond_some (same_type source.kind kind) source.operand x e in
     subst (λ (y : TypedOperand). IsOperand c y kind) h.1
     (subst (IsOperand c source.operand) (same-is source.kind kind h.0) given.0)
-operand-typed c kind (Number z) x given e = operand-case c kind z (number_in kind z) x refl e
+operand-typed c kind (Number z) x given e = operand-case c kind z (typed_number kind z) x refl e
 operand-typed c kind g x given e = absurd (cc)
 
 -- ---- divisors
@@ -133,7 +133,7 @@ operand-typed c kind g x given e = absurd (cc)
 -- as an operand of any type it is a literal other than 0
 abbrev pub IsNonzero : SourceOperand → Type 0
 IsNonzero g =
-    (kind : ElementaryType) (x : TypedOperand) → operand_in kind g ≡ Some x → is_divisor x ≡ true
+    (kind : ElementaryType) (x : TypedOperand) → typed_operand kind g ≡ Some x → is_divisor x ≡ true
 
 no-int : (y z : ℤ) → (y ≡ z → ⊥) → int_eq y z ≡ false
 no-int y z ne = false_from_ne_true (int_eq y z) (λ yes. ne ((signed_Decides y z).0 yes))
@@ -156,7 +156,7 @@ known-nonzero (Some v) z has some kind x e =
     (divisor-of v z (has v refl) some)
 
 number-nonzero-case : (z : ℤ) (kind : ElementaryType) (w : Option Value) (x : TypedOperand)
-    → not (is_zero z) ≡ true → number_in kind z ≡ w → option_map (λ v. operand.Literal v) w ≡ Some x
+    → not (is_zero z) ≡ true → typed_number kind z ≡ w → option_map (λ v. operand.Literal v) w ≡ Some x
     → is_divisor x ≡ true
 number-nonzero-case z kind None x some is e = absurd (cc)
 number-nonzero-case z kind (Some v) x some is e =
@@ -164,7 +164,7 @@ number-nonzero-case z kind (Some v) x some is e =
     (divisor-of v z (value_is kind z v (number-is kind z v is)).number some)
 
 number-nonzero : (z : ℤ) (b : Bool) → not (is_zero z) ≡ true → IsNonzero (cond b (Number z) Misused)
-number-nonzero z true some kind x e = number-nonzero-case z kind (number_in kind z) x some refl e
+number-nonzero z true some kind x e = number-nonzero-case z kind (typed_number kind z) x some refl e
 number-nonzero z false some kind x e = absurd (cc)
 
 literal-nonzero : (l : Literal) → is_nonzero_literal l ≡ true → IsNonzero (literal_operand l)
@@ -218,7 +218,7 @@ IsFound c (Call what args) = IsCalled c what × AreGiven c args
 abbrev pub AreNamed : Checked → ProgramNames → Type 0
 AreNamed c names = (name : List ℕ) (m : Meaning) → names.meaning name ≡ Some m → IsNamed c m
 
-place-is : (c : Checked) (names : ProgramNames) → AreNamed c names → (p : text.Place)
+place-is : (c : Checked) (names : ProgramNames) → AreNamed c names → (p : text.VariableData)
     → IsGiven c (resolve_variable_or_output names p)
 place-is c names meant (text.named name) = variable-is c (names.meaning name) (meant name)
 place-is c names meant (text.output timer what) =
@@ -260,21 +260,21 @@ found c names meant (text.call timer args) =
 
 -- an instruction that does not use the result is right on each
 pub allows-any : (r : Resolved) (t : Option ElementaryType) → uses_result r ≡ false
-    → is_wrong r t ≡ false → allows r elementary.Bool ≡ true
-allows-any r None e ok = not-false _ (right-typed r (Some elementary.Bool) None e ok)
+    → is_wrong r t ≡ false → is_valid_on r elementary.Bool ≡ true
+is_valid_on-any r None e ok = not-false _ (right-typed r (Some elementary.Bool) None e ok)
 allows-any r (Some k) e ok = sym (same-for-all r k e) ∙ not-false _ ok
 
-own-fits-case : (z : ℤ) (b d : Bool) → is_some (number_in elementary.Int z) ≡ b
-    → is_some (number_in elementary.Dint z) ≡ d → is_some (value_of elementary.Lint z) ≡ true
-    → is_some (number_in (cond b elementary.Int (cond d elementary.Dint elementary.Lint)) z) ≡ true
+own-fits-case : (z : ℤ) (b d : Bool) → is_some (typed_number elementary.Int z) ≡ b
+    → is_some (typed_number elementary.Dint z) ≡ d → is_some (value_of elementary.Lint z) ≡ true
+    → is_some (typed_number (cond b elementary.Int (cond d elementary.Dint elementary.Lint)) z) ≡ true
 own-fits-case z true d e f g = e
 own-fits-case z false true e f g = f
 own-fits-case z false false e f g = g
 
 own-fits : (z : ℤ) → is_some (value_of elementary.Lint z) ≡ true
-    → is_some (number_in (own_type z) z) ≡ true
+    → is_some (typed_number (own_type z) z) ≡ true
 own-fits z g =
-    own-fits-case z (is_some (number_in elementary.Int z)) (is_some (number_in elementary.Dint z))
+    own-fits-case z (is_some (typed_number elementary.Int z)) (is_some (typed_number elementary.Dint z))
     refl refl g
 
 pub mapped-some : {A B : Type 0} (f : A → B) (o : Option A) → is_some o ≡ true
@@ -293,13 +293,13 @@ loaded-some negated (Some x) e = refl
 
 -- a load that is right leaves an operation
 pub load-some : (c : Checked) (negated : Bool) (g : SourceOperand) → IsGiven c g
-    → allows (Load negated g) elementary.Bool ≡ true
-    → is_some (operation_in (Load negated g) None) ≡ true
+    → is_valid_on (Load negated g) elementary.Bool ≡ true
+    → is_some (typed_operation (Load negated g) None) ≡ true
 load-some c negated (Known source) given ok =
     loaded-some negated _ (there-if (same_type source.kind source.kind) source.operand
     (same-self source.kind))
 load-some c negated (Number z) given ok =
-    loaded-some negated _ (mapped-some (λ v. operand.Literal v) (number_in (own_type z) z)
+    loaded-some negated _ (mapped-some (λ v. operand.Literal v) (typed_number (own_type z) z)
     (own-fits z given))
 load-some c negated g given ok = absurd (cc)
 
@@ -316,7 +316,7 @@ none-some o e f = absurd (cc)
 
 load-kind : (c : Checked) (negated : Bool) (g : SourceOperand) (t : Option ElementaryType)
     (kind : ElementaryType) (x : Option TypedOperand) (o : SimpleOperation) → IsGiven c g
-    → may_negate negated kind ≡ true → operand_in kind g ≡ x
+    → may_negate negated kind ≡ true → typed_operand kind g ≡ x
     → load_operation negated x ≡ Some o → IsOperation c o t (Some kind)
 load-kind c negated g t kind None o given may is e = absurd (cc)
 load-kind c negated g t kind (Some x) o given may is e =
@@ -326,10 +326,10 @@ load-kind c negated g t kind (Some x) o given may is e =
 
 load-case : (c : Checked) (negated : Bool) (g : SourceOperand) (t k : Option ElementaryType)
     (o : SimpleOperation) → IsGiven c g → rules.may_load negated k ≡ true → load_type g ≡ k
-    → load_in negated g k ≡ Some o → IsOperation c o t k
+    → typed_load negated g k ≡ Some o → IsOperation c o t k
 load-case c negated g t None o given may is e = absurd (cc)
 load-case c negated g t (Some kind) o given may is e =
-    load-kind c negated g t kind (operand_in kind g) o given may refl e
+    load-kind c negated g t kind (typed_operand kind g) o given may refl e
 
 divisor-right : (d nonzero is : Bool) → d && not nonzero ≡ false → (nonzero ≡ true → is ≡ true)
     → d && not is ≡ false
@@ -342,7 +342,7 @@ combine-kind : (c : Checked) (operator : Operator) (negated : Bool) (g : SourceO
     (kind : ElementaryType) (x : Option TypedOperand) (o : SimpleOperation) → IsGiven c g
     → (nonzero ≡ true → IsNonzero g)
     → works operator negated kind ≡ true → divides operator && not nonzero ≡ false
-    → operand_in kind g ≡ x → combine_operation operator kind negated x ≡ Some o
+    → typed_operand kind g ≡ x → combine_operation operator kind negated x ≡ Some o
     → IsOperation c o (Some kind) (Some (type_of_result operator kind))
 combine-kind c operator negated g nonzero kind None o given other works_on divisor is e =
     absurd (cc)
@@ -371,22 +371,22 @@ store-slot c how kind (operand.TimerOutput timer what) of o is same may how_may 
 
 fits-same : (source : KnownOperand) (kind : ElementaryType) (b : Bool)
     → same_type source.kind kind ≡ b → is_some (cond b (Some source.operand) None) ≡ true → b ≡ true
-fits-same source kind true e f = refl
-fits-same source kind false e f = absurd (cc)
+operand_fits-same source kind true e f = refl
+operand_fits-same source kind false e f = absurd (cc)
 
 store-kind : (c : Checked) (how : StoreKind) (g : SourceOperand) (kind : ElementaryType)
-    (o : SimpleOperation) → IsGiven c g → fits kind g && may_negate (not (is_plain how)) kind ≡ true
-    → rules.is_fixed g ≡ false
+    (o : SimpleOperation) → IsGiven c g → operand_fits kind g && may_negate (not (is_plain how)) kind ≡ true
+    → rules.is_read_only g ≡ false
     → store_operation how (target_slot g) ≡ Some o → IsOperation c o (Some kind) (Some kind)
 store-kind c how (Known source) kind o given ok writes e =
-    let both = and_parts (fits kind (Known source)) (may_negate (not (is_plain how)) kind) ok in
+    let both = and_parts (operand_fits kind (Known source)) (may_negate (not (is_plain how)) kind) ok in
     store-slot c how kind source.operand source.kind o given.0
     (same-is source.kind kind (fits-same source kind (same_type source.kind kind) refl both.0))
     (given.1 (not-false source.writable writes)) both.1 e
 store-kind c how g kind o given ok writes e = absurd (cc)
 
 pub operation-typed : (c : Checked) (passed : ℕ) (r : Resolved) (t : Option ElementaryType)
-    (o : SimpleOperation) → IsFound c r → IsRight passed r t → operation_in r t ≡ Some o
+    (o : SimpleOperation) → IsFound c r → IsRight passed r t → typed_operation r t ≡ Some o
     → IsOperation c o t (type_after r t)
 operation-typed c passed (Load negated g) t o is ok e =
     load-case c negated g t (load_type g) o is (allows-any (Load negated g) t refl ok.allowed) refl
@@ -395,8 +395,8 @@ operation-typed c passed (Store how g) None o is ok e = absurd (let k = ok.set i
 operation-typed c passed (Store how g) (Some kind) o is ok e =
     store-kind c how g kind o is (not-false _ ok.allowed) ok.writable e
 operation-typed c passed (Combine operator negated g nonzero) (Some kind) o is ok e =
-    let both = and_parts (works operator negated kind) (fits kind g) (not-false _ ok.allowed) in
-    combine-kind c operator negated g nonzero kind (operand_in kind g) o is.0 is.1 both.0 ok.nonzero
+    let both = and_parts (works operator negated kind) (operand_fits kind g) (not-false _ ok.allowed) in
+    combine-kind c operator negated g nonzero kind (typed_operand kind g) o is.0 is.1 both.0 ok.nonzero
     refl e
 operation-typed c passed Not None o is ok e = absurd (let k = ok.set in cc)
 operation-typed c passed Not (Some kind) o is ok e =
@@ -411,15 +411,15 @@ operation-typed c passed r t o is ok e = absurd (cc)
 
 -- where no operation is left of an instruction that is right, the result stays, or is not set
 pub left-same : (c : Checked) (passed : ℕ) (r : Resolved) (t : Option ElementaryType) → IsFound c r
-    → IsRight passed r t → operation_in r t ≡ None → Becomes t (type_after r t)
+    → IsRight passed r t → typed_operation r t ≡ None → Becomes t (type_after r t)
 left-same c passed (Load negated g) t is ok e =
     absurd (none-some _ e (load-some c negated g is
     (allows-any (Load negated g) t refl ok.allowed)))
 left-same c passed (Store how g) t is ok e = inl refl
 left-same c passed (Combine operator negated g nonzero) None is ok e = absurd (let k = ok.set in cc)
 left-same c passed (Combine operator negated g nonzero) (Some kind) is ok e =
-    absurd (none-some _ e (combined-some operator kind negated (operand_in kind g)
-    (and_parts (works operator negated kind) (fits kind g) (not-false _ ok.allowed)).1))
+    absurd (none-some _ e (combined-some operator kind negated (typed_operand kind g)
+    (and_parts (works operator negated kind) (operand_fits kind g) (not-false _ ok.allowed)).1))
 left-same c passed Not t is ok e = absurd (cc)
 left-same c passed (Convert conversion) t is ok e = absurd (cc)
 left-same c passed (Jump condition label) t is ok e = inl refl
@@ -428,7 +428,7 @@ left-same c passed (Call what args) t is ok e = inr refl
 
 -- an operation goes on to what is below, and jumps nowhere
 pub operation-goes-on : (r : Resolved) (t : Option ElementaryType) (o : SimpleOperation)
-    → operation_in r t ≡ Some o → (rules.target_of r ≡ None) × (falls_through r ≡ true)
+    → typed_operation r t ≡ Some o → (rules.target_of r ≡ None) × (falls_through r ≡ true)
 operation-goes-on (Load negated g) t o e = (refl, refl)
 operation-goes-on (Store how g) t o e = (refl, refl)
 operation-goes-on (Combine operator negated g nonzero) t o e = (refl, refl)

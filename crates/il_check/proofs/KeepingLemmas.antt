@@ -27,13 +27,13 @@ use Rattle.il_check.specs.Checking.{initial_progress, faults_of, checked_program
 use Rattle.il_check.specs.Declaring.{names_in, declarations_faults}
 use Rattle.il_check.specs.Faults.{least_fault}
 use Rattle.il_check.specs.SourceOperands.{ProgramNames, source_operand, literal_operand, resolve_variable, resolve_output, resolve_variable_or_output, resolve_operand, called_of, resolve_arguments, resolve_argument, resolution_of}
-use Rattle.il_check.specs.Keeping.{slot_name, timer_name, label_names, IsValueOf, IsOperandOf, IsTargetOf, IsOperationOf, IsArgumentOf, AreArgumentsOf, IsEntryOf, AreEntriesOf, IsItemOf, AreItemsOf, Keeps}
+use Rattle.il_check.specs.Keeping.{slot_name, timer_name, label_names, IsValueOf, IsOperandOf, IsTargetOf, IsOperationOf, IsArgumentOf, AreArgumentsOf, IsEntryOf, AreEntriesOf, IsItemOf, AreItemsOf, Preserves}
 use Rattle.il_check.specs.Labelling.{IsRight, IsRightEntry, AreRightEntries}
-use Rattle.il_check.specs.OwnPlaces.{MeanOwnPlaces}
+use Rattle.il_check.specs.OwnDeclarations.{MeanOwnDeclarations}
 use Rattle.il_check.specs.Program.{Entry, operation, block, Entries, no_entries, ProgramItem, transfer, plain, Checked, entry_before}
-use Rattle.il_check.specs.Rules.{operand_in, number_in, load_type, input_type, type_after, works, fits, combines_unset}
-use Rattle.il_check.specs.Typing.{load_operation, load_in, target_slot, store_operation, combine_operation, operation_in, typed_argument, one_argument, two_arguments, arguments_in, call_with, call_in, jump_in, entry_in, or_entry, item_in, block_in}
-use Rattle.il_check.specs.WellTyped.{Progress, type_after_entry, type_after_entries, items_faults, entry_left, entries_left, progress_after_items, progress_after_entry}
+use Rattle.il_check.specs.Rules.{typed_operand, typed_number, load_type, input_type, type_after, works, operand_fits, combines_unset}
+use Rattle.il_check.specs.Typing.{load_operation, typed_load, target_slot, store_operation, combine_operation, typed_operation, typed_argument, one_argument, two_arguments, typed_arguments, call_with, typed_call, typed_jump, action_entry, or_entry, action_item, typed_block}
+use Rattle.il_check.specs.WellTyped.{Progress, type_after_entry, type_after_entries, items_faults, typed_entry_of, typed_entries_of, typed_items_of, progress_after_entry}
 use Rattle.il_check.specs.declared.fault.CheckFault.{CheckFault}
 use Rattle.il_check.specs.declared.source_operand.Meaning.{Meaning}
 use Rattle.il_check.specs.declared.source_operand.Meaning.TheVariants as meaning
@@ -78,7 +78,7 @@ with-room zero x y some = absurd (omega arith)
 with-room (suc room) x y some = ap (λ (b : Bool). cond b x y) (no-zero room)
 
 module _ (c : Checked) (names : ProgramNames) (items : List text.Entry)
-    (own : MeanOwnPlaces names c items) (meant : AreNamed c names) where
+    (own : MeanOwnDeclarations names c items) (meant : AreNamed c names) where
   named-slot : (name : List ℕ) (s : Slot) (kind : ElementaryType) (w : Bool)
       → names.meaning name ≡ Some (meaning.Variable s kind w)
       → slot_name c s ≡ Some (upper name)
@@ -98,7 +98,7 @@ module _ (c : Checked) (names : ProgramNames) (items : List text.Entry)
   -- ---- operands
 
   known-kept : (l : Literal) (o : Option Value) (kind : ElementaryType) (x : TypedOperand)
-      → ((v : Value) → o ≡ Some v → IsValueOf l v) → operand_in kind (source_operand o) ≡ Some x
+      → ((v : Value) → o ≡ Some v → IsValueOf l v) → typed_operand kind (source_operand o) ≡ Some x
       → IsOperandOf c (text.constant l) x
   known-kept l None kind x is e = absurd (cc)
   known-kept l (Some v) kind x is e =
@@ -106,7 +106,7 @@ module _ (c : Checked) (names : ProgramNames) (items : List text.Entry)
       (cond_some (same_type (type_of v) kind) (operand.Literal v) x e).1 (is v refl)
 
   number-kept : (z : ℤ) (kind : ElementaryType) (o : Option Value) (x : TypedOperand)
-      → number_in kind z ≡ o → option_map (λ v. operand.Literal v) o ≡ Some x
+      → typed_number kind z ≡ o → option_map (λ v. operand.Literal v) o ≡ Some x
       → IsOperandOf c (text.constant (literal.Number z)) x
   number-kept z kind None x is e = absurd (cc)
   number-kept z kind (Some v) x is e =
@@ -114,13 +114,13 @@ module _ (c : Checked) (names : ProgramNames) (items : List text.Entry)
       (same_Some (operand.Literal v) x e) (value_is kind z v (number-is kind z v is)).number
 
   number-given-kept : (z : ℤ) (b : Bool) (kind : ElementaryType) (x : TypedOperand)
-      → operand_in kind (cond b (Number z) Misused) ≡ Some x
+      → typed_operand kind (cond b (Number z) Misused) ≡ Some x
       → IsOperandOf c (text.constant (literal.Number z)) x
-  number-given-kept z true kind x e = number-kept z kind (number_in kind z) x refl e
+  number-given-kept z true kind x e = number-kept z kind (typed_number kind z) x refl e
   number-given-kept z false kind x e = absurd (cc)
 
   literal-kept : (l : Literal) (kind : ElementaryType) (x : TypedOperand)
-      → operand_in kind (literal_operand l) ≡ Some x → IsOperandOf c (text.constant l) x
+      → typed_operand kind (literal_operand l) ≡ Some x → IsOperandOf c (text.constant l) x
   literal-kept (literal.Truth b) kind x e =
       known-kept (literal.Truth b) _ kind x (of_literal (literal.Truth b)) e
   literal-kept (literal.Number z) kind x e =
@@ -135,7 +135,7 @@ module _ (c : Checked) (names : ProgramNames) (items : List text.Entry)
       known-kept (literal.Time n) _ kind x (of_literal (literal.Time n)) e
 
   variable-kept : (name : List ℕ) (m : Option Meaning) (kind : ElementaryType) (x : TypedOperand)
-      → names.meaning name ≡ m → operand_in kind (resolve_variable m) ≡ Some x
+      → names.meaning name ≡ m → typed_operand kind (resolve_variable m) ≡ Some x
       → IsOperandOf c (text.variable (text.named name)) x
   variable-kept name (Some (meaning.Variable s k w)) kind x is e =
       subst (IsOperandOf c (text.variable (text.named name)))
@@ -144,7 +144,7 @@ module _ (c : Checked) (names : ProgramNames) (items : List text.Entry)
 
   output-kept : (timer : List ℕ) (what : TimerOutput) (m : Option Meaning) (kind : ElementaryType)
       (x : TypedOperand) → names.meaning timer ≡ m
-      → operand_in kind (resolve_output m what) ≡ Some x
+      → typed_operand kind (resolve_output m what) ≡ Some x
       → IsOperandOf c (text.variable (text.output timer what)) x
   output-kept timer what (Some (meaning.Timer n)) kind x is e =
       subst (IsOperandOf c (text.variable (text.output timer what)))
@@ -152,7 +152,7 @@ module _ (c : Checked) (names : ProgramNames) (items : List text.Entry)
   output-kept timer what m kind x is e = absurd (cc)
 
   source-kept : (source : text.OperandData) (kind : ElementaryType) (x : TypedOperand)
-      → operand_in kind (resolve_operand names source) ≡ Some x → IsOperandOf c source x
+      → typed_operand kind (resolve_operand names source) ≡ Some x → IsOperandOf c source x
   source-kept (text.constant l) kind x e = literal-kept l kind x e
   source-kept (text.variable (text.named name)) kind x e =
       variable-kept name (names.meaning name) kind x refl e
@@ -172,7 +172,7 @@ module _ (c : Checked) (names : ProgramNames) (items : List text.Entry)
   no-target what (Some (meaning.Variable r k w)) s e = absurd (cc)
   no-target what (Some (meaning.Timer n)) s e = absurd (cc)
 
-  target-kept : (place : text.Place) (s : Slot)
+  target-kept : (place : text.VariableData) (s : Slot)
       → target_slot (resolve_variable_or_output names place) ≡ Some s
       → IsTargetOf c place s
   target-kept (text.named name) s e = named-target name (names.meaning name) s refl e
@@ -182,7 +182,7 @@ module _ (c : Checked) (names : ProgramNames) (items : List text.Entry)
 
   load-kept : (negated : Bool) (source : text.OperandData) (kind : ElementaryType)
       (x : Option TypedOperand) (o : SimpleOperation)
-      → operand_in kind (resolve_operand names source) ≡ x → load_operation negated x ≡ Some o
+      → typed_operand kind (resolve_operand names source) ≡ x → load_operation negated x ≡ Some o
       → IsOperationOf c (text.load negated source) o
   load-kept negated source kind None o is e = absurd (cc)
   load-kept negated source kind (Some x) o is e =
@@ -190,13 +190,13 @@ module _ (c : Checked) (names : ProgramNames) (items : List text.Entry)
       (refl, source-kept source kind x is)
 
   load-typed : (negated : Bool) (source : text.OperandData) (k : Option ElementaryType)
-      (o : SimpleOperation) → load_in negated (resolve_operand names source) k ≡ Some o
+      (o : SimpleOperation) → typed_load negated (resolve_operand names source) k ≡ Some o
       → IsOperationOf c (text.load negated source) o
   load-typed negated source None o e = absurd (cc)
   load-typed negated source (Some kind) o e =
-      load-kept negated source kind (operand_in kind (resolve_operand names source)) o refl e
+      load-kept negated source kind (typed_operand kind (resolve_operand names source)) o refl e
 
-  store-kept : (how : StoreKind) (place : text.Place) (s : Option Slot) (o : SimpleOperation)
+  store-kept : (how : StoreKind) (place : text.VariableData) (s : Option Slot) (o : SimpleOperation)
       → target_slot (resolve_variable_or_output names place) ≡ s → store_operation how s ≡ Some o
       → IsOperationOf c (text.store how place) o
   store-kept how place None o is e = absurd (cc)
@@ -206,7 +206,7 @@ module _ (c : Checked) (names : ProgramNames) (items : List text.Entry)
 
   combine-kept : (operator : Operator) (negated : Bool) (source : text.OperandData)
       (kind : ElementaryType) (x : Option TypedOperand) (o : SimpleOperation)
-      → operand_in kind (resolve_operand names source) ≡ x
+      → typed_operand kind (resolve_operand names source) ≡ x
       → combine_operation operator kind negated x ≡ Some o
       → IsOperationOf c (text.combine operator negated source) o
   combine-kept operator negated source kind None o is e = absurd (cc)
@@ -216,13 +216,13 @@ module _ (c : Checked) (names : ProgramNames) (items : List text.Entry)
       (refl, refl, source-kept source kind x is)
 
   operation-kept : (a : text.Action) (t : Option ElementaryType) (o : SimpleOperation)
-      → operation_in (resolution_of names a) t ≡ Some o → IsOperationOf c a o
+      → typed_operation (resolution_of names a) t ≡ Some o → IsOperationOf c a o
   operation-kept (text.load negated source) t o e =
       load-typed negated source (load_type (resolve_operand names source)) o e
   operation-kept (text.store how place) t o e =
       store-kept how place (target_slot (resolve_variable_or_output names place)) o refl e
   operation-kept (text.combine operator negated source) (Some kind) o e =
-      combine-kept operator negated source kind (operand_in kind (resolve_operand names source)) o
+      combine-kept operator negated source kind (typed_operand kind (resolve_operand names source)) o
       refl
       e
   operation-kept text.invert t o e = subst (IsOperationOf c text.invert) (same_Some op.Not o e) tt
@@ -247,7 +247,7 @@ module _ (c : Checked) (names : ProgramNames) (items : List text.Entry)
       absurd (let k = ok.allowed in cc)
   output-some how what (Some (meaning.Timer n)) passed kind ok = absurd (let k = ok.writable in cc)
 
-  store-some : (how : StoreKind) (place : text.Place) (passed : ℕ) (kind : ElementaryType)
+  store-some : (how : StoreKind) (place : text.VariableData) (passed : ℕ) (kind : ElementaryType)
       → IsRight passed (Store how (resolve_variable_or_output names place)) (Some kind)
       → is_some (store_operation how (target_slot (resolve_variable_or_output names place))) ≡ true
   store-some how (text.named name) passed kind ok =
@@ -257,7 +257,7 @@ module _ (c : Checked) (names : ProgramNames) (items : List text.Entry)
 
   operation-some : (a : text.Action) (passed : ℕ) (t : Option ElementaryType) → is_plain a ≡ true
       → IsRight passed (resolution_of names a) t
-      → is_some (operation_in (resolution_of names a) t) ≡ true
+      → is_some (typed_operation (resolution_of names a) t) ≡ true
   operation-some (text.load negated source) passed t may ok =
       load-some c negated (resolve_operand names source)
       (found c names meant (text.load negated source))
@@ -269,8 +269,8 @@ module _ (c : Checked) (names : ProgramNames) (items : List text.Entry)
       absurd (let k = ok.set in cc)
   operation-some (text.combine operator negated source) passed (Some kind) may ok =
       let g = resolve_operand names source in
-      combined-some operator kind negated (operand_in kind g)
-      (and_parts (works operator negated kind) (fits kind g) (not-false _ ok.allowed)).1
+      combined-some operator kind negated (typed_operand kind g)
+      (and_parts (works operator negated kind) (operand_fits kind g) (not-false _ ok.allowed)).1
   operation-some text.invert passed t may ok = refl
   operation-some (text.convert conversion) passed t may ok = refl
   operation-some a passed t may ok = absurd (cc)
@@ -286,21 +286,21 @@ module _ (c : Checked) (names : ProgramNames) (items : List text.Entry)
   block-case : (line : ℕ) (operator : Operator) (negated : Bool) (es : text.Entries) (end : ℕ)
       (inner t : Option ElementaryType) (xs : Entries) → combines_unset inner t ≡ false
       → AreEntriesOf c es xs
-      → Kept (text.block line operator negated es end) (block_in operator negated xs t)
+      → Kept (text.block line operator negated es end) (typed_block operator negated xs t)
   block-case line operator negated es end (Some k) (Some kind) xs set is =
       record { what = block operator kind negated xs; is = refl; keeps = (refl, refl, is) }
   block-case line operator negated es end inner t xs set is = absurd (cc)
 
   entries-kept : (room passed : ℕ) (es : text.Entries) (t : Option ElementaryType)
       → AreRightEntries names room passed es t → all_inner es ≡ true
-      → AreEntriesOf c es (entries_left names room es t)
+      → AreEntriesOf c es (typed_entries_of names room es t)
   entries-kept room passed text.no_entries t ok may = tt
   entries-kept room passed (text.entry (text.label line name) es) t ok may = absurd (cc)
   entries-kept room passed (text.entry (text.action line a) es) t ok may =
       let both = and_parts (is_plain a) (all_inner es) may in
-      let o = the-some (operation_in (resolution_of names a) t)
+      let o = the-some (typed_operation (resolution_of names a) t)
       (operation-some a passed t both.0 ok.0) in
-      let rest = entries_left names room es (type_after (resolution_of names a) t) in
+      let rest = typed_entries_of names room es (type_after (resolution_of names a) t) in
       subst (λ (x : Option SimpleOperation). AreEntriesOf c (text.entry (text.action line a) es)
       (entry_before (option_map operation x) rest)) (sym o.1) (
         operation-kept a t o.0 o.1,
@@ -310,12 +310,12 @@ module _ (c : Checked) (names : ProgramNames) (items : List text.Entry)
       let both = and_parts (is_parenthesis inner) (all_inner es) may in
       let e = text.block line operator negated inner end in
       let b = block-case line operator negated inner end (type_after_entries names inner None) t
-      (entries_left names (room - 1) inner None) ok.0.2.set
+      (typed_entries_of names (room - 1) inner None) ok.0.2.set
       (entries-kept (room - 1) passed inner None ok.0.1 (inner-of inner both.0)) in
-      let is : entry_left names room e t ≡ Some b.what =
-      ap (λ (x : Entries). block_in operator negated x t)
-      (with-room room no_entries (entries_left names (room - 1) inner None) ok.0.0) ∙ b.is in
-      let rest = entries_left names room es (type_after_entry names e t) in
+      let is : typed_entry_of names room e t ≡ Some b.what =
+      ap (λ (x : Entries). typed_block operator negated x t)
+      (with-room room no_entries (typed_entries_of names (room - 1) inner None) ok.0.0) ∙ b.is in
+      let rest = typed_entries_of names room es (type_after_entry names e t) in
       subst (λ (x : Option Entry). AreEntriesOf c (text.entry e es) (entry_before x rest)) (sym is)
       (b.keeps, entries-kept room passed es (type_after_entry names e t) ok.1 both.1)
 
@@ -324,22 +324,22 @@ module _ (c : Checked) (names : ProgramNames) (items : List text.Entry)
       → IsRightEntry names room passed (text.block line operator negated inner end) t
       → is_parenthesis inner ≡ true
       → Kept (text.block line operator negated inner end)
-      (entry_left names room (text.block line operator negated inner end) t)
+      (typed_entry_of names room (text.block line operator negated inner end) t)
   block-kept room passed line operator negated inner end t ok may =
       let b = block-case line operator negated inner end (type_after_entries names inner None) t
-      (entries_left names (room - 1) inner None) ok.2.set
+      (typed_entries_of names (room - 1) inner None) ok.2.set
       (entries-kept (room - 1) passed inner None ok.1 (inner-of inner may)) in
       record {
         what = b.what;
-        is = ap (λ (x : Entries). block_in operator negated x t)
-            (with-room room no_entries (entries_left names (room - 1) inner None) ok.0) ∙ b.is;
+        is = ap (λ (x : Entries). typed_block operator negated x t)
+            (with-room room no_entries (typed_entries_of names (room - 1) inner None) ok.0) ∙ b.is;
         keeps = b.keeps;
       }
 
   -- ---- jumps, returns and calls
 
   argument-case : (a : Input × text.OperandData) (o : Option TypedOperand) (x : TypedArgument)
-      → operand_in (input_type a.0) (resolve_operand names a.1) ≡ o
+      → typed_operand (input_type a.0) (resolve_operand names a.1) ≡ o
       → option_map (λ y. record { input = a.0; operand = y }) o ≡ Some x → IsArgumentOf c a x
   argument-case a None x is e = absurd (cc)
   argument-case a (Some y) x is e =
@@ -349,7 +349,7 @@ module _ (c : Checked) (names : ProgramNames) (items : List text.Entry)
   argument-kept : (a : Input × text.OperandData) (x : TypedArgument)
       → typed_argument (resolve_argument names a) ≡ Some x → IsArgumentOf c a x
   argument-kept a x e =
-      argument-case a (operand_in (input_type a.0) (resolve_operand names a.1)) x refl e
+      argument-case a (typed_operand (input_type a.0) (resolve_operand names a.1)) x refl e
 
   one-kept-of : (a : Input × text.OperandData) (o : Option TypedArgument) (xs : TypedArguments)
       → typed_argument (resolve_argument names a) ≡ o → one_argument o ≡ Some xs
@@ -369,7 +369,7 @@ module _ (c : Checked) (names : ProgramNames) (items : List text.Entry)
   two-kept-of a b more o p xs is also e = absurd (cc)
 
   arguments-kept : (args : List (Input × text.OperandData)) (xs : TypedArguments)
-      → arguments_in (resolve_arguments names args) ≡ Some xs → AreArgumentsOf c args xs
+      → typed_arguments (resolve_arguments names args) ≡ Some xs → AreArgumentsOf c args xs
   arguments-kept [] xs e = subst (AreArgumentsOf c []) (same_Some typed.None xs e) tt
   arguments-kept (a ∷ []) xs e =
       one-kept-of a (typed_argument (resolve_argument names a)) xs refl e
@@ -385,9 +385,9 @@ module _ (c : Checked) (names : ProgramNames) (items : List text.Entry)
 
   plain-case : (line passed : ℕ) (a : text.Action) (t : Option ElementaryType)
       → is_plain a ≡ true → IsRight passed (resolution_of names a) t
-      → KeptItem (text.action line a) (or_entry None (entry_in (resolution_of names a) t))
+      → KeptItem (text.action line a) (or_entry None (action_entry (resolution_of names a) t))
   plain-case line passed a t may ok =
-      let o = the-some (operation_in (resolution_of names a) t) (operation-some a passed t may ok)
+      let o = the-some (typed_operation (resolution_of names a) t) (operation-some a passed t may ok)
       in
       record {
         what = plain (operation o.0);
@@ -397,7 +397,7 @@ module _ (c : Checked) (names : ProgramNames) (items : List text.Entry)
 
   jump-case : (line : ℕ) (condition : Condition) (name : List ℕ) (n : Option ℕ)
       (e : Option Entry) → names.label name ≡ n → is_none n ≡ false
-      → KeptItem (text.action line (text.jump condition name)) (or_entry (jump_in condition n) e)
+      → KeptItem (text.action line (text.jump condition name)) (or_entry (typed_jump condition n) e)
   jump-case line condition name None e is there = absurd (cc)
   jump-case line condition name (Some n) e is there =
       record {
@@ -411,7 +411,7 @@ module _ (c : Checked) (names : ProgramNames) (items : List text.Entry)
       → names.meaning timer ≡ m
       → IsRight passed (Call (called_of m) (resolve_arguments names args)) t
       → KeptItem (text.action line (text.call timer args))
-      (or_entry (call_in (called_of m) (arguments_in (resolve_arguments names args))) e)
+      (or_entry (typed_call (called_of m) (typed_arguments (resolve_arguments names args))) e)
   call-case line timer args None t passed e is ok = absurd (let k = ok.named in cc)
   call-case line timer args (Some (meaning.Variable s k w)) t passed e is ok =
       absurd (let y = allows-any (Call called.Misused (resolve_arguments names args)) t refl
@@ -419,7 +419,7 @@ module _ (c : Checked) (names : ProgramNames) (items : List text.Entry)
       in cc)
   call-case line timer args (Some (meaning.Timer n)) t passed e is ok =
       let given = resolve_arguments names args in
-      let xs = the-some (arguments_in given)
+      let xs = the-some (typed_arguments given)
       (arguments-some given (allows-any (Call (called.Timer n) given) t refl ok.allowed)) in
       record {
         what = transfer (go.Call n xs.0);
@@ -429,7 +429,7 @@ module _ (c : Checked) (names : ProgramNames) (items : List text.Entry)
 
   action-kept : (line passed : ℕ) (a : text.Action) (t : Option ElementaryType)
       → IsRight passed (resolution_of names a) t
-      → KeptItem (text.action line a) (item_in (resolution_of names a) t)
+      → KeptItem (text.action line a) (action_item (resolution_of names a) t)
   action-kept line passed (text.load negated source) t ok =
       plain-case line passed (text.load negated source) t refl ok
   action-kept line passed (text.store how place) t ok =
@@ -466,7 +466,7 @@ module _ (c : Checked) (names : ProgramNames) (items : List text.Entry)
   items-kept : (es : List text.Entry) (s : Progress) (before : List (List ℕ))
       → items_faults names es s ≡ [] → list_all is_outer es ≡ true
       → label_names items ≡ before ++ label_names es → length before ≡ s.passed
-      → AreItemsOf c (label_names items) es (progress_after_items names es s)
+      → AreItemsOf c (label_names items) es (typed_items_of names es s)
   items-kept [] s before none may at size = tt
   items-kept (text.label line name ∷ es) s before none may at size =
       let here : slice_get (label_names items) s.passed ≡ Some (upper name) =
@@ -484,7 +484,7 @@ module _ (c : Checked) (names : ProgramNames) (items : List text.Entry)
       let h = both-none _ _ none in
       let right =
       right-from s.now.is_reached s.passed line (resolution_of names a) s.now.kind h.0 in
-      one-more (text.action line a) es (item_in (resolution_of names a) s.now.kind) _
+      one-more (text.action line a) es (action_item (resolution_of names a) s.now.kind) _
       (action-kept line s.passed a s.now.kind right.1)
       (items-kept es (progress_after_entry names (text.action line a) s) before h.1 may at size)
   items-kept (text.block line operator negated inner end ∷ es) s before none may at size =
@@ -492,8 +492,8 @@ module _ (c : Checked) (names : ProgramNames) (items : List text.Entry)
       let h = both-none _ _ none in
       let outer = and_parts (is_parenthesis inner) (list_all is_outer es) may in
       let right = entry-from names most_nested s.now.is_reached s.passed b s.now.kind h.0 in
-      one-more b es (option_map plain (entry_left names most_nested b s.now.kind)) _
-      (block-item line operator negated inner end (entry_left names most_nested b s.now.kind)
+      one-more b es (option_map plain (typed_entry_of names most_nested b s.now.kind)) _
+      (block-item line operator negated inner end (typed_entry_of names most_nested b s.now.kind)
       (block-kept most_nested s.passed line operator negated inner end s.now.kind right outer.0))
       (items-kept es (progress_after_entry names b s) before h.1 outer.1 at size)
 
@@ -507,7 +507,7 @@ judged-ok (Some f) c d e = absurd (cc)
 -- a checked program keeps what its text says
 pub keeps : (points : List Point) (program : text.PlainProgram) (c : Checked)
     → checked_of points program ≡ Ok c → list_all is_outer program.items ≡ true
-    → Keeps points program c
+    → Preserves points program c
 keeps points program c e may =
     let names = names_in points program in
     let h = judged-ok (least_fault (faults_of points program)) (checked_program points program) c e
@@ -518,10 +518,10 @@ keeps points program c e may =
     (items_faults names program.items (initial_progress program)) none in
     let d = checked_program points program in
     let are = declares points program.declarations parts.0 in
-    let own : MeanOwnPlaces names d program.items =
-    subst (λ (x : Checked). MeanOwnPlaces names x program.items) (sym h.1)
+    let own : MeanOwnDeclarations names d program.items =
+    subst (λ (x : Checked). MeanOwnDeclarations names x program.items) (sym h.1)
     (mean-own-places points program c e) in
-    subst (Keeps points program) h.1
+    subst (Preserves points program) h.1
     (record {
       declared = declared-kept points [] program.declarations parts.0;
       items = items-kept d names program.items own

@@ -12,9 +12,9 @@ use Rattle.il_text.specs.declared.program.Operator.{Operator}
 use Rattle.il_check.specs.Checking.{initial_progress}
 use Rattle.il_check.specs.Declaring.{labels_from, names_in, looked_up}
 use Rattle.il_check.specs.SourceOperands.{ProgramNames, resolution_of}
-use Rattle.il_check.specs.Labelling.{Labelling, Becomes, IsRight, Coming, Falls, Jumps, is_named, with_target, carry_of, initial_carried, type_after_label, coming_after_action, with_result, Flows, IsWellTyped, progress_after_entries, type_after_items}
+use Rattle.il_check.specs.Labelling.{Labelling, Becomes, IsRight, Incoming, FallAgrees, JumpAgrees, is_named, with_target, flow_state, initial_flow, type_after_label, incoming_after_action, with_result, AreReachedItems, IsWellTyped, progress_after_entries, type_after_items}
 use Rattle.il_check.specs.Rules.{type_after, type_of_result, falls_through, target_of}
-use Rattle.il_check.specs.WellTyped.{Progress, is_first, items_faults, join, arrival, arrival_at, progress_after_action, progress_after_entry}
+use Rattle.il_check.specs.WellTyped.{Progress, is_first_label, items_faults, join, arrival, arrival_at, progress_after_action, progress_after_entry}
 use Rattle.il_check.specs.declared.reach.Reach.{Reach}
 use Rattle.il_check.specs.declared.source_operand.Resolved.{Resolved}
 use Rattle.il_check.proofs.FaultlessLemmas.{both-none, none-both, if-none, none-if, right-from, right-to, entry-reached, becomes-along, becomes-under, right-under, after-under, or-true, entry-under, entry-to, entry-from}
@@ -25,7 +25,7 @@ use Rattle.il_image.proofs.SetLemmas.{set-here, set-elsewhere}
 -- ---- with a labelling there is no fault
 
 -- What is known before items with the least types, beside what flows there with a labelling.
-record Stands (labels : Labelling) (count : ℕ) (named : List ℕ) (s : Progress) (now : Coming)
+record Stands (labels : Labelling) (count : ℕ) (named : List ℕ) (s : Progress) (now : Incoming)
     : Type 0 where
   reached : s.now.is_reached ≡ is_some now
   typed : (t : Option ElementaryType) → now ≡ Some t → Becomes s.now.kind t
@@ -33,18 +33,18 @@ record Stands (labels : Labelling) (count : ℕ) (named : List ℕ) (s : Progres
   under : (n : ℕ) → is_named named n ≡ true
       → Becomes (arrival (slice_get s.arrivals n)).kind (labels n)
 
-falls-in : (labels : Labelling) (number : ℕ) (kind : Option ElementaryType) (now : Coming)
-    → Falls labels number now → is_some now ≡ true
+falls-in : (labels : Labelling) (number : ℕ) (kind : Option ElementaryType) (now : Incoming)
+    → FallAgrees labels number now → is_some now ≡ true
     → ((t : Option ElementaryType) → now ≡ Some t → Becomes kind t) → Becomes kind (labels number)
 falls-in labels number kind None falls is typed = absurd (cc)
 falls-in labels number kind (Some t) falls is typed =
     becomes-along kind t (labels number) (typed t refl) falls
 
 stands-behind-label : (labels : Labelling) (count line : ℕ) (names : ProgramNames) (name : List ℕ)
-    (named : List ℕ) (s : Progress) (now : Coming) → Falls labels s.passed now
+    (named : List ℕ) (s : Progress) (now : Incoming) → FallAgrees labels s.passed now
     → Stands labels count named s now
     → Stands labels count named (progress_after_entry names (text.label line name) s)
-    (type_after_label labels (carry_of s.passed named now))
+    (type_after_label labels (flow_state s.passed named now))
 stands-behind-label labels count line names name named s now falls st =
     let come = arrival (slice_get s.arrivals s.passed) in
     let either : (join s.now come).is_reached ≡ is_some now || is_named named s.passed =
@@ -67,11 +67,11 @@ stands-behind-label labels count line names name named s now falls st =
     }
 
 stands-behind-action : (labels : Labelling) (count : ℕ) (r : Resolved) (t : Option ElementaryType)
-    (named : List ℕ) (s : Progress) (now : Coming) → now ≡ Some t → Jumps labels (target_of r) t
+    (named : List ℕ) (s : Progress) (now : Incoming) → now ≡ Some t → JumpAgrees labels (target_of r) t
     → ((n : ℕ) → target_of r ≡ Some n → n < count)
     → Stands labels count named s now
     → Stands labels count (with_target (target_of r) named) (progress_after_action r s)
-    (coming_after_action r t)
+    (incoming_after_action r t)
 stands-behind-action labels count r t named s now is jumps range st =
     let reached : s.now.is_reached ≡ true = st.reached ∙ ap is_some is in
     let goes : s.now.is_reached && falls_through r ≡ falls_through r =
@@ -88,7 +88,7 @@ stands-behind-action labels count r t named s now is jumps range st =
 
 stands-behind-block : (labels : Labelling) (count : ℕ) (names : ProgramNames) (line : ℕ)
     (operator : Operator) (negated : Bool) (items : text.Entries) (end : ℕ)
-    (t : Option ElementaryType) (named : List ℕ) (s : Progress) (now : Coming) → now ≡ Some t
+    (t : Option ElementaryType) (named : List ℕ) (s : Progress) (now : Incoming) → now ≡ Some t
     → Stands labels count named s now
     → Stands labels count named
     (progress_after_entry names (text.block line operator negated items end) s)
@@ -105,8 +105,8 @@ stands-behind-block labels count names line operator negated items end t named s
     }
 
 flows-to : (names : ProgramNames) (labels : Labelling) (count : ℕ) → InRange names count
-    → (es : List text.Entry) (s : Progress) (named : List ℕ) (now : Coming)
-    → Flows names labels es (carry_of s.passed named now) → Stands labels count named s now
+    → (es : List text.Entry) (s : Progress) (named : List ℕ) (now : Incoming)
+    → AreReachedItems names labels es (flow_state s.passed named now) → Stands labels count named s now
     → items_faults names es s ≡ []
 flows-to names labels count range [] s named now f st = refl
 flows-to names labels count range (text.label line name ∷ es) s named now f st =
@@ -114,7 +114,7 @@ flows-to names labels count range (text.label line name ∷ es) s named now f st
     (none-both _ _ (none-if _ _ (ap not f.0.0)) (none-if _ _ (few s.passed f.0.1)))
     (flows-to names labels count range es (progress_after_entry names (text.label line name) s)
     named
-    (type_after_label labels (carry_of s.passed named now)) f.1
+    (type_after_label labels (flow_state s.passed named now)) f.1
     (stands-behind-label labels count line names name named s now f.0.2 st))
 flows-to names labels count range (text.action line a ∷ es) s named now f st =
     let r = resolution_of names a in
@@ -124,7 +124,7 @@ flows-to names labels count range (text.action line a ∷ es) s named now f st =
     (right-under s.passed r s.now.kind f.0 (st.typed f.0 f.1.0) f.1.1))
     (flows-to names labels count range es (progress_after_action r s)
     (with_target (target_of r) named)
-    (coming_after_action r f.0) f.2
+    (incoming_after_action r f.0) f.2
     (stands-behind-action labels count r f.0 named s now f.1.0 f.1.2
     (λ n e. target-in names count a n range e) st))
 flows-to names labels count range (text.block line operator negated items end ∷ es) s named now f
@@ -140,27 +140,27 @@ flows-to names labels count range (text.block line operator negated items end �
     f.1.0 st))
 
 stands-behind-all : (names : ProgramNames) (labels : Labelling) (count : ℕ) → InRange names count
-    → (es : List text.Entry) (s : Progress) (named : List ℕ) (now : Coming)
-    (t : Option ElementaryType) → Flows names labels es (carry_of s.passed named now)
+    → (es : List text.Entry) (s : Progress) (named : List ℕ) (now : Incoming)
+    (t : Option ElementaryType) → AreReachedItems names labels es (flow_state s.passed named now)
     → Stands labels count named s now
-    → type_after_items names labels es (carry_of s.passed named now) ≡ Some t
+    → type_after_items names labels es (flow_state s.passed named now) ≡ Some t
     → Becomes (progress_after_entries names es s).now.kind t
 stands-behind-all names labels count range [] s named now t f st is = st.typed t is
 stands-behind-all names labels count range (text.label line name ∷ es) s named now t f st is =
     stands-behind-all names labels count range es
     (progress_after_entry names (text.label line name) s) named
-    (type_after_label labels (carry_of s.passed named now)) t f.1
+    (type_after_label labels (flow_state s.passed named now)) t f.1
     (stands-behind-label labels count line names name named s now f.0.2 st) is
 stands-behind-all names labels count range (text.action line a ∷ es) s named now t f st is =
     let r = resolution_of names a in
     stands-behind-all names labels count range es (progress_after_action r s)
     (with_target (target_of r) named)
-    (coming_after_action r f.0) t f.2
+    (incoming_after_action r f.0) t f.2
     (stands-behind-action labels count r f.0 named s now f.1.0 f.1.2
     (λ n e. target-in names count a n range e) st)
-    (subst (λ (c : Coming). type_after_items names labels es
-    (carry_of s.passed (with_target (target_of r) named)
-    (with_result (coming_after_action r) c)) ≡ Some t) f.1.0 is)
+    (subst (λ (c : Incoming). type_after_items names labels es
+    (flow_state s.passed (with_target (target_of r) named)
+    (with_result (incoming_after_action r) c)) ≡ Some t) f.1.0 is)
 stands-behind-all names labels count range (text.block line operator negated items end ∷ es) s named
     now t f st is =
     stands-behind-all names labels count range es
@@ -168,8 +168,8 @@ stands-behind-all names labels count range (text.block line operator negated ite
     (Some (option_map (type_of_result operator) f.0)) t f.2
     (stands-behind-block labels count names line operator negated items end f.0 named s now f.1.0
     st)
-    (subst (λ (c : Coming). type_after_items names labels es
-    (carry_of s.passed named (with_result (λ u. Some (option_map (type_of_result operator) u)) c))
+    (subst (λ (c : Incoming). type_after_items names labels es
+    (flow_state s.passed named (with_result (λ u. Some (option_map (type_of_result operator) u)) c))
     ≡ Some t) f.1.0 is)
 
 -- ---- without a fault there is a labelling
@@ -252,22 +252,22 @@ brought-becomes names (text.block line operator negated items end ∷ es) s n v 
     reached
 
 -- What is known before items with the least types is just what flows there.
-pub record Exact (count : ℕ) (named : List ℕ) (s : Progress) (now : Coming) : Type 0 where
+pub record Exact (count : ℕ) (named : List ℕ) (s : Progress) (now : Incoming) : Type 0 where
   pub is : now ≡ cond s.now.is_reached (Some s.now.kind) None
   pub brought : Brought named s.arrivals count
 
-exact-some : (count : ℕ) (named : List ℕ) (s : Progress) (now : Coming) → Exact count named s now
+exact-some : (count : ℕ) (named : List ℕ) (s : Progress) (now : Incoming) → Exact count named s now
     → is_some now ≡ s.now.is_reached
 exact-some count named s now x = ap is_some x.is ∙ some-if s.now.is_reached s.now.kind
 
-pub exact-now : (count : ℕ) (named : List ℕ) (s : Progress) (now : Coming) → Exact count named s now
+pub exact-now : (count : ℕ) (named : List ℕ) (s : Progress) (now : Incoming) → Exact count named s now
     → s.now.is_reached ≡ true → now ≡ Some s.now.kind
 exact-now count named s now x reached =
     x.is ∙ ap (λ (b : Bool). cond b (Some s.now.kind) None) reached
 
 falls-out : (labels : Labelling) (number : ℕ) (r : Reach) (b : Bool) → r.is_reached ≡ b
     → (r.is_reached ≡ true → Becomes r.kind (labels number))
-    → Falls labels number (cond b (Some r.kind) None)
+    → FallAgrees labels number (cond b (Some r.kind) None)
 falls-out labels number r true e h = h e
 falls-out labels number r false e h = tt
 
@@ -276,7 +276,7 @@ pub jumps-out : (labels : Labelling) (names : ProgramNames) (es : List text.Entr
     → s.now.is_reached ≡ true → IsRight s.passed r s.now.kind
     → ((n : ℕ) → target_of r ≡ Some n → n < count) → Brought named s.arrivals count
     → ((n : ℕ) → s.passed ≤ n → labels n ≡ least names es (progress_after_action r s) n)
-    → Jumps labels target s.now.kind
+    → JumpAgrees labels target s.now.kind
 jumps-out labels names es count r s named None t reached ok range b same = tt
 jumps-out labels names es count r s named (Some m) t reached ok range b same =
     let old = arrival (slice_get s.arrivals m) in
@@ -321,10 +321,10 @@ least-behind-label names labels line name es s same n le =
 
 pub exact-behind-label : (names : ProgramNames) (labels : Labelling) (count : ℕ) (line : ℕ)
     (name : List ℕ)
-    (es : List text.Entry) (s : Progress) (named : List ℕ) (now : Coming)
+    (es : List text.Entry) (s : Progress) (named : List ℕ) (now : Incoming)
     → AreLeast labels names (text.label line name ∷ es) s → Exact count named s now
     → Exact count named (progress_after_entry names (text.label line name) s)
-    (type_after_label labels (carry_of s.passed named now))
+    (type_after_label labels (flow_state s.passed named now))
 exact-behind-label names labels count line name es s named now same x =
     let come = arrival (slice_get s.arrivals s.passed) in
     let here = label-least names labels line name es s same in
@@ -340,11 +340,11 @@ exact-behind-label names labels count line name es s named now same x =
     }
 
 pub exact-behind-action : (names : ProgramNames) (count : ℕ) (range : InRange names count)
-    (a : text.Action) (s : Progress) (named : List ℕ) (now : Coming) → s.now.is_reached ≡ true
+    (a : text.Action) (s : Progress) (named : List ℕ) (now : Incoming) → s.now.is_reached ≡ true
     → Exact count named s now
     → Exact count (with_target (target_of (resolution_of names a)) named)
     (progress_after_action (resolution_of names a) s)
-    (coming_after_action (resolution_of names a) s.now.kind)
+    (incoming_after_action (resolution_of names a) s.now.kind)
 exact-behind-action names count range a s named now reached x =
     let r = resolution_of names a in
     record {
@@ -357,7 +357,7 @@ exact-behind-action names count range a s named now reached x =
 
 pub exact-behind-block : (names : ProgramNames) (count line : ℕ) (operator : Operator)
     (negated : Bool)
-    (items : text.Entries) (end : ℕ) (s : Progress) (named : List ℕ) (now : Coming)
+    (items : text.Entries) (end : ℕ) (s : Progress) (named : List ℕ) (now : Incoming)
     → s.now.is_reached ≡ true → Exact count named s now
     → Exact count named (progress_after_entry names (text.block line operator negated items end) s)
     (Some (option_map (type_of_result operator) s.now.kind))
@@ -368,9 +368,9 @@ exact-behind-block names count line operator negated items end s named now reach
 }
 
 pub flows-from : (names : ProgramNames) (labels : Labelling) (count : ℕ) → InRange names count
-    → (es : List text.Entry) (s : Progress) (named : List ℕ) (now : Coming)
+    → (es : List text.Entry) (s : Progress) (named : List ℕ) (now : Incoming)
     → AreLeast labels names es s → items_faults names es s ≡ []
-    → Exact count named s now → Flows names labels es (carry_of s.passed named now)
+    → Exact count named s now → AreReachedItems names labels es (flow_state s.passed named now)
 flows-from names labels count range [] s named now same none x = tt
 flows-from names labels count range (text.label line name ∷ es) s named now same none x =
     let h = both-none _ _ none in
@@ -379,17 +379,17 @@ flows-from names labels count range (text.label line name ∷ es) s named now sa
     let fall =
     λ (r : s.now.is_reached ≡ true). subst (λ (u : Option ElementaryType). Becomes s.now.kind u)
     (sym here) (join-left s.now (arrival (slice_get s.arrivals s.passed)) r) in
-    let falls : Falls labels s.passed now =
-    subst (Falls labels s.passed) (sym x.is)
+    let falls : FallAgrees labels s.passed now =
+    subst (FallAgrees labels s.passed) (sym x.is)
     (falls-out labels s.passed s.now s.now.is_reached refl fall) in (
       (
-        not-false (is_first s.passed (names.label name)) (if-none _ _ own.0),
+        not-false (is_first_label s.passed (names.label name)) (if-none _ _ own.0),
         few-back s.passed (if-none _ _ own.1),
         falls,
       ),
       flows-from names labels count range es (progress_after_entry names (text.label line name) s)
           named
-          (type_after_label labels (carry_of s.passed named now))
+          (type_after_label labels (flow_state s.passed named now))
           (least-behind-label names labels line name es s same) h.1
           (exact-behind-label names labels count line name es s named now same x),
     )
@@ -407,7 +407,7 @@ flows-from names labels count range (text.action line a ∷ es) s named now same
       ),
       flows-from names labels count range es (progress_after_action r s)
           (with_target (target_of r) named)
-          (coming_after_action r s.now.kind) same h.1
+          (incoming_after_action r s.now.kind) same h.1
           (exact-behind-action names count range a s named now right.0 x),
     )
 flows-from names labels count range (text.block line operator negated items end ∷ es) s named now
@@ -469,8 +469,8 @@ begins points program labels = record {
 
 pub least_types : (points : List Point) (program : text.PlainProgram) (front more : List text.Entry)
     (labels : Labelling) (t : Option ElementaryType)
-    → program.items ≡ front ++ more → Flows (names_in points program) labels front initial_carried
-    → type_after_items (names_in points program) labels front initial_carried ≡ Some t
+    → program.items ≡ front ++ more → AreReachedItems (names_in points program) labels front initial_flow
+    → type_after_items (names_in points program) labels front initial_flow ≡ Some t
     → Becomes (progress_after_entries (names_in points program) front
     (initial_progress program)).now.kind t
 least_types points program front more labels t parts f is =

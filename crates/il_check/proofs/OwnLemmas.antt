@@ -19,9 +19,9 @@ use Rattle.il_text.specs.declared.program.VariableScope.TheVariants as scope
 use Rattle.il_image.specs.Values.{type_of}
 use Rattle.il_image.specs.declared.value.Value.{Value}
 use Rattle.il_check.specs.Checking.{checked_of, checked_program, faults_of}
-use Rattle.il_check.specs.Declaring.{counts_of, declaration_faults, declarations_faults, external_at, external_in, externals_of, initial_in, is_external, is_typed, is_writable, labels_from, looked_up, meaning_at, meanings_of, names_in, point_of, timer_in, timers_of, variable_at, variable_in, variables_of}
+use Rattle.il_check.specs.Declaring.{counts_of, declaration_faults, declarations_faults, point_external, declared_external, externals_of, initial_value, is_external, is_typed, is_writable, labels_from, looked_up, meaning_at, meanings_of, names_in, point_of, declared_timer, timers_of, valued_variable, declared_variable, variables_of}
 use Rattle.il_check.specs.Faults.{least_fault}
-use Rattle.il_check.specs.OwnPlaces.{IsOwn, MeanOwnPlaces}
+use Rattle.il_check.specs.OwnDeclarations.{IsOwnDeclaration, MeanOwnDeclarations}
 use Rattle.il_check.specs.Program.{Checked, ProgramItem}
 use Rattle.il_check.specs.declared.fault.CheckFault.{CheckFault}
 use Rattle.il_check.specs.declared.source_operand.Meaning.{Meaning}
@@ -68,7 +68,7 @@ joined a b =
 
 -- Each meaning is declared by its key, and each that is declared is meant by its name.
 record Owns (l : Lists) (ms : List (List ℕ × Meaning)) : Type 0 where
-  own : (key : List ℕ) (m : Meaning) → looked_up ms key ≡ Some m → IsOwn (program_of l) key m
+  own : (key : List ℕ) (m : Meaning) → looked_up ms key ≡ Some m → IsOwnDeclaration (program_of l) key m
   externals : (n : ℕ) (e : External) → slice_get l.externals n ≡ Some e
       → looked_up ms e.name ≡ Some (meaning.Variable (slot.External n) e.kind e.writable)
   variables : (n : ℕ) (v : Variable) → slice_get l.variables n ≡ Some v
@@ -76,8 +76,8 @@ record Owns (l : Lists) (ms : List (List ℕ × Meaning)) : Type 0 where
   timers : (n : ℕ) (t : Timer) → slice_get l.timers n ≡ Some t
       → looked_up ms t.name ≡ Some (meaning.Timer n)
 
-own-more : (a b : Lists) (key : List ℕ) (m : Meaning) → IsOwn (program_of a) key m
-    → IsOwn (program_of (joined a b)) key m
+own-more : (a b : Lists) (key : List ℕ) (m : Meaning) → IsOwnDeclaration (program_of a) key m
+    → IsOwnDeclaration (program_of (joined a b)) key m
 own-more a b key (meaning.Variable (slot.External n) kind writable) h =
     (h.0, get-more a.externals b.externals n h.0 h.1, h.2, h.3, h.4)
 own-more a b key (meaning.Variable (slot.Variable n) kind writable) h =
@@ -86,7 +86,7 @@ own-more a b key (meaning.Timer n) h = (h.0, get-more a.timers b.timers n h.0 h.
 
 -- what one declaration adds: its name means it, and it alone is new
 record Adds (a b : Lists) (name : List ℕ) (m : Meaning) : Type 0 where
-  own : IsOwn (program_of (joined a b)) name m
+  own : IsOwnDeclaration (program_of (joined a b)) name m
   externals : (n : ℕ) (e : External) → slice_get (a.externals ++ b.externals) n ≡ Some e
       → (slice_get a.externals n ≡ Some e)
       ⊎ ((e.name ≡ name) × (m ≡ meaning.Variable (slot.External n) e.kind e.writable))
@@ -110,7 +110,7 @@ abbrev with_timer : Timer → Lists
 with_timer t = record { externals = []; variables = []; timers = t ∷ [] }
 
 adds-external : (a : Lists) (name : List ℕ) (kind : ElementaryType) (o : Option Point)
-    → is_none o ≡ false → Adds a (with_external (external_at name kind o)) (upper name)
+    → is_none o ≡ false → Adds a (with_external (point_external name kind o)) (upper name)
     (meaning.Variable (slot.External (length a.externals)) kind (is_writable o))
 adds-external a name kind None there = absurd cc
 adds-external a name kind (Some p) there =
@@ -132,7 +132,7 @@ adds-external a name kind (Some p) there =
 
 adds-variable : (a : Lists) (name : List ℕ) (kind : ElementaryType) (o : Option Value)
     → is_some o ≡ true → ((v : Value) → o ≡ Some v → type_of v ≡ kind)
-    → Adds a (with_variable (variable_at name o)) (upper name)
+    → Adds a (with_variable (valued_variable name o)) (upper name)
     (meaning.Variable (slot.Variable (length a.variables)) kind true)
 adds-variable a name kind None there typed = absurd cc
 adds-variable a name kind (Some w) there typed =
@@ -169,15 +169,15 @@ adds-timer a t = record {
   ];
 }
 
-abbrev added_by : List Point → text.Declared → VariableScope → DeclaredType → Lists
+abbrev added_by : List Point → text.DeclaredName → VariableScope → DeclaredType → Lists
 added_by points d s k =
     record {
-      externals = option_to_list (external_in points d s k);
-      variables = option_to_list (variable_in d s k);
-      timers = option_to_list (timer_in d k);
+      externals = option_to_list (declared_external points d s k);
+      variables = option_to_list (declared_variable d s k);
+      timers = option_to_list (declared_timer d k);
     }
 
-adds-one : (points : List Point) (d : text.Declared) (s : VariableScope) (k : DeclaredType)
+adds-one : (points : List Point) (d : text.DeclaredName) (s : VariableScope) (k : DeclaredType)
     (a : Lists)
     → is_external s && is_none (point_of points d.name) ≡ false
     → is_typed s k (point_of points d.name) d.initial ≡ true
@@ -193,7 +193,7 @@ adds-one points d scope.External (type.Elementary kind) a there right =
 adds-one points d scope.External (type.Timer kind) a there right =
     adds-timer a (record { name = upper d.name; kind = kind })
 adds-one points d scope.Local (type.Elementary kind) a there right =
-    adds-variable a d.name kind (initial_in kind d.initial) right
+    adds-variable a d.name kind (initial_value kind d.initial) right
     (λ v e. (initial-is kind d.initial v e).1)
 adds-one points d scope.Local (type.Timer kind) a there right =
     adds-timer a (record { name = upper d.name; kind = kind })
@@ -242,9 +242,9 @@ module _ (a b : Lists) (ms : List (List ℕ × Meaning)) (name : List ℕ) (m : 
     own = λ key x e. elim (either-way (looked_up ms key) (bytes_eq name key) m x
         (sym (looked_up-more ms name m key) ∙ e)) [
           | inl old ↦ own-more a b key x (known.own key x old)
-          | inr new ↦ subst (λ (k : List ℕ). IsOwn (program_of (joined a b)) k x)
+          | inr new ↦ subst (λ (k : List ℕ). IsOwnDeclaration (program_of (joined a b)) k x)
               ((bytes_eq-Decides name key).0 new.0)
-              (subst (λ (y : Meaning). IsOwn (program_of (joined a b)) name y) new.1 more.own)
+              (subst (λ (y : Meaning). IsOwnDeclaration (program_of (joined a b)) name y) new.1 more.own)
         ];
     externals =
         λ n e h. elim (more.externals n e h) [
@@ -263,7 +263,7 @@ module _ (a b : Lists) (ms : List (List ℕ × Meaning)) (name : List ℕ) (m : 
         ];
   }
 
-abbrev lists_of : List Point → List text.Declared → Lists
+abbrev lists_of : List Point → List text.DeclaredName → Lists
 lists_of points ds =
     record {
       externals = externals_of points ds;
@@ -279,19 +279,19 @@ lists-same es fs vs ws ts us e v t =
     λ x y z. record { externals = x; variables = y; timers = z } in
     ap (λ x. made x vs ts) e ∙ ap (λ y. made fs y ts) v ∙ ap (λ z. made fs ws z) t
 
-lists-more : (points : List Point) (before : List text.Declared) (d : text.Declared)
+lists-more : (points : List Point) (before : List text.DeclaredName) (d : text.DeclaredName)
     → joined (lists_of points before) (added_by points d d.scope d.kind)
     ≡ lists_of points (before ++ d ∷ [])
 lists-more points before d =
     lists-same _ _ _ _ _ _
-    (sym (filter_map-more (λ (x : text.Declared). external_in points x x.scope x.kind) before d))
-    (sym (filter_map-more (λ (x : text.Declared). variable_in x x.scope x.kind) before d))
-    (sym (filter_map-more (λ (x : text.Declared). timer_in x x.kind) before d))
+    (sym (filter_map-more (λ (x : text.DeclaredName). declared_external points x x.scope x.kind) before d))
+    (sym (filter_map-more (λ (x : text.DeclaredName). declared_variable x x.scope x.kind) before d))
+    (sym (filter_map-more (λ (x : text.DeclaredName). declared_timer x x.kind) before d))
 
-abbrev OwnsAll : List Point → List text.Declared → Type 0
+abbrev OwnsAll : List Point → List text.DeclaredName → Type 0
 OwnsAll points ds = Owns (lists_of points ds) (meanings_of points ds)
 
-owns-next : (points : List Point) (before : List text.Declared) (d : text.Declared)
+owns-next : (points : List Point) (before : List text.DeclaredName) (d : text.DeclaredName)
     → OwnsAll points before → declaration_faults points before d ≡ []
     → OwnsAll points (before ++ d ∷ [])
 owns-next points before d known none =
@@ -312,7 +312,7 @@ owns-next points before d known none =
     (joined (lists_of points before) (added_by points d d.scope d.kind)) xs)
     (sym (meanings-more points [] before d)) is)
 
-owns-from : (points : List Point) (before ds : List text.Declared) → OwnsAll points before
+owns-from : (points : List Point) (before ds : List text.DeclaredName) → OwnsAll points before
     → declarations_faults points before ds ≡ [] → OwnsAll points (before ++ ds)
 owns-from points before [] known none = subst (OwnsAll points) (sym (append-nil before)) known
 owns-from points before (d ∷ ds) known none =
@@ -381,30 +381,30 @@ record AreUpper (l : Lists) : Type 0 where
   timers : (n : ℕ) (t : Timer) → slice_get l.timers n ≡ Some t → upper t.name ≡ t.name
 
 upper-external : (name : List ℕ) (kind : ElementaryType) (o : Option Point) (e : External)
-    → external_at name kind o ≡ Some e → upper e.name ≡ e.name
+    → point_external name kind o ≡ Some e → upper e.name ≡ e.name
 upper-external name kind None e h = absurd cc
 upper-external name kind (Some p) e h =
     subst (λ (x : External). upper x.name ≡ x.name) (same_Some _ e h) (upper-upper name)
 
-upper-variable : (name : List ℕ) (o : Option Value) (v : Variable) → variable_at name o ≡ Some v
+upper-variable : (name : List ℕ) (o : Option Value) (v : Variable) → valued_variable name o ≡ Some v
     → upper v.name ≡ v.name
 upper-variable name None v h = absurd cc
 upper-variable name (Some w) v h =
     subst (λ (x : Variable). upper x.name ≡ x.name) (same_Some _ v h) (upper-upper name)
 
-external-upper : (points : List Point) (d : text.Declared) (s : VariableScope) (k : DeclaredType)
-    (e : External) → external_in points d s k ≡ Some e → upper e.name ≡ e.name
+external-upper : (points : List Point) (d : text.DeclaredName) (s : VariableScope) (k : DeclaredType)
+    (e : External) → declared_external points d s k ≡ Some e → upper e.name ≡ e.name
 external-upper points d scope.External (type.Elementary kind) e h =
     upper-external d.name kind (point_of points d.name) e h
 external-upper points d s k e h = absurd cc
 
-variable-upper : (d : text.Declared) (s : VariableScope) (k : DeclaredType) (v : Variable)
-    → variable_in d s k ≡ Some v → upper v.name ≡ v.name
+variable-upper : (d : text.DeclaredName) (s : VariableScope) (k : DeclaredType) (v : Variable)
+    → declared_variable d s k ≡ Some v → upper v.name ≡ v.name
 variable-upper d scope.Local (type.Elementary kind) v h =
-    upper-variable d.name (initial_in kind d.initial) v h
+    upper-variable d.name (initial_value kind d.initial) v h
 variable-upper d s k v h = absurd cc
 
-timer-upper : (d : text.Declared) (k : DeclaredType) (t : Timer) → timer_in d k ≡ Some t
+timer-upper : (d : text.DeclaredName) (k : DeclaredType) (t : Timer) → declared_timer d k ≡ Some t
     → upper t.name ≡ t.name
 timer-upper d (type.Timer kind) t h =
     subst (λ (x : Timer). upper x.name ≡ x.name) (same_Some _ t h) (upper-upper d.name)
@@ -425,23 +425,23 @@ kept_all f P [] h n y e = absurd cc
 kept_all f P (x ∷ xs) h n y e =
     kept_case f P x (filter_map f xs) y (h x) (λ k g. kept_all f P xs h k y g) (f x) refl n e
 
-are-upper : (points : List Point) (ds : List text.Declared) → AreUpper (lists_of points ds)
+are-upper : (points : List Point) (ds : List text.DeclaredName) → AreUpper (lists_of points ds)
 are-upper points ds = record {
   externals =
-      kept_all (λ (x : text.Declared). external_in points x x.scope x.kind)
+      kept_all (λ (x : text.DeclaredName). declared_external points x x.scope x.kind)
       (λ (e : External). upper e.name ≡ e.name) ds
       (λ d e h. external-upper points d d.scope d.kind e h);
   variables =
-      kept_all (λ (x : text.Declared). variable_in x x.scope x.kind)
+      kept_all (λ (x : text.DeclaredName). declared_variable x x.scope x.kind)
       (λ (v : Variable). upper v.name ≡ v.name) ds (λ d v h. variable-upper d d.scope d.kind v h);
   timers =
-      kept_all (λ (x : text.Declared). timer_in x x.kind) (λ (t : Timer). upper t.name ≡ t.name) ds
+      kept_all (λ (x : text.DeclaredName). declared_timer x x.kind) (λ (t : Timer). upper t.name ≡ t.name) ds
       (λ d t h. timer-upper d d.kind t h);
 }
 
 with_items : (l : Lists) (items : List ProgramItem) (key : List ℕ) (m : Meaning)
-    → IsOwn (program_of l) key m
-    → IsOwn (record {
+    → IsOwnDeclaration (program_of l) key m
+    → IsOwnDeclaration (record {
       externals = l.externals;
       variables = l.variables;
       timers = l.timers;
@@ -453,7 +453,7 @@ with_items l items key (meaning.Timer n) h = h
 
 own-places : (points : List Point) (program : text.PlainProgram)
     → declarations_faults points [] program.declarations ≡ []
-    → MeanOwnPlaces (names_in points program) (checked_program points program) program.items
+    → MeanOwnDeclarations (names_in points program) (checked_program points program) program.items
 own-places points program none =
     let l = lists_of points program.declarations in
     let ms = meanings_of points program.declarations in
@@ -474,10 +474,10 @@ judged-ok None x c e = (refl, (let p : x ≡ c = cc in p))
 judged-ok (Some f) x c e = absurd cc
 
 pub mean-own-places : (points : List Point) (program : text.PlainProgram) (c : Checked)
-    → checked_of points program ≡ Ok c → MeanOwnPlaces (names_in points program) c program.items
+    → checked_of points program ≡ Ok c → MeanOwnDeclarations (names_in points program) c program.items
 mean-own-places points program c e =
     let p = judged-ok (least_fault (faults_of points program)) (checked_program points program) c e
     in
-    subst (λ (x : Checked). MeanOwnPlaces (names_in points program) x program.items) p.1
+    subst (λ (x : Checked). MeanOwnDeclarations (names_in points program) x program.items) p.1
     (own-places points program
     (both-none _ _ (least_fault-none (faults_of points program) p.0)).0)

@@ -28,7 +28,7 @@ some-or : {A : Type 0} (b : Bool) (x : A) (o : Option A)
 some-or true x o = refl
 some-or false x o = refl
 
-known-from : (points : List Point) (acc before : List text.Declared) (name : List ℕ)
+known-from : (points : List Point) (acc before : List text.DeclaredName) (name : List ℕ)
     → is_some (looked_up (meanings_from points acc before) (upper name))
     ≡ list_any (λ e. same_name e.name name) before
 unfolding same_name
@@ -52,7 +52,7 @@ all-known true None h = absurd (let e : false ≡ true = h refl in cc)
 all-known true (Some x) h = refl
 all-known false o h = refl
 
-right-one : (points : List Point) (before : List text.Declared) (d : text.Declared)
+right-one : (points : List Point) (before : List text.DeclaredName) (d : text.DeclaredName)
     → declaration_faults points before d ≡ [] → IsRightDeclaration points before d
 right-one points before d none =
     let missing = both-none _ _ none in
@@ -73,7 +73,7 @@ none-of : {A : Type 0} (xs ys : List A) → xs ≡ [] → ys ≡ [] → xs ++ ys
 none-of [] ys e f = f
 none-of (x ∷ xs) ys e f = absurd cc
 
-one-right : (points : List Point) (before : List text.Declared) (d : text.Declared)
+one-right : (points : List Point) (before : List text.DeclaredName) (d : text.DeclaredName)
     → IsRightDeclaration points before d → declaration_faults points before d ≡ []
 one-right points before d h =
     none-of _ _ (no_fault _ _ (all-known (is_external d.scope) (point_of points d.name) h.known))
@@ -82,9 +82,9 @@ one-right points before d h =
 
 -- ---- all of them
 
-abbrev AreRightFrom : List Point → List text.Declared → List text.Declared → Type 0
+abbrev AreRightFrom : List Point → List text.DeclaredName → List text.DeclaredName → Type 0
 AreRightFrom points acc declared =
-    (before : List text.Declared) (d : text.Declared) (after : List text.Declared)
+    (before : List text.DeclaredName) (d : text.DeclaredName) (after : List text.DeclaredName)
     → declared ≡ before ++ d ∷ after → IsRightDeclaration points (acc ++ before) d
 
 head-same : {A : Type 0} (x y : A) (xs ys : List A) → x ∷ xs ≡ y ∷ ys → (x ≡ y) × (xs ≡ ys)
@@ -94,20 +94,20 @@ none-there : {A : Type 0} (before : List A) (d : A) (after : List A) → [] ≡ 
 none-there [] d after e = cc
 none-there (x ∷ before) d after e = cc
 
-right-case : (points : List Point) (acc : List text.Declared) (x : text.Declared)
-    (ds : List text.Declared) → IsRightDeclaration points acc x
+right-case : (points : List Point) (acc : List text.DeclaredName) (x : text.DeclaredName)
+    (ds : List text.DeclaredName) → IsRightDeclaration points acc x
     → AreRightFrom points (acc ++ x ∷ []) ds → AreRightFrom points acc (x ∷ ds)
 right-case points acc x ds here rest [] d after e =
     let same = head-same x d ds after e in
-    subst (λ (bs : List text.Declared). IsRightDeclaration points bs d) (sym (append-nil acc))
+    subst (λ (bs : List text.DeclaredName). IsRightDeclaration points bs d) (sym (append-nil acc))
     (subst (IsRightDeclaration points acc) same.0 here)
 right-case points acc x ds here rest (b ∷ before) d after e =
     let same = head-same x b ds (before ++ d ∷ after) e in
-    subst (λ (y : text.Declared). IsRightDeclaration points (acc ++ y ∷ before) d) same.0
-    (subst (λ (bs : List text.Declared). IsRightDeclaration points bs d)
+    subst (λ (y : text.DeclaredName). IsRightDeclaration points (acc ++ y ∷ before) d) same.0
+    (subst (λ (bs : List text.DeclaredName). IsRightDeclaration points bs d)
     (append_assoc acc (x ∷ []) before) (rest before d after same.1))
 
-right-all : (points : List Point) (acc ds : List text.Declared)
+right-all : (points : List Point) (acc ds : List text.DeclaredName)
     → declarations_faults points acc ds ≡ [] → AreRightFrom points acc ds
 right-all points acc [] none = λ before d after e. absurd (none-there before d after e)
 right-all points acc (x ∷ ds) none =
@@ -117,17 +117,17 @@ right-all points acc (x ∷ ds) none =
     right-case points acc x ds (right-one points acc x two.0)
     (right-all points (acc ++ x ∷ []) ds two.1)
 
-all-right : (points : List Point) (acc ds : List text.Declared) → AreRightFrom points acc ds
+all-right : (points : List Point) (acc ds : List text.DeclaredName) → AreRightFrom points acc ds
     → declarations_faults points acc ds ≡ []
 all-right points acc [] h = refl
 all-right points acc (x ∷ ds) h =
     none-of (declaration_faults points acc x) (declarations_faults points (acc ++ x ∷ []) ds)
-    (one-right points acc x (subst (λ (bs : List text.Declared). IsRightDeclaration points bs x)
+    (one-right points acc x (subst (λ (bs : List text.DeclaredName). IsRightDeclaration points bs x)
     (append-nil acc) (h [] x ds refl)))
     (all-right points (acc ++ x ∷ []) ds
-    (λ before d after e. subst (λ (bs : List text.Declared). IsRightDeclaration points bs d)
+    (λ before d after e. subst (λ (bs : List text.DeclaredName). IsRightDeclaration points bs d)
     (sym (append_assoc acc (x ∷ []) before))
-    (h (x ∷ before) d after (ap (λ (ys : List text.Declared). x ∷ ys) e))))
+    (h (x ∷ before) d after (ap (λ (ys : List text.DeclaredName). x ∷ ys) e))))
 
 -- ---- a program
 

@@ -13,8 +13,8 @@ use Rattle.il_text.specs.declared.program.VariableScope.TheVariants as scope
 use Rattle.il_image.specs.declared.value.Value.{Value}
 use Rattle.il_check.specs.Faults.{first_fault_of}
 use Rattle.il_check.specs.NamesView.{with_value}
-use Rattle.il_check.specs.Declaring.{external_at, external_in, variable_at, variable_in, timer_in, initial_in, meaning_at, point_of, name_faults, is_full}
-use Rattle.il_check.specs.DeclarationsView.{counts_in, external_named, variable_named, external_added, variable_added, timer_added, Adds, Takes}
+use Rattle.il_check.specs.Declaring.{point_external, declared_external, valued_variable, declared_variable, declared_timer, initial_value, meaning_at, point_of, name_faults, is_full}
+use Rattle.il_check.specs.DeclarationsView.{counts_in, external_named, variable_named, external_added, variable_added, timer_added, AppendsParts, IsAfterDeclaration}
 use Rattle.il_check.specs.declared.declare.Declarations.{Declarations}
 use Rattle.il_check.specs.declared.source_operand.Meaning.{Meaning}
 use Rattle.il_check.specs.declared.typed.External.{External}
@@ -22,14 +22,14 @@ use Rattle.il_check.specs.declared.typed.Variable.{Variable}
 use Rattle.il_check.specs.declared.typed.Timer.{Timer}
 
 same-external : (name : List ℕ) (kind : ElementaryType) (point : Option Point)
-    → external_named (upper name) kind point ≡ external_at name kind point
+    → external_named (upper name) kind point ≡ point_external name kind point
 same-external name kind None = refl
 same-external name kind (Some p) = refl
 
-external-same : (points : List Point) (d : text.Declared) (as_declared : VariableScope)
+external-same : (points : List Point) (d : text.DeclaredName) (as_declared : VariableScope)
     (kind : DeclaredType)
     → external_added (upper d.name) as_declared kind (point_of points d.name)
-    ≡ external_in points d as_declared kind
+    ≡ declared_external points d as_declared kind
 external-same points d scope.External (type.Elementary kind) =
     same-external d.name kind (point_of points d.name)
 external-same points d scope.External (type.Timer kind) = refl
@@ -37,25 +37,25 @@ external-same points d scope.Local (type.Elementary kind) = refl
 external-same points d scope.Local (type.Timer kind) = refl
 
 same-variable : (name : List ℕ) (value : Option Value)
-    → variable_named (upper name) value ≡ variable_at name value
+    → variable_named (upper name) value ≡ valued_variable name value
 same-variable name None = refl
 same-variable name (Some v) = refl
 
-variable-same : (d : text.Declared) (as_declared : VariableScope) (kind : DeclaredType)
-    → variable_added (upper d.name) d as_declared kind ≡ variable_in d as_declared kind
+variable-same : (d : text.DeclaredName) (as_declared : VariableScope) (kind : DeclaredType)
+    → variable_added (upper d.name) d as_declared kind ≡ declared_variable d as_declared kind
 variable-same d scope.Local (type.Elementary kind) =
-    same-variable d.name (initial_in kind d.initial)
+    same-variable d.name (initial_value kind d.initial)
 variable-same d scope.Local (type.Timer kind) = refl
 variable-same d scope.External (type.Elementary kind) = refl
 variable-same d scope.External (type.Timer kind) = refl
 
-timer-same : (d : text.Declared) (kind : DeclaredType)
-    → timer_added (upper d.name) kind ≡ timer_in d kind
+timer-same : (d : text.DeclaredName) (kind : DeclaredType)
+    → timer_added (upper d.name) kind ≡ declared_timer d kind
 timer-same d (type.Timer kind) = refl
 timer-same d (type.Elementary kind) = refl
 
 -- what is noted of a declaration
-pub record Noted (d : text.Declared) (name : List ℕ) (point : Option Point)
+pub record Noted (d : text.DeclaredName) (name : List ℕ) (point : Option Point)
     (is_known is_beyond : Bool) (meaning : Meaning) (old middle : Declarations) : Type 0 where
   pub beyond : is_beyond ≡ is_full (counts_in old) d.kind
   pub meant : meaning ≡ meaning_at (counts_in old) d.scope d.kind point
@@ -69,11 +69,11 @@ pub record Noted (d : text.Declared) (name : List ℕ) (point : Option Point)
   pub timers : middle.timers ≡ old.timers
 
 -- a declaration that is noted and added is taken
-pub taken : (points : List Point) (d : text.Declared) (old middle new : Declarations)
+pub taken : (points : List Point) (d : text.DeclaredName) (old middle new : Declarations)
     (name copy : List ℕ) (point : Option Point) (is_known is_beyond : Bool) (meaning : Meaning)
     → name ≡ upper d.name → copy ≡ name → point ≡ point_of points d.name
-    → Noted d name point is_known is_beyond meaning old middle → Adds copy d point middle new
-    → Takes points d old new
+    → Noted d name point is_known is_beyond meaning old middle → AppendsParts copy d point middle new
+    → IsAfterDeclaration points d old new
 taken points d old middle new name copy point is_known is_beyond meaning named copied pointed so
     added = record {
       externals =

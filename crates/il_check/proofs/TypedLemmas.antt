@@ -15,13 +15,13 @@ use Rattle.il_check.specs.Checking.{initial_progress, faults_of, checked_program
 use Rattle.il_check.specs.Declaring.{labels_from, names_in, declarations_faults}
 use Rattle.il_check.specs.Faults.{least_fault}
 use Rattle.il_check.specs.SourceOperands.{ProgramNames, resolution_of}
-use Rattle.il_check.specs.Labelling.{Labelling, IsRight, IsCombined, IsRightEntry, AreRightEntries, Coming, Jumps, with_target, carry_of, type_after_label, coming_after_action}
+use Rattle.il_check.specs.Labelling.{Labelling, IsRight, IsCombined, IsRightEntry, AreRightEntries, Incoming, JumpAgrees, with_target, flow_state, type_after_label, incoming_after_action}
 use Rattle.il_check.specs.Program.{Entry, operation, block, Entries, no_entries, entry, ProgramItem, label, transfer, plain, Checked, entry_before}
 use Rattle.il_check.specs.Rules as rules
 use Rattle.il_check.specs.Rules.{type_of_result, works, type_after}
-use Rattle.il_check.specs.TypedProgram.{IsEntry, AreEntries, entry_depth, entries_depth, has_label, coming_after_transfer, AreItems, IsTyped}
-use Rattle.il_check.specs.Typing.{operation_in, transfer_in, or_entry, block_in}
-use Rattle.il_check.specs.WellTyped.{Progress, type_after_entry, type_after_entries, items_faults, entry_left, entries_left, progress_after_item, progress_after_items, progress_after_entry, progress_after_action}
+use Rattle.il_check.specs.TypedProgram.{IsEntry, AreEntries, entry_depth, entries_depth, has_label, incoming_after_transfer, AreItems, IsTyped}
+use Rattle.il_check.specs.Typing.{typed_operation, typed_transfer, or_entry, typed_block}
+use Rattle.il_check.specs.WellTyped.{Progress, type_after_entry, type_after_entries, items_faults, typed_entry_of, typed_entries_of, typed_item_of, typed_items_of, progress_after_entry, progress_after_action}
 use Rattle.il_check.specs.declared.fault.CheckFault.{CheckFault}
 use Rattle.il_check.specs.declared.source_operand.Resolved.{Resolved}
 use Rattle.il_check.specs.declared.typed.SimpleOperation.{SimpleOperation}
@@ -57,7 +57,7 @@ entries-on-any c (entry e es) t k h = (h.0, entry-on-any c e t h.0 h.1, h.2)
 action-case : (c : Checked) (passed : ℕ) (r : Resolved) (t : Option ElementaryType)
     (k : ElementaryType) (rest : Entries) (o : Option SimpleOperation) → IsFound c r
     → IsRight passed r t
-    → AreEntries c rest (type_after r t) (Some k) → operation_in r t ≡ o
+    → AreEntries c rest (type_after r t) (Some k) → typed_operation r t ≡ o
     → AreEntries c (entry_before (option_map operation o) rest) t (Some k)
 action-case c passed r t k rest (Some o) is ok more e =
     (type_after r t, operation-typed c passed r t o is ok e, more)
@@ -76,7 +76,7 @@ record IsBlock (c : Checked) (o : Option Entry) (t u : Option ElementaryType) : 
 block-typed : (c : Checked) (operator : Operator) (negated : Bool) (inner t : Option ElementaryType)
     (es : Entries) → IsCombined operator negated inner t
     → ((k : ElementaryType) → inner ≡ Some k → AreEntries c es None (Some k))
-    → IsBlock c (block_in operator negated es t) t (option_map (type_of_result operator) t)
+    → IsBlock c (typed_block operator negated es t) t (option_map (type_of_result operator) t)
 block-typed c operator negated None t es ok are = absurd (let e = ok.set in cc)
 block-typed c operator negated (Some k) None es ok are = absurd (let e = ok.set in cc)
 block-typed c operator negated (Some k) (Some kind) es ok are =
@@ -103,14 +103,14 @@ module _ (c : Checked) (names : ProgramNames) (meant : AreNamed c names) where
   entries-typed : (room passed : ℕ) (es : text.Entries) (t : Option ElementaryType)
       (k : ElementaryType) → AreRightEntries names room passed es t
       → type_after_entries names es t ≡ Some k
-      → AreEntries c (entries_left names room es t) t (Some k)
+      → AreEntries c (typed_entries_of names room es t) t (Some k)
   entries-typed room passed text.no_entries t k ok e = sym e
   entries-typed room passed (text.entry (text.label line name) es) t k ok e =
       entries-typed room passed es t k ok.1 e
   entries-typed room passed (text.entry (text.action line a) es) t k ok e =
       action-case c passed (resolution_of names a) t k
-      (entries_left names room es (type_after (resolution_of names a) t))
-      (operation_in (resolution_of names a) t) (found c names meant a) ok.0
+      (typed_entries_of names room es (type_after (resolution_of names a) t))
+      (typed_operation (resolution_of names a) t) (found c names meant a) ok.0
       (entries-typed room passed es (type_after (resolution_of names a) t) k ok.1 e) refl
   entries-typed room passed (text.entry (text.block line operator negated items end) es) t k ok e =
       let u = option_map (type_of_result operator) t in
@@ -118,28 +118,28 @@ module _ (c : Checked) (names : ProgramNames) (meant : AreNamed c names) where
       λ (x : ElementaryType) (is : type_after_entries names items None ≡ Some x). entries-typed
       (room - 1) passed items None x ok.0.1 is in
       let b = block-typed c operator negated (type_after_entries names items None) t
-      (entries_left names (room - 1) items None) ok.0.2 inner in
-      let left : IsBlock c (entry_left names room (text.block line operator negated items end) t) t
+      (typed_entries_of names (room - 1) items None) ok.0.2 inner in
+      let left : IsBlock c (typed_entry_of names room (text.block line operator negated items end) t) t
       u =
-      subst (λ (x : Entries). IsBlock c (block_in operator negated x t) t u)
-      (with-room room no_entries (entries_left names (room - 1) items None) ok.0.0) b in
-      subst (λ (o : Option Entry). AreEntries c (entry_before o (entries_left names room es u)) t
+      subst (λ (x : Entries). IsBlock c (typed_block operator negated x t) t u)
+      (with-room room no_entries (typed_entries_of names (room - 1) items None) ok.0.0) b in
+      subst (λ (o : Option Entry). AreEntries c (entry_before o (typed_entries_of names room es u)) t
       (Some k)) (sym left.is) (u, left.right, entries-typed room passed es u k ok.1 e)
 
   block-left : (room passed line : ℕ) (operator : Operator) (negated : Bool) (items : text.Entries)
       (end : ℕ) (t : Option ElementaryType)
       → IsRightEntry names room passed (text.block line operator negated items end) t
-      → IsBlock c (entry_left names room (text.block line operator negated items end) t) t
+      → IsBlock c (typed_entry_of names room (text.block line operator negated items end) t) t
       (option_map (type_of_result operator) t)
   block-left room passed line operator negated items end t ok =
       let inner =
       λ (x : ElementaryType) (is : type_after_entries names items None ≡ Some x). entries-typed
       (room - 1) passed items None x ok.1 is in
       let b = block-typed c operator negated (type_after_entries names items None) t
-      (entries_left names (room - 1) items None) ok.2 inner in
-      subst (λ (x : Entries). IsBlock c (block_in operator negated x t) t
+      (typed_entries_of names (room - 1) items None) ok.2 inner in
+      subst (λ (x : Entries). IsBlock c (typed_block operator negated x t) t
       (option_map (type_of_result operator) t))
-      (with-room room no_entries (entries_left names (room - 1) items None) ok.0) b
+      (with-room room no_entries (typed_entries_of names (room - 1) items None) ok.0) b
 
 -- ---- how deep parentheses are
 
@@ -162,30 +162,30 @@ operation-depth (Some o) room = omega arith
 
 block-depth : (operator : Operator) (negated : Bool) (es : Entries) (t : Option ElementaryType)
     (room : ℕ) → 0 < room → entries_depth es ≤ room - 1
-    → option_depth (block_in operator negated es t) ≤ room
+    → option_depth (typed_block operator negated es t) ≤ room
 block-depth operator negated es None room some h = omega arith
 block-depth operator negated es (Some kind) room some h = omega arith
 
 mutual
   entry-within : (names : ProgramNames) (room passed : ℕ) (e : text.Entry)
       (t : Option ElementaryType)
-      → IsRightEntry names room passed e t → option_depth (entry_left names room e t) ≤ room
+      → IsRightEntry names room passed e t → option_depth (typed_entry_of names room e t) ≤ room
   entry-within names room passed (text.label line name) t ok = omega arith
   entry-within names room passed (text.action line a) t ok =
-      operation-depth (operation_in (resolution_of names a) t) room
+      operation-depth (typed_operation (resolution_of names a) t) room
   entry-within names room passed (text.block line operator negated items end) t ok =
       block-depth operator negated _ t room ok.0
       (subst (λ (es : Entries). entries_depth es ≤ room - 1)
-      (with-room room no_entries (entries_left names (room - 1) items None) ok.0)
+      (with-room room no_entries (typed_entries_of names (room - 1) items None) ok.0)
       (entries-within names (room - 1) passed items None ok.1))
 
   entries-within : (names : ProgramNames) (room passed : ℕ) (es : text.Entries)
       (t : Option ElementaryType)
-      → AreRightEntries names room passed es t → entries_depth (entries_left names room es t) ≤ room
+      → AreRightEntries names room passed es t → entries_depth (typed_entries_of names room es t) ≤ room
   entries-within names room passed text.no_entries t ok = omega arith
   entries-within names room passed (text.entry e es) t ok =
-      before-depth (entry_left names room e t)
-      (entries_left names room es (type_after_entry names e t))
+      before-depth (typed_entry_of names room e t)
+      (typed_entries_of names room es (type_after_entry names e t))
       room (entry-within names room passed e t ok.0)
       (entries-within names room passed es (type_after_entry names e t) ok.1)
 
@@ -203,26 +203,26 @@ after n m le ne = omega (arith, ne)
 
 labels-below : (names : ProgramNames) (es : List text.Entry) (s : Progress) (n : ℕ) → s.passed ≤ n
     → n < s.passed + length (labels_from s.passed es)
-    → has_label (progress_after_items names es s) n ≡ true
+    → has_label (typed_items_of names es s) n ≡ true
 labels-below names [] s n le lt = absurd (omega arith)
 labels-below names (text.label line name ∷ es) s n le lt = elim (cases_eq n s.passed) [
   | inl e ↦ ap (λ (b : Bool). b
-      || has_label (progress_after_items names es
+      || has_label (typed_items_of names es
       (progress_after_entry names (text.label line name) s)) n)
       (same-number s.passed n (sym e))
   | inr ne ↦ labels-more (Some (label s.passed))
-      (progress_after_items names es (progress_after_entry names (text.label line name) s)) n
+      (typed_items_of names es (progress_after_entry names (text.label line name) s)) n
       (labels-below names es (progress_after_entry names (text.label line name) s) n
       (after s.passed n le ne)
       (omega arith))
 ]
 labels-below names (text.action line a ∷ es) s n le lt =
-    labels-more (progress_after_item names (text.action line a) s)
-    (progress_after_items names es (progress_after_action (resolution_of names a) s)) n
+    labels-more (typed_item_of names (text.action line a) s)
+    (typed_items_of names es (progress_after_action (resolution_of names a) s)) n
     (labels-below names es (progress_after_action (resolution_of names a) s) n le lt)
 labels-below names (text.block line operator negated items end ∷ es) s n le lt =
-    labels-more (progress_after_item names (text.block line operator negated items end) s)
-    (progress_after_items names es
+    labels-more (typed_item_of names (text.block line operator negated items end) s)
+    (typed_items_of names es
     (progress_after_entry names (text.block line operator negated items end) s)) n
     (labels-below names es (progress_after_entry names (text.block line operator negated items end)
     s) n le
@@ -231,24 +231,24 @@ labels-below names (text.block line operator negated items end ∷ es) s n le lt
 -- ---- the items
 
 -- what is left of an instruction, before what is left below
-item-case : (c : Checked) (labels : Labelling) (passed : ℕ) (named : List ℕ) (now : Coming)
+item-case : (c : Checked) (labels : Labelling) (passed : ℕ) (named : List ℕ) (now : Incoming)
     (r : Resolved) (t : Option ElementaryType) (is : List ProgramItem) (x : Option Transfer)
     (o : Option SimpleOperation)
-    → IsFound c r → IsRight passed r t → now ≡ Some t → Jumps labels (rules.target_of r) t
+    → IsFound c r → IsRight passed r t → now ≡ Some t → JumpAgrees labels (rules.target_of r) t
     → ((n : ℕ) → rules.target_of r ≡ Some n → has_label is n ≡ true)
-    → transfer_in r ≡ x → operation_in r t ≡ o
-    → AreItems c labels is (carry_of passed (with_target (rules.target_of r) named)
-    (coming_after_action r t))
+    → typed_transfer r ≡ x → typed_operation r t ≡ o
+    → AreItems c labels is (flow_state passed (with_target (rules.target_of r) named)
+    (incoming_after_action r t))
     → AreItems c labels (cons_option (or_entry x (option_map operation o)) is)
-    (carry_of passed named now)
+    (flow_state passed named now)
 item-case c labels passed named now r t is (Some x) o known ok at jumps there goes leaves more =
     let m = transfer-typed c is passed r t x known ok there goes in (
       t,
-      (at, m.right, subst (λ (n : Option ℕ). Jumps labels n t) (sym m.target) jumps),
+      (at, m.right, subst (λ (n : Option ℕ). JumpAgrees labels n t) (sym m.target) jumps),
       subst (λ (n : Option ℕ). AreItems c labels is
-          (carry_of passed (with_target n named) (coming_after_transfer x t))) (sym m.target)
-          (subst (λ (w : Coming). AreItems c labels is
-          (carry_of passed (with_target (rules.target_of r) named) w)) (sym m.goes) more),
+          (flow_state passed (with_target n named) (incoming_after_transfer x t))) (sym m.target)
+          (subst (λ (w : Incoming). AreItems c labels is
+          (flow_state passed (with_target (rules.target_of r) named) w)) (sym m.goes) more),
     )
 item-case c labels passed named now r t is None (Some o) known ok at jumps there goes leaves more =
     let on = operation-goes-on r t o leaves in (
@@ -256,35 +256,35 @@ item-case c labels passed named now r t is None (Some o) known ok at jumps there
       type_after r t,
       (at, operation-typed c passed r t o known ok leaves, omega arith),
       subst (λ (n : Option ℕ). AreItems c labels is
-          (carry_of passed (with_target n named) (Some (type_after r t)))) on.0
+          (flow_state passed (with_target n named) (Some (type_after r t)))) on.0
           (subst (λ (b : Bool). AreItems c labels is
-          (carry_of passed (with_target (rules.target_of r) named)
+          (flow_state passed (with_target (rules.target_of r) named)
           (cond b (Some (type_after r t)) None))) on.1 more),
     )
 item-case c labels passed named now r t is None None known ok at jumps there goes leaves more =
     let on = nothing-left c passed r t known ok goes leaves in
-    subst (λ (w : Coming). AreItems c labels is (carry_of passed named w)) (on.1 ∙ sym at)
+    subst (λ (w : Incoming). AreItems c labels is (flow_state passed named w)) (on.1 ∙ sym at)
     (subst (λ (n : Option ℕ). AreItems c labels is
-    (carry_of passed (with_target n named) (coming_after_action r t))) on.0 more)
+    (flow_state passed (with_target n named) (incoming_after_action r t))) on.0 more)
 
-block-case : (c : Checked) (labels : Labelling) (passed : ℕ) (named : List ℕ) (now : Coming)
+block-case : (c : Checked) (labels : Labelling) (passed : ℕ) (named : List ℕ) (now : Incoming)
     (t u : Option ElementaryType) (is : List ProgramItem) (o : Option Entry)
     → now ≡ Some t → option_depth o ≤ most_nested → IsBlock c o t u
-    → AreItems c labels is (carry_of passed named (Some u))
-    → AreItems c labels (cons_option (option_map plain o) is) (carry_of passed named now)
+    → AreItems c labels is (flow_state passed named (Some u))
+    → AreItems c labels (cons_option (option_map plain o) is) (flow_state passed named now)
 block-case c labels passed named now t u is o at depth b more =
     let deep : entry_depth b.what ≤ most_nested =
     subst (λ (x : Option Entry). option_depth x ≤ most_nested) b.is depth in
     subst (λ (x : Option Entry). AreItems c labels (cons_option (option_map plain x) is)
-    (carry_of passed named now)) (sym b.is) (t, u, (at, b.right, deep), more)
+    (flow_state passed named now)) (sym b.is) (t, u, (at, b.right, deep), more)
 
 module _ (c : Checked) (names : ProgramNames) (meant : AreNamed c names) (labels : Labelling)
     (count : ℕ)
     (range : InRange names count) where
-  items-typed : (es : List text.Entry) (s : Progress) (named : List ℕ) (now : Coming)
+  items-typed : (es : List text.Entry) (s : Progress) (named : List ℕ) (now : Incoming)
       → AreLeast labels names es s → items_faults names es s ≡ [] → Exact count named s now
       → s.passed + length (labels_from s.passed es) ≡ count
-      → AreItems c labels (progress_after_items names es s) (carry_of s.passed named now)
+      → AreItems c labels (typed_items_of names es s) (flow_state s.passed named now)
   items-typed [] s named now same none x size = tt
   items-typed (text.label line name ∷ es) s named now same none x size =
       let f = flows-from names labels count range (text.label line name ∷ es) s named now same none
@@ -292,7 +292,7 @@ module _ (c : Checked) (names : ProgramNames) (meant : AreNamed c names) (labels
       let later = (both-none _ _ none).1 in (
         (refl, f.0.1, f.0.2),
         items-typed es (progress_after_entry names (text.label line name) s) named
-            (type_after_label labels (carry_of s.passed named now))
+            (type_after_label labels (flow_state s.passed named now))
             (least-behind-label names labels line name es s same) later
             (exact-behind-label names labels count line name es s named now same x) (omega arith),
       )
@@ -309,11 +309,11 @@ module _ (c : Checked) (names : ProgramNames) (meant : AreNamed c names) (labels
       jumps-out labels names es count r s named (rules.target_of r) refl right.0 right.1 within
       x.brought same in
       item-case c labels s.passed named now r s.now.kind
-      (progress_after_items names es (progress_after_action r s))
-      (transfer_in r) (operation_in r s.now.kind) (found c names meant a) right.1
+      (typed_items_of names es (progress_after_action r s))
+      (typed_transfer r) (typed_operation r s.now.kind) (found c names meant a) right.1
       (exact-now count named s now x right.0) jumps below refl refl
       (items-typed es (progress_after_action r s) (with_target (rules.target_of r) named)
-      (coming_after_action r s.now.kind) same h.1
+      (incoming_after_action r s.now.kind) same h.1
       (exact-behind-action names count range a s named now right.0 x) size)
   items-typed (text.block line operator negated items end ∷ es) s named now same none x size =
       let b = text.block line operator negated items end in
@@ -324,8 +324,8 @@ module _ (c : Checked) (names : ProgramNames) (meant : AreNamed c names) (labels
       let right = entry-from names most_nested s.now.is_reached s.passed b s.now.kind h.0 in
       block-case c labels s.passed named now s.now.kind
       (option_map (type_of_result operator) s.now.kind)
-      (progress_after_items names es (progress_after_entry names b s))
-      (entry_left names most_nested b s.now.kind)
+      (typed_items_of names es (progress_after_entry names b s))
+      (typed_entry_of names most_nested b s.now.kind)
       (exact-now count named s now x reached)
       (entry-within names most_nested s.passed b s.now.kind right)
       (block-left c names meant most_nested s.passed line operator negated items end s.now.kind

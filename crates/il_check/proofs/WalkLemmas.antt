@@ -14,9 +14,9 @@ use Rattle.il_check.specs.SourceOperands.{ProgramNames}
 use Rattle.il_check.specs.Program as plain
 use Rattle.il_check.specs.ProgramViews.{entry_view, item_view}
 use Rattle.il_check.specs.WalkView.{progress_of}
-use Rattle.il_check.specs.WellTyped.{Progress, type_after_entry, type_after_entries, entry_faults, entries_faults, entry_left, entries_left, progress_after_entry, item_faults, items_faults, progress_after_item, progress_after_items}
+use Rattle.il_check.specs.WellTyped.{Progress, type_after_entry, type_after_entries, entry_faults, entries_faults, typed_entry_of, typed_entries_of, progress_after_entry, item_faults, items_faults, typed_item_of, typed_items_of}
 use Rattle.il_check.specs.declared.walk.Walk.{Walk}
-use Rattle.il_check.specs.declared.walk.Passed.{Passed}
+use Rattle.il_check.specs.declared.walk.CheckedEntries.{CheckedEntries}
 use Rattle.il_check.specs.declared.typed.TypedEntry.{TypedEntry}
 use Rattle.il_check.specs.declared.fault.CheckFault.{CheckFault}
 use Rattle.il_check.specs.declared.fault.CheckFault.TheVariants.{TooMany}
@@ -77,36 +77,36 @@ module _ (names : ProgramNames) (room : ℕ) (is_reached : Bool) (passed : ℕ) 
   entries = text.entries_of (map entry_of all)
 
   -- what is known after so many entries
-  pub record EntriesSoFar (i : ℕ) (now : Option CheckFault) (p : Passed) : Type 0 where
+  pub record EntriesSoFar (i : ℕ) (now : Option CheckFault) (p : CheckedEntries) : Type 0 where
     pub kind : type_after_entries names (text.entries_of (map entry_of (drop i all))) p.kind
         ≡ type_after_entries names (text.entries_of (map entry_of all)) None
     pub left : ahead (map entry_view p.entries.items)
-        (entries_left names room (text.entries_of (map entry_of (drop i all))) p.kind)
-        ≡ entries_left names room (text.entries_of (map entry_of all)) None
+        (typed_entries_of names room (text.entries_of (map entry_of (drop i all))) p.kind)
+        ≡ typed_entries_of names room (text.entries_of (map entry_of all)) None
     pub found : first_fault_of now (entries_faults names room is_reached passed
         (text.entries_of (map entry_of (drop i all))) p.kind)
         ≡ first_fault_of begun (entries_faults names room is_reached passed
         (text.entries_of (map entry_of all)) None)
 
   -- what an entry changes
-  pub record EntryTaken (e : text.Entry) (old new : Option CheckFault) (p q : Passed) : Type 0 where
+  pub record EntryTaken (e : text.Entry) (old new : Option CheckFault) (p q : CheckedEntries) : Type 0 where
     pub kind : q.kind ≡ type_after_entry names e p.kind
     pub left : map entry_view q.entries.items
-        ≡ map entry_view p.entries.items ++ option_to_list (entry_left names room e p.kind)
+        ≡ map entry_view p.entries.items ++ option_to_list (typed_entry_of names room e p.kind)
     pub found : new ≡ first_fault_of old (entry_faults names room is_reached passed e p.kind)
 
-  pub entries-none : (p : Passed) → p.entries.items ≡ [] → p.kind ≡ None → EntriesSoFar 0 begun p
+  pub entries-none : (p : CheckedEntries) → p.entries.items ≡ [] → p.kind ≡ None → EntriesSoFar 0 begun p
   entries-none p nothing unset = record {
     kind = ap (type_after_entries names (text.entries_of (map entry_of all))) unset;
     left =
         ap (λ (es : List TypedEntry). ahead (map entry_view es)
-        (entries_left names room (text.entries_of (map entry_of all)) p.kind)) nothing
-        ∙ ap (entries_left names room (text.entries_of (map entry_of all))) unset;
+        (typed_entries_of names room (text.entries_of (map entry_of all)) p.kind)) nothing
+        ∙ ap (typed_entries_of names room (text.entries_of (map entry_of all))) unset;
     found = ap (λ (k : Option ElementaryType). first_fault_of begun
         (entries_faults names room is_reached passed (text.entries_of (map entry_of all)) k)) unset;
   }
 
-  pub entries-more : (i : ℕ) (x : Item) (old new : Option CheckFault) (p q : Passed)
+  pub entries-more : (i : ℕ) (x : Item) (old new : Option CheckFault) (p q : CheckedEntries)
       → i < length all → x ≡ get_or all i x
       → EntriesSoFar i old p → EntryTaken (entry_of x) old new p q → EntriesSoFar (i + 1) new q
   entries-more i x old new p q within is known taken =
@@ -121,14 +121,14 @@ module _ (names : ProgramNames) (room : ℕ) (is_reached : Bool) (passed : ℕ) 
             ∙ known.kind;
         left =
             ap (λ (k : Option ElementaryType). ahead (map entry_view q.entries.items)
-            (entries_left names room after k)) taken.kind
+            (typed_entries_of names room after k)) taken.kind
             ∙ ap (λ (es : List plain.Entry). ahead es
-            (entries_left names room after (type_after_entry names (entry_of x) p.kind))) taken.left
+            (typed_entries_of names room after (type_after_entry names (entry_of x) p.kind))) taken.left
             ∙ ahead-option (map entry_view p.entries.items)
-            (entry_left names room (entry_of x) p.kind)
-            (entries_left names room after (type_after_entry names (entry_of x) p.kind))
+            (typed_entry_of names room (entry_of x) p.kind)
+            (typed_entries_of names room after (type_after_entry names (entry_of x) p.kind))
             ∙ ap (λ (es : text.Entries). ahead (map entry_view p.entries.items)
-            (entries_left names room es p.kind)) (sym left)
+            (typed_entries_of names room es p.kind)) (sym left)
             ∙ known.left;
         found =
             ap (λ (k : Option ElementaryType). first_fault_of new
@@ -145,25 +145,25 @@ module _ (names : ProgramNames) (room : ℕ) (is_reached : Bool) (passed : ℕ) 
       }
 
   -- after all entries
-  pub entries-kind : (i : ℕ) (found : Option CheckFault) (p : Passed) → length all ≤ i
+  pub entries-kind : (i : ℕ) (found : Option CheckFault) (p : CheckedEntries) → length all ≤ i
       → EntriesSoFar i found p
       → p.kind ≡ type_after_entries names (text.entries_of (map entry_of all)) None
   entries-kind i found p within known =
       ap (λ (xs : List Item). type_after_entries names (text.entries_of (map entry_of xs)) p.kind)
       (sym (nothing-left all i within)) ∙ known.kind
 
-  pub entries-left : (i : ℕ) (found : Option CheckFault) (p : Passed) → length all ≤ i
+  pub entries-left : (i : ℕ) (found : Option CheckFault) (p : CheckedEntries) → length all ≤ i
       → EntriesSoFar i found p
       → plain.entries_of (map entry_view p.entries.items)
-      ≡ entries_left names room (text.entries_of (map entry_of all)) None
+      ≡ typed_entries_of names room (text.entries_of (map entry_of all)) None
   entries-left i found p within known =
       sym (ahead-none (map entry_view p.entries.items))
       ∙ ap (λ (xs : List Item). ahead (map entry_view p.entries.items)
-      (entries_left names room (text.entries_of (map entry_of xs)) p.kind))
+      (typed_entries_of names room (text.entries_of (map entry_of xs)) p.kind))
       (sym (nothing-left all i within))
       ∙ known.left
 
-  pub entries-found : (i : ℕ) (found : Option CheckFault) (p : Passed) → length all ≤ i
+  pub entries-found : (i : ℕ) (found : Option CheckFault) (p : CheckedEntries) → length all ≤ i
       → EntriesSoFar i found p
       → found ≡ first_fault_of begun (entries_faults names room is_reached passed
       (text.entries_of (map entry_of all)) None)
@@ -179,18 +179,18 @@ module _ (names : ProgramNames) (all : List Item) (begun : Option CheckFault) (s
     -- what is known after so many items; what is left of them is, as long as no fault is found
     pub record ItemsSoFar (i : ℕ) (now : Option CheckFault) (w : Walk) : Type 0 where
       pub left : now ≡ None → map item_view w.items.items
-          ++ progress_after_items names (map entry_of (drop i all)) (progress_of w)
-          ≡ progress_after_items names (map entry_of all) start
+          ++ typed_items_of names (map entry_of (drop i all)) (progress_of w)
+          ≡ typed_items_of names (map entry_of all) start
       pub found : first_fault_of now
           (items_faults names (map entry_of (drop i all)) (progress_of w))
           ≡ first_fault_of begun (items_faults names (map entry_of all) start)
       pub few : w.passed ≤ i
 
     pub record ItemTaken (e : text.Entry) (old new : Option CheckFault) (v w : Walk) : Type 0 where
-      pub standing : progress_of w ≡ progress_after_entry names e (progress_of v)
+      pub progress : progress_of w ≡ progress_after_entry names e (progress_of v)
       pub left : new ≡ None → map item_view w.items.items
           ≡ map item_view v.items.items
-          ++ option_to_list (progress_after_item names e (progress_of v))
+          ++ option_to_list (typed_item_of names e (progress_of v))
       pub found : new ≡ first_fault_of old (item_faults names e (progress_of v))
 
     few-more : (e : text.Entry) (s : Progress)
@@ -210,19 +210,19 @@ module _ (names : ProgramNames) (all : List Item) (begun : Option CheckFault) (s
         record {
           left = λ (none : new ≡ None).
               ap (λ (t : Progress). map item_view w.items.items
-              ++ progress_after_items names after t)
-              taken.standing
-              ∙ ap (λ (xs : List plain.ProgramItem). xs ++ progress_after_items names after s)
+              ++ typed_items_of names after t)
+              taken.progress
+              ∙ ap (λ (xs : List plain.ProgramItem). xs ++ typed_items_of names after s)
               (taken.left none)
               ∙ cons-after (map item_view v.items.items)
-              (progress_after_item names (entry_of x) (progress_of v))
-              (progress_after_items names after s)
+              (typed_item_of names (entry_of x) (progress_of v))
+              (typed_items_of names after s)
               ∙ ap (λ (es : List text.Entry). map item_view v.items.items
-              ++ progress_after_items names es (progress_of v)) (sym left)
+              ++ typed_items_of names es (progress_of v)) (sym left)
               ∙ known.left (noted-none old (item_faults names (entry_of x) (progress_of v))
               (sym taken.found ∙ none));
           found =
-              ap (λ (t : Progress). first_fault_of new (items_faults names after t)) taken.standing
+              ap (λ (t : Progress). first_fault_of new (items_faults names after t)) taken.progress
               ∙ ap (λ (o : Option CheckFault). first_fault_of o (items_faults names after s))
               taken.found
               ∙ sym (noted-append old (item_faults names (entry_of x) (progress_of v))
@@ -232,7 +232,7 @@ module _ (names : ProgramNames) (all : List Item) (begun : Option CheckFault) (s
               (sym left)
               ∙ known.found;
           few =
-              let e : w.passed ≡ s.passed = ap (λ (t : Progress). t.passed) taken.standing in
+              let e : w.passed ≡ s.passed = ap (λ (t : Progress). t.passed) taken.progress in
               let f : s.passed ≤ v.passed + 1 = few-more (entry_of x) (progress_of v) in
               let g : v.passed ≤ i = known.few in
               omega arith;
@@ -240,11 +240,11 @@ module _ (names : ProgramNames) (all : List Item) (begun : Option CheckFault) (s
 
     pub items-left : (i : ℕ) (found : Option CheckFault) (w : Walk) → length all ≤ i
         → ItemsSoFar i found w → found ≡ None
-        → map item_view w.items.items ≡ progress_after_items names (map entry_of all) start
+        → map item_view w.items.items ≡ typed_items_of names (map entry_of all) start
     items-left i found w within known none =
         sym (append-nil (map item_view w.items.items))
         ∙ ap (λ (xs : List Item). map item_view w.items.items
-        ++ progress_after_items names (map entry_of xs) (progress_of w))
+        ++ typed_items_of names (map entry_of xs) (progress_of w))
         (sym (nothing-left all i within))
         ∙ known.left none
 

@@ -6,7 +6,7 @@ use Rattle.il_text.specs.Listing as text
 use Rattle.il_check.specs.Declaring.{names_in, labels_from, externals_of, variables_of, timers_of, declarations_faults}
 use Rattle.il_check.specs.Faults.{least_fault}
 use Rattle.il_check.specs.Program.{Checked}
-use Rattle.il_check.specs.WellTyped.{Progress, start_progress, no_reach, items_faults, progress_after_items}
+use Rattle.il_check.specs.WellTyped.{Progress, start_progress, no_reach, items_faults, typed_items_of}
 use Rattle.il_check.specs.declared.fault.CheckFault.{CheckFault}
 
 -- ---- own: faults, and the result of a check
@@ -27,13 +27,13 @@ checked_program points program = record {
   externals = externals_of points program.declarations;
   variables = variables_of program.declarations;
   timers = timers_of program.declarations;
-  items = progress_after_items (names_in points program) program.items (initial_progress program);
+  items = typed_items_of (names_in points program) program.items (initial_progress program);
 }
 
 -- The program declares something or has an item. Checking another program does not run out of
 -- memory.
-abbrev pub TakesMemory : text.PlainProgram → Type 0
-TakesMemory program = 0 < length program.declarations + length program.items
+abbrev pub Allocates : text.PlainProgram → Type 0
+Allocates program = 0 < length program.declarations + length program.items
 
 -- the checked program, or the fault to report
 abbrev pub checked_of : List Point → text.PlainProgram → Result Checked CheckFault

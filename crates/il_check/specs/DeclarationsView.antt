@@ -13,7 +13,7 @@ use Rattle.il_text.specs.declared.program.VariableScope.TheVariants as scope
 use Rattle.il_image.specs.declared.value.Value.{Value}
 use Rattle.il_check.specs.Faults.{first_fault_of}
 use Rattle.il_check.specs.NamesView.{with_value}
-use Rattle.il_check.specs.Declaring.{Counts, externals_of, variables_of, timers_of, meanings_of, looked_up, initial_in, meaning_at, is_full, name_faults, external_in, variable_in, timer_in, point_of}
+use Rattle.il_check.specs.Declaring.{Counts, externals_of, variables_of, timers_of, meanings_of, looked_up, initial_value, meaning_at, is_full, name_faults, declared_external, declared_variable, declared_timer, point_of}
 use Rattle.il_check.specs.declared.declare.Declarations.{Declarations}
 use Rattle.il_check.specs.declared.typed.External.{External}
 use Rattle.il_check.specs.declared.typed.Variable.{Variable}
@@ -48,9 +48,9 @@ external_added name declared_as kind point = None
 
 -- the variable that a declaration adds, if any: a local name with an elementary type and a value
 -- that fits
-abbrev pub variable_added : List ℕ → text.Declared → VariableScope → DeclaredType → Option Variable
+abbrev pub variable_added : List ℕ → text.DeclaredName → VariableScope → DeclaredType → Option Variable
 variable_added name d scope.Local (type.Elementary kind) =
-    variable_named name (initial_in kind d.initial)
+    variable_named name (initial_value kind d.initial)
 variable_added name d declared_as kind = None
 
 -- the timer that a declaration adds, if any: a name with the type of a timer
@@ -80,7 +80,7 @@ pub record SameButTimers (old new : Declarations) : Type 0 where
   pub found : new.found ≡ old.found
 
 -- The externals, variables and timers that a declaration adds are appended.
-pub record Adds (name : List ℕ) (d : text.Declared) (point : Option Point) (old new : Declarations)
+pub record AppendsParts (name : List ℕ) (d : text.DeclaredName) (point : Option Point) (old new : Declarations)
     : Type 0 where
   pub externals : new.externals.items
       ≡ old.externals.items ++ option_to_list (external_added name d.scope d.kind point)
@@ -91,12 +91,12 @@ pub record Adds (name : List ℕ) (d : text.Declared) (point : Option Point) (ol
   pub found : new.found ≡ old.found
 
 -- The new declarations are the old ones and one more.
-pub record Takes (points : List Point) (d : text.Declared) (old new : Declarations) : Type 0 where
+pub record IsAfterDeclaration (points : List Point) (d : text.DeclaredName) (old new : Declarations) : Type 0 where
   pub externals : new.externals.items
-      ≡ old.externals.items ++ option_to_list (external_in points d d.scope d.kind)
+      ≡ old.externals.items ++ option_to_list (declared_external points d d.scope d.kind)
   pub variables : new.variables.items
-      ≡ old.variables.items ++ option_to_list (variable_in d d.scope d.kind)
-  pub timers : new.timers.items ≡ old.timers.items ++ option_to_list (timer_in d d.kind)
+      ≡ old.variables.items ++ option_to_list (declared_variable d d.scope d.kind)
+  pub timers : new.timers.items ≡ old.timers.items ++ option_to_list (declared_timer d d.kind)
   pub meanings : (other : List ℕ) → get_by_text new.meanings other
       ≡ with_value (λ q. get_by_text old.meanings q) (upper d.name)
       (meaning_at (counts_in old) d.scope d.kind (point_of points d.name)) other
@@ -105,7 +105,7 @@ pub record Takes (points : List Point) (d : text.Declared) (old new : Declaratio
       (is_some (get_by_text old.meanings (upper d.name))) (is_full (counts_in old) d.kind) d)
 
 -- These are the declarations `declared`, in order.
-pub record AreDeclarations (points : List Point) (declared : List text.Declared) (d : Declarations)
+pub record AreDeclarations (points : List Point) (declared : List text.DeclaredName) (d : Declarations)
     : Type 0 where
   pub externals : d.externals.items ≡ externals_of points declared
   pub variables : d.variables.items ≡ variables_of declared

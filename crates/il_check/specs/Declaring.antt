@@ -20,7 +20,7 @@ use Rattle.il_image.specs.Values.{default_value, type_of}
 use Rattle.il_image.specs.Machine.{most_slots, most_timers}
 use Rattle.il_check.specs.Faults.{fault_if}
 use Rattle.il_check.specs.SourceOperands.{ProgramNames, typed_value}
-use Rattle.il_check.specs.Rules.{number_in}
+use Rattle.il_check.specs.Rules.{typed_number}
 use Rattle.il_check.specs.declared.typed.External as given
 use Rattle.il_check.specs.declared.typed.Variable.{Variable}
 use Rattle.il_check.specs.declared.typed.Timer as own
@@ -65,30 +65,30 @@ of_type kind (Some v) = if same_type (type_of v) kind then Some v else None
 -- the value of a literal as one of this type, if it is one
 abbrev pub literal_value : ElementaryType → Literal → Option Value
 literal_value kind (literal.Truth b) = of_type kind (typed_value (literal.Truth b))
-literal_value kind (literal.Number z) = number_in kind z
+literal_value kind (literal.Number z) = typed_number kind z
 literal_value kind (literal.Int z) = of_type kind (typed_value (literal.Int z))
 literal_value kind (literal.Dint z) = of_type kind (typed_value (literal.Dint z))
 literal_value kind (literal.Lint z) = of_type kind (typed_value (literal.Lint z))
 literal_value kind (literal.Time n) = of_type kind (typed_value (literal.Time n))
 
 -- the initial value of a variable of a type, if the literal fits it
-abbrev pub initial_in : ElementaryType → Option Literal → Option Value
-initial_in kind None = Some (default_value kind)
-initial_in kind (Some given) = literal_value kind given
+abbrev pub initial_value : ElementaryType → Option Literal → Option Value
+initial_value kind None = Some (default_value kind)
+initial_value kind (Some given) = literal_value kind given
 
 -- whether the point has this type; true if there is no point (own)
-abbrev pub is_kind_of : Option Point → ElementaryType → Bool
-is_kind_of None kind = true
-is_kind_of (Some p) kind = same_type p.kind kind
+abbrev pub point_has_type : Option Point → ElementaryType → Bool
+point_has_type None kind = true
+point_has_type (Some p) kind = same_type p.kind kind
 
 -- ---- IEC 61131-3 2.4.3.1: types
 
 -- whether a declaration fits its type: an external has its point's type, a variable's literal fits
 -- it, and no point is declared as a timer
 abbrev pub is_typed : VariableScope → DeclaredType → Option Point → Option Literal → Bool
-is_typed Local (Elementary kind) point given = is_some (initial_in kind given)
+is_typed Local (Elementary kind) point given = is_some (initial_value kind given)
 is_typed Local (Timer kind) point given = true
-is_typed External (Elementary kind) point given = is_kind_of point kind
+is_typed External (Elementary kind) point given = point_has_type point kind
 is_typed External (Timer kind) point given = is_none point
 
 -- whether there is a point and the program may write it (own)
@@ -99,44 +99,44 @@ is_writable (Some p) = p.writable
 -- ---- own: what is declared, in order, and the meanings of names
 
 -- the external of a name with a type, if it has a point
-abbrev pub external_at : List ℕ → ElementaryType → Option Point → Option given.External
-external_at name kind None = None
-external_at name kind (Some p) =
+abbrev pub point_external : List ℕ → ElementaryType → Option Point → Option given.External
+point_external name kind None = None
+point_external name kind (Some p) =
     Some (record { name = upper name; kind = kind; writable = p.writable; source = p.source })
 
 -- the external that a declaration adds, if any
-abbrev pub external_in : List Point → text.Declared → VariableScope → DeclaredType
+abbrev pub declared_external : List Point → text.DeclaredName → VariableScope → DeclaredType
     → Option given.External
-external_in points d External (Elementary kind) = external_at d.name kind (point_of points d.name)
-external_in points d scope kind = None
+declared_external points d External (Elementary kind) = point_external d.name kind (point_of points d.name)
+declared_external points d scope kind = None
 
 -- the variable of a name with its initial value, if it has one
-abbrev pub variable_at : List ℕ → Option Value → Option Variable
-variable_at name None = None
-variable_at name (Some v) = Some (record { name = upper name; initial = v })
+abbrev pub valued_variable : List ℕ → Option Value → Option Variable
+valued_variable name None = None
+valued_variable name (Some v) = Some (record { name = upper name; initial = v })
 
 -- the variable that a declaration adds, if any: a local name with an elementary type and a value
 -- that fits
-abbrev pub variable_in : text.Declared → VariableScope → DeclaredType → Option Variable
-variable_in d Local (Elementary kind) = variable_at d.name (initial_in kind d.initial)
-variable_in d scope kind = None
+abbrev pub declared_variable : text.DeclaredName → VariableScope → DeclaredType → Option Variable
+declared_variable d Local (Elementary kind) = valued_variable d.name (initial_value kind d.initial)
+declared_variable d scope kind = None
 
 -- the timer that a declaration adds, if any: a name with the type of a timer
-abbrev pub timer_in : text.Declared → DeclaredType → Option own.Timer
-timer_in d (Timer kind) = Some (record { name = upper d.name; kind = kind })
-timer_in d (Elementary kind) = None
+abbrev pub declared_timer : text.DeclaredName → DeclaredType → Option own.Timer
+declared_timer d (Timer kind) = Some (record { name = upper d.name; kind = kind })
+declared_timer d (Elementary kind) = None
 
 -- the externals that declarations add, in their order
-abbrev pub externals_of : List Point → List text.Declared → List given.External
-externals_of points declared = filter_map (λ d. external_in points d d.scope d.kind) declared
+abbrev pub externals_of : List Point → List text.DeclaredName → List given.External
+externals_of points declared = filter_map (λ d. declared_external points d d.scope d.kind) declared
 
 -- the variables that declarations add, in their order
-abbrev pub variables_of : List text.Declared → List Variable
-variables_of declared = filter_map (λ d. variable_in d d.scope d.kind) declared
+abbrev pub variables_of : List text.DeclaredName → List Variable
+variables_of declared = filter_map (λ d. declared_variable d d.scope d.kind) declared
 
 -- the timers that declarations add, in their order
-abbrev pub timers_of : List text.Declared → List own.Timer
-timers_of declared = filter_map (λ d. timer_in d d.kind) declared
+abbrev pub timers_of : List text.DeclaredName → List own.Timer
+timers_of declared = filter_map (λ d. declared_timer d d.kind) declared
 
 -- numbers of externals, variables and timers
 pub record Counts : Type 0 where
@@ -145,7 +145,7 @@ pub record Counts : Type 0 where
   pub timers : ℕ
 
 -- the numbers of these that the declarations add
-abbrev pub counts_of : List Point → List text.Declared → Counts
+abbrev pub counts_of : List Point → List text.DeclaredName → Counts
 counts_of points declared = record {
   externals = length (externals_of points declared);
   variables = length (variables_of declared);
@@ -161,7 +161,7 @@ meaning_at counts External (Elementary kind) point =
 meaning_at counts scope (Timer kind) point = meaning.Timer counts.timers
 
 -- the meaning of each declared name, after other declarations
-abbrev pub meanings_from : List Point → List text.Declared → List text.Declared
+abbrev pub meanings_from : List Point → List text.DeclaredName → List text.DeclaredName
     → List (List ℕ × Meaning)
 meanings_from points before [] = []
 meanings_from points before (d ∷ ds) =
@@ -169,7 +169,7 @@ meanings_from points before (d ∷ ds) =
     ∷ meanings_from points (before ++ d ∷ []) ds
 
 -- the meaning of each declared name
-abbrev pub meanings_of : List Point → List text.Declared → List (List ℕ × Meaning)
+abbrev pub meanings_of : List Point → List text.DeclaredName → List (List ℕ × Meaning)
 meanings_of points declared = meanings_from points [] declared
 
 -- the value of the first entry with this name, in upper case
@@ -200,7 +200,7 @@ is_full counts (Timer kind) = nat_le most_timers counts.timers
 
 -- the faults of a declaration; `is_known`: its name was declared before; `is_beyond`: it is one too
 -- many
-abbrev pub name_faults : Option Point → Bool → Bool → text.Declared → List CheckFault
+abbrev pub name_faults : Option Point → Bool → Bool → text.DeclaredName → List CheckFault
 name_faults point is_known is_beyond d =
     fault_if (is_external d.scope && is_none point) (UnknownName d.line)
     ++ (fault_if is_known (DuplicateName d.line)
@@ -208,14 +208,14 @@ name_faults point is_known is_beyond d =
     ++ fault_if is_beyond (TooMany d.line)))
 
 -- the faults of a declaration after others
-abbrev pub declaration_faults : List Point → List text.Declared → text.Declared → List CheckFault
+abbrev pub declaration_faults : List Point → List text.DeclaredName → text.DeclaredName → List CheckFault
 declaration_faults points before d =
     name_faults (point_of points d.name)
     (is_some (looked_up (meanings_of points before) (upper d.name)))
     (is_full (counts_of points before) d.kind) d
 
 -- the faults of declarations after others
-abbrev pub declarations_faults : List Point → List text.Declared → List text.Declared
+abbrev pub declarations_faults : List Point → List text.DeclaredName → List text.DeclaredName
     → List CheckFault
 declarations_faults points before [] = []
 declarations_faults points before (d ∷ ds) =

@@ -70,7 +70,7 @@ BeginsWith (Some l) v = IsValueOf l v
 -- ---- own: preserved declarations
 
 -- The external is the point of its name, with its type, its source, and whether it may be written.
-pub record IsExternalOf (points : List Point) (d : text.Declared) (kind : ElementaryType)
+pub record IsExternalOf (points : List Point) (d : text.DeclaredName) (kind : ElementaryType)
     (e : External) : Type 0 where
   pub point : Point
   pub found : point_of points d.name ≡ Some point
@@ -81,14 +81,14 @@ pub record IsExternalOf (points : List Point) (d : text.Declared) (kind : Elemen
   pub writable : e.writable ≡ point.writable
 
 -- The variable has the declared name, type and initial value.
-pub record IsVariableOf (d : text.Declared) (kind : ElementaryType) (v : Variable) : Type 0 where
+pub record IsVariableOf (d : text.DeclaredName) (kind : ElementaryType) (v : Variable) : Type 0 where
   pub name : v.name ≡ upper d.name
   pub kind_is : type_of v.initial ≡ kind
   pub initial : BeginsWith d.initial v.initial
 
 -- The first external, variable or timer, by the scope and type of the declaration, is the declared
 -- one, and the later ones are those of later declarations.
-abbrev pub IsDeclaredAs : List Point → text.Declared → VariableScope → DeclaredType → List External
+abbrev pub IsDeclaredAs : List Point → text.DeclaredName → VariableScope → DeclaredType → List External
     → List Variable → List Timer → (List External → List Variable → List Timer → Type 0) → Type 0
 IsDeclaredAs points d scope.External (type.Elementary kind) (e ∷ es) vs ts later =
     IsExternalOf points d kind e × later es vs ts
@@ -102,7 +102,7 @@ IsDeclaredAs points d stands (type.Timer kind) es vs [] later = ⊥
 
 -- The externals, variables and timers are the declared ones, in the order of the declarations, and
 -- no others.
-abbrev pub AreDeclared : List Point → List text.Declared → List External → List Variable
+abbrev pub AreDeclared : List Point → List text.DeclaredName → List External → List Variable
     → List Timer → Type 0
 AreDeclared points [] es vs ts = (es ≡ []) × (vs ≡ []) × (ts ≡ [])
 AreDeclared points (d ∷ ds) es vs ts =
@@ -119,7 +119,7 @@ IsOperandOf c (text.variable (text.output timer gives)) (operand.TimerOutput n w
 IsOperandOf c source x = ⊥
 
 -- The slot is that of the variable that the text names.
-abbrev pub IsTargetOf : Checked → text.Place → Slot → Type 0
+abbrev pub IsTargetOf : Checked → text.VariableData → Slot → Type 0
 IsTargetOf c (text.named name) s = slot_name c s ≡ Some (upper name)
 IsTargetOf c (text.output timer gives) s = ⊥
 
@@ -183,6 +183,6 @@ AreItemsOf c labels (e ∷ es) (x ∷ xs) = IsItemOf c labels e x × AreItemsOf 
 AreItemsOf c labels es xs = ⊥
 
 -- The checked program has the declarations and items of the text's program.
-pub record Keeps (points : List Point) (program : text.PlainProgram) (c : Checked) : Type 0 where
+pub record Preserves (points : List Point) (program : text.PlainProgram) (c : Checked) : Type 0 where
   pub declared : AreDeclared points program.declarations c.externals c.variables c.timers
   pub items : AreItemsOf c (label_names program.items) program.items c.items

@@ -5,8 +5,8 @@ use Rattle.bay_base.specs.declared.types.ElementaryType.{ElementaryType}
 use Rattle.il_text.specs.Listing as text
 use Rattle.il_text.specs.declared.program.Operator.{Operator}
 use Rattle.il_check.specs.SourceOperands.{ProgramNames, resolution_of}
-use Rattle.il_check.specs.Rules.{is_wrong, is_unset, type_after, combines_wrong, combines_unset, misses_name, jumps_back, misses_label, writes_fixed, may_divide_by_zero, divides, type_of_result, falls_through, target_of}
-use Rattle.il_check.specs.WellTyped.{Progress, progress_after_entry, is_first, type_after_entry, type_after_entries}
+use Rattle.il_check.specs.Rules.{is_wrong, is_unset, type_after, combines_wrong, combines_unset, uses_undeclared_name, jumps_back, jumps_to_undefined_label, writes_read_only, may_divide_by_zero, divides, type_of_result, falls_through, target_of}
+use Rattle.il_check.specs.WellTyped.{Progress, progress_after_entry, is_first_label, type_after_entry, type_after_entries}
 use Rattle.il_check.specs.declared.source_operand.Resolved.{Resolved}
 use Rattle.il_check.specs.Limits.{most_labels, most_nested}
 
@@ -24,12 +24,12 @@ Becomes t u = (u ≡ t) ⊎ (u ≡ None)
 
 -- The instruction is valid on a result of this type, with `passed` labels above it.
 pub record IsRight (passed : ℕ) (r : Resolved) (result : Option ElementaryType) : Type 0 where
-  pub named : misses_name r ≡ false
+  pub named : uses_undeclared_name r ≡ false
   pub allowed : is_wrong r result ≡ false
   pub set : is_unset r result ≡ false
   pub forward : jumps_back passed r ≡ false
-  pub labelled : misses_label r ≡ false
-  pub writable : writes_fixed r ≡ false
+  pub labelled : jumps_to_undefined_label r ≡ false
+  pub writable : writes_read_only r ≡ false
   pub nonzero : may_divide_by_zero r ≡ false
 
 -- The operator of a parenthesis is valid on a result of the type `result`, if the parenthesis has a
@@ -60,33 +60,33 @@ abbrev mutual
 -- ---- own: types of the current result, over the items
 
 -- the type of the result that the paths to an item bring; none if no path leads there
-abbrev pub Coming : Type 0
-Coming = Option (Option ElementaryType)
+abbrev pub Incoming : Type 0
+Incoming = Option (Option ElementaryType)
 
 -- the state before an item: the number of labels above, the labels that were jumped to, and what
 -- the path from above brings
-pub record Carried : Type 0 where
+pub record FlowState : Type 0 where
   pub passed : ℕ
   pub named : List ℕ
-  pub now : Coming
+  pub now : Incoming
 
 -- the state with these labels, jumps and this result
-abbrev pub carry_of : ℕ → List ℕ → Coming → Carried
-carry_of passed named now = record { passed = passed; named = named; now = now }
+abbrev pub flow_state : ℕ → List ℕ → Incoming → FlowState
+flow_state passed named now = record { passed = passed; named = named; now = now }
 
 -- the state before the first item: the result is unset
-abbrev pub initial_carried : Carried
-initial_carried = carry_of 0 [] (Some None)
+abbrev pub initial_flow : FlowState
+initial_flow = flow_state 0 [] (Some None)
 
 -- The path from above brings the label's type, or the label is unset.
-abbrev pub Falls : Labelling → ℕ → Coming → Type 0
-Falls labels number None = Unit {0}
-Falls labels number (Some t) = Becomes t (labels number)
+abbrev pub FallAgrees : Labelling → ℕ → Incoming → Type 0
+FallAgrees labels number None = Unit {0}
+FallAgrees labels number (Some t) = Becomes t (labels number)
 
 -- A jump to this label brings the label's type, or the label is unset.
-abbrev pub Jumps : Labelling → Option ℕ → Option ElementaryType → Type 0
-Jumps labels None t = Unit {0}
-Jumps labels (Some number) t = Becomes t (labels number)
+abbrev pub JumpAgrees : Labelling → Option ℕ → Option ElementaryType → Type 0
+JumpAgrees labels None t = Unit {0}
+JumpAgrees labels (Some number) t = Becomes t (labels number)
 
 -- whether one of the numbers is this one
 abbrev pub is_named : List ℕ → ℕ → Bool
@@ -99,79 +99,79 @@ with_target None named = named
 with_target (Some number) named = number ∷ named
 
 -- what a label brings to the next item, if a path leads to the label from above or by a jump
-abbrev pub type_after_label : Labelling → Carried → Coming
+abbrev pub type_after_label : Labelling → FlowState → Incoming
 type_after_label labels c =
     if is_some c.now || is_named c.named c.passed then Some (labels c.passed) else None
 
 -- the state after a label
-abbrev pub carried_after_label : Labelling → Carried → Carried
-carried_after_label labels c = carry_of (c.passed + 1) c.named (type_after_label labels c)
+abbrev pub flow_after_label : Labelling → FlowState → FlowState
+flow_after_label labels c = flow_state (c.passed + 1) c.named (type_after_label labels c)
 
 -- what an instruction on a result of this type brings to the next item
-abbrev pub coming_after_action : Resolved → Option ElementaryType → Coming
-coming_after_action r t = if falls_through r then Some (type_after r t) else None
+abbrev pub incoming_after_action : Resolved → Option ElementaryType → Incoming
+incoming_after_action r t = if falls_through r then Some (type_after r t) else None
 
 -- the state after an instruction on a result of this type
-abbrev pub carried_after_action : Resolved → Option ElementaryType → Carried → Carried
-carried_after_action r t c =
-    carry_of c.passed (with_target (target_of r) c.named) (coming_after_action r t)
+abbrev pub flow_after_action : Resolved → Option ElementaryType → FlowState → FlowState
+flow_after_action r t c =
+    flow_state c.passed (with_target (target_of r) c.named) (incoming_after_action r t)
 
 -- the state after a parenthesis whose operator works on a result of this type
-abbrev pub carried_after_block : Operator → Option ElementaryType → Carried → Carried
-carried_after_block operator t c =
-    carry_of c.passed c.named (Some (option_map (type_of_result operator) t))
+abbrev pub flow_after_block : Operator → Option ElementaryType → FlowState → FlowState
+flow_after_block operator t c =
+    flow_state c.passed c.named (Some (option_map (type_of_result operator) t))
 
 -- The label is the first of its name and not too many, and the path from above brings its type.
-abbrev pub LabelFlows : ProgramNames → Labelling → List ℕ → Carried → Type 0
-LabelFlows names labels name c =
-    (is_first c.passed (names.label name) ≡ true) × (c.passed < most_labels)
-    × Falls labels c.passed c.now
+abbrev pub IsReachedLabel : ProgramNames → Labelling → List ℕ → FlowState → Type 0
+IsReachedLabel names labels name c =
+    (is_first_label c.passed (names.label name) ≡ true) × (c.passed < most_labels)
+    × FallAgrees labels c.passed c.now
 
 -- The instruction is reached with a result of this type, is valid on it, and brings it to the label
 -- that it jumps to.
-abbrev pub ActionFlows : Labelling → Resolved → Option ElementaryType → Carried → Type 0
-ActionFlows labels r t c = (c.now ≡ Some t) × IsRight c.passed r t × Jumps labels (target_of r) t
+abbrev pub IsReachedAction : Labelling → Resolved → Option ElementaryType → FlowState → Type 0
+IsReachedAction labels r t c = (c.now ≡ Some t) × IsRight c.passed r t × JumpAgrees labels (target_of r) t
 
 -- The parenthesis is reached with a result of this type, and is valid on it.
-abbrev pub BlockFlows : ProgramNames → text.Entry → Option ElementaryType → Carried → Type 0
-BlockFlows names b t c = (c.now ≡ Some t) × IsRightEntry names most_nested c.passed b t
+abbrev pub IsReachedBlock : ProgramNames → text.Entry → Option ElementaryType → FlowState → Type 0
+IsReachedBlock names b t c = (c.now ≡ Some t) × IsRightEntry names most_nested c.passed b t
 
 -- Each instruction is reached, and valid on the result that reaches it; and each path to a label
 -- brings the label's type, or the label is unset.
-abbrev pub Flows : ProgramNames → Labelling → List text.Entry → Carried → Type 0
-Flows names labels [] c = Unit {0}
-Flows names labels (text.label line name ∷ es) c =
-    LabelFlows names labels name c × Flows names labels es (carried_after_label labels c)
-Flows names labels (text.action line a ∷ es) c =
-    (t : Option ElementaryType) × ActionFlows labels (resolution_of names a) t c
-    × Flows names labels es (carried_after_action (resolution_of names a) t c)
-Flows names labels (text.block line operator negated items end ∷ es) c =
-    (t : Option ElementaryType) × BlockFlows names (text.block line operator negated items end) t c
-    × Flows names labels es (carried_after_block operator t c)
+abbrev pub AreReachedItems : ProgramNames → Labelling → List text.Entry → FlowState → Type 0
+AreReachedItems names labels [] c = Unit {0}
+AreReachedItems names labels (text.label line name ∷ es) c =
+    IsReachedLabel names labels name c × AreReachedItems names labels es (flow_after_label labels c)
+AreReachedItems names labels (text.action line a ∷ es) c =
+    (t : Option ElementaryType) × IsReachedAction labels (resolution_of names a) t c
+    × AreReachedItems names labels es (flow_after_action (resolution_of names a) t c)
+AreReachedItems names labels (text.block line operator negated items end ∷ es) c =
+    (t : Option ElementaryType) × IsReachedBlock names (text.block line operator negated items end) t c
+    × AreReachedItems names labels es (flow_after_block operator t c)
 
 -- With some labelling every instruction is reached and valid.
 abbrev pub IsWellTyped : ProgramNames → List text.Entry → Type 0
-IsWellTyped names items = (labels : Labelling) × Flows names labels items initial_carried
+IsWellTyped names items = (labels : Labelling) × AreReachedItems names labels items initial_flow
 
 -- ---- own: types of the current result, after items
 
 -- applies a function to the result of a path, if there is a path
-abbrev pub with_result : (Option ElementaryType → Coming) → Coming → Coming
+abbrev pub with_result : (Option ElementaryType → Incoming) → Incoming → Incoming
 with_result f None = None
 with_result f (Some t) = f t
 
 -- the result type after these items, under this labelling; none if no path leads there
-abbrev pub type_after_items : ProgramNames → Labelling → List text.Entry → Carried → Coming
+abbrev pub type_after_items : ProgramNames → Labelling → List text.Entry → FlowState → Incoming
 type_after_items names labels [] c = c.now
 type_after_items names labels (text.label line name ∷ es) c =
-    type_after_items names labels es (carried_after_label labels c)
+    type_after_items names labels es (flow_after_label labels c)
 type_after_items names labels (text.action line a ∷ es) c =
     type_after_items names labels es
-    (carry_of c.passed (with_target (target_of (resolution_of names a)) c.named)
-    (with_result (coming_after_action (resolution_of names a)) c.now))
+    (flow_state c.passed (with_target (target_of (resolution_of names a)) c.named)
+    (with_result (incoming_after_action (resolution_of names a)) c.now))
 type_after_items names labels (text.block line operator negated items end ∷ es) c =
     type_after_items names labels es
-    (carry_of c.passed c.named
+    (flow_state c.passed c.named
     (with_result (λ t. Some (option_map (type_of_result operator) t)) c.now))
 
 -- the state of the checks after items

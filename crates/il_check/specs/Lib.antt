@@ -19,7 +19,7 @@
 --
 -- `Program` is a checked program as plain data, `Typing` the typed form of a valid instruction.
 -- `TypedProgram` defines which of them are well typed, without names; `Sound` what holds of each;
--- `Keeping` that a check preserves the content of the text; `OwnPlaces` that a name means its own
+-- `Keeping` that a check preserves the content of the text; `OwnDeclarations` that a name means its own
 -- declaration. `Limits`: how many labels and parentheses there may be. `Contents` and
 -- `ProgramViews` map the code's values to plain data; `Code`: the numbers, lines and words of the
 -- faults.
@@ -39,7 +39,7 @@ pub mod Keeping
 pub mod Labelling
 pub mod Limits
 pub mod Operators
-pub mod OwnPlaces
+pub mod OwnDeclarations
 pub mod Program
 pub mod ProgramViews
 pub mod RightProgram

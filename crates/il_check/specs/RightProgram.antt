@@ -12,17 +12,17 @@ use Rattle.il_check.specs.Labelling.{IsWellTyped}
 -- A declaration is valid after others: an external's name is a point's; no name is declared twice;
 -- an external has its point's type, a literal fits its variable, and no point is declared as a
 -- timer; and there are not too many declarations.
-pub record IsRightDeclaration (points : List Point) (before : List text.Declared)
-    (d : text.Declared) : Type 0 where
+pub record IsRightDeclaration (points : List Point) (before : List text.DeclaredName)
+    (d : text.DeclaredName) : Type 0 where
   pub known : is_external d.scope ≡ true → IsSome (point_of points d.name)
   pub own : list_any (λ e. same_name e.name d.name) before ≡ false
   pub typed : is_typed d.scope d.kind (point_of points d.name) d.initial ≡ true
   pub few : is_full (counts_of points before) d.kind ≡ false
 
 -- Each declaration is valid after those before it.
-abbrev pub AreRightDeclarations : List Point → List text.Declared → Type 0
+abbrev pub AreRightDeclarations : List Point → List text.DeclaredName → Type 0
 AreRightDeclarations points declared =
-    (before : List text.Declared) (d : text.Declared) (after : List text.Declared)
+    (before : List text.DeclaredName) (d : text.DeclaredName) (after : List text.DeclaredName)
     → declared ≡ before ++ d ∷ after → IsRightDeclaration points before d
 
 -- ---- IEC 61131-3 2.4.3, 3.2: programs

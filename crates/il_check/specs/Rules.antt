@@ -32,29 +32,29 @@ use Rattle.il_check.specs.declared.source_operand.Resolved.TheVariants.{Load, St
 -- ---- own: operands of a type
 
 -- the value of a type that an untyped number denotes; no number is a TIME
-abbrev pub number_in : ElementaryType → ℤ → Option Value
-number_in elementary.Bool z = value_of elementary.Bool z
-number_in elementary.Int z = value_of elementary.Int z
-number_in elementary.Dint z = value_of elementary.Dint z
-number_in elementary.Lint z = value_of elementary.Lint z
-number_in elementary.Time z = None
+abbrev pub typed_number : ElementaryType → ℤ → Option Value
+typed_number elementary.Bool z = value_of elementary.Bool z
+typed_number elementary.Int z = value_of elementary.Int z
+typed_number elementary.Dint z = value_of elementary.Dint z
+typed_number elementary.Lint z = value_of elementary.Lint z
+typed_number elementary.Time z = None
 
 -- the operand as one of a type, if it can be one
-abbrev pub operand_in : ElementaryType → SourceOperand → Option TypedOperand
-operand_in kind Missing = None
-operand_in kind Misused = None
-operand_in kind (Known source) = if same_type source.kind kind then Some source.operand else None
-operand_in kind (Number z) = option_map (λ v. operand.Literal v) (number_in kind z)
+abbrev pub typed_operand : ElementaryType → SourceOperand → Option TypedOperand
+typed_operand kind Missing = None
+typed_operand kind Misused = None
+typed_operand kind (Known source) = if same_type source.kind kind then Some source.operand else None
+typed_operand kind (Number z) = option_map (λ v. operand.Literal v) (typed_number kind z)
 
 -- whether the operand can be one of the type
-abbrev pub fits : ElementaryType → SourceOperand → Bool
-fits kind given = is_some (operand_in kind given)
+abbrev pub operand_fits : ElementaryType → SourceOperand → Bool
+operand_fits kind given = is_some (typed_operand kind given)
 
 -- the type of an untyped number by itself: INT if it fits, else DINT if it fits, else LINT
 abbrev pub own_type : ℤ → ElementaryType
 own_type z =
-    if is_some (number_in elementary.Int z) then elementary.Int
-    else (if is_some (number_in elementary.Dint z) then elementary.Dint else elementary.Lint)
+    if is_some (typed_number elementary.Int z) then elementary.Int
+    else (if is_some (typed_number elementary.Dint z) then elementary.Dint else elementary.Lint)
 
 -- the type of the result of a load; none for a name or literal that can't be loaded
 abbrev pub load_type : SourceOperand → Option ElementaryType
@@ -138,7 +138,7 @@ input_type input.Pt = elementary.Time
 
 -- whether an argument has its input's type
 abbrev pub argument_fits : SourceArgument → Bool
-argument_fits a = fits (input_type a.input) a.given
+argument_fits a = operand_fits (input_type a.input) a.given
 
 -- whether each argument has its input's type
 abbrev pub arguments_fit : SourceArguments → Bool
@@ -160,16 +160,16 @@ may_load negated None = false
 may_load negated (Some kind) = may_negate negated kind
 
 -- whether the instruction is valid if the current result has this type
-abbrev pub allows : Resolved → ElementaryType → Bool
-allows (Load negated given) kind = may_load negated (load_type given)
-allows (Store how target) kind = fits kind target && may_negate (not (is_plain how)) kind
-allows (Combine operator negated given is_nonzero) kind =
-    works operator negated kind && fits kind given
-allows Not kind = is_boolean kind
-allows (Convert conversion) kind = same_type kind (converted_from conversion)
-allows (Jump condition label) kind = may_negate (is_conditional condition) kind
-allows (Return condition) kind = may_negate (is_conditional condition) kind
-allows (Call called arguments) kind = is_timer called && arguments_fit arguments
+abbrev pub is_valid_on : Resolved → ElementaryType → Bool
+is_valid_on (Load negated given) kind = may_load negated (load_type given)
+is_valid_on (Store how target) kind = operand_fits kind target && may_negate (not (is_plain how)) kind
+is_valid_on (Combine operator negated given is_nonzero) kind =
+    works operator negated kind && operand_fits kind given
+is_valid_on Not kind = is_boolean kind
+is_valid_on (Convert conversion) kind = same_type kind (converted_from conversion)
+is_valid_on (Jump condition label) kind = may_negate (is_conditional condition) kind
+is_valid_on (Return condition) kind = may_negate (is_conditional condition) kind
+is_valid_on (Call called arguments) kind = is_timer called && arguments_fit arguments
 
 -- whether the instruction uses the current result
 abbrev pub uses_result : Resolved → Bool
@@ -192,8 +192,8 @@ any_type test =
 
 -- whether no type that the result may have makes the instruction valid
 abbrev pub is_wrong : Resolved → Option ElementaryType → Bool
-is_wrong r None = not (any_type (allows r))
-is_wrong r (Some kind) = not (allows r kind)
+is_wrong r None = not (any_type (is_valid_on r))
+is_wrong r (Some kind) = not (is_valid_on r kind)
 
 -- whether the instruction uses a result that is unset
 abbrev pub is_unset : Resolved → Option ElementaryType → Bool
@@ -214,13 +214,13 @@ type_after (Return condition) result = result
 type_after (Call called arguments) result = None
 
 -- whether the result of a parenthesis may have this type (own)
-abbrev pub may_be : ElementaryType → Option ElementaryType → Bool
-may_be kind None = true
-may_be kind (Some inner) = same_type inner kind
+abbrev pub may_have_type : ElementaryType → Option ElementaryType → Bool
+may_have_type kind None = true
+may_have_type kind (Some inner) = same_type inner kind
 
 -- whether the operator of a parenthesis is valid on a result of this type
 abbrev pub combines : Operator → Bool → Option ElementaryType → ElementaryType → Bool
-combines operator negated inner kind = works operator negated kind && may_be kind inner
+combines operator negated inner kind = works operator negated kind && may_have_type kind inner
 
 -- ---- own: what is wrong with an instruction
 
@@ -234,28 +234,28 @@ abbrev pub combines_unset : Option ElementaryType → Option ElementaryType → 
 combines_unset inner result = is_none inner || is_none result
 
 -- whether the operand is an undeclared name
-abbrev pub is_missing : SourceOperand → Bool
-is_missing Missing = true
-is_missing other = false
+abbrev pub is_undeclared : SourceOperand → Bool
+is_undeclared Missing = true
+is_undeclared other = false
 
 -- whether an argument is an undeclared name
-abbrev pub misses_argument : SourceArguments → Bool
-misses_argument arguments.None = false
-misses_argument (arguments.One a) = is_missing a.given
-misses_argument (arguments.Two a b) = is_missing a.given || is_missing b.given
+abbrev pub has_undeclared_argument : SourceArguments → Bool
+has_undeclared_argument arguments.None = false
+has_undeclared_argument (arguments.One a) = is_undeclared a.given
+has_undeclared_argument (arguments.Two a b) = is_undeclared a.given || is_undeclared b.given
 
 -- whether the called name is undeclared
-abbrev pub misses_timer : CalledTimer → Bool
-misses_timer called.Missing = true
-misses_timer other = false
+abbrev pub is_undeclared_timer : CalledTimer → Bool
+is_undeclared_timer called.Missing = true
+is_undeclared_timer other = false
 
 -- whether a name of the instruction is undeclared
-abbrev pub misses_name : Resolved → Bool
-misses_name (Load negated given) = is_missing given
-misses_name (Store how target) = is_missing target
-misses_name (Combine operator negated given is_nonzero) = is_missing given
-misses_name (Call called arguments) = misses_timer called || misses_argument arguments
-misses_name other = false
+abbrev pub uses_undeclared_name : Resolved → Bool
+uses_undeclared_name (Load negated given) = is_undeclared given
+uses_undeclared_name (Store how target) = is_undeclared target
+uses_undeclared_name (Combine operator negated given is_nonzero) = is_undeclared given
+uses_undeclared_name (Call called arguments) = is_undeclared_timer called || has_undeclared_argument arguments
+uses_undeclared_name other = false
 
 -- whether the label is above; `passed` is the number of labels above
 abbrev pub is_above : ℕ → Option ℕ → Bool
@@ -268,19 +268,19 @@ jumps_back passed (Jump condition label) = is_above passed label
 jumps_back passed other = false
 
 -- whether the instruction jumps to a label that does not exist
-abbrev pub misses_label : Resolved → Bool
-misses_label (Jump condition label) = is_none label
-misses_label other = false
+abbrev pub jumps_to_undefined_label : Resolved → Bool
+jumps_to_undefined_label (Jump condition label) = is_none label
+jumps_to_undefined_label other = false
 
 -- whether the operand may only be read
-abbrev pub is_fixed : SourceOperand → Bool
-is_fixed (Known source) = not source.writable
-is_fixed other = false
+abbrev pub is_read_only : SourceOperand → Bool
+is_read_only (Known source) = not source.writable
+is_read_only other = false
 
 -- whether the instruction writes what may only be read
-abbrev pub writes_fixed : Resolved → Bool
-writes_fixed (Store how target) = is_fixed target
-writes_fixed other = false
+abbrev pub writes_read_only : Resolved → Bool
+writes_read_only (Store how target) = is_read_only target
+writes_read_only other = false
 
 -- whether the instruction divides by anything but a literal other than 0
 abbrev pub may_divide_by_zero : Resolved → Bool

@@ -19,8 +19,8 @@ abbrev pub name_at : List (List ℕ) → ℕ → List ℕ
 name_at names slot = slice_index_or names slot []
 
 -- No two names are the same, letters in either case.
-abbrev pub AreApart : List (List ℕ) → Type 0
-AreApart names =
+abbrev pub AreDistinct : List (List ℕ) → Type 0
+AreDistinct names =
     (i j : ℕ) → i < j → j < length names → same_name (name_at names i) (name_at names j) ≡ false
 
 -- Some program has no fault with some points, and this is its checked program.
@@ -31,5 +31,5 @@ WasChecked c =
 -- A checked program is the result of the checks, its names differ, and it is well typed.
 pub record IsSound (c : Checked) : Type 0 where
   pub checked : WasChecked c
-  pub apart : AreApart (slot_names c)
+  pub distinct : AreDistinct (slot_names c)
   pub typed : IsTyped c

@@ -85,7 +85,7 @@ resolve_output (Some (meaning.Timer timer)) gives =
     })
 
 -- a variable, or an output of a timer, by its name
-abbrev pub resolve_variable_or_output : ProgramNames → text.Place → SourceOperand
+abbrev pub resolve_variable_or_output : ProgramNames → text.VariableData → SourceOperand
 resolve_variable_or_output names (text.named name) = resolve_variable (names.meaning name)
 resolve_variable_or_output names (text.output timer gives) =
     resolve_output (names.meaning timer) gives

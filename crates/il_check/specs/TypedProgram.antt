@@ -10,7 +10,7 @@ use Rattle.il_image.specs.Images.{Each, IsName, IsValue}
 use Rattle.il_image.specs.Values.{number_of, type_of}
 use Rattle.il_image.specs.Machine.{most_slots, most_timers}
 use Rattle.il_check.specs.SourceOperands.{output_type}
-use Rattle.il_check.specs.Labelling.{Labelling, Coming, Carried, carry_of, initial_carried, Falls, Jumps, with_target, carried_after_label}
+use Rattle.il_check.specs.Labelling.{Labelling, Incoming, FlowState, flow_state, initial_flow, FallAgrees, JumpAgrees, with_target, flow_after_label}
 use Rattle.il_check.specs.Program.{Entry, operation, block, Entries, no_entries, entry, ProgramItem, label, transfer, plain, Checked}
 use Rattle.il_check.specs.Rules.{may_negate, is_plain, works, type_of_result, divides, input_type, converted_from, converted_to}
 use Rattle.il_check.specs.declared.typed.External.{External}
@@ -113,10 +113,10 @@ AreArguments c (arguments.One a) = IsArgument c a
 AreArguments c (arguments.Two a b) = IsArgument c a × IsArgument c b
 
 -- A condition needs a result of type BOOL.
-abbrev pub Decides : Condition → Option ElementaryType → Type 0
-Decides Always t = Unit {0}
-Decides IfTrue t = t ≡ Some elementary.Bool
-Decides IfFalse t = t ≡ Some elementary.Bool
+abbrev pub TestsBool : Condition → Option ElementaryType → Type 0
+TestsBool Always t = Unit {0}
+TestsBool IfTrue t = t ≡ Some elementary.Bool
+TestsBool IfFalse t = t ≡ Some elementary.Bool
 
 -- whether one of the items is the label with this number (own)
 abbrev pub has_label : List ProgramItem → ℕ → Bool
@@ -128,8 +128,8 @@ has_label (plain e ∷ is) number = has_label is number
 -- The jump, return or call is valid on a result of this type; a jump goes to a label below.
 abbrev pub IsTransfer : Checked → List ProgramItem → Transfer → Option ElementaryType → Type 0
 IsTransfer c below (go.Jump condition number) t =
-    Decides condition t × (has_label below number ≡ true)
-IsTransfer c below (go.Return condition) t = Decides condition t
+    TestsBool condition t × (has_label below number ≡ true)
+IsTransfer c below (go.Return condition) t = TestsBool condition t
 IsTransfer c below (go.Call timer args) t = (timer < length c.timers) × AreArguments c args
 
 -- the label that a jump goes to (own)
@@ -139,63 +139,63 @@ target_of (go.Return condition) = None
 target_of (go.Call timer args) = None
 
 -- what a jump or a return on a result of this type brings to the next item (own)
-abbrev pub coming_after_condition : Condition → Option ElementaryType → Coming
-coming_after_condition Always t = None
-coming_after_condition IfTrue t = Some t
-coming_after_condition IfFalse t = Some t
+abbrev pub incoming_after_condition : Condition → Option ElementaryType → Incoming
+incoming_after_condition Always t = None
+incoming_after_condition IfTrue t = Some t
+incoming_after_condition IfFalse t = Some t
 
 -- what a jump, a return or a call brings to the next item (own)
-abbrev pub coming_after_transfer : Transfer → Option ElementaryType → Coming
-coming_after_transfer (go.Jump condition number) t = coming_after_condition condition t
-coming_after_transfer (go.Return condition) t = coming_after_condition condition t
-coming_after_transfer (go.Call timer args) t = Some None
+abbrev pub incoming_after_transfer : Transfer → Option ElementaryType → Incoming
+incoming_after_transfer (go.Jump condition number) t = incoming_after_condition condition t
+incoming_after_transfer (go.Return condition) t = incoming_after_condition condition t
+incoming_after_transfer (go.Call timer args) t = Some None
 
 -- ---- own: types of the current result, over the items
 
 -- the state after a jump, a return or a call on a result of this type
-abbrev pub carried_after_transfer : Transfer → Option ElementaryType → Carried → Carried
-carried_after_transfer x t k =
-    carry_of k.passed (with_target (target_of x) k.named) (coming_after_transfer x t)
+abbrev pub flow_after_transfer : Transfer → Option ElementaryType → FlowState → FlowState
+flow_after_transfer x t k =
+    flow_state k.passed (with_target (target_of x) k.named) (incoming_after_transfer x t)
 
 -- the state after an operation or a parenthesis that leaves a result of this type
-abbrev pub carried_after_entry : Option ElementaryType → Carried → Carried
-carried_after_entry u k = carry_of k.passed k.named (Some u)
+abbrev pub flow_after_entry : Option ElementaryType → FlowState → FlowState
+flow_after_entry u k = flow_state k.passed k.named (Some u)
 
 -- The label has the next number and is not too many, and the path from above brings its type.
-abbrev pub IsLabel : Labelling → ℕ → Carried → Type 0
-IsLabel labels n k = (n ≡ k.passed) × (k.passed < most_labels) × Falls labels k.passed k.now
+abbrev pub IsLabel : Labelling → ℕ → FlowState → Type 0
+IsLabel labels n k = (n ≡ k.passed) × (k.passed < most_labels) × FallAgrees labels k.passed k.now
 
 -- The jump, return or call is reached with a result of this type, is valid on it, and brings it to
 -- the label that it jumps to.
-abbrev pub TransferFlows : Checked → Labelling → List ProgramItem → Transfer → Option ElementaryType
-    → Carried → Type 0
-TransferFlows c labels below x t k =
-    (k.now ≡ Some t) × IsTransfer c below x t × Jumps labels (target_of x) t
+abbrev pub IsReachedTransfer : Checked → Labelling → List ProgramItem → Transfer → Option ElementaryType
+    → FlowState → Type 0
+IsReachedTransfer c labels below x t k =
+    (k.now ≡ Some t) × IsTransfer c below x t × JumpAgrees labels (target_of x) t
 
 -- The operation or parenthesis is reached with a result of type t, and leaves one of type u.
-abbrev pub EntryFlows : Checked → Entry → Option ElementaryType → Option ElementaryType → Carried
+abbrev pub IsReachedEntry : Checked → Entry → Option ElementaryType → Option ElementaryType → FlowState
     → Type 0
-EntryFlows c e t u k = (k.now ≡ Some t) × IsEntry c e t u × (entry_depth e ≤ most_nested)
+IsReachedEntry c e t u k = (k.now ≡ Some t) × IsEntry c e t u × (entry_depth e ≤ most_nested)
 
 -- Each item is reached, and valid in the state before it.
-abbrev pub AreItems : Checked → Labelling → List ProgramItem → Carried → Type 0
+abbrev pub AreItems : Checked → Labelling → List ProgramItem → FlowState → Type 0
 AreItems c labels [] k = Unit {0}
 AreItems c labels (label n ∷ is) k =
-    IsLabel labels n k × AreItems c labels is (carried_after_label labels k)
+    IsLabel labels n k × AreItems c labels is (flow_after_label labels k)
 AreItems c labels (transfer x ∷ is) k =
-    (t : Option ElementaryType) × TransferFlows c labels is x t k
-    × AreItems c labels is (carried_after_transfer x t k)
+    (t : Option ElementaryType) × IsReachedTransfer c labels is x t k
+    × AreItems c labels is (flow_after_transfer x t k)
 AreItems c labels (plain e ∷ is) k =
-    (t : Option ElementaryType) × (u : Option ElementaryType) × EntryFlows c e t u k
-    × AreItems c labels is (carried_after_entry u k)
+    (t : Option ElementaryType) × (u : Option ElementaryType) × IsReachedEntry c e t u k
+    × AreItems c labels is (flow_after_entry u k)
 
 -- An image can represent the name of the external.
 abbrev pub HasName : External → Type 0
 HasName e = IsName e.name
 
 -- The initial value of the variable is in the range of its type.
-abbrev pub BeginsRight : Variable → Type 0
-BeginsRight v = IsValue v.initial
+abbrev pub HasValidInitial : Variable → Type 0
+HasValidInitial v = IsValue v.initial
 
 -- There are no more slots and timers than a machine may have, and some labelling makes each item
 -- reached and valid.
@@ -203,6 +203,6 @@ pub record IsTyped (c : Checked) : Type 0 where
   pub slots : length c.externals + length c.variables ≤ most_slots
   pub timers : length c.timers ≤ most_timers
   pub names : Each HasName c.externals
-  pub initial : Each BeginsRight c.variables
+  pub initial : Each HasValidInitial c.variables
   pub labels : Labelling
-  pub items : AreItems c labels c.items initial_carried
+  pub items : AreItems c labels c.items initial_flow

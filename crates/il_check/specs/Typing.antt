@@ -5,7 +5,7 @@ use Rattle.il_text.specs.declared.program.Operator.{Operator}
 use Rattle.il_text.specs.declared.program.StoreKind.{StoreKind}
 use Rattle.il_text.specs.declared.program.Condition.{Condition}
 use Rattle.il_check.specs.Program.{Entry, operation, block, Entries, ProgramItem, transfer, plain}
-use Rattle.il_check.specs.Rules.{operand_in, load_type, input_type}
+use Rattle.il_check.specs.Rules.{typed_operand, load_type, input_type}
 use Rattle.il_check.specs.declared.typed.TypedOperand.{TypedOperand}
 use Rattle.il_check.specs.declared.typed.TypedOperand.TheVariants as operand
 use Rattle.il_check.specs.declared.typed.SimpleOperation.{SimpleOperation}
@@ -34,9 +34,9 @@ load_operation negated None = None
 load_operation negated (Some o) = Some (op.Load negated o)
 
 -- a load of the operand as one of this type
-abbrev pub load_in : Bool → SourceOperand → Option ElementaryType → Option SimpleOperation
-load_in negated given None = None
-load_in negated given (Some kind) = load_operation negated (operand_in kind given)
+abbrev pub typed_load : Bool → SourceOperand → Option ElementaryType → Option SimpleOperation
+typed_load negated given None = None
+typed_load negated given (Some kind) = load_operation negated (typed_operand kind given)
 
 -- the slot of an operand that is a variable
 abbrev pub slot_in : TypedOperand → Option Slot
@@ -60,27 +60,27 @@ combine_operation operator kind negated None = None
 combine_operation operator kind negated (Some o) = Some (op.Combine operator kind negated o)
 
 -- an operator on a result of this type, with the operand as one of the type
-abbrev pub combine_in : Operator → Bool → SourceOperand → Option ElementaryType
+abbrev pub typed_combine : Operator → Bool → SourceOperand → Option ElementaryType
     → Option SimpleOperation
-combine_in operator negated given None = None
-combine_in operator negated given (Some kind) =
-    combine_operation operator kind negated (operand_in kind given)
+typed_combine operator negated given None = None
+typed_combine operator negated given (Some kind) =
+    combine_operation operator kind negated (typed_operand kind given)
 
 -- the typed operation of an instruction on a result of this type, if it is an operation
-abbrev pub operation_in : Resolved → Option ElementaryType → Option SimpleOperation
-operation_in (Load negated given) result = load_in negated given (load_type given)
-operation_in (Store kind target) result = store_operation kind (target_slot target)
-operation_in (Combine operator negated given is_nonzero) result =
-    combine_in operator negated given result
-operation_in Not result = Some op.Not
-operation_in (Convert conversion) result = Some (op.Convert conversion)
-operation_in other result = None
+abbrev pub typed_operation : Resolved → Option ElementaryType → Option SimpleOperation
+typed_operation (Load negated given) result = typed_load negated given (load_type given)
+typed_operation (Store kind target) result = store_operation kind (target_slot target)
+typed_operation (Combine operator negated given is_nonzero) result =
+    typed_combine operator negated given result
+typed_operation Not result = Some op.Not
+typed_operation (Convert conversion) result = Some (op.Convert conversion)
+typed_operation other result = None
 
 -- an argument with its input's type, if its operand can have it
 abbrev pub typed_argument : SourceArgument → Option TypedArgument
 typed_argument a =
     option_map (λ o. record { input = a.input; operand = o })
-    (operand_in (input_type a.input) a.given)
+    (typed_operand (input_type a.input) a.given)
 
 -- one argument as the arguments of a call, if it is valid
 abbrev pub one_argument : Option TypedArgument → Option TypedArguments
@@ -93,10 +93,10 @@ two_arguments (Some a) (Some b) = Some (typed.Two a b)
 two_arguments a b = None
 
 -- the arguments of a call, each with its input's type
-abbrev pub arguments_in : SourceArguments → Option TypedArguments
-arguments_in arguments.None = Some typed.None
-arguments_in (arguments.One a) = one_argument (typed_argument a)
-arguments_in (arguments.Two a b) = two_arguments (typed_argument a) (typed_argument b)
+abbrev pub typed_arguments : SourceArguments → Option TypedArguments
+typed_arguments arguments.None = Some typed.None
+typed_arguments (arguments.One a) = one_argument (typed_argument a)
+typed_arguments (arguments.Two a b) = two_arguments (typed_argument a) (typed_argument b)
 
 -- a call of a timer, if its arguments are valid
 abbrev pub call_with : ℕ → Option TypedArguments → Option Transfer
@@ -104,25 +104,25 @@ call_with timer None = None
 call_with timer (Some as_typed) = Some (go.Call timer as_typed)
 
 -- a call, if a timer is called
-abbrev pub call_in : CalledTimer → Option TypedArguments → Option Transfer
-call_in (called.Timer timer) args = call_with timer args
-call_in other args = None
+abbrev pub typed_call : CalledTimer → Option TypedArguments → Option Transfer
+typed_call (called.Timer timer) args = call_with timer args
+typed_call other args = None
 
 -- a jump to a label, if the label exists
-abbrev pub jump_in : Condition → Option ℕ → Option Transfer
-jump_in condition None = None
-jump_in condition (Some label) = Some (go.Jump condition label)
+abbrev pub typed_jump : Condition → Option ℕ → Option Transfer
+typed_jump condition None = None
+typed_jump condition (Some label) = Some (go.Jump condition label)
 
 -- the jump, return or call of an instruction, if it is one
-abbrev pub transfer_in : Resolved → Option Transfer
-transfer_in (Jump condition label) = jump_in condition label
-transfer_in (Return condition) = Some (go.Return condition)
-transfer_in (Call timer args) = call_in timer (arguments_in args)
-transfer_in other = None
+abbrev pub typed_transfer : Resolved → Option Transfer
+typed_transfer (Jump condition label) = typed_jump condition label
+typed_transfer (Return condition) = Some (go.Return condition)
+typed_transfer (Call timer args) = typed_call timer (typed_arguments args)
+typed_transfer other = None
 
 -- the typed form of an instruction as an entry
-abbrev pub entry_in : Resolved → Option ElementaryType → Option Entry
-entry_in r result = option_map operation (operation_in r result)
+abbrev pub action_entry : Resolved → Option ElementaryType → Option Entry
+action_entry r result = option_map operation (typed_operation r result)
 
 -- a jump, return or call, or else an entry, if there is one
 abbrev pub or_entry : Option Transfer → Option Entry → Option ProgramItem
@@ -130,10 +130,10 @@ or_entry (Some t) e = Some (transfer t)
 or_entry None e = option_map plain e
 
 -- the typed form of an instruction as an item
-abbrev pub item_in : Resolved → Option ElementaryType → Option ProgramItem
-item_in r result = or_entry (transfer_in r) (entry_in r result)
+abbrev pub action_item : Resolved → Option ElementaryType → Option ProgramItem
+action_item r result = or_entry (typed_transfer r) (action_entry r result)
 
 -- a parenthesis whose operator works on a result of this type
-abbrev pub block_in : Operator → Bool → Entries → Option ElementaryType → Option Entry
-block_in operator negated inner None = None
-block_in operator negated inner (Some kind) = Some (block operator kind negated inner)
+abbrev pub typed_block : Operator → Bool → Entries → Option ElementaryType → Option Entry
+typed_block operator negated inner None = None
+typed_block operator negated inner (Some kind) = Some (block operator kind negated inner)

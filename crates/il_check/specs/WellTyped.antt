@@ -9,8 +9,8 @@ use Rattle.il_text.specs.declared.program.Operator.{Operator}
 use Rattle.il_check.specs.Faults.{fault_if}
 use Rattle.il_check.specs.SourceOperands.{ProgramNames, resolution_of}
 use Rattle.il_check.specs.Program as plain
-use Rattle.il_check.specs.Rules.{is_wrong, is_unset, type_after, combines_wrong, combines_unset, misses_name, jumps_back, misses_label, writes_fixed, may_divide_by_zero, divides, type_of_result, falls_through, target_of}
-use Rattle.il_check.specs.Typing.{entry_in, item_in, block_in}
+use Rattle.il_check.specs.Rules.{is_wrong, is_unset, type_after, combines_wrong, combines_unset, uses_undeclared_name, jumps_back, jumps_to_undefined_label, writes_read_only, may_divide_by_zero, divides, type_of_result, falls_through, target_of}
+use Rattle.il_check.specs.Typing.{action_entry, action_item, typed_block}
 use Rattle.il_check.specs.declared.reach.Reach.{Reach}
 use Rattle.il_check.specs.declared.source_operand.Resolved.{Resolved}
 use Rattle.il_check.specs.declared.fault.CheckFault.{CheckFault}
@@ -23,7 +23,7 @@ use Rattle.il_check.specs.Limits.{most_labels, most_nested}
 -- instruction
 abbrev pub typing_faults : Bool → ℕ → ℕ → Resolved → Option ElementaryType → List CheckFault
 typing_faults is_reached passed line r result =
-    fault_if (misses_name r) (UnknownName line)
+    fault_if (uses_undeclared_name r) (UnknownName line)
     ++ (fault_if (is_reached && is_wrong r result) (TypeMismatch line)
     ++ (fault_if (is_reached && is_unset r result) (UnsetResult line)
     ++ fault_if (jumps_back passed r) (BackwardJump line)))
@@ -31,9 +31,9 @@ typing_faults is_reached passed line r result =
 -- the faults of an undefined label, an unreachable instruction, a read-only target and a divisor
 abbrev pub other_faults : Bool → ℕ → Resolved → List CheckFault
 other_faults is_reached line r =
-    fault_if (misses_label r) (UnknownLabel line)
+    fault_if (jumps_to_undefined_label r) (UnknownLabel line)
     ++ (fault_if (not is_reached) (Unreachable line)
-    ++ (fault_if (writes_fixed r) (ReadOnly line)
+    ++ (fault_if (writes_read_only r) (ReadOnly line)
     ++ fault_if (may_divide_by_zero r) (ZeroDivisor line)))
 
 -- the faults of an instruction after `passed` labels
@@ -94,18 +94,18 @@ abbrev mutual
 
 abbrev mutual
   -- the typed form of an entry; the grammar has no label, jump, return or call within a parenthesis
-  pub entry_left : ProgramNames → ℕ → text.Entry → Option ElementaryType → Option plain.Entry
-  entry_left names room (text.label line name) result = None
-  entry_left names room (text.action line a) result = entry_in (resolution_of names a) result
-  entry_left names room (text.block line operator negated items end) result =
-      block_in operator negated
-      (if room == 0 then plain.no_entries else entries_left names (room - 1) items None) result
+  pub typed_entry_of : ProgramNames → ℕ → text.Entry → Option ElementaryType → Option plain.Entry
+  typed_entry_of names room (text.label line name) result = None
+  typed_entry_of names room (text.action line a) result = action_entry (resolution_of names a) result
+  typed_entry_of names room (text.block line operator negated items end) result =
+      typed_block operator negated
+      (if room == 0 then plain.no_entries else typed_entries_of names (room - 1) items None) result
 
-  pub entries_left : ProgramNames → ℕ → text.Entries → Option ElementaryType → plain.Entries
-  entries_left names room text.no_entries result = plain.no_entries
-  entries_left names room (text.entry e es) result =
-      plain.entry_before (entry_left names room e result)
-      (entries_left names room es (type_after_entry names e result))
+  pub typed_entries_of : ProgramNames → ℕ → text.Entries → Option ElementaryType → plain.Entries
+  typed_entries_of names room text.no_entries result = plain.no_entries
+  typed_entries_of names room (text.entry e es) result =
+      plain.entry_before (typed_entry_of names room e result)
+      (typed_entries_of names room es (type_after_entry names e result))
 
 -- whether both results are set and have the same type
 abbrev pub same_result : Option ElementaryType → Option ElementaryType → Bool
@@ -185,14 +185,14 @@ start_progress arrivals =
     record { now = record { is_reached = true; kind = None }; arrivals = arrivals; passed = 0 }
 
 -- whether no label of a name comes before this one, which has `passed` labels before it
-abbrev pub is_first : ℕ → Option ℕ → Bool
-is_first passed None = true
-is_first passed (Some number) = not (nat_lt number passed)
+abbrev pub is_first_label : ℕ → Option ℕ → Bool
+is_first_label passed None = true
+is_first_label passed (Some number) = not (nat_lt number passed)
 
 -- the faults of a label after `passed` others
 abbrev pub label_faults : ℕ → Option ℕ → ℕ → List CheckFault
 label_faults line number passed =
-    fault_if (not (is_first passed number)) (DuplicateName line)
+    fault_if (not (is_first_label passed number)) (DuplicateName line)
     ++ fault_if (nat_le most_labels passed) (TooMany line)
 
 -- the faults of an item in the state before it
@@ -212,17 +212,17 @@ items_faults names (e ∷ es) s =
     item_faults names e s ++ items_faults names es (progress_after_entry names e s)
 
 -- the typed form of an item
-abbrev pub progress_after_item : ProgramNames → text.Entry → Progress → Option plain.ProgramItem
-progress_after_item names (text.label line name) s = Some (plain.label s.passed)
-progress_after_item names (text.action line a) s = item_in (resolution_of names a) s.now.kind
-progress_after_item names (text.block line operator negated items end) s =
-    option_map plain.plain (entry_left names most_nested
+abbrev pub typed_item_of : ProgramNames → text.Entry → Progress → Option plain.ProgramItem
+typed_item_of names (text.label line name) s = Some (plain.label s.passed)
+typed_item_of names (text.action line a) s = action_item (resolution_of names a) s.now.kind
+typed_item_of names (text.block line operator negated items end) s =
+    option_map plain.plain (typed_entry_of names most_nested
     (text.block line operator negated items end)
     s.now.kind)
 
 -- the typed forms of items
-abbrev pub progress_after_items : ProgramNames → List text.Entry → Progress → List plain.ProgramItem
-progress_after_items names [] s = []
-progress_after_items names (e ∷ es) s =
-    cons_option (progress_after_item names e s)
-    (progress_after_items names es (progress_after_entry names e s))
+abbrev pub typed_items_of : ProgramNames → List text.Entry → Progress → List plain.ProgramItem
+typed_items_of names [] s = []
+typed_items_of names (e ∷ es) s =
+    cons_option (typed_item_of names e s)
+    (typed_items_of names es (progress_after_entry names e s))

@@ -2,7 +2,7 @@
 ghost use Rattle.std.specs.Prelude.{◌≢◌, IfErr, IfOk, IsErrOf};
 ghost use Rattle.il_text.specs.Views.{plain_program};
 ghost use Rattle.bay_base.specs.Exact.{Gives};
-ghost use Rattle.il_check.specs.Checking.{TakesMemory, checked_of, faults_of};
+ghost use Rattle.il_check.specs.Checking.{Allocates, checked_of, faults_of};
 ghost use Rattle.il_check.specs.Faults.{IsLeast};
 ghost use Rattle.il_check.specs.RightProgram.{IsRightProgram};
 ghost use Rattle.il_check.specs.ProgramViews.{checked_view};
@@ -13,7 +13,7 @@ use crate::fault::CheckFault;
 use crate::labels::{Labels, all_labels};
 use crate::names::ProgramNames;
 use crate::program::{Parts, Typed};
-use crate::walk::Judge;
+use crate::walk::Checker;
 use bay_base::point::Point;
 use il_text::program::Program;
 use std::alloc::Global;
@@ -52,17 +52,17 @@ pub fn check(alloc: Global, program: &Program<'_>, points: &[Point]) -> Result<T
     ensures first { IfErr result
         (λ fault. fault ≢ OutOfMemory
         → IsLeast fault (faults_of points.now (plain_program program.now))) }
-    ensures memory { IsErrOf result OutOfMemory → TakesMemory (plain_program program.now) }
+    ensures memory { IsErrOf result OutOfMemory → Allocates (plain_program program.now) }
 {
-    let typed = checked(alloc, program, points)?;
+    let typed = check_program(alloc, program, points)?;
     Ok(typed)
 }
 
 // Returns the typed program, or the fault to report; `check` states what holds of each.
-fn checked(alloc: Global, program: &Program<'_>, points: &[Point]) -> Result<Typed, CheckFault>
+fn check_program(alloc: Global, program: &Program<'_>, points: &[Point]) -> Result<Typed, CheckFault>
     ensures checked { Gives OutOfMemory checked_view result
         (checked_of points.now (plain_program program.now)) }
-    ensures memory { IsErrOf result OutOfMemory → TakesMemory (plain_program program.now) }
+    ensures memory { IsErrOf result OutOfMemory → Allocates (plain_program program.now) }
 {
     let declared = declare_all(alloc, points, program.declarations.as_slice())?;
     let labels = all_labels(alloc, program.items.as_slice())?;
@@ -79,7 +79,7 @@ fn checked(alloc: Global, program: &Program<'_>, points: &[Point]) -> Result<Typ
         meanings,
         labels: numbers,
     };
-    let mut judge = Judge {
+    let mut judge = Checker {
         alloc,
         buffer: String::new(alloc),
         found,

@@ -4,17 +4,17 @@ ghost use Rattle.std.specs.BTreeMap.{get_by_text};
 ghost use Rattle.std.specs.List.{list_all};
 ghost use Rattle.std.specs.Option.{option_to_list};
 ghost use Rattle.bay_base.specs.Names as names;
-ghost use Rattle.il_text.specs.Views.{declared_of};
+ghost use Rattle.il_text.specs.Views.{declared_name};
 ghost use Rattle.il_check.specs.Faults.{first_fault_of, least_fault};
 ghost use Rattle.il_check.specs.NamesView.{with_value};
-ghost use Rattle.il_check.specs.DeclarationsView.{AreDeclarations, Takes, Adds, SameButExternals, SameButVariables, SameButTimers, external_named, variable_named, counts_in};
+ghost use Rattle.il_check.specs.DeclarationsView.{AreDeclarations, IsAfterDeclaration, AppendsParts, SameButExternals, SameButVariables, SameButTimers, external_named, variable_named, counts_in};
 ghost use Rattle.il_check.specs.Declaring as spec;
 
 use crate::fault::CheckFault;
 use crate::names::{add_meaning, upper_case};
 use crate::note::note_if;
 use crate::resolve::typed_value;
-use crate::rules::number_in;
+use crate::rules::typed_number;
 use crate::source_operand::Meaning;
 use crate::typed::{External, Slot, Timer, Variable};
 use bay_base::names::same_name;
@@ -47,7 +47,7 @@ pub(crate) struct Declarations {
 const MAX_NAME: usize = 64;
 
 // Returns whether a name may have this octet, case-insensitively.
-fn is_allowed_here(octet: u8) -> bool
+fn is_name_octet(octet: u8) -> bool
     ensures { result ≡ spec.may_be_in_name octet }
 {
     matches!(octet.to_ascii_uppercase(), b'A'..=b'Z' | b'0'..=b'9' | b'_')
@@ -57,7 +57,7 @@ fn is_allowed_here(octet: u8) -> bool
 fn are_name_octets(octets: &[u8]) -> bool
     ensures { result ≡ list_all spec.may_be_in_name octets.now }
 {
-    octets.iter().all(|octet| is_allowed_here(*octet))
+    octets.iter().all(|octet| is_name_octet(*octet))
 }
 
 // Returns whether a name consists of 1 to 64 letters, digits and underscores.
@@ -113,14 +113,14 @@ fn literal_value(kind: ElementaryType, literal: Literal) -> Option<Value>
     ensures { result ≡ spec.literal_value kind literal }
 {
     match literal {
-        Literal::Number(number) => number_in(kind, number),
+        Literal::Number(number) => typed_number(kind, number),
         _ => of_type(kind, typed_value(literal)),
     }
 }
 
 // Returns the initial value of a variable of this type, or `None` if the literal does not fit it.
-fn initial_in(kind: ElementaryType, literal: Option<Literal>) -> Option<Value>
-    ensures { result ≡ spec.initial_in kind literal }
+fn initial_value(kind: ElementaryType, literal: Option<Literal>) -> Option<Value>
+    ensures { result ≡ spec.initial_value kind literal }
 {
     match literal {
         Some(literal) => literal_value(kind, literal),
@@ -129,8 +129,8 @@ fn initial_in(kind: ElementaryType, literal: Option<Literal>) -> Option<Value>
 }
 
 // Returns whether the point has this type; true if there is no point.
-fn is_kind_of(point: Option<&Point>, kind: ElementaryType) -> bool
-    ensures { result ≡ spec.is_kind_of (option_copied point.entry) kind }
+fn point_has_type(point: Option<&Point>, kind: ElementaryType) -> bool
+    ensures { result ≡ spec.point_has_type (option_copied point.entry) kind }
 {
     match point {
         Some(point) => point.kind.is(kind),
@@ -146,10 +146,10 @@ fn is_typed(declaration: Declaration<'_>, point: Option<&Point>) -> bool
 {
     match (declaration.scope, declaration.kind) {
         (VariableScope::Local, DeclaredType::Elementary(kind)) => {
-            initial_in(kind, declaration.initial).is_some()
+            initial_value(kind, declaration.initial).is_some()
         }
         (VariableScope::Local, DeclaredType::Timer(_)) => true,
-        (VariableScope::External, DeclaredType::Elementary(kind)) => is_kind_of(point, kind),
+        (VariableScope::External, DeclaredType::Elementary(kind)) => point_has_type(point, kind),
         (VariableScope::External, DeclaredType::Timer(_)) => point.is_none(),
     }
 }
@@ -175,7 +175,7 @@ fn declaration_fault(
 ) -> Option<CheckFault>
     ensures { result ≡ first_fault_of found
         (spec.name_faults (option_copied point.entry) is_known is_full
-        (declared_of declaration.entry)) }
+        (declared_name declaration.entry)) }
 {
     let line = declaration.line;
     let is_missing = is_external(declaration.scope) && point.is_none();
@@ -293,7 +293,7 @@ impl Declarations {
         declaration: Declaration<'_>,
         point: Option<&Point>,
     ) -> Result<(), AllocError>
-        ensures { OnOk result (Adds name (declared_of declaration.entry) (option_copied point.entry)
+        ensures { OnOk result (AppendsParts name (declared_name declaration.entry) (option_copied point.entry)
             self.old self.new) }
     {
         match declaration.kind {
@@ -302,7 +302,7 @@ impl Declarations {
                 VariableScope::External => self.add_external(name, kind, point),
                 VariableScope::Local => self.add_variable(
                     name,
-                    initial_in(kind, declaration.initial),
+                    initial_value(kind, declaration.initial),
                 ),
             },
         }
@@ -310,7 +310,7 @@ impl Declarations {
 
     // Processes one declaration.
     fn declare(&mut self, points: &[Point], declaration: &Declaration<'_>) -> Result<(), AllocError>
-        ensures { OnOk result (Takes points.now (declared_of declaration.now) self.old self.new) }
+        ensures { OnOk result (IsAfterDeclaration points.now (declared_name declaration.now) self.old self.new) }
     {
         let point = point_of(points, declaration.name);
         let is_full = self.is_full(declaration.kind);
@@ -331,11 +331,11 @@ pub(crate) fn declare_all(
     points: &[Point],
     declarations: &[Declaration<'_>],
 ) -> Result<Declarations, AllocError>
-    ensures stands { IfOk result
-        (λ d. AreDeclarations points.now (map declared_of declarations.now) d) }
+    ensures ok { IfOk result
+        (λ d. AreDeclarations points.now (map declared_name declarations.now) d) }
     ensures found { IfOk result
         (λ d. d.found ≡ least_fault
-        (spec.declarations_faults points.now [] (map declared_of declarations.now))) }
+        (spec.declarations_faults points.now [] (map declared_name declarations.now))) }
     ensures memory { IfErr result (λ e. 0 < length declarations.now) }
 {
     let mut declared = Declarations::new(alloc);

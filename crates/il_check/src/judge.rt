@@ -15,8 +15,8 @@ use il_text::program::Operator;
 
 // Returns whether no label of a name comes before this one, which has `passed` labels before it.
 // `number` is that of the first label with the name.
-fn is_first(passed: usize, number: Option<usize>) -> bool
-    ensures { result ≡ spec.is_first passed number }
+fn is_first_label(passed: usize, number: Option<usize>) -> bool
+    ensures { result ≡ spec.is_first_label passed number }
 {
     match number {
         Some(number) => number >= passed,
@@ -30,7 +30,7 @@ const MAX_LABELS: usize = 256;
 /// What is known at an instruction: whether it is reachable, how many labels precede it, and how
 /// many levels of parentheses may still open there.
 #[derive(Clone, Copy)]
-pub(crate) struct InstructionPlace {
+pub(crate) struct InstructionContext {
     pub(crate) is_reached: bool,
     pub(crate) passed: usize,
     pub(crate) room: usize,
@@ -40,7 +40,7 @@ pub(crate) struct InstructionPlace {
 // and whether it jumps back.
 fn note_typing(
     found: Option<CheckFault>,
-    context: InstructionPlace,
+    context: InstructionContext,
     line: usize,
     resolved: Resolved,
     kind: Option<ElementaryType>,
@@ -86,7 +86,7 @@ fn note_others(
 /// Returns the fault to report after an instruction.
 pub(crate) fn note_instruction(
     found: Option<CheckFault>,
-    context: InstructionPlace,
+    context: InstructionContext,
     line: usize,
     resolved: Resolved,
     kind: Option<ElementaryType>,
@@ -154,7 +154,7 @@ pub(crate) fn note_label(
 ) -> Option<CheckFault>
     ensures { result ≡ first_fault_of found (spec.label_faults line number passed) }
 {
-    let is_repeated = !is_first(passed, number);
+    let is_repeated = !is_first_label(passed, number);
     let found = note_if(found, is_repeated, CheckFault::DuplicateName { line });
     note_if(found, passed >= MAX_LABELS, CheckFault::TooMany { line })
 }

@@ -48,7 +48,7 @@ impl Labels {
 /// Collects all labels of a program. Fails only if an allocation fails, and never if there are no
 /// items.
 pub(crate) fn all_labels(alloc: Global, items: &[Item<'_>]) -> Result<Labels, AllocError>
-    ensures stands { IfOk result (λ l. AreLabels (labels_from 0 (map entry_of items.now)) l) }
+    ensures ok { IfOk result (λ l. AreLabels (labels_from 0 (map entry_of items.now)) l) }
     ensures memory { IfErr result (λ e. 0 < length items.now) }
 {
     let mut labels = Labels {

@@ -8,9 +8,9 @@ ghost use Rattle.il_text.specs.Listing as text;
 ghost use Rattle.il_check.specs.Checking.{checked_of, initial_progress};
 ghost use Rattle.il_check.specs.Declaring.{names_in};
 ghost use Rattle.il_check.specs.Faults.{IsLeast, least_fault};
-ghost use Rattle.il_check.specs.Keeping.{Keeps};
-ghost use Rattle.il_check.specs.Labelling.{Becomes, Flows, IsWellTyped, Labelling, initial_carried, progress_after_entries, type_after_items};
-ghost use Rattle.il_check.specs.OwnPlaces.{MeanOwnPlaces};
+ghost use Rattle.il_check.specs.Keeping.{Preserves};
+ghost use Rattle.il_check.specs.Labelling.{Becomes, AreReachedItems, IsWellTyped, Labelling, initial_flow, progress_after_entries, type_after_items};
+ghost use Rattle.il_check.specs.OwnDeclarations.{MeanOwnDeclarations};
 ghost use Rattle.il_check.specs.Program.{Checked};
 ghost use Rattle.il_check.specs.RightProgram.{IsRightProgram};
 ghost use Rattle.il_check.specs.WellTyped.{items_faults};
@@ -32,8 +32,8 @@ pub fn some_labelling()
 pub fn least_types()
     ensures { (points : List Point) (program : text.PlainProgram) (front more : List text.Entry)
         (labels : Labelling) (t : Option ElementaryType) →
-        program.items ≡ front ++ more → Flows (names_in points program) labels front initial_carried
-        → type_after_items (names_in points program) labels front initial_carried ≡ Some t →
+        program.items ≡ front ++ more → AreReachedItems (names_in points program) labels front initial_flow
+        → type_after_items (names_in points program) labels front initial_flow ≡ Some t →
         Becomes (progress_after_entries (names_in points program) front
         (initial_progress program)).now.kind t }
 {}
@@ -58,7 +58,7 @@ pub fn answered_fault_is_least()
 pub fn a_name_means_its_own_declaration()
     ensures { (points : List Point) (program : text.PlainProgram) (c : Checked)
         → checked_of points program ≡ Ok c
-        → MeanOwnPlaces (names_in points program) c program.items }
+        → MeanOwnDeclarations (names_in points program) c program.items }
 {}
 
 /// A check preserves a program of the grammar: with names in place of slots, timers and label
@@ -67,5 +67,5 @@ pub fn a_name_means_its_own_declaration()
 pub fn a_check_changes_no_right_program()
     ensures { (points : List Point) (program : text.PlainProgram) (c : Checked)
         → checked_of points program ≡ Ok c → list_all is_outer program.items ≡ true
-        → Keeps points program c }
+        → Preserves points program c }
 {}

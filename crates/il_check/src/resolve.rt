@@ -1,7 +1,7 @@
 // Resolves the names of instructions.
 ghost use Rattle.std.specs.Prelude.{◌≡◌, IfOk, OnOk, string_bytes, option_map};
 ghost use Rattle.bay_base.specs.Names as base;
-ghost use Rattle.il_text.specs.Views.{place_of, source_of, argument_of, arguments_of, action_of};
+ghost use Rattle.il_text.specs.Views.{variable_data, operand_data, argument_of, arguments_of, action_of};
 ghost use Rattle.il_text.specs.Listing as text;
 ghost use Rattle.il_check.specs.SourceOperands as spec;
 ghost use Rattle.il_check.specs.NamesView.{names_of};
@@ -34,7 +34,7 @@ pub(crate) fn typed_value(literal: Literal) -> Option<Value>
 }
 
 // Returns a literal's value as a read-only operand. A number outside its type is `Misused`.
-fn known(value: Option<Value>) -> SourceOperand
+fn known_operand(value: Option<Value>) -> SourceOperand
     ensures { result ≡ spec.source_operand value }
 {
     match value {
@@ -64,7 +64,7 @@ fn literal_operand(literal: Literal) -> SourceOperand
 {
     match literal {
         Literal::Number(number) => number_operand(number),
-        _ => known(typed_value(literal)),
+        _ => known_operand(typed_value(literal)),
     }
 }
 
@@ -130,7 +130,7 @@ fn is_nonzero_literal(literal: Literal) -> bool
 
 // Returns whether an operand is a literal other than 0 and FALSE.
 fn is_nonzero(operand: Operand<'_>) -> bool
-    ensures { result ≡ spec.is_nonzero (source_of operand.entry) }
+    ensures { result ≡ spec.is_nonzero (operand_data operand.entry) }
 {
     match operand {
         Operand::Literal(literal) => is_nonzero_literal(literal),
@@ -157,7 +157,7 @@ impl ProgramNames {
         variable: SymbolicVariable<'_>,
     ) -> Result<SourceOperand, AllocError>
         ensures { IfOk result (λ given. given
-            ≡ spec.resolve_variable_or_output (names_of self.now) (place_of variable.entry)) }
+            ≡ spec.resolve_variable_or_output (names_of self.now) (variable_data variable.entry)) }
     {
         match variable {
             SymbolicVariable::Name(name) => Ok(resolve_variable(self.meaning(buffer, name)?)),
@@ -174,7 +174,7 @@ impl ProgramNames {
         operand: Operand<'_>,
     ) -> Result<SourceOperand, AllocError>
         ensures { IfOk result (λ given. given
-            ≡ spec.resolve_operand (names_of self.now) (source_of operand.entry)) }
+            ≡ spec.resolve_operand (names_of self.now) (operand_data operand.entry)) }
     {
         match operand {
             Operand::Literal(literal) => Ok(literal_operand(literal)),

@@ -13,8 +13,8 @@ use il_text::program::{Condition, Conversion, Input, Operator, StoreKind};
 
 /// Returns the value of this type that an untyped number denotes, or `None` if there is none. No
 /// number is a TIME.
-pub(crate) fn number_in(kind: ElementaryType, number: i64) -> Option<Value>
-    ensures { result ≡ spec.number_in kind number }
+pub(crate) fn typed_number(kind: ElementaryType, number: i64) -> Option<Value>
+    ensures { result ≡ spec.typed_number kind number }
 {
     match kind {
         ElementaryType::Time => None,
@@ -23,8 +23,8 @@ pub(crate) fn number_in(kind: ElementaryType, number: i64) -> Option<Value>
 }
 
 /// Returns the operand as one of this type, or `None` if it cannot be one.
-pub(crate) fn operand_in(kind: ElementaryType, given: SourceOperand) -> Option<TypedOperand>
-    ensures { result ≡ spec.operand_in kind given }
+pub(crate) fn typed_operand(kind: ElementaryType, given: SourceOperand) -> Option<TypedOperand>
+    ensures { result ≡ spec.typed_operand kind given }
 {
     match given {
         SourceOperand::Missing | SourceOperand::Misused => None,
@@ -35,7 +35,7 @@ pub(crate) fn operand_in(kind: ElementaryType, given: SourceOperand) -> Option<T
                 None
             }
         }
-        SourceOperand::Number(number) => match number_in(kind, number) {
+        SourceOperand::Number(number) => match typed_number(kind, number) {
             Some(value) => Some(TypedOperand::Literal(value)),
             None => None,
         },
@@ -43,10 +43,10 @@ pub(crate) fn operand_in(kind: ElementaryType, given: SourceOperand) -> Option<T
 }
 
 // Returns whether the operand can be of the type.
-fn fits(kind: ElementaryType, given: SourceOperand) -> bool
-    ensures { result ≡ spec.fits kind given }
+fn operand_fits(kind: ElementaryType, given: SourceOperand) -> bool
+    ensures { result ≡ spec.operand_fits kind given }
 {
-    operand_in(kind, given).is_some()
+    typed_operand(kind, given).is_some()
 }
 
 // Returns the type of an untyped number when it is loaded: the first of INT, DINT and LINT that
@@ -54,9 +54,9 @@ fn fits(kind: ElementaryType, given: SourceOperand) -> bool
 fn own_type(number: i64) -> ElementaryType
     ensures { result ≡ spec.own_type number }
 {
-    if number_in(ElementaryType::Int, number).is_some() {
+    if typed_number(ElementaryType::Int, number).is_some() {
         ElementaryType::Int
-    } else if number_in(ElementaryType::Dint, number).is_some() {
+    } else if typed_number(ElementaryType::Dint, number).is_some() {
         ElementaryType::Dint
     } else {
         ElementaryType::Lint
@@ -214,7 +214,7 @@ pub(crate) fn input_type(input: Input) -> ElementaryType
 fn argument_fits(argument: SourceArgument) -> bool
     ensures { result ≡ spec.argument_fits argument }
 {
-    fits(input_type(argument.input), argument.given)
+    operand_fits(input_type(argument.input), argument.given)
 }
 
 // Returns whether each argument fits its input's type.
@@ -249,20 +249,20 @@ fn may_load(negated: bool, kind: Option<ElementaryType>) -> bool
 }
 
 // Returns whether the instruction is valid if the current result has this type.
-fn allows(resolved: Resolved, kind: ElementaryType) -> bool
-    ensures { result ≡ spec.allows resolved kind }
+fn is_valid_on(resolved: Resolved, kind: ElementaryType) -> bool
+    ensures { result ≡ spec.is_valid_on resolved kind }
 {
     match resolved {
         Resolved::Load { negated, given } => may_load(negated, load_type(given)),
         Resolved::Store { kind: how, target } => {
-            fits(kind, target) && may_negate(!is_plain(how), kind)
+            operand_fits(kind, target) && may_negate(!is_plain(how), kind)
         }
         Resolved::Combine {
             operator,
             negated,
             given,
             ..
-        } => works(operator, negated, kind) && fits(kind, given),
+        } => works(operator, negated, kind) && operand_fits(kind, given),
         Resolved::Not => is_boolean(kind),
         Resolved::Convert(conversion) => kind.is(converted_from(conversion)),
         Resolved::Jump { condition, .. } | Resolved::Return(condition) => {
@@ -289,13 +289,13 @@ pub(crate) fn is_wrong(resolved: Resolved, kind: Option<ElementaryType>) -> bool
     ensures { result ≡ spec.is_wrong resolved kind }
 {
     match kind {
-        Some(kind) => !allows(resolved, kind),
+        Some(kind) => !is_valid_on(resolved, kind),
         None => {
-            !(allows(resolved, ElementaryType::Bool)
-                || allows(resolved, ElementaryType::Int)
-                || allows(resolved, ElementaryType::Dint)
-                || allows(resolved, ElementaryType::Lint)
-                || allows(resolved, ElementaryType::Time))
+            !(is_valid_on(resolved, ElementaryType::Bool)
+                || is_valid_on(resolved, ElementaryType::Int)
+                || is_valid_on(resolved, ElementaryType::Dint)
+                || is_valid_on(resolved, ElementaryType::Lint)
+                || is_valid_on(resolved, ElementaryType::Time))
         }
     }
 }
@@ -322,8 +322,8 @@ pub(crate) fn type_after(resolved: Resolved, kind: Option<ElementaryType>) -> Op
 }
 
 // Returns whether the result of a parenthesis may have this type.
-fn may_be(kind: ElementaryType, inner: Option<ElementaryType>) -> bool
-    ensures { result ≡ spec.may_be kind inner }
+fn may_have_type(kind: ElementaryType, inner: Option<ElementaryType>) -> bool
+    ensures { result ≡ spec.may_have_type kind inner }
 {
     match inner {
         None => true,
@@ -340,7 +340,7 @@ fn combines(
 ) -> bool
     ensures { result ≡ spec.combines operator negated inner kind }
 {
-    works(operator, negated, kind) && may_be(kind, inner)
+    works(operator, negated, kind) && may_have_type(kind, inner)
 }
 
 /// Returns whether the operator of a parenthesis is wrong for every type that the current result
@@ -366,8 +366,8 @@ pub(crate) fn combines_wrong(
 }
 
 // Returns whether the operand is an undeclared name.
-fn is_missing(given: SourceOperand) -> bool
-    ensures { result ≡ spec.is_missing given }
+fn is_undeclared(given: SourceOperand) -> bool
+    ensures { result ≡ spec.is_undeclared given }
 {
     match given {
         SourceOperand::Missing => true,
@@ -376,19 +376,19 @@ fn is_missing(given: SourceOperand) -> bool
 }
 
 // Returns whether an argument is an undeclared name.
-fn misses_argument(arguments: SourceArguments) -> bool
-    ensures { result ≡ spec.misses_argument arguments }
+fn has_undeclared_argument(arguments: SourceArguments) -> bool
+    ensures { result ≡ spec.has_undeclared_argument arguments }
 {
     match arguments {
         SourceArguments::None => false,
-        SourceArguments::One(first) => is_missing(first.given),
-        SourceArguments::Two(first, second) => is_missing(first.given) || is_missing(second.given),
+        SourceArguments::One(first) => is_undeclared(first.given),
+        SourceArguments::Two(first, second) => is_undeclared(first.given) || is_undeclared(second.given),
     }
 }
 
 // Returns whether the called name is not declared.
-fn misses_timer(called: CalledTimer) -> bool
-    ensures { result ≡ spec.misses_timer called }
+fn is_undeclared_timer(called: CalledTimer) -> bool
+    ensures { result ≡ spec.is_undeclared_timer called }
 {
     match called {
         CalledTimer::Missing => true,
@@ -398,12 +398,12 @@ fn misses_timer(called: CalledTimer) -> bool
 
 /// Returns whether the instruction uses an undeclared name.
 pub(crate) fn uses_undeclared_name(resolved: Resolved) -> bool
-    ensures { result ≡ spec.misses_name resolved }
+    ensures { result ≡ spec.uses_undeclared_name resolved }
 {
     match resolved {
-        Resolved::Load { given, .. } | Resolved::Combine { given, .. } => is_missing(given),
-        Resolved::Store { target, .. } => is_missing(target),
-        Resolved::Call { called, arguments } => misses_timer(called) || misses_argument(arguments),
+        Resolved::Load { given, .. } | Resolved::Combine { given, .. } => is_undeclared(given),
+        Resolved::Store { target, .. } => is_undeclared(target),
+        Resolved::Call { called, arguments } => is_undeclared_timer(called) || has_undeclared_argument(arguments),
         Resolved::Not | Resolved::Convert(_) | Resolved::Jump { .. } | Resolved::Return(_) => false,
     }
 }
@@ -424,7 +424,7 @@ pub(crate) fn jumps_back(passed: usize, resolved: Resolved) -> bool
 
 /// Returns whether the instruction jumps to a label that does not exist.
 pub(crate) fn jumps_to_undefined_label(resolved: Resolved) -> bool
-    ensures { result ≡ spec.misses_label resolved }
+    ensures { result ≡ spec.jumps_to_undefined_label resolved }
 {
     match resolved {
         Resolved::Jump { label, .. } => label.is_none(),
@@ -433,8 +433,8 @@ pub(crate) fn jumps_to_undefined_label(resolved: Resolved) -> bool
 }
 
 // Returns whether the target is read-only.
-fn is_fixed(given: SourceOperand) -> bool
-    ensures { result ≡ spec.is_fixed given }
+fn is_read_only(given: SourceOperand) -> bool
+    ensures { result ≡ spec.is_read_only given }
 {
     match given {
         SourceOperand::Known(source) => !source.writable,
@@ -444,10 +444,10 @@ fn is_fixed(given: SourceOperand) -> bool
 
 /// Returns whether the instruction writes something read-only.
 pub(crate) fn writes_read_only(resolved: Resolved) -> bool
-    ensures { result ≡ spec.writes_fixed resolved }
+    ensures { result ≡ spec.writes_read_only resolved }
 {
     match resolved {
-        Resolved::Store { target, .. } => is_fixed(target),
+        Resolved::Store { target, .. } => is_read_only(target),
         _ => false,
     }
 }

@@ -2,7 +2,7 @@
 ghost use Rattle.std.specs.Prelude.{◌≡◌};
 ghost use Rattle.il_check.specs.Typing as spec;
 
-use crate::rules::{input_type, load_type, operand_in};
+use crate::rules::{input_type, load_type, typed_operand};
 use crate::source_operand::{
     CalledTimer, Resolved, SourceArgument, SourceArguments, SourceOperand,
 };
@@ -11,14 +11,14 @@ use bay_base::types::ElementaryType;
 use il_text::program::{Operator, StoreKind};
 
 // Returns a load of the operand as one of this type.
-fn load_in(
+fn typed_load(
     negated: bool,
     given: SourceOperand,
     kind: Option<ElementaryType>,
 ) -> Option<SimpleOperation>
-    ensures { result ≡ spec.load_in negated given kind }
+    ensures { result ≡ spec.typed_load negated given kind }
 {
-    let operand = operand_in(kind?, given)?;
+    let operand = typed_operand(kind?, given)?;
     Some(SimpleOperation::Load { negated, operand })
 }
 
@@ -36,7 +36,7 @@ fn target_slot(target: SourceOperand) -> Option<Slot>
 }
 
 // Returns a store into the slot, or `None` without a slot.
-fn stored(kind: StoreKind, slot: Option<Slot>) -> Option<SimpleOperation>
+fn typed_store(kind: StoreKind, slot: Option<Slot>) -> Option<SimpleOperation>
     ensures { result ≡ spec.store_operation kind slot }
 {
     let slot = slot?;
@@ -44,16 +44,16 @@ fn stored(kind: StoreKind, slot: Option<Slot>) -> Option<SimpleOperation>
 }
 
 // Returns an operator on a result of this type, with the operand as one of the type.
-fn combine_in(
+fn typed_combine(
     operator: Operator,
     negated: bool,
     given: SourceOperand,
     kind: Option<ElementaryType>,
 ) -> Option<SimpleOperation>
-    ensures { result ≡ spec.combine_in operator negated given kind }
+    ensures { result ≡ spec.typed_combine operator negated given kind }
 {
     let kind = kind?;
-    let operand = operand_in(kind, given)?;
+    let operand = typed_operand(kind, given)?;
     Some(SimpleOperation::Combine {
         operator,
         kind,
@@ -63,21 +63,21 @@ fn combine_in(
 }
 
 /// Returns the operation on a result of this type.
-pub(crate) fn operation_in(
+pub(crate) fn typed_operation(
     resolved: Resolved,
     kind: Option<ElementaryType>,
 ) -> Option<SimpleOperation>
-    ensures { result ≡ spec.operation_in resolved kind }
+    ensures { result ≡ spec.typed_operation resolved kind }
 {
     match resolved {
-        Resolved::Load { negated, given } => load_in(negated, given, load_type(given)),
-        Resolved::Store { kind: how, target } => stored(how, target_slot(target)),
+        Resolved::Load { negated, given } => typed_load(negated, given, load_type(given)),
+        Resolved::Store { kind: how, target } => typed_store(how, target_slot(target)),
         Resolved::Combine {
             operator,
             negated,
             given,
             ..
-        } => combine_in(operator, negated, given, kind),
+        } => typed_combine(operator, negated, given, kind),
         Resolved::Not => Some(SimpleOperation::Not),
         Resolved::Convert(conversion) => Some(SimpleOperation::Convert(conversion)),
         Resolved::Jump { .. } | Resolved::Return(_) | Resolved::Call { .. } => None,
@@ -88,7 +88,7 @@ pub(crate) fn operation_in(
 fn typed_argument(argument: SourceArgument) -> Option<TypedArgument>
     ensures { result ≡ spec.typed_argument argument }
 {
-    match operand_in(input_type(argument.input), argument.given) {
+    match typed_operand(input_type(argument.input), argument.given) {
         Some(operand) => Some(TypedArgument {
             input: argument.input,
             operand,
@@ -98,8 +98,8 @@ fn typed_argument(argument: SourceArgument) -> Option<TypedArgument>
 }
 
 // Returns the arguments, or `None` if one does not have its input's type.
-fn arguments_in(arguments: SourceArguments) -> Option<TypedArguments>
-    ensures { result ≡ spec.arguments_in arguments }
+fn typed_arguments(arguments: SourceArguments) -> Option<TypedArguments>
+    ensures { result ≡ spec.typed_arguments arguments }
 {
     match arguments {
         SourceArguments::None => Some(TypedArguments::None),
@@ -114,8 +114,8 @@ fn arguments_in(arguments: SourceArguments) -> Option<TypedArguments>
 }
 
 // Returns a call, or `None` if no timer is called or an argument does not have its input's type.
-fn call_in(called: CalledTimer, arguments: Option<TypedArguments>) -> Option<Transfer>
-    ensures { result ≡ spec.call_in called arguments }
+fn typed_call(called: CalledTimer, arguments: Option<TypedArguments>) -> Option<Transfer>
+    ensures { result ≡ spec.typed_call called arguments }
 {
     match called {
         CalledTimer::Timer(timer) => match arguments {
@@ -127,8 +127,8 @@ fn call_in(called: CalledTimer, arguments: Option<TypedArguments>) -> Option<Tra
 }
 
 /// Returns the jump, return or call of an instruction, or `None` if it is none.
-pub(crate) fn transfer_in(resolved: Resolved) -> Option<Transfer>
-    ensures { result ≡ spec.transfer_in resolved }
+pub(crate) fn typed_transfer(resolved: Resolved) -> Option<Transfer>
+    ensures { result ≡ spec.typed_transfer resolved }
 {
     match resolved {
         Resolved::Jump { condition, label } => match label {
@@ -136,7 +136,7 @@ pub(crate) fn transfer_in(resolved: Resolved) -> Option<Transfer>
             None => None,
         },
         Resolved::Return(condition) => Some(Transfer::Return(condition)),
-        Resolved::Call { called, arguments } => call_in(called, arguments_in(arguments)),
+        Resolved::Call { called, arguments } => typed_call(called, typed_arguments(arguments)),
         Resolved::Load { .. }
         | Resolved::Store { .. }
         | Resolved::Combine { .. }

@@ -15,7 +15,7 @@ ghost use Rattle.il_check.specs.Limits.{most_nested};
 
 use crate::fault::CheckFault;
 use crate::judge::{
-    InstructionPlace, ParenthesisEnd, note_closing, note_instruction, note_label, note_opening,
+    InstructionContext, ParenthesisEnd, note_closing, note_instruction, note_label, note_opening,
 };
 use crate::names::ProgramNames;
 use crate::note::note_if;
@@ -23,7 +23,7 @@ use crate::reach::{Reach, join, unreached};
 use crate::rules::{falls_through, target_of, type_after, type_after_operator};
 use crate::source_operand::Resolved;
 use crate::typed::{TypedEntry, TypedItem};
-use crate::typing::{operation_in, transfer_in};
+use crate::typing::{typed_operation, typed_transfer};
 use bay_base::types::ElementaryType;
 use il_text::program::{Instruction, Item, Operator};
 use std::alloc::{AllocError, Global};
@@ -34,7 +34,7 @@ const MAX_DEPTH: usize = 16;
 /// The state of the walk from item to item: the fault to report, if any so far, and a buffer for
 /// looking up names.
 #[derive(Drop)]
-pub(crate) struct Judge {
+pub(crate) struct Checker {
     pub(crate) alloc: Global,
     pub(crate) buffer: String,
     pub(crate) found: Option<CheckFault>,
@@ -51,24 +51,24 @@ struct Parenthesis {
 
 // The typed form of one entry, if it has one, and the type of the result after it.
 #[derive(Drop)]
-struct EntryLeft {
+struct CheckedEntry {
     entry: Option<TypedEntry>,
     kind: Option<ElementaryType>,
 }
 
 // The typed forms of entries, and the type of the result after them.
 #[derive(Drop)]
-struct Passed {
+struct CheckedEntries {
     entries: Vec<TypedEntry>,
     kind: Option<ElementaryType>,
 }
 
-impl Judge {
+impl Checker {
     // Resolves the names of an instruction and notes its faults.
     fn instruction(
         &mut self,
         names: &ProgramNames,
-        context: InstructionPlace,
+        context: InstructionContext,
         line: usize,
         instruction: Instruction<'_>,
         kind: Option<ElementaryType>,
@@ -87,20 +87,20 @@ impl Judge {
 
     // Checks an instruction in a parenthesis, on a result of this type, or `None` if it is not
     // set.
-    fn operate(
+    fn check_inner_action(
         &mut self,
         names: &ProgramNames,
-        context: InstructionPlace,
+        context: InstructionContext,
         line: usize,
         instruction: Instruction<'_>,
         kind: Option<ElementaryType>,
-    ) -> Result<EntryLeft, AllocError>
+    ) -> Result<CheckedEntry, AllocError>
         ensures kind { IfOk result
             (λ l. l.kind ≡ spec.type_after_entry (names_of names.now)
             (text.action line (action_of instruction.entry)) kind) }
         ensures left { IfOk result
             (λ l. option_map entry_view l.entry
-            ≡ spec.entry_left (names_of names.now) context.room
+            ≡ spec.typed_entry_of (names_of names.now) context.room
             (text.action line (action_of instruction.entry)) kind) }
         ensures found { OnOk result (self.new.found
             ≡ first_fault_of self.old.found
@@ -108,8 +108,8 @@ impl Judge {
             (text.action line (action_of instruction.entry)) kind)) }
     {
         let resolved = self.instruction(names, context, line, instruction, kind)?;
-        Ok(EntryLeft {
-            entry: entry_in(resolved, kind),
+        Ok(CheckedEntry {
+            entry: action_entry(resolved, kind),
             kind: type_after(resolved, kind),
         })
     }
@@ -119,22 +119,22 @@ impl Judge {
     fn entries(
         &mut self,
         names: &ProgramNames,
-        context: InstructionPlace,
+        context: InstructionContext,
         items: &[Item<'_>],
-    ) -> Result<Passed, AllocError>
+    ) -> Result<CheckedEntries, AllocError>
         ensures kind { IfOk result
             (λ p. p.kind ≡ spec.type_after_entries (names_of names.now)
             (text.entries_of (map entry_of items.now)) None) }
         ensures left { IfOk result
             (λ p. plain.entries_of (map entry_view p.entries.items)
-            ≡ spec.entries_left (names_of names.now) context.room
+            ≡ spec.typed_entries_of (names_of names.now) context.room
             (text.entries_of (map entry_of items.now)) None) }
         ensures found { OnOk result (self.new.found
             ≡ first_fault_of self.old.found
             (spec.entries_faults (names_of names.now) context.room context.is_reached context.passed
             (text.entries_of (map entry_of items.now)) None)) }
     {
-        let mut passed = Passed {
+        let mut passed = CheckedEntries {
             entries: Vec::new(self.alloc),
             kind: None,
         };
@@ -151,24 +151,24 @@ impl Judge {
     fn entry(
         &mut self,
         names: &ProgramNames,
-        context: InstructionPlace,
+        context: InstructionContext,
         item: &Item<'_>,
         kind: Option<ElementaryType>,
-    ) -> Result<EntryLeft, AllocError>
+    ) -> Result<CheckedEntry, AllocError>
         ensures kind { IfOk result
             (λ l. l.kind ≡ spec.type_after_entry (names_of names.now) (entry_of item.now) kind) }
         ensures left { IfOk result
             (λ l. option_map entry_view l.entry
-            ≡ spec.entry_left (names_of names.now) context.room (entry_of item.now) kind) }
+            ≡ spec.typed_entry_of (names_of names.now) context.room (entry_of item.now) kind) }
         ensures found { OnOk result (self.new.found
             ≡ first_fault_of self.old.found
             (spec.entry_faults (names_of names.now) context.room context.is_reached context.passed
             (entry_of item.now) kind)) }
     {
         match item {
-            Item::Label { .. } => Ok(EntryLeft { entry: None, kind }),
+            Item::Label { .. } => Ok(CheckedEntry { entry: None, kind }),
             Item::Instruction { line, instruction } => {
-                self.operate(names, context, *line, *instruction, kind)
+                self.check_inner_action(names, context, *line, *instruction, kind)
             }
             Item::Block {
                 line,
@@ -184,7 +184,7 @@ impl Judge {
                     end: *end,
                 };
                 let entry = self.block(names, context, parenthesis, items.as_slice(), kind)?;
-                Ok(EntryLeft {
+                Ok(CheckedEntry {
                     entry,
                     kind: type_after_operator(*operator, kind),
                 })
@@ -198,13 +198,13 @@ impl Judge {
     fn block(
         &mut self,
         names: &ProgramNames,
-        context: InstructionPlace,
+        context: InstructionContext,
         parenthesis: Parenthesis,
         items: &[Item<'_>],
         kind: Option<ElementaryType>,
     ) -> Result<Option<TypedEntry>, AllocError>
         ensures left { IfOk result (λ b. option_map entry_view b
-            ≡ spec.entry_left (names_of names.now) context.room
+            ≡ spec.typed_entry_of (names_of names.now) context.room
             (text.block parenthesis.line parenthesis.operator parenthesis.negated
             (text.entries_of (map entry_of items.now)) parenthesis.end) kind) }
         ensures found { OnOk result (self.new.found
@@ -222,9 +222,9 @@ impl Judge {
         self.found = note_opening(self.found, context.is_reached, line, operator);
         if context.room == 0 {
             self.found = note_if(self.found, true, CheckFault::TooMany { line });
-            return Ok(block_of(operator, negated, Vec::new(self.alloc), kind));
+            return Ok(typed_block(operator, negated, Vec::new(self.alloc), kind));
         }
-        let within = InstructionPlace {
+        let within = InstructionContext {
             is_reached: context.is_reached,
             passed: context.passed,
             room: context.room - 1,
@@ -236,20 +236,20 @@ impl Judge {
             inner: inner.kind,
         };
         self.found = note_closing(self.found, context.is_reached, end, closing, kind);
-        Ok(block_of(operator, negated, inner.entries, kind))
+        Ok(typed_block(operator, negated, inner.entries, kind))
     }
 }
 
 // Returns a parenthesis whose operator works on a result of this type.
 #[tactic(auto, using(crate::proofs::ViewLemmas::view_rules))]
-fn block_of(
+fn typed_block(
     operator: Operator,
     negated: bool,
     entries: Vec<TypedEntry>,
     kind: Option<ElementaryType>,
 ) -> Option<TypedEntry>
     ensures { option_map entry_view result
-        ≡ typing.block_in operator negated (plain.entries_of (map entry_view entries.items)) kind }
+        ≡ typing.typed_block operator negated (plain.entries_of (map entry_view entries.items)) kind }
 {
     match kind {
         Some(kind) => Some(TypedEntry::Block {
@@ -264,38 +264,38 @@ fn block_of(
 
 // Returns the typed form of an instruction as an entry.
 #[tactic(auto, using(crate::proofs::ViewLemmas::view_rules))]
-fn entry_in(resolved: Resolved, kind: Option<ElementaryType>) -> Option<TypedEntry>
-    ensures { option_map entry_view result ≡ typing.entry_in resolved kind }
+fn action_entry(resolved: Resolved, kind: Option<ElementaryType>) -> Option<TypedEntry>
+    ensures { option_map entry_view result ≡ typing.action_entry resolved kind }
 {
-    match operation_in(resolved, kind) {
+    match typed_operation(resolved, kind) {
         Some(operation) => Some(TypedEntry::Operation(operation)),
         None => None,
     }
 }
 
 // Returns the typed form of an instruction as an item.
-fn item_in(resolved: Resolved, kind: Option<ElementaryType>) -> Option<TypedItem>
-    ensures { option_map item_view result ≡ typing.item_in resolved kind }
+fn action_item(resolved: Resolved, kind: Option<ElementaryType>) -> Option<TypedItem>
+    ensures { option_map item_view result ≡ typing.action_item resolved kind }
 {
-    if let Some(transfer) = transfer_in(resolved) {
+    if let Some(transfer) = typed_transfer(resolved) {
         return Some(TypedItem::Transfer(transfer));
     }
-    match entry_in(resolved, kind) {
+    match action_entry(resolved, kind) {
         Some(entry) => Some(TypedItem::Entry(entry)),
         None => None,
     }
 }
 
-impl Passed {
+impl CheckedEntries {
     // Appends one entry, if it has a typed form.
     #[tactic(auto, using(crate::proofs::ViewLemmas::view_rules))]
-    fn add(&mut self, left: EntryLeft) -> Result<(), AllocError>
+    fn add(&mut self, left: CheckedEntry) -> Result<(), AllocError>
         ensures kind { OnOk result (self.new.kind ≡ left.kind) }
         ensures left { OnOk result (map entry_view self.new.entries.items
             ≡ map entry_view self.old.entries.items
             ++ option_to_list (option_map entry_view left.entry)) }
     {
-        let EntryLeft { entry, kind } = left;
+        let CheckedEntry { entry, kind } = left;
         if let Some(entry) = entry {
             self.entries.push(entry)?;
         }
@@ -315,11 +315,11 @@ pub(crate) struct Walk {
 
 impl Walk {
     // Returns the context of the next item, which is in no parenthesis.
-    fn context(&self) -> InstructionPlace
+    fn context(&self) -> InstructionContext
         ensures { result ≡ record
             { is_reached = self.now.reach.is_reached; passed = self.now.passed; room = most_nested } }
     {
-        InstructionPlace {
+        InstructionContext {
             is_reached: self.reach.is_reached,
             passed: self.passed,
             room: MAX_DEPTH,
@@ -337,7 +337,7 @@ impl Walk {
     }
 
     // Records what a jump brings to its label.
-    fn arrive(&mut self, label: Option<usize>)
+    fn record_arrival(&mut self, label: Option<usize>)
         ensures arrivals { self.new.arrivals.items
             ≡ spec.arrival_at label self.old.reach self.old.arrivals.items }
         ensures reach { self.new.reach ≡ self.old.reach }
@@ -354,11 +354,11 @@ impl Walk {
 
     // Updates the state after an instruction.
     fn follow(&mut self, resolved: Resolved)
-        ensures standing { progress_of self.new
+        ensures progress { progress_of self.new
             ≡ spec.progress_after_action resolved (progress_of self.old) }
         ensures items { self.new.items ≡ self.old.items }
     {
-        self.arrive(target_of(resolved));
+        self.record_arrival(target_of(resolved));
         self.reach = Reach {
             is_reached: self.reach.is_reached && falls_through(resolved),
             kind: type_after(resolved, self.reach.kind),
@@ -368,7 +368,7 @@ impl Walk {
     // Updates the state after a label.
     fn enter_label(&mut self)
         requires { self.old.passed < usize.MAX }
-        ensures standing { progress_of self.new ≡ spec.progress_after_label (progress_of self.old) }
+        ensures progress { progress_of self.new ≡ spec.progress_after_label (progress_of self.old) }
         ensures items { self.new.items ≡ self.old.items }
     {
         self.reach = join(self.reach, self.arrival(self.passed));
@@ -380,7 +380,7 @@ impl Walk {
     fn add(&mut self, item: Option<TypedItem>) -> Result<(), AllocError>
         ensures items { OnOk result (map item_view self.new.items.items
             ≡ map item_view self.old.items.items ++ option_to_list (option_map item_view item)) }
-        ensures standing { OnOk result (progress_of self.new ≡ progress_of self.old) }
+        ensures progress { OnOk result (progress_of self.new ≡ progress_of self.old) }
     {
         if let Some(item) = item {
             self.items.push(item)?;
@@ -390,9 +390,9 @@ impl Walk {
 
     // Leaves the typed items unchanged, or clears them once a fault is found: a program with a
     // fault has none.
-    fn keep(&mut self, found: Option<CheckFault>)
+    fn clear_if_faulty(&mut self, found: Option<CheckFault>)
         ensures items { found ≡ None → self.new.items ≡ self.old.items }
-        ensures standing { progress_of self.new ≡ progress_of self.old }
+        ensures progress { progress_of self.new ≡ progress_of self.old }
     {
         if found.is_some() {
             self.items.clear();
@@ -403,10 +403,10 @@ impl Walk {
     fn add_instruction(&mut self, resolved: Resolved) -> Result<(), AllocError>
         ensures items { OnOk result (map item_view self.new.items.items
             ≡ map item_view self.old.items.items
-            ++ option_to_list (typing.item_in resolved self.old.reach.kind)) }
-        ensures standing { OnOk result (progress_of self.new ≡ progress_of self.old) }
+            ++ option_to_list (typing.action_item resolved self.old.reach.kind)) }
+        ensures progress { OnOk result (progress_of self.new ≡ progress_of self.old) }
     {
-        self.add(item_in(resolved, self.reach.kind))
+        self.add(action_item(resolved, self.reach.kind))
     }
 
     // Appends a label, by its number.
@@ -415,7 +415,7 @@ impl Walk {
         ensures items { OnOk result
             (map item_view self.new.items.items
             ≡ map item_view self.old.items.items ++ plain.label self.old.passed ∷ []) }
-        ensures standing { OnOk result
+        ensures progress { OnOk result
             (progress_of self.new ≡ spec.progress_after_label (progress_of self.old)) }
     {
         self.items.push(TypedItem::Label(self.passed))?;
@@ -425,18 +425,18 @@ impl Walk {
 
     // Appends a parenthesis, if it has a typed form.
     #[tactic(auto, using(crate::proofs::ViewLemmas::view_rules))]
-    fn add_block(&mut self, left: EntryLeft) -> Result<(), AllocError>
+    fn add_block(&mut self, left: CheckedEntry) -> Result<(), AllocError>
         ensures items { OnOk result (map item_view self.new.items.items
             ≡ map item_view self.old.items.items
             ++ option_to_list (option_map (λ e. plain.plain (entry_view e)) left.entry)) }
-        ensures standing { OnOk result (progress_of self.new
+        ensures progress { OnOk result (progress_of self.new
             ≡ record {
               now = record { is_reached = self.old.reach.is_reached; kind = left.kind };
               arrivals = self.old.arrivals.items;
               passed = self.old.passed;
             }) }
     {
-        let EntryLeft { entry, kind } = left;
+        let CheckedEntry { entry, kind } = left;
         if let Some(entry) = entry {
             self.items.push(TypedItem::Entry(entry))?;
         }
@@ -445,7 +445,7 @@ impl Walk {
     }
 }
 
-impl Judge {
+impl Checker {
     // Checks a label.
     fn label(
         &mut self,
@@ -455,7 +455,7 @@ impl Judge {
         walk: &mut Walk,
     ) -> Result<(), AllocError>
         requires { walk.old.passed < usize.MAX }
-        ensures standing { OnOk result
+        ensures progress { OnOk result
             (progress_of walk.new ≡ spec.progress_after_entry (names_of names.now)
             (text.label line name.now)
             (progress_of walk.old)) }
@@ -473,19 +473,19 @@ impl Judge {
     }
 
     // Checks an instruction outside parentheses.
-    fn act(
+    fn check_action(
         &mut self,
         names: &ProgramNames,
         line: usize,
         instruction: Instruction<'_>,
         walk: &mut Walk,
     ) -> Result<(), AllocError>
-        ensures standing { OnOk result
+        ensures progress { OnOk result
             (progress_of walk.new ≡ spec.progress_after_entry (names_of names.now)
             (text.action line (action_of instruction.entry)) (progress_of walk.old)) }
         ensures items { OnOk result (map item_view walk.new.items.items
             ≡ map item_view walk.old.items.items
-            ++ option_to_list (spec.progress_after_item (names_of names.now)
+            ++ option_to_list (spec.typed_item_of (names_of names.now)
             (text.action line (action_of instruction.entry)) (progress_of walk.old))) }
         ensures found { OnOk result (self.new.found
             ≡ first_fault_of self.old.found
@@ -499,13 +499,13 @@ impl Judge {
     }
 
     // Checks a parenthesis that is not inside another.
-    fn enclose(
+    fn check_block(
         &mut self,
         names: &ProgramNames,
         item: &Item<'_>,
         walk: &mut Walk,
     ) -> Result<(), AllocError>
-        ensures standing { OnOk result (progress_of walk.new
+        ensures progress { OnOk result (progress_of walk.new
             ≡ record {
               now = record {
                 is_reached = walk.old.reach.is_reached;
@@ -518,7 +518,7 @@ impl Judge {
         ensures items { OnOk result (map item_view walk.new.items.items
             ≡ map item_view walk.old.items.items
             ++ option_to_list (option_map plain.plain
-            (spec.entry_left (names_of names.now) most_nested (entry_of item.now)
+            (spec.typed_entry_of (names_of names.now) most_nested (entry_of item.now)
             walk.old.reach.kind))) }
         ensures found { OnOk result (self.new.found
             ≡ first_fault_of self.old.found
@@ -539,13 +539,13 @@ impl Judge {
         walk: &mut Walk,
     ) -> Result<(), AllocError>
         requires { walk.old.passed < usize.MAX }
-        ensures standing { OnOk result
+        ensures progress { OnOk result
             (progress_of walk.new ≡ spec.progress_after_entry (names_of names.now)
             (entry_of item.now)
             (progress_of walk.old)) }
         ensures items { OnOk result (map item_view walk.new.items.items
             ≡ map item_view walk.old.items.items
-            ++ option_to_list (spec.progress_after_item (names_of names.now) (entry_of item.now)
+            ++ option_to_list (spec.typed_item_of (names_of names.now) (entry_of item.now)
             (progress_of walk.old))) }
         ensures found { OnOk result
             (self.new.found ≡ first_fault_of self.old.found
@@ -554,9 +554,9 @@ impl Judge {
         match item {
             Item::Label { line, name } => self.label(names, *line, name, walk),
             Item::Instruction { line, instruction } => {
-                self.act(names, *line, *instruction, walk)
+                self.check_action(names, *line, *instruction, walk)
             }
-            Item::Block { .. } => self.enclose(names, item, walk),
+            Item::Block { .. } => self.check_block(names, item, walk),
         }
     }
 
@@ -570,7 +570,7 @@ impl Judge {
     ) -> Result<Vec<TypedItem>, AllocError>
         ensures left { IfOk result (λ left. self.new.found ≡ None
             → map item_view left.items
-            ≡ spec.progress_after_items (names_of names.now) (map entry_of items.now)
+            ≡ spec.typed_items_of (names_of names.now) (map entry_of items.now)
             (spec.start_progress arrivals.items)) }
         ensures found { OnOk result (self.new.found
             ≡ first_fault_of self.old.found
@@ -589,7 +589,7 @@ impl Judge {
         };
         for item in items {
             self.item(names, item, &mut walk)?;
-            walk.keep(self.found);
+            walk.clear_if_faulty(self.found);
         }
         let Walk { items, .. } = walk;
         Ok(items)

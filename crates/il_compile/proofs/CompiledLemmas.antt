@@ -15,12 +15,12 @@ use Rattle.il_check.specs.TypedProgram as typed
 use Rattle.il_check.specs.TypedProgram.{IsTyped}
 use Rattle.il_check.specs.declared.typed.External.{External}
 use Rattle.il_check.specs.declared.typed.Variable.{Variable}
-use Rattle.il_compile.specs.Continuation.{IsSettled}
+use Rattle.il_compile.specs.Continuation.{HasNoPending}
 use Rattle.il_compile.specs.Code.{items_code, octets, program_code, push_unset}
 use Rattle.il_compile.specs.Compiled.{compiled_of, image_of, image_size, point_of, points_octets, most_octets}
 use Rattle.il_compile.specs.declared.continuation.Continuation.{Continuation}
 use Rattle.il_compile.specs.declared.fault.CompileFault.TheVariants.{CodeTooLong}
-use Rattle.il_compile.specs.Correct.{DoesTheText, Follows}
+use Rattle.il_compile.specs.Correct.{ImplementsText, ImplementsAt}
 use Rattle.il_compile.specs.Meaning.{Memory}
 use Rattle.il_compile.proofs.Placing.{octets-both}
 use Rattle.il_compile.proofs.Follows.{Finds, follows}
@@ -32,7 +32,7 @@ names-are : (es : List External) → Each typed.HasName es → Each HasName (map
 names-are [] h = tt
 names-are (e ∷ es) h = (h.0, names-are es h.1)
 
-values-are : (vs : List Variable) → Each typed.BeginsRight vs
+values-are : (vs : List Variable) → Each typed.HasValidInitial vs
     → Each IsValue (map (λ v. v.initial) vs)
 values-are [] h = tt
 values-are (v ∷ vs) h = (h.0, values-are vs h.1)
@@ -75,27 +75,27 @@ not-below a b h =
 
 -- what the sizes say
 pub too_long : (c : Checked) (head size : ℕ) (b : Continuation)
-    → IsSettled (length c.externals) c.items b
+    → HasNoPending (length c.externals) c.items b
     → head ≡ 13 + points_octets c.externals + 9 * length c.variables + length c.timers
     → size ≡ head + 3 + b.octets → most_octets < size
     → compiled_of c ≡ Err CodeTooLong
 too_long c head size b settled h e lt =
     let s = size-is c in
     let k = code-size c in
-    let n = settled.behind.counted in
+    let n = settled.continuation.counted in
     let over : most_octets < image_size c = omega arith in
     ap (λ x. if x then Ok (image_of c) else Err CodeTooLong)
     (not-below most_octets (image_size c) over)
 
 pub short-enough : (c : Checked) (head size : ℕ) (b : Continuation)
-    → IsSettled (length c.externals) c.items b
+    → HasNoPending (length c.externals) c.items b
     → head ≡ 13 + points_octets c.externals + 9 * length c.variables + length c.timers
     → size ≡ head + 3 + b.octets → size ≤ most_octets
     → image_size c ≤ most_octets
 short-enough c head size b settled h e le =
     let s = size-is c in
     let k = code-size c in
-    let n = settled.behind.counted in
+    let n = settled.continuation.counted in
     omega arith
 
 -- a program whose image is short enough has one
@@ -104,14 +104,14 @@ given c le =
     ap (λ x. if x then Ok (image_of c) else Err CodeTooLong) (le-leb (image_size c) most_octets le)
 
 pub same-code : (c : Checked) (b : Continuation) (code : List ℕ)
-    → IsSettled (length c.externals) c.items b → image_size c ≤ most_octets
+    → HasNoPending (length c.externals) c.items b → image_size c ≤ most_octets
     → code ≡ all_spelled (push_unset ∷ reverse b.instrs.items ++ Halt ∷ [])
     → code ≡ (image_of c).code
 same-code c b code settled le e =
     let s = size-is c in
     let k = code-size c in
     let short : octets (items_code (length c.externals) c.items) ≤ most_octets = omega arith in
-    e ∙ ap (λ l. all_spelled (push_unset ∷ l ++ Halt ∷ [])) (settled.behind.code short)
+    e ∙ ap (λ l. all_spelled (push_unset ∷ l ++ Halt ∷ [])) (settled.continuation.code short)
 
 -- an image of these parts
 abbrev pub parts : List ImagePoint → List Value → List TimerKind → List ℕ → Image
@@ -138,7 +138,7 @@ was-short c i false e f = absurd cc
 
 -- the code has a table, so that it goes on at instructions alone
 followed : (c : Checked) → HasTable (image_of c) → (now : ℕ) (m : Memory)
-    → Finds c (image_of c).code now m → Follows c (image_of c).code now m
+    → Finds c (image_of c).code now m → ImplementsAt c (image_of c).code now m
 followed c table now m f = record {
   means = f.means;
   steps = f.steps;
@@ -148,13 +148,13 @@ followed c table now m f = record {
 }
 
 pub does-the-text : (c : Checked) (i : Image) → IsTyped c → compiled_of c ≡ Ok i
-    → DoesTheText c i.code
+    → ImplementsText c i.code
 does-the-text c i ok e =
     let w = was-short c i (nat_le (image_size c) most_octets) refl e in
     let s = size-is c in
     let le = w.0 in
     let are = program-are c ok (omega arith) in
-    λ now m typed. subst (λ (x : Image). Follows c x.code now m) (sym w.1)
+    λ now m typed. subst (λ (x : Image). ImplementsAt c x.code now m) (sym w.1)
     (followed c (has-table c ok are) now m (follows c ok are now m typed))
 
 pub is-tabled : (c : Checked) (i : Image) → IsTyped c → compiled_of c ≡ Ok i → HasTable i

@@ -26,10 +26,10 @@ use Rattle.il_check.specs.declared.typed.SimpleOperation.TheVariants as op
 use Rattle.il_check.specs.declared.typed.Slot as typed
 use Rattle.il_check.specs.declared.typed.TypedOperand.{TypedOperand}
 use Rattle.il_check.specs.declared.typed.TypedOperand.TheVariants as operand
-use Rattle.il_compile.specs.Code.{slot_number, fetch, negation_code, sense_instr, operator_code, store_code, operation_code, entry_code, entries_code}
+use Rattle.il_compile.specs.Code.{slot_number, push_operand, negation_code, class_instr, operator_code, store_code, operation_code, entry_code, entries_code}
 use Rattle.il_compile.specs.Correct.{HasTypes}
-use Rattle.il_compile.specs.Meaning.{Memory, State, combination_of, inverse_if, output_of, slot_value, operand_value, with_value, memory_with, memory_after_store, state_after, without_result, mean_entry, mean_entries}
-use Rattle.il_compile.specs.Senses.{Sense, connects, computes, compares, sense_of, widening_of}
+use Rattle.il_compile.specs.Meaning.{Memory, State, combination_of, inverse_if, output_of, slot_value, operand_value, with_value, store_value, memory_after_store, state_after, without_result, mean_entry, mean_entries}
+use Rattle.il_compile.specs.OperatorClasses.{OperatorClass, connects, computes, compares, class_of, widening_of}
 use Rattle.il_compile.proofs.Memories.{flat, set-same, There, there, changed, timer-there}
 use Rattle.il_compile.proofs.Straight.{Core, core, Does, DoesAll, both, alone, pushed, dropped, inverted, wider, joined, fetched, kept, set_if, reset-if, output-fetched, elapsed-fetched}
 use Rattle.il_compile.proofs.Values.{same-sense, sense_takes, sense_gives, sense_divides, type-self, truth-is, boolean-is, combined-made, widened-made}
@@ -57,7 +57,7 @@ module _ (c : Checked) (now : ℕ) where
     pub value : Value
     pub is : operand_value x m ≡ Some value
     pub type : type_of value ≡ kind
-    pub does : Does now (fetch (length c.externals) x) (holding cells m) (holding (value ∷ cells) m)
+    pub does : Does now (push_operand (length c.externals) x) (holding cells m) (holding (value ∷ cells) m)
 
   pub operand-does : (x : TypedOperand) (kind : ElementaryType) (m : Memory) (cells : List Value)
       → HasTypes c m → IsOperand c x kind → length cells < most_cells → Fetched x kind m cells
@@ -117,7 +117,7 @@ module _ (c : Checked) (now : ℕ) where
   -- ---- operators
 
   -- what takes BOOLs divides nothing
-  numbers-alone : (x : Sense) → sense_takes x elementary.Bool ≡ true → sense_divides x ≡ false
+  numbers-alone : (x : OperatorClass) → sense_takes x elementary.Bool ≡ true → sense_divides x ≡ false
   numbers-alone (connects o) h = refl
   numbers-alone (computes o) h = absurd cc
   numbers-alone (compares o) h = refl
@@ -132,7 +132,7 @@ module _ (c : Checked) (now : ℕ) where
       let both = and_parts (rules.accepts_type o kind) (rules.may_negate true kind) h in
       let same = same-sense o in
       and_left (rules.divides o) _
-      (same.divides ∙ numbers-alone (sense_of o)
+      (same.divides ∙ numbers-alone (class_of o)
       (sym (same.takes elementary.Bool) ∙ ap (rules.accepts_type o) (sym (boolean-is kind both.1))
       ∙ both.0))
 
@@ -141,7 +141,7 @@ module _ (c : Checked) (now : ℕ) where
     second : Value
     turns : inverse_if negated v ≡ Some second
     value : Value
-    is : combination_of (sense_of o) a second ≡ Some value
+    is : combination_of (class_of o) a second ≡ Some value
     type : type_of value ≡ rules.type_of_result o kind
     does : DoesAll now (operator_code o kind negated) (holding (v ∷ a ∷ cells) m)
         (holding (value ∷ cells) m)
@@ -155,22 +155,22 @@ module _ (c : Checked) (now : ℕ) where
       let same = same-sense o in
       let t = turned negated v kind m (a ∷ cells) tv both_are.1 in
       let zero = stays o negated kind v t.value h z t.is in
-      let takes : sense_takes (sense_of o) (type_of a) ≡ true =
-      subst (λ k. sense_takes (sense_of o) k ≡ true) (sym ta)
+      let takes : sense_takes (class_of o) (type_of a) ≡ true =
+      subst (λ k. sense_takes (class_of o) k ≡ true) (sym ta)
       (sym (same.takes kind) ∙ both_are.0) in
       let made =
-      combined-made (sense_of o) a t.value (t.type ∙ sym ta) takes
+      combined-made (class_of o) a t.value (t.type ∙ sym ta) takes
       (ap (λ d. d && int_eq (number_of t.value) (pos 0)) (sym same.divides) ∙ zero) in
       record {
         second = t.value;
         turns = t.is;
         value = made.value;
         is = made.is;
-        type = made.type ∙ ap (sense_gives (sense_of o)) ta ∙ sym (same.gives kind);
+        type = made.type ∙ ap (sense_gives (class_of o)) ta ∙ sym (same.gives kind);
         does = both now (negation_code negated) _ _ _ _ t.does
-            (subst (λ k. DoesAll now (sense_instr (sense_of o) k ∷ [])
+            (subst (λ k. DoesAll now (class_instr (class_of o) k ∷ [])
             (holding (t.value ∷ a ∷ cells) m) (holding (made.value ∷ cells) m)) ta
-            (alone now _ _ _ (joined now (flat m) m.timers (sense_of o) a t.value made.value cells
+            (alone now _ _ _ (joined now (flat m) m.timers (class_of o) a t.value made.value cells
             made.is)));
       }
 
@@ -201,7 +201,7 @@ module _ (c : Checked) (now : ℕ) where
 
   -- a slot is written
   record Wrote (s : typed.Slot) (v : Value) (m : Memory) (cells : List Value) : Type 0 where
-    is : memory_with s v m ≡ Some (with_value s v m)
+    is : store_value s v m ≡ Some (with_value s v m)
     typed : HasTypes c (with_value s v m)
     holds : core cells (slice_set (flat m) (slot_number (length c.externals) s) v) m.timers
         ≡ holding cells (with_value s v m)

@@ -5,7 +5,7 @@ use Rattle.bay_base.specs.Options.{◌>>=◌}
 use Rattle.bay_base.specs.declared.types.ElementaryType.{ElementaryType}
 use Rattle.il_text.specs.declared.program.Condition.{Condition}
 use Rattle.il_image.specs.Images.{Each, all_spelled}
-use Rattle.il_image.specs.Machine.{Goes, Halted, act}
+use Rattle.il_image.specs.Machine.{Continues, Halted, act}
 use Rattle.il_image.specs.Spelling.{IsInstr, spelling}
 use Rattle.il_image.specs.declared.instr.Instr.{Instr}
 use Rattle.il_image.specs.declared.instr.Instr.TheVariants.{Halt, Jump}
@@ -13,15 +13,15 @@ use Rattle.il_image.specs.declared.timer.TimerState.{TimerState}
 use Rattle.il_image.specs.declared.value.Value.{Value}
 use Rattle.il_image.specs.declared.value.Value.TheVariants.{Truth}
 use Rattle.il_image.proofs.BegunLemmas.{loose_run as run}
-use Rattle.il_check.specs.Labelling.{Labelling, Coming, Becomes, Falls, carry_of, is_named, with_target, type_after_label}
+use Rattle.il_check.specs.Labelling.{Labelling, Incoming, Becomes, FallAgrees, flow_state, is_named, with_target, type_after_label}
 use Rattle.il_check.specs.Program.{Checked, ProgramItem, label, transfer, plain}
-use Rattle.il_check.specs.TypedProgram.{AreItems, IsTyped, coming_after_condition, has_label, target_of}
+use Rattle.il_check.specs.TypedProgram.{AreItems, IsTyped, incoming_after_condition, has_label, target_of}
 use Rattle.il_check.specs.declared.typed.Transfer.{Transfer}
 use Rattle.il_check.specs.declared.typed.Transfer.TheVariants as go
 use Rattle.il_compile.specs.Code.{push_unset, entry_code, transfer_code, octets, octets_before, distance, items_code, program_code}
-use Rattle.il_compile.specs.Correct.{HasTypes, Means}
+use Rattle.il_compile.specs.Correct.{HasTypes, HasMeaning}
 use Rattle.il_compile.specs.Meaning.{Memory, State, mean_from}
-use Rattle.il_compile.specs.Senses.{when_of}
+use Rattle.il_compile.specs.OperatorClasses.{when_of}
 use Rattle.il_compile.proofs.Calls.{call-does}
 use Rattle.il_compile.proofs.Entries.{Agrees, holding, entry-does}
 use Rattle.il_compile.proofs.Memories.{flat}
@@ -55,7 +55,7 @@ skipped n None is = 0
 skipped n (Some l) is = octets_before n l is
 
 -- what is known of the result there
-abbrev Comes : Labelling → Option ℕ → List ProgramItem → List ℕ → Coming → Option Value → Value
+abbrev Comes : Labelling → Option ℕ → List ProgramItem → List ℕ → Incoming → Option Value → Value
     → Type 0
 Comes labels None is named coming result cell =
     (t : Option ElementaryType) × (coming ≡ Some t) × Agrees t result cell
@@ -170,12 +170,12 @@ module _ (c : Checked) (labels : Labelling) (now : ℕ) where
   -- a jump that is taken, and one that is not
   leaps : (when : Instr) (far : ℕ) (p : ℕ) (a : Core) (is : List Instr) (code : List ℕ)
       → length (spelling when) ≡ 3 → Stands code p (when ∷ is)
-      → ((next : ℕ) → act now when next (at p a) ≡ Goes (at (next + far) a))
+      → ((next : ℕ) → act now when next (at p a) ≡ Continues (at (next + far) a))
       → Leads code now (at p a) (at (p + 3 + far) a)
   leaps when far p a is code three h e =
       let z : (p + length (spelling when)) + far ≡ p + 3 + far = omega (arith, three) in
       steps-to code now when is p a (at (p + 3 + far) a) (omega arith) h
-      (e (p + length (spelling when)) ∙ ap (λ q. Goes (at q a)) z)
+      (e (p + length (spelling when)) ∙ ap (λ q. Continues (at q a)) z)
 
   -- what is behind a jump that is not taken
   fell : (condition : Condition) (x : Transfer) (d : ℕ) (is : List ProgramItem) (s : State)
@@ -199,8 +199,8 @@ module _ (c : Checked) (labels : Labelling) (now : ℕ) where
         leaps (Jump (when_of condition) d) 0 p (holding (cell ∷ []) s.memory) _ code refl whole
         (λ next. (let z : next ≡ next + 0 = omega arith in
         j.does d p next (flat s.memory) s.memory.timers
-        ∙ ap (λ b. Goes (at (if b then next + d else next) (holding (cell ∷ []) s.memory)))
-        stayed ∙ ap (λ q. Goes (at q (holding (cell ∷ []) s.memory))) z)) in
+        ∙ ap (λ b. Continues (at (if b then next + d else next) (holding (cell ∷ []) s.memory)))
+        stayed ∙ ap (λ q. Continues (at q (holding (cell ∷ []) s.memory))) z)) in
         let here : p ≡ p + 0 = omega arith in
         subst (λ q. Ends code now (at q (holding (cell ∷ []) s.memory)) (flat f.state.memory)
         f.state.memory.timers) here
@@ -230,7 +230,7 @@ module _ (c : Checked) (labels : Labelling) (now : ℕ) where
         let step =
         leaps (Jump (when_of condition) d) d p (holding (cell ∷ []) s.memory) _ code refl whole
         (λ next. j.does d p next (flat s.memory) s.memory.timers
-        ∙ ap (λ b. Goes (at (if b then next + d else next) (holding (cell ∷ []) s.memory)))
+        ∙ ap (λ b. Continues (at (if b then next + d else next) (holding (cell ∷ []) s.memory)))
         left) in
         let here : p ≡ p + 0 = omega arith in
         subst (λ q. Ends code now (at q (holding (cell ∷ []) s.memory)) (flat state.memory)
@@ -241,8 +241,8 @@ module _ (c : Checked) (labels : Labelling) (now : ℕ) where
   -- ---- all items
 
   items-finish : (is : List ProgramItem) (sought : Option ℕ) (passed : ℕ) (named : List ℕ)
-      (coming : Coming) (s : State) (cell : Value)
-      → AreItems c labels is (carry_of passed named coming)
+      (coming : Incoming) (s : State) (cell : Value)
+      → AreItems c labels is (flow_state passed named coming)
       → Comes labels sought is named coming s.result cell → HasTypes c s.memory
       → Finishes sought is s cell
   items-finish [] None passed named coming s cell ok comes ty = record {
@@ -256,13 +256,13 @@ module _ (c : Checked) (labels : Labelling) (now : ℕ) where
   items-finish [] (Some l) passed named coming s cell ok comes ty =
       absurd (let e : false ≡ true = comes.0 in cc)
   items-finish (label n ∷ is) None passed named coming s cell ok comes ty =
-      let now-is : type_after_label labels (carry_of passed named coming)
+      let now-is : type_after_label labels (flow_state passed named coming)
       ≡ Some (labels passed) =
       rw comes.1 refl in
       let falls : Becomes comes.0 (labels passed) =
-      subst (λ w. Falls labels passed w) comes.1 ok.0.2 in
+      subst (λ w. FallAgrees labels passed w) comes.1 ok.0.2 in
       next-label n is s cell (items-finish is None (passed + 1) named
-      (type_after_label labels (carry_of passed named coming)) s cell ok.1
+      (type_after_label labels (flow_state passed named coming)) s cell ok.1
       (labels passed, now-is, agrees-less comes.0 (labels passed) s.result cell falls comes.2)
       ty)
   items-finish (label n ∷ is) (Some l) passed named coming s cell ok comes ty =
@@ -271,12 +271,12 @@ module _ (c : Checked) (labels : Labelling) (now : ℕ) where
             (let same : passed ≡ l = sym ok.0.0 ∙ eqb-true n l e in
             let named_it : is_named named passed ≡ true =
             subst (λ k. is_named named k ≡ true) (sym same) comes.1 in
-            let now-is : type_after_label labels (carry_of passed named coming)
+            let now-is : type_after_label labels (flow_state passed named coming)
             ≡ Some (labels passed) =
             either-way (is_some coming) (is_named named passed) (labels passed) named_it in
             found-label n l is s cell e
             (items-finish is None (passed + 1) named
-            (type_after_label labels (carry_of passed named coming)) s cell ok.1 (
+            (type_after_label labels (flow_state passed named coming)) s cell ok.1 (
               labels passed,
               now-is,
               subst (λ k. Agrees (labels k) s.result cell) (sym same) comes.2,
@@ -286,7 +286,7 @@ module _ (c : Checked) (labels : Labelling) (now : ℕ) where
             subst (λ b. b || has_label is l ≡ true) e comes.0 in
             other-label n l is s cell e
             (items-finish is (Some l) (passed + 1) named
-            (type_after_label labels (carry_of passed named coming)) s cell ok.1
+            (type_after_label labels (flow_state passed named coming)) s cell ok.1
             (there, comes.1, comes.2) ty)))
       ] refl
     where
@@ -331,7 +331,7 @@ module _ (c : Checked) (labels : Labelling) (now : ℕ) where
       → Finishes None (transfer (go.Jump condition l) ∷ is) s cell) [
         | true ↦ (λ e.
             (let f = items-finish is (Some l) passed (l ∷ named)
-            (coming_after_condition condition t) s cell ok.2
+            (incoming_after_condition condition t) s cell ok.2
             (ok.1.1.1, named_it, agrees-less t (labels l) s.result cell ok.1.2 ag) ty in
             took condition (go.Jump condition l) (octets_before externals l is) is s f.state cell t
             j e refl
@@ -345,7 +345,7 @@ module _ (c : Checked) (labels : Labelling) (now : ℕ) where
             (ap (λ o. o >>= (λ (b : Bool). if b then mean_from now (Some l) is s
             else mean_from now None is s)) j.is
             ∙ ap (λ b. if b then mean_from now (Some l) is s else mean_from now None is s) e)
-            (items-finish is None passed (l ∷ named) (coming_after_condition condition t) s cell
+            (items-finish is None passed (l ∷ named) (incoming_after_condition condition t) s cell
             ok.2 (t, j.behind e, ag) ty)))
       ] refl
     where
@@ -369,14 +369,14 @@ module _ (c : Checked) (labels : Labelling) (now : ℕ) where
             (fell condition (go.Return condition) d is s cell t j e refl refl
             (ap (λ o. o >>= (λ (b : Bool). if b then Some s else mean_from now None is s)) j.is
             ∙ ap (λ b. if b then Some s else mean_from now None is s) e)
-            (items-finish is None passed named (coming_after_condition condition t) s cell ok.2
+            (items-finish is None passed named (incoming_after_condition condition t) s cell ok.2
             (t, j.behind e, ag) ty)))
       ] refl
 
 -- ---- the whole program
 
 -- a typed program has a meaning
-pub means : (c : Checked) → IsTyped c → (now : ℕ) (m : Memory) → HasTypes c m → Means c now m
+pub means : (c : Checked) → IsTyped c → (now : ℕ) (m : Memory) → HasTypes c m → HasMeaning c now m
 means c ok now m ty =
     let f = items-finish c ok.labels now c.items None 0 [] (Some None)
     (record { result = None; memory = m }) (Truth false) ok.items (None, refl, tt) ty in
@@ -393,7 +393,7 @@ whole-run code now a slots timers e =
 
 -- what the program means, and how many steps its code takes where it may go on at any octet
 pub record Finds (c : Checked) (code : List ℕ) (now : ℕ) (m : Memory) : Type 0 where
-  pub means : Means c now m
+  pub means : HasMeaning c now m
   pub steps : ℕ
   pub halts : run code now (length code) (at 0 (holding [] m)) 0
       ≡ Halted (flat means.after) means.after.timers steps

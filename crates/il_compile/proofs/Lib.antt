@@ -1,4 +1,4 @@
-pub mod BehindLemmas
+pub mod ContinuationLemmas
 pub mod Calls
 pub mod CompiledLemmas
 pub mod Entries

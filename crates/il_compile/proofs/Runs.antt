@@ -4,7 +4,7 @@ use Rattle.bay_base.specs.declared.types.ElementaryType.{ElementaryType}
 use Rattle.bay_base.specs.declared.types.ElementaryType.TheVariants as elementary
 use Rattle.il_text.specs.declared.program.Condition.{Condition}
 use Rattle.il_text.specs.declared.program.Condition.TheVariants.{Always, IfTrue, IfFalse}
-use Rattle.il_image.specs.Machine.{State as Machine, StepResult, Goes, Halts, Traps, Ending, Halted, act, ending_of, step_of_read}
+use Rattle.il_image.specs.Machine.{State as Machine, StepResult, Continues, Halts, Traps, Ending, Halted, act, ending_of, step_of_read}
 use Rattle.il_image.specs.Spelling.{spelling}
 use Rattle.il_image.specs.declared.instr.Instr.{Instr}
 use Rattle.il_image.specs.declared.instr.Instr.TheVariants.{Halt, Jump}
@@ -12,10 +12,10 @@ use Rattle.il_image.specs.declared.timer.TimerState.{TimerState}
 use Rattle.il_image.specs.declared.value.Value.{Value}
 use Rattle.il_image.specs.declared.value.Value.TheVariants.{Truth}
 use Rattle.il_image.proofs.BegunLemmas.{loose_run as run, loose_turn as turn}
-use Rattle.il_check.specs.TypedProgram.{Decides, coming_after_condition}
+use Rattle.il_check.specs.TypedProgram.{TestsBool, incoming_after_condition}
 use Rattle.il_compile.specs.Code.{octets}
 use Rattle.il_compile.specs.Meaning.{jump_taken}
-use Rattle.il_compile.specs.Senses.{when_of}
+use Rattle.il_compile.specs.OperatorClasses.{when_of}
 use Rattle.il_compile.proofs.Entries.{Agrees}
 use Rattle.il_compile.proofs.Placing.{Stands, back, found, within, octets_more, some-octet}
 use Rattle.il_compile.proofs.Straight.{Core, core, at, DoesAll}
@@ -26,14 +26,14 @@ use Rattle.il_compile.proofs.Values.{truth-is}
 -- The machine goes from one state to another, in no more steps than the octets that it passes.
 pub record Leads (code : List ℕ) (now : ℕ) (m n : Machine) : Type 0 where
   pub taken : ℕ
-  pub enough : m.place + taken ≤ n.place
+  pub enough : m.offset + taken ≤ n.offset
   pub by : (k steps : ℕ) → run code now (taken + k) m steps ≡ run code now k n (steps + taken)
 
 -- The machine halts with these slots and timers.
 pub record Ends (code : List ℕ) (now : ℕ) (m : Machine) (slots : List Value)
     (timers : List TimerState) : Type 0 where
   pub taken : ℕ
-  pub enough : m.place + taken ≤ length code
+  pub enough : m.offset + taken ≤ length code
   pub by : (steps : ℕ) → run code now taken m steps ≡ Halted slots timers (steps + taken)
 
 -- more steps change nothing of a run that has halted
@@ -41,7 +41,7 @@ on-halted : (x : StepResult) (s : Machine) (steps : ℕ) (f g : Machine → Endi
     (timers : List TimerState) (n : ℕ)
     → ((m : Machine) → f m ≡ Halted slots timers n → g m ≡ Halted slots timers n)
     → ending_of x s steps f ≡ Halted slots timers n → ending_of x s steps g ≡ Halted slots timers n
-on-halted (Goes m) s steps f g slots timers n h e = h m e
+on-halted (Continues m) s steps f g slots timers n h e = h m e
 on-halted Halts s steps f g slots timers n h e = e
 on-halted (Traps trap) s steps f g slots timers n h e = absurd cc
 
@@ -88,8 +88,8 @@ module _ (code : List ℕ) (now : ℕ) where
   }
 
   -- one step
-  pub steps-to : (i : Instr) (is : List Instr) (p : ℕ) (a : Core) (n : Machine) → p < n.place
-      → Stands code p (i ∷ is) → act now i (p + length (spelling i)) (at p a) ≡ Goes n
+  pub steps-to : (i : Instr) (is : List Instr) (p : ℕ) (a : Core) (n : Machine) → p < n.offset
+      → Stands code p (i ∷ is) → act now i (p + length (spelling i)) (at p a) ≡ Continues n
       → Leads code now (at p a) n
   unfolding run
   steps-to i is p a n lt h e = record {
@@ -140,19 +140,19 @@ module _ (code : List ℕ) (now : ℕ) where
 leaps-always : (now : ℕ) (cell : Value) (d p next : ℕ) (slots : List Value)
     (timers : List TimerState)
     → act now (Jump (when_of Always) d) next (at p (core (cell ∷ []) slots timers))
-    ≡ Goes (at (next + d) (core (cell ∷ []) slots timers))
+    ≡ Continues (at (next + d) (core (cell ∷ []) slots timers))
 unfolding act
 leaps-always now cell d p next slots timers = refl
 
 leaps-if-true : (now : ℕ) (b : Bool) (d p next : ℕ) (slots : List Value) (timers : List TimerState)
     → act now (Jump (when_of IfTrue) d) next (at p (core (Truth b ∷ []) slots timers))
-    ≡ Goes (at (if b then next + d else next) (core (Truth b ∷ []) slots timers))
+    ≡ Continues (at (if b then next + d else next) (core (Truth b ∷ []) slots timers))
 unfolding act
 leaps-if-true now b d p next slots timers = refl
 
 leaps-if-false : (now : ℕ) (b : Bool) (d p next : ℕ) (slots : List Value) (timers : List TimerState)
     → act now (Jump (when_of IfFalse) d) next (at p (core (Truth b ∷ []) slots timers))
-    ≡ Goes (at (if not b then next + d else next) (core (Truth b ∷ []) slots timers))
+    ≡ Continues (at (if not b then next + d else next) (core (Truth b ∷ []) slots timers))
 unfolding act
 leaps-if-false now true d p next slots timers = refl
 leaps-if-false now false d p next slots timers = refl
@@ -164,8 +164,8 @@ pub record Jumps (c : Condition) (now : ℕ) (t : Option ElementaryType) (result
   pub is : jump_taken c result ≡ Some leaves
   pub does : (d p next : ℕ) (slots : List Value) (timers : List TimerState)
       → act now (Jump (when_of c) d) next (at p (core (cell ∷ []) slots timers))
-      ≡ Goes (at (if leaves then next + d else next) (core (cell ∷ []) slots timers))
-  pub behind : leaves ≡ false → coming_after_condition c t ≡ Some t
+      ≡ Continues (at (if leaves then next + d else next) (core (cell ∷ []) slots timers))
+  pub behind : leaves ≡ false → incoming_after_condition c t ≡ Some t
 
 on-truth : (c : Condition) (now : ℕ) (t : Option ElementaryType) (result : Option Value)
     (cell : Value) → ((b : Bool) → Jumps c now t (Some (Truth b)) (Truth b))
@@ -179,7 +179,7 @@ on-truth c now t result cell f e ag =
 
 -- a conditional jump decides by the current result
 pub jumped : (c : Condition) (now : ℕ) (t : Option ElementaryType) (result : Option Value)
-    (cell : Value) → Decides c t → Agrees t result cell → Jumps c now t result cell
+    (cell : Value) → TestsBool c t → Agrees t result cell → Jumps c now t result cell
 jumped Always now t result cell ok ag =
     record {
       leaves = true;

@@ -14,7 +14,7 @@ use Rattle.il_image.specs.Values.{type_of}
 use Rattle.il_image.specs.declared.instr.Instr.TheVariants.{Halt, Timer, Jump}
 use Rattle.il_image.specs.declared.opcode.TimerUse.TheVariants.{Run}
 use Rattle.il_image.specs.Machine.{most_slots, most_timers}
-use Rattle.il_check.specs.Labelling.{Labelling, Carried, initial_carried}
+use Rattle.il_check.specs.Labelling.{Labelling, FlowState, initial_flow}
 use Rattle.il_check.specs.Program.{Checked, Entry, operation, block, Entries, no_entries, entry, ProgramItem, label, transfer, plain}
 use Rattle.il_check.specs.TypedProgram.{slot_type, IsOperand, IsOperation, IsEntry, AreEntries, IsArgument, AreArguments, AreItems, IsTyped}
 use Rattle.il_check.specs.declared.typed.SimpleOperation.{SimpleOperation}
@@ -28,8 +28,8 @@ use Rattle.il_check.specs.declared.typed.TypedArguments.TheVariants as arguments
 use Rattle.il_check.specs.declared.typed.TypedOperand.{TypedOperand}
 use Rattle.il_check.specs.declared.typed.TypedOperand.TheVariants as operand
 use Rattle.il_compile.specs.Continuation.{AreSpellable, IsSpellableEntry, AreSpellableEntries}
-use Rattle.il_compile.specs.Code.{slot_number, fetch, negation_code, sense_instr, operator_code, store_code, operation_code, push_unset, entry_code, entries_code, input_use, argument_code, arguments_code, transfer_code, octets, octets_before, distance, items_code, program_code}
-use Rattle.il_compile.specs.Senses.{Sense, connects, computes, compares, sense_of, when_of}
+use Rattle.il_compile.specs.Code.{slot_number, push_operand, negation_code, class_instr, operator_code, store_code, operation_code, push_unset, entry_code, entries_code, input_use, argument_code, arguments_code, transfer_code, octets, octets_before, distance, items_code, program_code}
+use Rattle.il_compile.specs.OperatorClasses.{OperatorClass, connects, computes, compares, class_of, when_of}
 use Rattle.il_compile.proofs.Placing.{octets-both}
 use Rattle.il_compile.proofs.Follows.{transfer-size}
 use Rattle.il_compile.specs.Compiled.{most_octets}
@@ -48,7 +48,7 @@ negation-is : (negated : Bool) → Each IsInstr (negation_code negated)
 negation-is true = (tt, tt)
 negation-is false = tt
 
-sense-is : (x : Sense) (kind : ElementaryType) → IsInstr (sense_instr x kind)
+sense-is : (x : OperatorClass) (kind : ElementaryType) → IsInstr (class_instr x kind)
 sense-is (connects c) kind = tt
 sense-is (computes o) kind = tt
 sense-is (compares c) kind = tt
@@ -56,9 +56,9 @@ sense-is (compares c) kind = tt
 operated-is : (o : Operator) (kind : ElementaryType) (negated : Bool)
     → Each IsInstr (operator_code o kind negated)
 operated-is o kind negated =
-    each-both IsInstr (negation_code negated) (sense_instr (sense_of o) kind ∷ [])
+    each-both IsInstr (negation_code negated) (class_instr (class_of o) kind ∷ [])
     (negation-is negated)
-    (sense-is (sense_of o) kind, tt)
+    (sense-is (class_of o) kind, tt)
 
 store-is : (how : StoreKind) (n : ℕ) → n < 2 ^ 16 → Each IsInstr (store_code how n)
 store-is store.Plain n h = (h, tt)
@@ -79,7 +79,7 @@ module _ (c : Checked) (few : length c.externals + length c.variables ≤ most_s
   timer-is n h = omega arith
 
   fetch-is : (x : TypedOperand) (kind : ElementaryType) → IsOperand c x kind
-      → IsInstr (fetch (length c.externals) x)
+      → IsInstr (push_operand (length c.externals) x)
   fetch-is (operand.Literal v) kind h = h.0
   fetch-is (operand.Slot s) kind h = slot-is s kind h
   fetch-is (operand.TimerOutput n Q) kind h = timer-is n h.0
@@ -124,7 +124,7 @@ module _ (c : Checked) (few : length c.externals + length c.variables ≤ most_s
       each-both IsInstr (argument_code (length c.externals) n a)
       (argument_code (length c.externals) n b) (argument-is n a lt h.0) (argument-is n b lt h.1)
 
-  items-spellable : (labels : Labelling) (is : List ProgramItem) (k : Carried)
+  items-spellable : (labels : Labelling) (is : List ProgramItem) (k : FlowState)
       → AreItems c labels is k
       → AreSpellable (length c.externals) is
   items-spellable labels [] k h = tt
@@ -142,7 +142,7 @@ module _ (c : Checked) (few : length c.externals + length c.variables ≤ most_s
       (entry-spellable e h.0 h.1 h.2.1, items-spellable labels is _ h.3)
 
 pub all-spellable : (c : Checked) → IsTyped c → AreSpellable (length c.externals) c.items
-all-spellable c ok = items-spellable c ok.slots ok.timers ok.labels c.items initial_carried ok.items
+all-spellable c ok = items-spellable c ok.slots ok.timers ok.labels c.items initial_flow ok.items
 
 -- ---- from what is spellable to instructions
 

@@ -4,7 +4,7 @@ use Rattle.std.specs.Prelude.{slice_get, slice_set, nat_lt, if◌then◌else◌,
 use Rattle.std.specs.Ordering.{int_eq}
 use Rattle.std.proofs.lemmas.Bool.{lt-ltb}
 use Rattle.bay_base.specs.Types.{same_type}
-use Rattle.il_image.specs.Machine.{State, Goes, Traps, WrongKind, ZeroDivisor, act, continues_at, is_comparable, divides, value_of_width, most_cells}
+use Rattle.il_image.specs.Machine.{State, Continues, Traps, WrongKind, ZeroDivisor, act, continues_at, is_comparable, divides, value_of_width, most_cells}
 use Rattle.il_image.specs.Arithmetic.{computation_of, comparison_holds, logic_of, wider_value}
 use Rattle.il_image.specs.Timers.{after_call}
 use Rattle.il_image.specs.Values.{number_of, type_of}
@@ -22,9 +22,9 @@ use Rattle.il_image.specs.declared.value.Value.{Value}
 use Rattle.il_image.specs.declared.value.Value.TheVariants.{Truth, Short, Long, Wide, Span}
 use Rattle.il_text.specs.declared.program.Input.{Input}
 use Rattle.il_text.specs.declared.program.Input.TheVariants.{In, Pt}
-use Rattle.il_compile.specs.Code.{input_use, sense_instr}
+use Rattle.il_compile.specs.Code.{input_use, class_instr}
 use Rattle.il_compile.specs.Meaning.{combination_of, timer_with_input}
-use Rattle.il_compile.specs.Senses.{Sense, connects, computes, compares}
+use Rattle.il_compile.specs.OperatorClasses.{OperatorClass, connects, computes, compares}
 
 -- what a state has beside its place
 pub record Core : Type 0 where
@@ -34,7 +34,7 @@ pub record Core : Type 0 where
 
 -- the machine at a place, with this core
 abbrev pub at : ℕ → Core → State
-at p k = record { place = p; cells = k.cells; slots = k.slots; timers = k.timers }
+at p k = record { offset = p; cells = k.cells; slots = k.slots; timers = k.timers }
 
 -- what the machine holds beside its place
 abbrev pub core : List Value → List Value → List TimerState → Core
@@ -42,7 +42,7 @@ core cells slots timers = record { cells = cells; slots = slots; timers = timers
 
 -- The instruction makes the second of the first, and goes on behind itself.
 abbrev pub Does : ℕ → Instr → Core → Core → Type 0
-Does now i a b = (p next : ℕ) → act now i next (at p a) ≡ Goes (at next b)
+Does now i a b = (p next : ℕ) → act now i next (at p a) ≡ Continues (at next b)
 
 -- instructions without jumps, one after the other
 abbrev pub DoesAll : ℕ → List Instr → Core → Core → Type 0
@@ -97,9 +97,9 @@ module _ (now : ℕ) (slots : List Value) (timers : List TimerState) where
   computed-by o w a b c cells p next s false z e =
       let same : value_of_width w (computation_of o w a b) ≡ c = cc in rw same refl
 
-  pub joined : (sense : Sense) (a b c : Value) (cells : List Value)
+  pub joined : (sense : OperatorClass) (a b c : Value) (cells : List Value)
       → combination_of sense a b ≡ Some c
-      → Does now (sense_instr sense (type_of a)) (core (b ∷ a ∷ cells) slots timers)
+      → Does now (class_instr sense (type_of a)) (core (b ∷ a ∷ cells) slots timers)
       (core (c ∷ cells) slots timers)
   unfolding act
   joined (connects x) (Truth a) (Truth b) c cells e p next =
@@ -123,7 +123,7 @@ module _ (now : ℕ) (slots : List Value) (timers : List TimerState) where
           → (if fits then continues_at next
           (Truth (comparison_holds x (number_of a) (number_of b)) ∷ cells)
           (at p (core (b ∷ a ∷ cells) slots timers)) else Traps WrongKind)
-          ≡ Goes (at next (core (c ∷ cells) slots timers))
+          ≡ Continues (at next (core (c ∷ cells) slots timers))
       compared-by true f = let same : Truth (comparison_holds x (number_of a) (number_of b)) ≡ c =
           cc in rw same refl
       compared-by false f = absurd cc

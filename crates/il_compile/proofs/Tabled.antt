@@ -4,7 +4,7 @@ use Rattle.std.proofs.lemmas.Option.{same_Some}
 use Rattle.il_image.specs.Images.{Each, all_spelled}
 use Rattle.il_image.specs.Reading.{instr_at}
 use Rattle.il_image.specs.Spelling.{IsInstr, spelling}
-use Rattle.il_image.specs.Tables.{Enters, HasTable, IsPlace, LeadsTo}
+use Rattle.il_image.specs.Tables.{FitsTable, HasTable, InstrBegins, LeadsTo}
 use Rattle.il_image.specs.declared.instr.Instr.{Instr}
 use Rattle.il_image.specs.declared.instr.Instr.TheVariants.{Halt}
 use Rattle.il_image.specs.declared.kind.CellKind.TheVariants.{Any, Plain}
@@ -51,7 +51,7 @@ has-table c ok are =
         after = Plain elementary.Bool ∷ [];
         effect = step.effect;
         enters =
-            λ d l. subst (λ x. Enters (table_of rest.rows) x (Plain elementary.Bool ∷ [])) (sym l)
+            λ d l. subst (λ x. FitsTable (table_of rest.rows) x (Plain elementary.Bool ∷ [])) (sym l)
             enters;
         room = step.room;
       },
@@ -80,7 +80,7 @@ all-keep c ok =
 
 -- what the image has at a place is an instruction of the code
 pub keeps-at : (c : Checked) → IsTyped c → Each IsInstr (program_code c)
-    → (place : ℕ) (i : Instr) (next : ℕ) → IsPlace (image_of c).code place
+    → (place : ℕ) (i : Instr) (next : ℕ) → InstrBegins (image_of c).code place
     → instr_at (image_of c).code place ≡ Some (i, next) → Keeps c i
 keeps-at c ok are place i next p e =
     let a = is-at (image_of c).code (program_code c) (whole c are) refl place p in

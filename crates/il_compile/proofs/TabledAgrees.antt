@@ -4,7 +4,7 @@ use Rattle.std.proofs.Common.{◌≡◌, ◌≢◌, ℕ, ◌+◌, ◌≤◌, ◌
 use Rattle.il_image.specs.Effects.{kinds_after}
 use Rattle.il_image.specs.Images.{Each, Image}
 use Rattle.il_image.specs.Spelling.{spelling}
-use Rattle.il_image.specs.Tables.{Agrees, Enters, IsAllowed, IsPlace, IsSuccessor, LeadsTo, slot_types}
+use Rattle.il_image.specs.Tables.{Agrees, FitsTable, IsAllowed, InstrBegins, IsSuccessor, LeadsTo, slot_types}
 use Rattle.il_image.specs.declared.instr.Instr.{Instr}
 use Rattle.il_image.specs.declared.kind.CellKind.{CellKind}
 use Rattle.il_image.specs.Machine.{most_cells}
@@ -19,7 +19,7 @@ use Rattle.il_compile.proofs.TabledRows.{At, Row, at-found, at_place, behind-row
 pub record IsRight (image : Image) (r : Row) (behind : List Row) : Type 0 where
   pub after : List CellKind
   pub effect : kinds_after (slot_types image) (length image.timers) r.instr r.kinds ≡ Some after
-  pub enters : (d : ℕ) → LeadsTo r.instr 0 d → Enters (table_of behind) d after
+  pub enters : (d : ℕ) → LeadsTo r.instr 0 d → FitsTable (table_of behind) d after
   pub room : length r.kinds ≤ most_cells
 
 -- each row of the table agrees with those behind it
@@ -75,7 +75,7 @@ module _ (code : List ℕ) (is : List Instr) (whole : Stands code 0 is)
     (size : length code ≡ octets is) where
   -- the first place, and what an instruction leads to
   abbrev Led : ℕ → Type 0
-  Led x = (x ≡ 0) ⊎ ((from : ℕ) × IsPlace code from × IsSuccessor code from x)
+  Led x = (x ≡ 0) ⊎ ((from : ℕ) × InstrBegins code from × IsSuccessor code from x)
 
   led : (before a b : List Instr) (i : Instr) (P : ℕ → Type 0) → is ≡ before ++ (a ++ i ∷ b)
       → ((d : ℕ) → P d → Led (octets before + d)) → AreReached P (a ++ i ∷ b)
@@ -111,8 +111,8 @@ module _ (code : List ℕ) (is : List Instr) (whole : Stands code 0 is)
       subst Led (let z : octets (before ++ j ∷ []) + octets a ≡ octets before + octets (j ∷ a) =
       omega (arith, octets_more j a) in z) far
 
-  pub all-led : AreReached (λ d. d ≡ 0) is → (place : ℕ) → IsPlace code place → place ≢ 0
-      → (from : ℕ) × IsPlace code from × IsSuccessor code from place
+  pub all-led : AreReached (λ d. d ≡ 0) is → (place : ℕ) → InstrBegins code place → place ≢ 0
+      → (from : ℕ) × InstrBegins code from × IsSuccessor code from place
   all-led h place p not_first =
       let a = is-at code is whole size place p in
       let l = led [] a.before a.behind a.instr (λ d. d ≡ 0) a.is
@@ -120,7 +120,7 @@ module _ (code : List ℕ) (is : List Instr) (whole : Stands code 0 is)
       (subst (AreReached (λ d. d ≡ 0)) a.is h) in
       let z : 0 + octets a.before ≡ place = (let q = a.place in omega arith) in
       ⊎_elim (λ (e : place ≡ 0). absurd (not_first e))
-      (λ (s : (from : ℕ) × IsPlace code from × IsSuccessor code from place). s) (subst Led z l)
+      (λ (s : (from : ℕ) × InstrBegins code from × IsSuccessor code from place). s) (subst Led z l)
 
 -- ---- the whole table
 
@@ -169,7 +169,7 @@ module _ (image : Image) (rows : List Row) (whole : Stands image.code 0 (instrs_
       subst (λ ks. length ks ≤ most_cells) f.same ok.room
 
   to-place : (place : ℕ) (o : Option (List CellKind)) → table_of rows place ≡ o → IsSome o
-      → IsPlace image.code place
+      → InstrBegins image.code place
   to-place place None e h = absurd cc
   to-place place (Some kinds) e h =
       let f = find-row rows place kinds e in
@@ -182,7 +182,7 @@ module _ (image : Image) (rows : List Row) (whole : Stands image.code 0 (instrs_
         place = f.place;
       })
 
-  from-place : (place : ℕ) → IsPlace image.code place → IsSome (table_of rows place)
+  from-place : (place : ℕ) → InstrBegins image.code place → IsSome (table_of rows place)
   from-place place p =
       let a = is-at image.code (instrs_of rows) whole size place p in
       subst (λ x. IsSome (table_of rows x)) (sym a.place)

@@ -27,7 +27,7 @@ use Rattle.il_check.specs.declared.typed.TypedArgument.{TypedArgument}
 use Rattle.il_check.specs.declared.typed.TypedArguments.{TypedArguments}
 use Rattle.il_check.specs.declared.typed.TypedArguments.TheVariants as arguments
 use Rattle.il_compile.specs.Code.{argument_code, arguments_code, entries_code, entry_code, input_use, negation_code, operator_code, operation_code, slot_number, store_code, width_of}
-use Rattle.il_compile.specs.Senses.{Sense, connects, computes, compares, sense_of}
+use Rattle.il_compile.specs.OperatorClasses.{OperatorClass, connects, computes, compares, class_of}
 use Rattle.il_compile.proofs.TabledSteps.{Flow, Steps, converted, dropped, fetched, flow-both, input-set, inverted, joined, kind_at, preset-set, pushed, ran, reset-if, set_if, slots, stored, typed-slot, writable, written-slot}
 use Rattle.il_compile.proofs.Values.{boolean-is, same-sense, sense_divides, sense_takes}
 
@@ -36,7 +36,7 @@ abbrev pub Fits : Option ElementaryType → CellKind → Type 0
 Fits t top = is_within top (kind_at t) ≡ true
 
 -- what divides takes numbers
-numbers-alone : (x : Sense) (kind : ElementaryType) → sense_takes x kind ≡ true
+numbers-alone : (x : OperatorClass) (kind : ElementaryType) → sense_takes x kind ≡ true
     → sense_divides x ≡ true → rules.is_number kind ≡ true
 numbers-alone (connects o) kind h d = absurd cc
 numbers-alone (computes o) kind h d = h
@@ -47,7 +47,7 @@ numbers-divide : (o : Operator) (negated : Bool) (kind : ElementaryType)
 numbers-divide o negated kind h d =
     let same = same-sense o in
     let both = and_parts (rules.accepts_type o kind) (rules.may_negate negated kind) h in
-    numbers-alone (sense_of o) kind (sym (same.takes kind) ∙ both.0) (sym same.divides ∙ d)
+    numbers-alone (class_of o) kind (sym (same.takes kind) ∙ both.0) (sym same.divides ∙ d)
 
 divisor-there : (d b : Bool) → d && not b ≡ false → d ≡ true → b ≡ true
 divisor-there true true h e = refl
@@ -86,7 +86,7 @@ module _ (c : Checked) where
   operator-flows o false kind v a below h g works d room =
       let same = same-sense o in
       let both = and_parts (rules.accepts_type o kind) (rules.may_negate false kind) works in
-      let j = joined c (sense_of o) kind v a below (sym (same.takes kind) ∙ both.0) h g
+      let j = joined c (class_of o) kind v a below (sym (same.takes kind) ∙ both.0) h g
       (λ e. d (same.divides ∙ e)) room in
       record {
         top = j.top;
@@ -99,12 +99,12 @@ module _ (c : Checked) where
       let bool = boolean-is kind both.1 in
       let turned : is_within (Plain elementary.Bool) (Plain kind) ≡ true =
       subst (λ k. is_within (Plain elementary.Bool) (Plain k) ≡ true) (sym bool) refl in
-      let never : sense_divides (sense_of o) ≡ true
+      let never : sense_divides (class_of o) ≡ true
       → is_within (Plain elementary.Bool) (NotZero (width_of kind)) ≡ true =
       λ e. (let number : rules.is_number elementary.Bool ≡ true =
       sym (ap rules.is_number bool) ∙ numbers-divide o true kind works (same.divides ∙ e) in
       absurd cc) in
-      let j = joined c (sense_of o) kind (Plain elementary.Bool) a below
+      let j = joined c (class_of o) kind (Plain elementary.Bool) a below
       (sym (same.takes kind) ∙ both.0) turned g never room in
       record {
         top = j.top;

@@ -9,12 +9,12 @@ use Rattle.il_image.specs.Tables.{LeadsTo}
 use Rattle.il_image.specs.declared.instr.Instr.TheVariants.{Halt, Jump, Timer}
 use Rattle.il_image.specs.declared.opcode.TimerUse.TheVariants.{Run}
 use Rattle.il_image.proofs.KindLemmas.{within-self}
-use Rattle.il_check.specs.Labelling.{Coming, Labelling, carry_of, type_after_label, is_named}
+use Rattle.il_check.specs.Labelling.{Incoming, Labelling, flow_state, type_after_label, is_named}
 use Rattle.il_check.specs.Program.{Checked, ProgramItem, label, plain, transfer}
-use Rattle.il_check.specs.TypedProgram.{AreItems, coming_after_condition, has_label}
+use Rattle.il_check.specs.TypedProgram.{AreItems, incoming_after_condition, has_label}
 use Rattle.il_check.specs.declared.typed.Transfer.TheVariants as go
 use Rattle.il_compile.specs.Code.{arguments_code, entry_code, items_code, octets, octets_before}
-use Rattle.il_compile.specs.Senses.{when_of}
+use Rattle.il_compile.specs.OperatorClasses.{when_of}
 use Rattle.il_compile.proofs.TabledAgrees.{AreReached, reached-straight}
 use Rattle.il_compile.proofs.TabledFlows.{call-flows, entry-flows}
 use Rattle.il_compile.proofs.TabledItems.{flow-straight}
@@ -27,7 +27,7 @@ leaps IfTrue n = inr (omega arith)
 leaps IfFalse n = inr (omega arith)
 
 falls : (condition : Condition) (n : ℕ) (t u : Option ElementaryType)
-    → coming_after_condition condition t ≡ Some u → LeadsTo (Jump (when_of condition) n) 0 0
+    → incoming_after_condition condition t ≡ Some u → LeadsTo (Jump (when_of condition) n) 0 0
 falls Always n t u e = absurd cc
 falls IfTrue n t u e = inl refl
 falls IfFalse n t u e = inl refl
@@ -41,8 +41,8 @@ named-before k l named h =
 
 module _ (c : Checked) (labels : Labelling) where
   -- labels below have higher numbers
-  no-lower : (is : List ProgramItem) (passed : ℕ) (named : List ℕ) (now : Coming) (l : ℕ)
-      → AreItems c labels is (carry_of passed named now) → has_label is l ≡ true → passed ≤ l
+  no-lower : (is : List ProgramItem) (passed : ℕ) (named : List ℕ) (now : Incoming) (l : ℕ)
+      → AreItems c labels is (flow_state passed named now) → has_label is l ≡ true → passed ≤ l
   no-lower [] passed named now l ok h = absurd cc
   no-lower (label n ∷ is) passed named now l ok h =
       let same = ok.0.0 in
@@ -50,19 +50,19 @@ module _ (c : Checked) (labels : Labelling) where
         | true ↦ (λ e g. (let f = eqb-true n l e in omega arith))
         | false ↦
             (λ e g. (let f = no-lower is (passed + 1) named
-            (type_after_label labels (carry_of passed named now)) l ok.1 g in omega arith))
+            (type_after_label labels (flow_state passed named now)) l ok.1 g in omega arith))
       ] refl h
   no-lower (transfer (go.Jump condition k) ∷ is) passed named now l ok h =
-      no-lower is passed (k ∷ named) (coming_after_condition condition ok.0) l ok.2 h
+      no-lower is passed (k ∷ named) (incoming_after_condition condition ok.0) l ok.2 h
   no-lower (transfer (go.Return condition) ∷ is) passed named now l ok h =
-      no-lower is passed named (coming_after_condition condition ok.0) l ok.2 h
+      no-lower is passed named (incoming_after_condition condition ok.0) l ok.2 h
   no-lower (transfer (go.Call n args) ∷ is) passed named now l ok h =
       no-lower is passed named (Some None) l ok.2 h
   no-lower (plain e ∷ is) passed named now l ok h = no-lower is passed named (Some ok.1) l ok.3 h
 
   -- what is led to from above: the first item, where something comes to it, each label below that
   -- was named, and, where nothing comes, the end or some label
-  pub record IsLed (P : ℕ → Type 0) (is : List ProgramItem) (named : List ℕ) (now : Coming)
+  pub record IsLed (P : ℕ → Type 0) (is : List ProgramItem) (named : List ℕ) (now : Incoming)
       : Type 0 where
     pub comes : (t : Option ElementaryType) → now ≡ Some t → P 0
     pub jumps : (l : ℕ) → is_named named l ≡ true → has_label is l ≡ true
@@ -70,7 +70,7 @@ module _ (c : Checked) (labels : Labelling) where
     pub ends : now ≡ None → P (octets (items_code (length c.externals) is))
         ⊎ ((l : ℕ) × (is_named named l ≡ true) × (has_label is l ≡ true))
 
-  end_led : (P : ℕ → Type 0) (named : List ℕ) (now other : Coming) → now ≡ other
+  end_led : (P : ℕ → Type 0) (named : List ℕ) (now other : Incoming) → now ≡ other
       → IsLed P [] named now → P 0
   end_led P named now None e led =
       ⊎_elim (λ (p : P 0). p)
@@ -81,7 +81,7 @@ module _ (c : Checked) (labels : Labelling) where
   -- behind code whose instructions go on to the next
   straight-led : (P : ℕ → Type 0) (size : ℕ) (i : ProgramItem) (is : List ProgramItem)
       (named : List ℕ)
-      (now : Coming) (u : Option ElementaryType)
+      (now : Incoming) (u : Option ElementaryType)
       → ((l : ℕ) → octets_before (length c.externals) l (i ∷ is)
       ≡ size + octets_before (length c.externals) l is)
       → ((l : ℕ) → has_label (i ∷ is) l ≡ has_label is l)
@@ -93,10 +93,10 @@ module _ (c : Checked) (labels : Labelling) where
   }
 
   label-led : (P : ℕ → Type 0) (n passed : ℕ) (is : List ProgramItem) (named : List ℕ)
-      (now : Coming)
+      (now : Incoming)
       → n ≡ passed → ((l : ℕ) → has_label is l ≡ true → passed + 1 ≤ l)
       → IsLed P (label n ∷ is) named now
-      → IsLed P is named (type_after_label labels (carry_of passed named now))
+      → IsLed P is named (type_after_label labels (flow_state passed named now))
   label-led P n passed is named now same above led = record {
     comes = λ t e. by_coming now refl t e;
     jumps = λ l h g. subst (λ b. P (if b then 0 else octets_before (length c.externals) l is))
@@ -115,15 +115,15 @@ module _ (c : Checked) (labels : Labelling) where
           subst (λ b. P (if b then 0 else octets_before (length c.externals) passed is)) it
           (led.jumps passed h (ap (λ b. b || has_label is passed) it))
 
-      by_coming : (other : Coming) → now ≡ other → (t : Option ElementaryType)
-          → type_after_label labels (carry_of passed named now) ≡ Some t → P 0
+      by_coming : (other : Incoming) → now ≡ other → (t : Option ElementaryType)
+          → type_after_label labels (flow_state passed named now) ≡ Some t → P 0
       by_coming (Some u) f t e = led.comes u f
       by_coming None f t e =
           elim (is_named named passed) as
           (λ b. is_named named passed ≡ b → (if b then Some (labels passed) else None) ≡ Some t
           → P 0)
           [ true ↦ (λ h g. here h) | false ↦ (λ h g. absurd cc) ] refl
-          (ap (λ w. type_after_label labels (carry_of passed named w)) (sym f) ∙ e)
+          (ap (λ w. type_after_label labels (flow_state passed named w)) (sym f) ∙ e)
 
       other-label : is_named named passed ≡ false
           → (l : ℕ) × (is_named named l ≡ true) × (has_label (label n ∷ is) l ≡ true)
@@ -140,13 +140,13 @@ module _ (c : Checked) (labels : Labelling) where
             ] refl x.2,
       )
 
-      by-ends : (other : Coming) → now ≡ other
-          → type_after_label labels (carry_of passed named now) ≡ None
+      by-ends : (other : Incoming) → now ≡ other
+          → type_after_label labels (flow_state passed named now) ≡ None
           → P (octets (items_code (length c.externals) is))
           ⊎ ((l : ℕ) × (is_named named l ≡ true) × (has_label is l ≡ true))
       by-ends (Some u) f e =
           absurd (let bad : Some (labels passed) ≡ None =
-          ap (λ w. type_after_label labels (carry_of passed named w)) (sym f) ∙ e in cc)
+          ap (λ w. type_after_label labels (flow_state passed named w)) (sym f) ∙ e in cc)
       by-ends None f e =
           elim (is_named named passed) as
           (λ b. is_named named passed ≡ b → (if b then Some (labels passed) else None) ≡ None
@@ -158,16 +158,16 @@ module _ (c : Checked) (labels : Labelling) where
                 (λ (x : (l : ℕ) × (is_named named l ≡ true) × (has_label (label n ∷ is) l ≡ true)).
                 inr (other-label h x))
                 (led.ends f))
-          ] refl (ap (λ w. type_after_label labels (carry_of passed named w)) (sym f) ∙ e)
+          ] refl (ap (λ w. type_after_label labels (flow_state passed named w)) (sym f) ∙ e)
 
   jump-led : (P : ℕ → Type 0) (condition : Condition) (k : ℕ) (is : List ProgramItem)
       (named : List ℕ)
-      (now : Coming) (t : Option ElementaryType) → has_label is k ≡ true
+      (now : Incoming) (t : Option ElementaryType) → has_label is k ≡ true
       → IsLed P (transfer (go.Jump condition k) ∷ is) named now
       → IsLed (λ d. P (length
       (spelling (Jump (when_of condition) (octets_before (length c.externals) k is))) + d)
       ⊎ LeadsTo (Jump (when_of condition) (octets_before (length c.externals) k is)) 0 d)
-      is (k ∷ named) (coming_after_condition condition t)
+      is (k ∷ named) (incoming_after_condition condition t)
   jump-led P condition k is named now t there led = record {
     comes = λ u e. inr (falls condition (octets_before (length c.externals) k is) t u e);
     jumps = λ l h g. ⊎_elim
@@ -181,28 +181,28 @@ module _ (c : Checked) (labels : Labelling) where
   }
 
   return-led : (P : ℕ → Type 0) (condition : Condition) (is : List ProgramItem) (named : List ℕ)
-      (now : Coming) (t : Option ElementaryType)
+      (now : Incoming) (t : Option ElementaryType)
       → IsLed P (transfer (go.Return condition) ∷ is) named now
       → IsLed (λ d. P (length
       (spelling (Jump (when_of condition) (octets (items_code (length c.externals) is)))) + d)
       ⊎ LeadsTo (Jump (when_of condition) (octets (items_code (length c.externals) is))) 0 d)
-      is named (coming_after_condition condition t)
+      is named (incoming_after_condition condition t)
   return-led P condition is named now t led = record {
     comes = λ u e. inr (falls condition (octets (items_code (length c.externals) is)) t u e);
     jumps = λ l h g. inl (led.jumps l h g);
     ends = λ e. inl (inr (leaps condition (octets (items_code (length c.externals) is))));
   }
 
-  pub items-reached : (is : List ProgramItem) (passed : ℕ) (named : List ℕ) (now : Coming)
-      → AreItems c labels is (carry_of passed named now) → (P : ℕ → Type 0) → IsLed P is named now
+  pub items-reached : (is : List ProgramItem) (passed : ℕ) (named : List ℕ) (now : Incoming)
+      → AreItems c labels is (flow_state passed named now) → (P : ℕ → Type 0) → IsLed P is named now
       → AreReached P (items_code (length c.externals) is ++ Halt ∷ [])
   items-reached [] passed named now ok P led = (end_led P named now now refl led, tt)
   items-reached (label n ∷ is) passed named now ok P led =
-      items-reached is (passed + 1) named (type_after_label labels (carry_of passed named now))
+      items-reached is (passed + 1) named (type_after_label labels (flow_state passed named now))
       ok.1 P
       (label-led P n passed is named now ok.0.0
       (λ l h. no-lower is (passed + 1) named
-      (type_after_label labels (carry_of passed named now)) l ok.1 h) led)
+      (type_after_label labels (flow_state passed named now)) l ok.1 h) led)
   items-reached (plain e ∷ is) passed named now ok P led =
       let code = entry_code (length c.externals) e in
       let f = entry-flows c e ok.0 ok.1 (kind_at ok.0) [] ok.2.1 (within-self (kind_at ok.0))
@@ -228,7 +228,7 @@ module _ (c : Checked) (labels : Labelling) where
       (λ l. refl) led)))
   items-reached (transfer (go.Jump condition k) ∷ is) passed named now ok P led = (
     led.comes ok.0 ok.1.0,
-    items-reached is passed (k ∷ named) (coming_after_condition condition ok.0) ok.2
+    items-reached is passed (k ∷ named) (incoming_after_condition condition ok.0) ok.2
         (λ d. P (length (spelling
         (Jump (when_of condition) (octets_before (length c.externals) k is))) + d)
         ⊎ LeadsTo (Jump (when_of condition) (octets_before (length c.externals) k is)) 0 d)
@@ -236,7 +236,7 @@ module _ (c : Checked) (labels : Labelling) where
   )
   items-reached (transfer (go.Return condition) ∷ is) passed named now ok P led = (
     led.comes ok.0 ok.1.0,
-    items-reached is passed named (coming_after_condition condition ok.0) ok.2
+    items-reached is passed named (incoming_after_condition condition ok.0) ok.2
         (λ d. P (length (spelling
         (Jump (when_of condition) (octets (items_code (length c.externals) is)))) + d)
         ⊎ LeadsTo (Jump (when_of condition) (octets (items_code (length c.externals) is))) 0 d)

@@ -3,7 +3,7 @@ use Rattle.std.proofs.Common.{◌≡◌, ℕ, zero, suc, ◌+◌, ◌-◌, ◌�
 use Rattle.std.proofs.lemmas.Bool.{le-ltb, ltb-false}
 use Rattle.il_image.specs.Reading.{instr_at}
 use Rattle.il_image.specs.Spelling.{operand_of, spelling}
-use Rattle.il_image.specs.Tables.{IsPlace, LeadsTo, Table, offset_after, offset_of}
+use Rattle.il_image.specs.Tables.{InstrBegins, LeadsTo, Table, offset_after, offset_of}
 use Rattle.il_image.specs.declared.instr.Instr.{Instr}
 use Rattle.il_image.specs.declared.instr.Instr.TheVariants.{Halt, Push, Drop, Slot, Not, Combine, Compute, Compare, Widen, Jump, Timer}
 use Rattle.il_image.specs.declared.kind.CellKind.{CellKind}
@@ -222,7 +222,7 @@ module _ (code : List ℕ) (is : List Instr) (whole : Stands code 0 is)
       let z : next + octets a ≡ p + octets (j ∷ a) = omega (arith, octets_more j a) in
       (far.0, far.1 ∙ ap Some z)
 
-  pub at_place : (x : ℕ) → At is x → IsPlace code x
+  pub at_place : (x : ℕ) → At is x → InstrBegins code x
   at_place x a =
       let st : Stands code 0 (a.before ++ a.instr ∷ a.behind) = subst (Stands code 0) a.is whole in
       let s = steps a.before a.behind a.instr 0 0 st refl in
@@ -234,7 +234,7 @@ module _ (code : List ℕ) (is : List Instr) (whole : Stands code 0 is)
         (s.0, s.1 ∙ ap Some here),
       )
 
-  pub is-at : (x : ℕ) → IsPlace code x → At is x
+  pub is-at : (x : ℕ) → InstrBegins code x → At is x
   is-at x p =
       ⊎_elim (λ (a : At is x). a) (λ (e : x ≡ length code). absurd (let lt = p.0 in omega arith))
       (place-at p.1.0 x p.1.1)

@@ -12,7 +12,7 @@ use Rattle.il_text.specs.declared.program.Conversion.{Conversion}
 use Rattle.il_text.specs.declared.program.Conversion.TheVariants.{IntToDint, DintToLint}
 use Rattle.il_text.specs.declared.program.TimerOutput.TheVariants.{Q, Et}
 use Rattle.il_image.specs.Arithmetic.{type_of_width}
-use Rattle.il_image.specs.Effects.{are_compared, below, compares as compares_kinds, kinds_after, kind_of, looks_at, second_kind, two, type_of_kind, widens, with_timer, with_truth}
+use Rattle.il_image.specs.Effects.{are_compared, below, compares as compares_kinds, kinds_after, kind_of, peek_kind, second_kind, replace_two, type_of_kind, widens, with_timer, with_truth}
 use Rattle.il_image.specs.Kinds.{is_within}
 use Rattle.il_image.specs.Machine.{divides, is_equality_test, most_cells}
 use Rattle.il_image.specs.Tables.{LeadsTo, slot_types}
@@ -38,9 +38,9 @@ use Rattle.il_check.specs.declared.typed.Slot as typed
 use Rattle.il_check.specs.declared.typed.Slot.TheVariants.{External, Variable}
 use Rattle.il_check.specs.declared.typed.TypedOperand.{TypedOperand}
 use Rattle.il_check.specs.declared.typed.TypedOperand.TheVariants as operand
-use Rattle.il_compile.specs.Code.{fetch, sense_instr, slot_number, width_of}
+use Rattle.il_compile.specs.Code.{push_operand, class_instr, slot_number, width_of}
 use Rattle.il_compile.specs.Compiled.{image_of, point_of}
-use Rattle.il_compile.specs.Senses.{Sense, connects, computes, compares, widening_of}
+use Rattle.il_compile.specs.OperatorClasses.{OperatorClass, connects, computes, compares, widening_of}
 use Rattle.il_compile.proofs.Values.{boolean-is, sense_divides, sense_gives, sense_takes}
 
 -- ---- lists
@@ -140,13 +140,13 @@ below-top : (wanted top : CellKind) (rest : List CellKind) → is_within top wan
 below-top wanted top rest h = ap (λ b. if b then Some rest else None) h
 
 looked : (wanted top : CellKind) (rest : List CellKind) → is_within top wanted ≡ true
-    → looks_at wanted (top ∷ rest) ≡ Some (top ∷ rest)
+    → peek_kind wanted (top ∷ rest) ≡ Some (top ∷ rest)
 looked wanted top rest h =
     ap (λ (o : Option (List CellKind)). o >>= (λ ks. Some (top ∷ rest)))
     (below-top wanted top rest h)
 
 two-tops : (first second gives v a : CellKind) (rest : List CellKind) → is_within v first ≡ true
-    → is_within a second ≡ true → two first second gives (v ∷ a ∷ rest) ≡ Some (gives ∷ rest)
+    → is_within a second ≡ true → replace_two first second gives (v ∷ a ∷ rest) ≡ Some (gives ∷ rest)
 two-tops first second gives v a rest h g =
     ap (λ (o : Option (List CellKind)). o
     >>= (λ more. below second more >>= (λ ks. Some (gives ∷ ks))))
@@ -330,7 +330,7 @@ module _ (c : Checked) where
     pub fits : is_within top (Plain kind) ≡ true
     pub divides : is_divisor x ≡ true → rules.is_number kind ≡ true
         → is_within top (NotZero (width_of kind)) ≡ true
-    pub step : Steps (fetch (length c.externals) x) ks (top ∷ ks)
+    pub step : Steps (push_operand (length c.externals) x) ks (top ∷ ks)
 
   pub fetched : (x : TypedOperand) (kind : ElementaryType) (ks : List CellKind) → IsOperand c x kind
       → length ks ≤ most_cells → Fetched x kind ks
@@ -374,11 +374,11 @@ module _ (c : Checked) where
     pub fits : is_within top (Plain kind) ≡ true
     pub step : Steps i (v ∷ a ∷ rest) (top ∷ rest)
 
-  pub joined : (x : Sense) (kind : ElementaryType) (v a : CellKind) (rest : List CellKind)
+  pub joined : (x : OperatorClass) (kind : ElementaryType) (v a : CellKind) (rest : List CellKind)
       → sense_takes x kind ≡ true → is_within v (Plain kind) ≡ true
       → is_within a (Plain kind) ≡ true
       → (sense_divides x ≡ true → is_within v (NotZero (width_of kind)) ≡ true)
-      → length rest + 2 ≤ most_cells → Joins (sense_instr x kind) v a rest (sense_gives x kind)
+      → length rest + 2 ≤ most_cells → Joins (class_instr x kind) v a rest (sense_gives x kind)
   joined (connects x) kind v a rest t h g d room =
       let e = boolean-is kind t in
       let h' : is_within v (Plain elementary.Bool) ≡ true =
@@ -451,7 +451,7 @@ module _ (c : Checked) where
       → is_within top (Plain kind) ≡ true → length rest < most_cells
       → Steps (Slot Store n) (top ∷ rest) (top ∷ rest)
   stored n kind top rest s w h room =
-      one-step (ap (λ (o : Option ElementaryType). o >>= (λ t. looks_at (Plain t) (top ∷ rest))) s
+      one-step (ap (λ (o : Option ElementaryType). o >>= (λ t. peek_kind (Plain t) (top ∷ rest))) s
       ∙ looked (Plain kind) top rest h) (omega arith) refl (λ d e. e) w
 
   truth-looked : (n : ℕ) (top : CellKind) (rest : List CellKind)
@@ -460,7 +460,7 @@ module _ (c : Checked) where
   truth-looked n top rest s h =
       ap (λ (o : Option ElementaryType). o
       >>= (λ t. if same_type t elementary.Bool
-      then looks_at (Plain elementary.Bool) (top ∷ rest) else None)) s
+      then peek_kind (Plain elementary.Bool) (top ∷ rest) else None)) s
       ∙ looked (Plain elementary.Bool) top rest h
 
   pub set_if : (n : ℕ) (top : CellKind) (rest : List CellKind)

@@ -19,29 +19,29 @@ use Rattle.il_image.specs.declared.value.Value.{Value}
 use Rattle.il_image.specs.declared.value.Value.TheVariants.{Truth, Short, Long, Wide, Span}
 use Rattle.il_check.specs.Rules as rules
 use Rattle.il_compile.specs.Meaning.{combination_of, inverse}
-use Rattle.il_compile.specs.Senses.{Sense, connects, computes, compares, sense_of, widening_of}
+use Rattle.il_compile.specs.OperatorClasses.{OperatorClass, connects, computes, compares, class_of, widening_of}
 
 -- ---- operators by what they do
 
-abbrev pub sense_takes : Sense → ElementaryType → Bool
+abbrev pub sense_takes : OperatorClass → ElementaryType → Bool
 sense_takes (connects c) kind = rules.is_boolean kind
 sense_takes (computes o) kind = rules.is_number kind
 sense_takes (compares c) kind = is_equality_test c || not (rules.is_boolean kind)
 
-abbrev pub sense_gives : Sense → ElementaryType → ElementaryType
+abbrev pub sense_gives : OperatorClass → ElementaryType → ElementaryType
 sense_gives (connects c) kind = kind
 sense_gives (computes o) kind = kind
 sense_gives (compares c) kind = elementary.Bool
 
-abbrev pub sense_divides : Sense → Bool
+abbrev pub sense_divides : OperatorClass → Bool
 sense_divides (connects c) = false
 sense_divides (computes o) = divides o
 sense_divides (compares c) = false
 
 pub record Same (o : Operator) : Type 0 where
-  pub takes : (kind : ElementaryType) → rules.accepts_type o kind ≡ sense_takes (sense_of o) kind
-  pub gives : (kind : ElementaryType) → rules.type_of_result o kind ≡ sense_gives (sense_of o) kind
-  pub divides : rules.divides o ≡ sense_divides (sense_of o)
+  pub takes : (kind : ElementaryType) → rules.accepts_type o kind ≡ sense_takes (class_of o) kind
+  pub gives : (kind : ElementaryType) → rules.type_of_result o kind ≡ sense_gives (class_of o) kind
+  pub divides : rules.divides o ≡ sense_divides (class_of o)
 
 pub same-sense : (o : Operator) → Same o
 same-sense o = record {
@@ -119,7 +119,7 @@ comparable c elementary.Time l e h = rw (sym e) refl
 
 -- an operator makes a value of two of a type that it takes, of which the second is not 0 where it
 -- divides
-pub combined-made : (sense : Sense) (a b : Value) → type_of b ≡ type_of a
+pub combined-made : (sense : OperatorClass) (a b : Value) → type_of b ≡ type_of a
     → sense_takes sense (type_of a) ≡ true
     → sense_divides sense && int_eq (number_of b) (pos 0) ≡ false
     → Made (combination_of sense a b) (sense_gives sense (type_of a))

@@ -30,7 +30,7 @@ use Rattle.il_check.specs.declared.typed.TypedArguments.{TypedArguments}
 use Rattle.il_check.specs.declared.typed.TypedArguments.TheVariants as arguments
 use Rattle.il_check.specs.declared.typed.TypedOperand.{TypedOperand}
 use Rattle.il_check.specs.declared.typed.TypedOperand.TheVariants as operand
-use Rattle.il_compile.specs.Senses.{Sense, connects, computes, compares, sense_of, widening_of, when_of}
+use Rattle.il_compile.specs.OperatorClasses.{OperatorClass, connects, computes, compares, class_of, widening_of, when_of}
 
 -- ---- operands and operators
 
@@ -45,10 +45,10 @@ output_use Q = LoadOutput
 output_use Et = LoadElapsed
 
 -- the instruction that pushes an operand
-abbrev pub fetch : ℕ → TypedOperand → Instr
-fetch externals (operand.Literal v) = Push v
-fetch externals (operand.Slot s) = Slot Load (slot_number externals s)
-fetch externals (operand.TimerOutput n what) = Timer (output_use what) n
+abbrev pub push_operand : ℕ → TypedOperand → Instr
+push_operand externals (operand.Literal v) = Push v
+push_operand externals (operand.Slot s) = Slot Load (slot_number externals s)
+push_operand externals (operand.TimerOutput n what) = Timer (output_use what) n
 
 -- a NOT, if the operand is negated
 abbrev pub negation_code : Bool → List Instr
@@ -62,15 +62,15 @@ width_of elementary.Lint = width.Lint
 width_of other = width.Int
 
 -- the instruction of an operator on two values of a type
-abbrev pub sense_instr : Sense → ElementaryType → Instr
-sense_instr (connects c) kind = Combine c
-sense_instr (computes o) kind = Compute o (width_of kind)
-sense_instr (compares c) kind = Compare c
+abbrev pub class_instr : OperatorClass → ElementaryType → Instr
+class_instr (connects c) kind = Combine c
+class_instr (computes o) kind = Compute o (width_of kind)
+class_instr (compares c) kind = Compare c
 
 -- the instructions after an operand or a parenthesis
 abbrev pub operator_code : Operator → ElementaryType → Bool → List Instr
 operator_code operator kind negated =
-    negation_code negated ++ sense_instr (sense_of operator) kind ∷ []
+    negation_code negated ++ class_instr (class_of operator) kind ∷ []
 
 -- ---- operations and parentheses
 
@@ -83,10 +83,10 @@ store_code store.Reset n = Slot ResetIf n ∷ []
 
 -- an operation, which acts on the top of the stack
 abbrev pub operation_code : ℕ → SimpleOperation → List Instr
-operation_code externals (op.Load negated x) = Drop ∷ fetch externals x ∷ negation_code negated
+operation_code externals (op.Load negated x) = Drop ∷ push_operand externals x ∷ negation_code negated
 operation_code externals (op.Store how s) = store_code how (slot_number externals s)
 operation_code externals (op.Combine operator kind negated x) =
-    fetch externals x ∷ operator_code operator kind negated
+    push_operand externals x ∷ operator_code operator kind negated
 operation_code externals op.Not = Not ∷ []
 operation_code externals (op.Convert conversion) = Widen (widening_of conversion) ∷ []
 
@@ -113,7 +113,7 @@ input_use Pt = SetPreset
 
 -- an argument of a call: its operand, and the timer's input that pops it
 abbrev pub argument_code : ℕ → ℕ → TypedArgument → List Instr
-argument_code externals n a = fetch externals a.operand ∷ Timer (input_use a.input) n ∷ []
+argument_code externals n a = push_operand externals a.operand ∷ Timer (input_use a.input) n ∷ []
 
 -- the arguments, in the order of the text
 abbrev pub arguments_code : ℕ → ℕ → TypedArguments → List Instr

@@ -32,11 +32,11 @@ IsSpellable externals (plain e) = IsSpellableEntry externals e
 abbrev pub AreSpellable : ℕ → List ProgramItem → Type 0
 AreSpellable externals is = Each (IsSpellable externals) is
 
--- For each label, `places` has the number of octets from the label to the end of the items, and
+-- For each label, `label_octets` has the number of octets from the label to the end of the items, and
 -- nothing, or 0, if there is no such label.
-abbrev pub KnowsPlaces : ℕ → (ℕ → Option ℕ) → List ProgramItem → Type 0
-KnowsPlaces externals places is = (l : ℕ)
-    → octets_before externals l is + unwrap_or (places l) 0 ≡ octets (items_code externals is)
+abbrev pub KnowsLabels : ℕ → (ℕ → Option ℕ) → List ProgramItem → Type 0
+KnowsLabels externals label_octets is = (l : ℕ)
+    → octets_before externals l is + unwrap_or (label_octets l) 0 ≡ octets (items_code externals is)
 
 -- the bound up to which octets are counted: one more than an image may have
 abbrev pub octets_bound : ℕ
@@ -46,19 +46,19 @@ octets_bound = 65_536
 -- up to the bound. If there are no more octets than an image may have, the instructions are known,
 -- and so is the number of octets after each label.
 pub record IsContinuation (externals : ℕ) (is : List ProgramItem) (instrs : List Instr) (size : ℕ)
-    (places : ℕ → Option ℕ) : Type 0 where
+    (label_octets : ℕ → Option ℕ) : Type 0 where
   pub counted : size ≡ min (octets (items_code externals is)) octets_bound
   pub code : octets (items_code externals is) ≤ most_octets
       → reverse instrs ≡ items_code externals is
-  pub known : octets (items_code externals is) ≤ most_octets → KnowsPlaces externals places is
+  pub known : octets (items_code externals is) ≤ most_octets → KnowsLabels externals label_octets is
 
 -- No instruction is pending before the code of the continuation.
-pub record IsSettled (externals : ℕ) (is : List ProgramItem) (b : Continuation) : Type 0 where
-  pub behind : IsContinuation externals is b.instrs.items b.octets (get nat_eq b.places)
-  pub settled : b.line.items ≡ []
+pub record HasNoPending (externals : ℕ) (is : List ProgramItem) (b : Continuation) : Type 0 where
+  pub continuation : IsContinuation externals is b.instrs.items b.octets (get nat_eq b.label_octets)
+  pub settled : b.pending.items ≡ []
 
 -- These instructions are pending before the code of the continuation.
-pub record Waits (externals : ℕ) (is : List ProgramItem) (code : List Instr) (b : Continuation)
+pub record HasPending (externals : ℕ) (is : List ProgramItem) (code : List Instr) (b : Continuation)
     : Type 0 where
-  pub behind : IsContinuation externals is b.instrs.items b.octets (get nat_eq b.places)
-  pub waits : b.line.items ≡ code
+  pub continuation : IsContinuation externals is b.instrs.items b.octets (get nat_eq b.label_octets)
+  pub waits : b.pending.items ≡ code

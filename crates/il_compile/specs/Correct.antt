@@ -12,19 +12,19 @@ pub record HasTypes (c : Checked) (m : Memory) : Type 0 where
   pub timers : map (λ t. t.kind) m.timers ≡ map (λ t. t.kind) c.timers
 
 -- The program has a meaning, and leaves values of its types.
-pub record Means (c : Checked) (now : ℕ) (m : Memory) : Type 0 where
+pub record HasMeaning (c : Checked) (now : ℕ) (m : Memory) : Type 0 where
   pub after : Memory
   pub is : mean now c.items m ≡ Some after
   pub typed : HasTypes c after
 
 -- The code halts with what the program means, in at most as many steps as it has octets.
-pub record Follows (c : Checked) (code : List ℕ) (now : ℕ) (m : Memory) : Type 0 where
-  pub means : Means c now m
+pub record ImplementsAt (c : Checked) (code : List ℕ) (now : ℕ) (m : Memory) : Type 0 where
+  pub means : HasMeaning c now m
   pub steps : ℕ
   pub halts : run_from code now (length code) (initial_state (m.externals ++ m.variables) m.timers)
       0
       ≡ Halted (means.after.externals ++ means.after.variables) means.after.timers steps
 
 -- The code follows the program at each moment, from all values of the program's types.
-abbrev pub DoesTheText : Checked → List ℕ → Type 0
-DoesTheText c code = (now : ℕ) (m : Memory) → HasTypes c m → Follows c code now m
+abbrev pub ImplementsText : Checked → List ℕ → Type 0
+ImplementsText c code = (now : ℕ) (m : Memory) → HasTypes c m → ImplementsAt c code now m

@@ -5,7 +5,7 @@
 -- be unset, the values of externals, variables and timers, and a time. Items are executed in order,
 -- or skipped up to a label; a parenthesis begins with an unset result, and its operator takes the
 -- result at its end. There is no meaning if an instruction uses an unset result, a missing name, a
--- value of another type or a divisor of 0. `Senses` classifies the operators: an operator connects
+-- value of another type or a divisor of 0. `OperatorClasses` classifies the operators: an operator connects
 -- BOOLs, computes with numbers of one width, or compares values of one type.
 --
 -- `Code` is the list of instructions of operations, parentheses, calls and items, with the
@@ -26,6 +26,6 @@ pub mod Correct
 pub mod Faults
 pub mod Laws
 pub mod Meaning
-pub mod Senses
+pub mod OperatorClasses
 -- Inner ones: private functions, invariants and proofs cite them, public clauses don't.
 pub mod Continuation

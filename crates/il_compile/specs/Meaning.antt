@@ -35,7 +35,7 @@ use Rattle.il_check.specs.declared.typed.TypedArguments.{TypedArguments}
 use Rattle.il_check.specs.declared.typed.TypedArguments.TheVariants as arguments
 use Rattle.il_check.specs.declared.typed.TypedOperand.{TypedOperand}
 use Rattle.il_check.specs.declared.typed.TypedOperand.TheVariants as operand
-use Rattle.il_compile.specs.Senses.{Sense, connects, computes, compares, sense_of, widening_of}
+use Rattle.il_compile.specs.OperatorClasses.{OperatorClass, connects, computes, compares, class_of, widening_of}
 
 -- the values of the externals, the variables and the timers, each at the index of its declaration
 pub record Memory : Type 0 where
@@ -78,7 +78,7 @@ computed_values o (Wide a) (Wide b) = computed_in width.Lint o a b
 computed_values o a b = None
 
 -- the result of an operator on the current result and an operand
-abbrev pub combination_of : Sense → Value → Value → Option Value
+abbrev pub combination_of : OperatorClass → Value → Value → Option Value
 combination_of (connects c) a b = connected_values a b (logic_of c)
 combination_of (computes o) a b = computed_values o a b
 combination_of (compares c) a b =
@@ -110,8 +110,8 @@ with_value (External n) v m = record m { externals = slice_set m.externals n v }
 with_value (Variable n) v m = record m { variables = slice_set m.variables n v }
 
 -- the memory with a value in a slot, which must have the value's type
-abbrev pub memory_with : Slot → Value → Memory → Option Memory
-memory_with s v m = do
+abbrev pub store_value : Slot → Value → Memory → Option Memory
+store_value s v m = do
   old ← slot_value s m
   if same_type (type_of v) (type_of old) then Some (with_value s v m) else None
 
@@ -124,14 +124,14 @@ decision_of other = None
 abbrev pub set_to : Bool → Slot → Value → Memory → Option Memory
 set_to new s v m = do
   is_on ← decision_of v
-  if is_on then memory_with s (Truth new) m else Some m
+  if is_on then store_value s (Truth new) m else Some m
 
 -- the memory after a store of a value
 abbrev pub memory_after_store : StoreKind → Slot → Value → Memory → Option Memory
-memory_after_store store.Plain s v m = memory_with s v m
+memory_after_store store.Plain s v m = store_value s v m
 memory_after_store store.Negated s v m = do
   w ← inverse v
-  memory_with s w m
+  store_value s w m
 memory_after_store store.Set s v m = set_to true s v m
 memory_after_store store.Reset s v m = set_to false s v m
 
@@ -151,7 +151,7 @@ state_after (op.Combine operator kind negated x) s = do
   a ← s.result
   v ← operand_value x s.memory
   b ← inverse_if negated v
-  c ← combination_of (sense_of operator) a b
+  c ← combination_of (class_of operator) a b
   Some (record s { result = Some c })
 state_after op.Not s = do
   v ← s.result
@@ -168,7 +168,7 @@ state_after_close operator negated before inner = do
   a ← before
   v ← inner.result
   b ← inverse_if negated v
-  c ← combination_of (sense_of operator) a b
+  c ← combination_of (class_of operator) a b
   Some (record inner { result = Some c })
 
 -- the state with an unset result

@@ -10,7 +10,7 @@ ghost use Rattle.il_check.specs.TypedProgram.{HasName, IsTyped};
 ghost use Rattle.il_compile.specs.Code as spec;
 ghost use Rattle.il_compile.specs.Compiled.{compiled_of, image_of, image_size, points_octets};
 ghost use Rattle.il_compile.specs.Compiled as spec_compiled;
-ghost use Rattle.il_compile.specs.Correct.{DoesTheText};
+ghost use Rattle.il_compile.specs.Correct.{ImplementsText};
 ghost use Rattle.il_compile.specs.declared.fault.CompileFault.TheVariants.{OutOfMemory};
 
 use crate::continuation::{Continuation, compile_all};
@@ -88,14 +88,14 @@ fn points_size(externals: &[External]) -> usize
 
 // Returns the octets of a program's code: a cell for the current result, the instructions of the
 // items, passed with the last first, and HALT.
-fn spell_all(alloc: Global, behind: Vec<Instr>) -> Result<Vec<u8>, AllocError>
+fn spell_all(alloc: Global, continuation: Vec<Instr>) -> Result<Vec<u8>, AllocError>
     ensures { IfOk result (λ code. code.items
-        ≡ all_spelled (spec.push_unset ∷ reverse behind.items ++ Instr.Halt ∷ [])) }
+        ≡ all_spelled (spec.push_unset ∷ reverse continuation.items ++ Instr.Halt ∷ [])) }
 {
-    let mut behind = behind;
+    let mut continuation = continuation;
     let mut code = Vec::new(alloc);
     Instr::Push(Value::Truth(false)).spell(&mut code)?;
-    while let Some(instr) = behind.pop() {
+    while let Some(instr) = continuation.pop() {
         instr.spell(&mut code)?;
     }
     Instr::Halt.spell(&mut code)?;
@@ -114,20 +114,20 @@ fn head_size(program: &Typed) -> usize
 }
 
 // Returns the image of a program, or `CodeTooLong` if it would have more than 65,535 octets.
-fn compiled(alloc: Global, program: &Typed) -> Result<Image, CompileFault>
+fn compile_image(alloc: Global, program: &Typed) -> Result<Image, CompileFault>
     ensures image { Gives OutOfMemory (λ image. image) result
         (compiled_of (checked_view program.now)) }
     ensures typed { IsTyped (checked_view program.now) }
 {
-    let behind = compile_all(alloc, program.externals().len(), program.items())?;
-    let size = head_size(program) + 3 + behind.octets as usize;
+    let continuation = compile_all(alloc, program.externals().len(), program.items())?;
+    let size = head_size(program) + 3 + continuation.octets as usize;
     if size > MAX_OCTETS {
         return Err(CompileFault::CodeTooLong);
     }
     let points = points_of(alloc, program.externals())?;
     let variables = values_of(alloc, program.variables())?;
     let timers = kinds_of(alloc, program.timers())?;
-    let code = spell_all(alloc, behind.instrs)?;
+    let code = spell_all(alloc, continuation.instrs)?;
     Ok(Image::new(
         Listing::new(points),
         Listing::new(variables),
@@ -153,11 +153,11 @@ pub fn compile(alloc: Global, program: &Typed) -> Result<Image, CompileFault>
     // From all values of the program's types, at each moment, the machine runs the code without a
     // trap to HALT, in no more steps than the code has octets, and leaves in slots and timers what
     // the program means.
-    ensures follows { IfOk result (λ image. DoesTheText (checked_view program.now) image.code) }
+    ensures follows { IfOk result (λ image. ImplementsText (checked_view program.now) image.code) }
     // A table of kinds agrees with the code: each instruction is reached, and is allowed on the
     // kinds on the stack before it.
     ensures tabled { IfOk result (λ image. HasTable image) }
 {
-    let image = compiled(alloc, program)?;
+    let image = compile_image(alloc, program)?;
     Ok(image)
 }

@@ -4,7 +4,7 @@ ghost use Rattle.std.specs.Prelude.{◌≡◌, ℕ, List, ◌+◌, ◌≤◌, �
 ghost use Rattle.il_image.specs.Spelling.{spelling};
 ghost use Rattle.il_check.specs.Program.{ProgramItem, label, plain, transfer};
 ghost use Rattle.il_check.specs.ProgramViews.{entry_view, item_view};
-ghost use Rattle.il_compile.specs.Continuation.{AreSpellable, IsContinuation, IsSettled, IsSpellable, IsSpellableEntry, octets_bound};
+ghost use Rattle.il_compile.specs.Continuation.{AreSpellable, IsContinuation, HasNoPending, IsSpellable, IsSpellableEntry, octets_bound};
 ghost use Rattle.il_compile.specs.Code as spec;
 
 use crate::emit::{put, put_call, put_entry, when_of};
@@ -26,9 +26,9 @@ pub(crate) struct Continuation {
     /// The number of octets of these instructions, counted up to 65,536.
     pub(crate) octets: u32,
     /// For each label, the number of octets after it.
-    pub(crate) places: HashMap<usize, u32>,
+    pub(crate) label_octets: HashMap<usize, u32>,
     /// The pending instructions of the item before them, in order, until they are moved there.
-    pub(crate) line: Vec<Instr>,
+    pub(crate) pending: Vec<Instr>,
 }
 
 // Returns the number of octets of an instruction.
@@ -64,21 +64,21 @@ fn bounded_sum(a: u32, b: u32) -> u32
 // Prepends instructions to those of the continuation, which are stored with the last first. Returns
 // the number of octets of all of them.
 fn put_before(
-    behind: &mut Vec<Instr>,
+    continuation: &mut Vec<Instr>,
     octets: u32,
-    line: &mut Vec<Instr>,
+    pending: &mut Vec<Instr>,
 ) -> Result<u32, AllocError>
     requires { octets ≤ octets_bound }
     ensures counted { IfOk result
-        (λ all. all ≡ min (octets + spec.octets line.old.items) octets_bound) }
+        (λ all. all ≡ min (octets + spec.octets pending.old.items) octets_bound) }
     ensures before { OnOk result
-        (reverse behind.new.items ≡ line.old.items ++ reverse behind.old.items) }
-    ensures empty { OnOk result (line.new.items ≡ []) }
+        (reverse continuation.new.items ≡ pending.old.items ++ reverse continuation.old.items) }
+    ensures empty { OnOk result (pending.new.items ≡ []) }
 {
     let mut all = octets;
-    while let Some(instr) = line.pop() {
+    while let Some(instr) = pending.pop() {
         all = bounded_sum(all, octets_of(instr));
-        behind.push(instr)?;
+        continuation.push(instr)?;
     }
     Ok(all)
 }
@@ -86,37 +86,37 @@ fn put_before(
 impl Continuation {
     // Creates the state after the last item, where nothing follows.
     fn new(alloc: Global) -> Continuation
-        ensures { (externals : ℕ) → IsSettled externals [] result }
+        ensures { (externals : ℕ) → HasNoPending externals [] result }
     {
         Continuation {
             instrs: Vec::new(alloc),
             octets: 0,
-            places: HashMap::new(alloc),
-            line: Vec::new(alloc),
+            label_octets: HashMap::new(alloc),
+            pending: Vec::new(alloc),
         }
     }
 
     // Prepends the pending instructions to the continuation's code.
-    fn settle(&mut self) -> Result<(), AllocError>
+    fn prepend_pending(&mut self) -> Result<(), AllocError>
         requires { self.old.octets ≤ octets_bound }
         ensures counted { OnOk result
             (self.new.octets
-            ≡ min (self.old.octets + spec.octets self.old.line.items) octets_bound) }
+            ≡ min (self.old.octets + spec.octets self.old.pending.items) octets_bound) }
         ensures before { OnOk result
-            (reverse self.new.instrs.items ≡ self.old.line.items ++ reverse self.old.instrs.items) }
-        ensures empty { OnOk result (self.new.line.items ≡ []) }
-        ensures places { OnOk result (self.new.places ≡ self.old.places) }
+            (reverse self.new.instrs.items ≡ self.old.pending.items ++ reverse self.old.instrs.items) }
+        ensures empty { OnOk result (self.new.pending.items ≡ []) }
+        ensures label_octets { OnOk result (self.new.label_octets ≡ self.old.label_octets) }
     {
-        self.octets = put_before(&mut self.instrs, self.octets, &mut self.line)?;
+        self.octets = put_before(&mut self.instrs, self.octets, &mut self.pending)?;
         Ok(())
     }
 
     // Prepends a label, which is where the continuation's code begins.
     fn put_label(&mut self, number: usize) -> Result<(), AllocError>
-        ensures { (externals : ℕ) (is : List ProgramItem) → IsSettled externals is self.old
-            → OnOk result (IsSettled externals (label number ∷ is) self.new) }
+        ensures { (externals : ℕ) (is : List ProgramItem) → HasNoPending externals is self.old
+            → OnOk result (HasNoPending externals (label number ∷ is) self.new) }
     {
-        self.places.insert(number, self.octets)?;
+        self.label_octets.insert(number, self.octets)?;
         Ok(())
     }
 
@@ -124,36 +124,36 @@ impl Continuation {
     fn put_plain(&mut self, externals: usize, entry: &TypedEntry) -> Result<(), AllocError>
         requires bounded { self.old.octets ≤ octets_bound }
         requires spellable { IsSpellableEntry externals (entry_view entry.now) }
-        ensures { (is : List ProgramItem) → IsSettled externals is self.old
-            → OnOk result (IsSettled externals (plain (entry_view entry.now) ∷ is) self.new) }
+        ensures { (is : List ProgramItem) → HasNoPending externals is self.old
+            → OnOk result (HasNoPending externals (plain (entry_view entry.now) ∷ is) self.new) }
     {
-        put_entry(&mut self.line, externals, entry)?;
-        self.settle()
+        put_entry(&mut self.pending, externals, entry)?;
+        self.prepend_pending()
     }
 
     // Prepends a jump over the octets before its label.
     fn put_jump(&mut self, condition: Condition, label: usize) -> Result<(), AllocError>
         requires { self.old.octets ≤ octets_bound }
-        ensures { (externals : ℕ) (is : List ProgramItem) → IsSettled externals is self.old
-            → OnOk result (IsSettled externals (transfer (Transfer.Jump condition label) ∷ is)
+        ensures { (externals : ℕ) (is : List ProgramItem) → HasNoPending externals is self.old
+            → OnOk result (HasNoPending externals (transfer (Transfer.Jump condition label) ∷ is)
             self.new) }
     {
-        let place = self.places.get(&label).copied().unwrap_or(0);
+        let place = self.label_octets.get(&label).copied().unwrap_or(0);
         let distance = self.octets.saturating_sub(place).min(0xFFFF) as u16;
-        put(&mut self.line, Instr::Jump(when_of(condition), distance))?;
-        self.settle()
+        put(&mut self.pending, Instr::Jump(when_of(condition), distance))?;
+        self.prepend_pending()
     }
 
     // Prepends a jump over the continuation's code.
     fn put_return(&mut self, condition: Condition) -> Result<(), AllocError>
         requires { self.old.octets ≤ octets_bound }
-        ensures { (externals : ℕ) (is : List ProgramItem) → IsSettled externals is self.old
-            → OnOk result (IsSettled externals (transfer (Transfer.Return condition) ∷ is)
+        ensures { (externals : ℕ) (is : List ProgramItem) → HasNoPending externals is self.old
+            → OnOk result (HasNoPending externals (transfer (Transfer.Return condition) ∷ is)
             self.new) }
     {
         let distance = self.octets.min(0xFFFF) as u16;
-        put(&mut self.line, Instr::Jump(when_of(condition), distance))?;
-        self.settle()
+        put(&mut self.pending, Instr::Jump(when_of(condition), distance))?;
+        self.prepend_pending()
     }
 
     // Prepends a call of a timer.
@@ -165,20 +165,20 @@ impl Continuation {
     ) -> Result<(), AllocError>
         requires bounded { self.old.octets ≤ octets_bound }
         requires spellable { IsSpellable externals (transfer (Transfer.Call timer arguments)) }
-        ensures { (is : List ProgramItem) → IsSettled externals is self.old
-            → OnOk result (IsSettled externals (transfer (Transfer.Call timer arguments) ∷ is)
+        ensures { (is : List ProgramItem) → HasNoPending externals is self.old
+            → OnOk result (HasNoPending externals (transfer (Transfer.Call timer arguments) ∷ is)
             self.new) }
     {
-        put_call(&mut self.line, externals, timer as u16, arguments)?;
-        self.settle()
+        put_call(&mut self.pending, externals, timer as u16, arguments)?;
+        self.prepend_pending()
     }
 
     // Prepends an item.
     fn put_item(&mut self, externals: usize, item: &TypedItem) -> Result<(), AllocError>
         requires bounded { self.old.octets ≤ octets_bound }
         requires spellable { IsSpellable externals (item_view item.now) }
-        ensures { (is : List ProgramItem) → IsSettled externals is self.old
-            → OnOk result (IsSettled externals (item_view item.now ∷ is) self.new) }
+        ensures { (is : List ProgramItem) → HasNoPending externals is self.old
+            → OnOk result (HasNoPending externals (item_view item.now ∷ is) self.new) }
     {
         match item {
             TypedItem::Label(number) => self.put_label(*number),
@@ -201,13 +201,13 @@ pub(crate) fn compile_all(
     items: &[TypedItem],
 ) -> Result<Continuation, AllocError>
     requires { AreSpellable externals (map item_view items.now) }
-    ensures { IfOk result (λ behind. IsSettled externals (map item_view items.now) behind) }
+    ensures { IfOk result (λ continuation. HasNoPending externals (map item_view items.now) continuation) }
 {
-    let mut behind = Continuation::new(alloc);
+    let mut continuation = Continuation::new(alloc);
     let mut at = items.len();
     while at > 0 {
         at -= 1;
-        behind.put_item(externals, &items[at])?;
+        continuation.put_item(externals, &items[at])?;
     }
-    Ok(behind)
+    Ok(continuation)
 }

@@ -5,7 +5,7 @@ ghost use Rattle.il_image.specs.Spelling.{IsInstr};
 ghost use Rattle.il_check.specs.ProgramViews.{entry_view};
 ghost use Rattle.il_compile.specs.Continuation.{IsSpellableEntry};
 ghost use Rattle.il_compile.specs.Code as spec;
-ghost use Rattle.il_compile.specs.Senses as senses;
+ghost use Rattle.il_compile.specs.OperatorClasses as senses;
 
 use bay_base::types::ElementaryType;
 use il_check::typed::{
@@ -30,9 +30,9 @@ fn slot_number(externals: usize, slot: Slot) -> u16
 }
 
 // Returns the instruction that pushes an operand.
-fn fetch(externals: usize, operand: TypedOperand) -> Instr
-    requires { IsInstr (spec.fetch externals operand) }
-    ensures { result ≡ spec.fetch externals operand }
+fn push_operand(externals: usize, operand: TypedOperand) -> Instr
+    requires { IsInstr (spec.push_operand externals operand) }
+    ensures { result ≡ spec.push_operand externals operand }
 {
     match operand {
         TypedOperand::Literal(value) => Instr::Push(value),
@@ -57,7 +57,7 @@ fn width_of(kind: ElementaryType) -> Width
 
 // Returns the instruction of an operator on two values of a type.
 fn operator_instr(operator: Operator, kind: ElementaryType) -> Instr
-    ensures { result ≡ spec.sense_instr (senses.sense_of operator) kind }
+    ensures { result ≡ spec.class_instr (senses.class_of operator) kind }
 {
     match operator {
         Operator::And => Instr::Combine(Connective::And),
@@ -127,7 +127,7 @@ fn put_negation(code: &mut Vec<Instr>, negated: bool) -> Result<(), AllocError>
 }
 
 // Appends what follows an operand or a parenthesis: a NOT if it is negated, and the operator.
-fn put_operated(
+fn put_operator(
     code: &mut Vec<Instr>,
     operator: Operator,
     kind: ElementaryType,
@@ -169,7 +169,7 @@ fn put_operation(
     match operation {
         SimpleOperation::Load { negated, operand } => {
             put(code, Instr::Drop)?;
-            put(code, fetch(externals, operand))?;
+            put(code, push_operand(externals, operand))?;
             put_negation(code, negated)
         }
         SimpleOperation::Store { kind, slot } => put_store(
@@ -183,8 +183,8 @@ fn put_operation(
             negated,
             operand,
         } => {
-            put(code, fetch(externals, operand))?;
-            put_operated(code, operator, kind, negated)
+            put(code, push_operand(externals, operand))?;
+            put_operator(code, operator, kind, negated)
         }
         SimpleOperation::Not => put(code, Instr::Not),
         SimpleOperation::Convert(conversion) => put(code, Instr::Widen(widening_of(conversion))),
@@ -214,7 +214,7 @@ pub(crate) fn put_entry(
             for inner in entries {
                 put_entry(code, externals, inner)?;
             }
-            put_operated(code, *operator, *kind, *negated)
+            put_operator(code, *operator, *kind, *negated)
         }
     }
 }
@@ -230,7 +230,7 @@ fn put_argument(
     ensures { OnOk result (code.new.items
         ≡ code.old.items ++ spec.argument_code externals timer argument) }
 {
-    put(code, fetch(externals, argument.operand))?;
+    put(code, push_operand(externals, argument.operand))?;
     put(code, Instr::Timer(input_use(argument.input), timer))
 }
 

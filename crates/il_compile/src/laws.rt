@@ -4,7 +4,7 @@ ghost use Rattle.il_check.specs.Program.{Checked, ProgramItem, transfer};
 ghost use Rattle.il_check.specs.TypedProgram.{IsTyped};
 ghost use Rattle.il_check.specs.declared.typed.Transfer.TheVariants as Transfer;
 ghost use Rattle.il_text.specs.declared.program.Condition.{Condition};
-ghost use Rattle.il_compile.specs.Correct.{HasTypes, Means};
+ghost use Rattle.il_compile.specs.Correct.{HasTypes, HasMeaning};
 ghost use Rattle.il_compile.specs.Laws.{items_after_label, meaning_after_label};
 ghost use Rattle.il_compile.specs.Meaning.{Memory, State, jump_taken, mean_from};
 
@@ -12,7 +12,7 @@ ghost use Rattle.il_compile.specs.Meaning.{Memory, State, jump_taken, mean_from}
 /// values of its types: it never uses a result that is not set, a missing name, a value of another
 /// type than its variable's, or a divisor of 0.
 pub fn programs_have_a_meaning()
-    ensures { (c : Checked) (now : ℕ) (m : Memory) → IsTyped c → HasTypes c m → Means c now m }
+    ensures { (c : Checked) (now : ℕ) (m : Memory) → IsTyped c → HasTypes c m → HasMeaning c now m }
 {}
 
 /// A jump that is taken continues with the items after its label, with the same result and the same

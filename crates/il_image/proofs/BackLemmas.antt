@@ -14,7 +14,7 @@ use Rattle.il_image.specs.declared.opcode.Version.TheVariants.{Two}
 use Rattle.bay_base.specs.declared.types.TimerKind.{TimerKind}
 use Rattle.bay_base.specs.declared.types.TimerKind.TheVariants.{OnDelay, OffDelay}
 use Rattle.il_image.specs.declared.write.Size.TheVariants as size
-use Rattle.il_image.specs.Decoding.{code_at, counted_at, image_spelled, items_at, name_at, name_of_length, point_at, timer_at, type_at, variable_at}
+use Rattle.il_image.specs.Decoding.{code_at, counted_at, decoded_image, items_at, name_at, name_of_length, point_at, timer_at, type_at, variable_at}
 use Rattle.il_image.specs.Images.{Each, HasName, Image, IsCode, IsImage, IsName, IsValue, count_and_items, each_spelled, image_octets, is_name_octet, point_octets, timer_octets, type_octet, variable_octets}
 use Rattle.il_image.specs.Octets.{bits_of_size, number_octets, signed_octets, size_of, most_counted}
 use Rattle.il_image.specs.Reading.{Read}
@@ -114,8 +114,8 @@ back-code code few is =
     let same : eqb (length code) (length code) ≡ true = eq-eqb (length code) (length code) refl in
     rw (number, all, faultless code (length code) is, same) refl
 
-pub back-image : (i : Image) → IsImage i → image_spelled (image_octets Two i) ≡ Ok i
-unfolding image_spelled image_octets
+pub back-image : (i : Image) → IsImage i → decoded_image (image_octets Two i) ≡ Ok i
+unfolding decoded_image image_octets
 back-image i is =
     let code = number_octets (length i.code) ++ i.code in
     let rest3 = count_and_items (timer_octets Two) i.timers ++ code in

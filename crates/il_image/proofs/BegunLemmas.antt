@@ -12,12 +12,12 @@ use Rattle.il_image.specs.declared.opcode.TimerUse.TheVariants.{SetInput, SetPre
 use Rattle.il_image.specs.declared.timer.TimerState.{TimerState}
 use Rattle.il_image.specs.declared.value.Value.{Value}
 use Rattle.il_image.specs.declared.value.Value.TheVariants.{Truth}
-use Rattle.il_image.specs.Machine.{State, StepResult, Goes, Halts, Traps, MissingSlot, MissingTimer, WrongKind, ZeroDivisor, Ending, Unfinished, act, as_number, as_span, as_truth, divides, ending_of, continues_at, is_comparable, pushes, run_from, stores, value_of_width, step_of_read, with_slot, with_timer, with_top, with_truths, with_two, most_cells}
+use Rattle.il_image.specs.Machine.{State, StepResult, Continues, Halts, Traps, MissingSlot, MissingTimer, WrongKind, ZeroDivisor, Ending, Unfinished, act, as_number, as_span, as_truth, divides, ending_of, continues_at, is_comparable, pushes, run_from, stores, value_of_width, step_of_read, with_slot, with_timer, with_top, with_truths, with_two, most_cells}
 use Rattle.bay_base.specs.Types.{same_type}
 use Rattle.il_image.specs.Arithmetic.{comparison_holds, computation_of, wider_value}
 use Rattle.il_image.specs.Values.{number_of, type_of}
 use Rattle.il_image.specs.Images.{Image}
-use Rattle.il_image.specs.Offsets.{IsPlace, offset_after, begun_at, is_among, is_instruction_offset, is_there, offset_of}
+use Rattle.il_image.specs.Offsets.{InstrBegins, offset_after, aligned_instr, is_among, is_instruction_offset, is_there, offset_of}
 use Rattle.il_image.specs.Reading.{instr_at}
 use Rattle.il_image.specs.Tables.{Agrees, IsSuccessor, LeadsTo, Table}
 use Rattle.il_image.proofs.PlaceLemmas.{goes-forward}
@@ -25,95 +25,95 @@ use Rattle.il_image.proofs.PlaceLemmas.{goes-forward}
 -- ---- a place is told by the test
 
 -- each instruction is at its number or behind it
-read-grows : (code : List ℕ) (n start place : ℕ) (r : Option (Instr × ℕ)) → instr_at code start ≡ r
-    → n ≤ start → option_map (λ (q : Instr × ℕ). q.1) r ≡ Some place → suc n ≤ place
-read-grows code n start place None here le f = absurd cc
-read-grows code n start place (Some r) here le f =
+read-grows : (code : List ℕ) (n start offset : ℕ) (r : Option (Instr × ℕ)) → instr_at code start ≡ r
+    → n ≤ start → option_map (λ (q : Instr × ℕ). q.1) r ≡ Some offset → suc n ≤ offset
+read-grows code n start offset None here le f = absurd cc
+read-grows code n start offset (Some r) here le f =
     let forward = (goes-forward code start r.0 r.1 here).0 in
-    let same : r.1 ≡ place = cc in
+    let same : r.1 ≡ offset = cc in
     omega arith
 
-behind-grows : (code : List ℕ) (n place : ℕ) (o : Option ℕ) → offset_of code n ≡ o
-    → ((start : ℕ) → offset_of code n ≡ Some start → n ≤ start) → offset_after code o ≡ Some place
-    → suc n ≤ place
-behind-grows code n place None is before f = absurd cc
-behind-grows code n place (Some start) is before f =
-    read-grows code n start place (instr_at code start) refl (before start is) f
+behind-grows : (code : List ℕ) (n offset : ℕ) (o : Option ℕ) → offset_of code n ≡ o
+    → ((start : ℕ) → offset_of code n ≡ Some start → n ≤ start) → offset_after code o ≡ Some offset
+    → suc n ≤ offset
+behind-grows code n offset None is before f = absurd cc
+behind-grows code n offset (Some start) is before f =
+    read-grows code n start offset (instr_at code start) refl (before start is) f
 
-place-grows : (code : List ℕ) (n place : ℕ) → offset_of code n ≡ Some place → n ≤ place
-place-grows code zero place e = omega arith
-place-grows code (suc n) place e =
-    behind-grows code n place (offset_of code n) refl (λ start is. place-grows code n start is) e
+place-grows : (code : List ℕ) (n offset : ℕ) → offset_of code n ≡ Some offset → n ≤ offset
+offset-grows code zero offset e = omega arith
+offset-grows code (suc n) offset e =
+    behind-grows code n offset (offset_of code n) refl (λ start is. place-grows code n start is) e
 
-there-is : (o : Option ℕ) (place : ℕ) → is_there o place ≡ true → o ≡ Some place
-there-is None place e = absurd cc
-there-is (Some start) place e = ap (λ (p : ℕ). Some p) (eqb-true start place e)
+there-is : (o : Option ℕ) (offset : ℕ) → is_there o offset ≡ true → o ≡ Some offset
+there-is None offset e = absurd cc
+there-is (Some start) offset e = ap (λ (p : ℕ). Some p) (eqb-true start offset e)
 
-is-there-so : (o : Option ℕ) (place : ℕ) → o ≡ Some place → is_there o place ≡ true
-is-there-so o place e = ap (λ (x : Option ℕ). is_there x place) e ∙ eq-eqb place place refl
+is-there-so : (o : Option ℕ) (offset : ℕ) → o ≡ Some offset → is_there o offset ≡ true
+is-there-so o offset e = ap (λ (x : Option ℕ). is_there x offset) e ∙ eq-eqb offset offset refl
 
-among-either : (code : List ℕ) (n place : ℕ) (b : Bool) → is_there (offset_of code n) place ≡ b
-    → (is_among code n place ≡ true → (k : ℕ) × (offset_of code k ≡ Some place))
-    → b || is_among code n place ≡ true
-    → (k : ℕ) × (offset_of code k ≡ Some place)
-among-either code n place true h before f = (n, there-is (offset_of code n) place h)
-among-either code n place false h before f = before f
+among-either : (code : List ℕ) (n offset : ℕ) (b : Bool) → is_there (offset_of code n) offset ≡ b
+    → (is_among code n offset ≡ true → (k : ℕ) × (offset_of code k ≡ Some offset))
+    → b || is_among code n offset ≡ true
+    → (k : ℕ) × (offset_of code k ≡ Some offset)
+among-either code n offset true h before f = (n, there-is (offset_of code n) offset h)
+among-either code n offset false h before f = before f
 
-among-is : (code : List ℕ) (n place : ℕ) → is_among code n place ≡ true
-    → (k : ℕ) × (offset_of code k ≡ Some place)
-among-is code zero place e = absurd cc
-among-is code (suc n) place e =
-    among-either code n place (is_there (offset_of code n) place) refl
-    (λ f. among-is code n place f)
+among-is : (code : List ℕ) (n offset : ℕ) → is_among code n offset ≡ true
+    → (k : ℕ) × (offset_of code k ≡ Some offset)
+among-is code zero offset e = absurd cc
+among-is code (suc n) offset e =
+    among-either code n offset (is_there (offset_of code n) offset) refl
+    (λ f. among-is code n offset f)
     e
 
-is-among-so : (code : List ℕ) (n k place : ℕ) → k < n → offset_of code k ≡ Some place
-    → is_among code n place ≡ true
-is-among-so code zero k place h e = absurd (omega arith)
-is-among-so code (suc n) k place h e = elim (cases_eq k n) [
-  | inl same ↦ ap (λ (b : Bool). b || is_among code n place)
-      (is-there-so (offset_of code n) place
-      (subst (λ (j : ℕ). offset_of code j ≡ Some place) same e))
-  | inr ne ↦ later (is_there (offset_of code n) place) (is-among-so code n k place (omega arith) e)
+is-among-so : (code : List ℕ) (n k offset : ℕ) → k < n → offset_of code k ≡ Some offset
+    → is_among code n offset ≡ true
+is-among-so code zero k offset h e = absurd (omega arith)
+is-among-so code (suc n) k offset h e = elim (cases_eq k n) [
+  | inl same ↦ ap (λ (b : Bool). b || is_among code n offset)
+      (is-there-so (offset_of code n) offset
+      (subst (λ (j : ℕ). offset_of code j ≡ Some offset) same e))
+  | inr ne ↦ later (is_there (offset_of code n) offset) (is-among-so code n k offset (omega arith) e)
 ]
   where
-    later : (b : Bool) → is_among code n place ≡ true → b || is_among code n place ≡ true
+    later : (b : Bool) → is_among code n offset ≡ true → b || is_among code n offset ≡ true
     later true h = refl
     later false h = h
 
-pub told : (code : List ℕ) (place : ℕ) → IsPlace code place
-    → is_instruction_offset code place ≡ true
+pub told : (code : List ℕ) (offset : ℕ) → InstrBegins code offset
+    → is_instruction_offset code offset ≡ true
 unfolding is_instruction_offset
-told code place p =
-    let grows = place-grows code p.1.0 place p.1.1 in
+told code offset p =
+    let grows = place-grows code p.1.0 offset p.1.1 in
     let within = p.0 in
-    rw (lt-ltb place (length code) p.0)
-    (is-among-so code (length code) p.1.0 place (omega arith) p.1.1)
+    rw (lt-ltb offset (length code) p.0)
+    (is-among-so code (length code) p.1.0 offset (omega arith) p.1.1)
 
-pub tells : (code : List ℕ) (place : ℕ) → is_instruction_offset code place ≡ true
-    → IsPlace code place
+pub tells : (code : List ℕ) (offset : ℕ) → is_instruction_offset code offset ≡ true
+    → InstrBegins code offset
 unfolding is_instruction_offset
-tells code place e = both (ltb place (length code)) refl e
+tells code offset e = both (ltb offset (length code)) refl e
   where
-    both : (b : Bool) → ltb place (length code) ≡ b → b && is_among code (length code) place ≡ true
-        → IsPlace code place
-    both true h f = (ltb-true place (length code) h, among-is code (length code) place f)
+    both : (b : Bool) → ltb offset (length code) ≡ b → b && is_among code (length code) offset ≡ true
+        → InstrBegins code offset
+    both true h f = (ltb-true offset (length code) h, among-is code (length code) offset f)
     both false h f = absurd cc
 
-pub a_place_is_told : (code : List ℕ) (place : ℕ) → IsTrue (is_instruction_offset code place)
-    ↔ IsPlace code place
-a_place_is_told code place = (tells code place, told code place)
+pub a_place_is_told : (code : List ℕ) (offset : ℕ) → IsTrue (is_instruction_offset code offset)
+    ↔ InstrBegins code offset
+a_place_is_told code offset = (tells code offset, told code offset)
 
 -- what begins at a place is the instruction there
-pub begun : (code : List ℕ) (place : ℕ) → IsPlace code place
-    → begun_at code place ≡ instr_at code place
-begun code place p = rw (told code place p) refl
+pub begun : (code : List ℕ) (offset : ℕ) → InstrBegins code offset
+    → aligned_instr code offset ≡ instr_at code offset
+begun code offset p = rw (told code offset p) refl
 
 -- ---- where an instruction lands
 
 -- Where it goes on, the place is one of these.
 abbrev Lands : (ℕ → Type 0) → StepResult → Type 0
-Lands P (Goes s) = P s.place
+Lands P (Continues s) = P s.offset
 Lands P Halts = Unit {0}
 Lands P (Traps trap) = Unit {0}
 
@@ -244,11 +244,11 @@ lands now (Timer LoadElapsed n) next s =
 
 -- Instructions lead to places of the code alone.
 pub record IsClosed (code : List ℕ) : Type 0 where
-  pub leads : (place to : ℕ) → IsPlace code place → IsSuccessor code place to → IsPlace code to
+  pub leads : (offset to : ℕ) → InstrBegins code offset → IsSuccessor code offset to → InstrBegins code to
 
 -- the step of the machine that reads at any octet
 abbrev pub loose_turn : List ℕ → ℕ → State → StepResult
-loose_turn code now s = step_of_read now (instr_at code s.place) s
+loose_turn code now s = step_of_read now (instr_at code s.offset) s
 
 unfoldable pub loose_run : List ℕ → ℕ → ℕ → State → ℕ → Ending
 loose_run code now zero s steps = Unfinished
@@ -257,38 +257,38 @@ loose_run code now (suc most) s steps =
     (λ after. loose_run code now most after (steps + 1))
 
 module _ (code : List ℕ) (now : ℕ) (closed : IsClosed code) where
-  same-ending : (most steps : ℕ) (s : State) (t : StepResult) → Lands (λ to. IsPlace code to) t
-      → ((after : State) → IsPlace code after.place
+  same-ending : (most steps : ℕ) (s : State) (t : StepResult) → Lands (λ to. InstrBegins code to) t
+      → ((after : State) → InstrBegins code after.offset
       → loose_run code now most after (steps + 1) ≡ run_from code now most after (steps + 1))
       → ending_of t s (steps + 1) (λ after. loose_run code now most after (steps + 1))
       ≡ ending_of t s (steps + 1) (λ after. run_from code now most after (steps + 1))
-  same-ending most steps s (Goes after) h more = more after h
+  same-ending most steps s (Continues after) h more = more after h
   same-ending most steps s Halts h more = refl
   same-ending most steps s (Traps trap) h more = refl
 
-  lands-more : (i : Instr) (next place : ℕ) (t : StepResult) → IsPlace code place
-      → instr_at code place ≡ Some (i, next) → Lands (λ to. LeadsTo i next to) t
-      → Lands (λ to. IsPlace code to) t
-  lands-more i next place (Goes after) p here h =
-      closed.leads place after.place p (record { instr = i; next = next; here = here; leads = h })
-  lands-more i next place Halts p here h = tt
-  lands-more i next place (Traps trap) p here h = tt
+  lands-more : (i : Instr) (next offset : ℕ) (t : StepResult) → InstrBegins code offset
+      → instr_at code offset ≡ Some (i, next) → Lands (λ to. LeadsTo i next to) t
+      → Lands (λ to. InstrBegins code to) t
+  lands-more i next offset (Continues after) p here h =
+      closed.leads offset after.offset p (record { instr = i; next = next; here = here; leads = h })
+  lands-more i next offset Halts p here h = tt
+  lands-more i next offset (Traps trap) p here h = tt
 
-  lands-at : (s : State) (o : Option (Instr × ℕ)) → instr_at code s.place ≡ o → IsPlace code s.place
-      → Lands (λ to. IsPlace code to) (step_of_read now o s)
+  lands-at : (s : State) (o : Option (Instr × ℕ)) → instr_at code s.offset ≡ o → InstrBegins code s.offset
+      → Lands (λ to. InstrBegins code to) (step_of_read now o s)
   lands-at s None here p = tt
   lands-at s (Some r) here p =
-      lands-more r.0 r.1 s.place (act now r.0 r.1 s) p here (lands now r.0 r.1 s)
+      lands-more r.0 r.1 s.offset (act now r.0 r.1 s) p here (lands now r.0 r.1 s)
 
-  pub loose-is-run : (most : ℕ) (s : State) (steps : ℕ) → IsPlace code s.place
+  pub loose-is-run : (most : ℕ) (s : State) (steps : ℕ) → InstrBegins code s.offset
       → loose_run code now most s steps ≡ run_from code now most s steps
   unfolding loose_run run_from
   loose-is-run zero s steps p = refl
   loose-is-run (suc most) s steps p =
-      same-ending most steps s (loose_turn code now s) (lands-at s (instr_at code s.place) refl p)
+      same-ending most steps s (loose_turn code now s) (lands-at s (instr_at code s.offset) refl p)
       (λ after q. loose-is-run most after (steps + 1) q)
       ∙ ap (λ (o : Option (Instr × ℕ)). ending_of (step_of_read now o s) s (steps + 1)
-      (λ after. run_from code now most after (steps + 1))) (sym (begun code s.place p))
+      (λ after. run_from code now most after (steps + 1))) (sym (begun code s.offset p))
 
 -- ---- an agreeing table's code
 
@@ -307,9 +307,9 @@ pair-same {A} {B} a b x y e = let p : ◌≡◌ {A = A × B} (a, x) (b, y) =
 
 pub closed_by : (image : Image) (table : Table) → Agrees image table → IsClosed image.code
 closed_by image table agrees = record {
-  leads = λ place to p s.
-      (let known = some-is (table place) ((agrees.places place).1 p) in
-      let a = agrees.allowed place known.0 known.1 in
+  leads = λ offset to p s.
+      (let known = some-is (table offset) ((agrees.places offset).1 p) in
+      let a = agrees.allowed offset known.0 known.1 in
       let same = pair-same s.instr a.instr s.next a.next (sym s.here ∙ a.here) in
       let enter =
       a.enters to (subst (λ (n : ℕ). LeadsTo a.instr n to) same.1
@@ -317,5 +317,5 @@ closed_by image table agrees = record {
       (agrees.places to).0 (is-some-so (table to) enter.0 enter.1));
 }
 
-pub first-place : (image : Image) (table : Table) → Agrees image table → IsPlace image.code 0
+pub first-place : (image : Image) (table : Table) → Agrees image table → InstrBegins image.code 0
 first-place image table agrees = (agrees.places 0).0 (is-some-so (table 0) [] agrees.starts)

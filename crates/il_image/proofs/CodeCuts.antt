@@ -16,7 +16,7 @@ use Rattle.il_image.specs.declared.opcode.Opcode.TheVariants as opcode
 use Rattle.il_image.specs.declared.opcode.Version.{Version}
 use Rattle.il_image.specs.declared.opcode.Version.TheVariants.{One, Two}
 use Rattle.il_image.specs.Cuts.{IsInstrOf, IsShortOf}
-use Rattle.il_image.specs.Decoding.{code_at, code_fault, code_of_length, unless}
+use Rattle.il_image.specs.Decoding.{code_at, code_fault, code_of_length, fault_or}
 use Rattle.il_image.specs.Images.{IsCode}
 use Rattle.il_image.specs.Octets.{AreOctets, number_octets, size_of, most_counted}
 use Rattle.il_image.specs.Opcodes.{is_known, opcode_of}
@@ -287,7 +287,7 @@ module _ (version : Version) (n : ℕ) (octets : List ℕ) (fits : AreOctets oct
       go : (o : Option ImageFault)
           → code_fault version (length (take n octets)) (take n octets) ≡ o
           → ◌≡◌ {A = Result (List ℕ) ImageFault}
-          (unless o (cond (eqb (length octets) n) (Ok octets) (Err Truncated))) (Err Truncated)
+          (fault_or o (cond (eqb (length octets) n) (Ok octets) (Err Truncated))) (Err Truncated)
           → EndsIn (code_of_length version n) Any octets
           ⊎ (Past version n octets ⊎ Part version n octets)
       go None is e = whole-front is e

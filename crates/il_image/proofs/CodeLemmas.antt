@@ -11,7 +11,7 @@ use Rattle.il_image.specs.declared.fault.ImageFault.TheVariants.{Truncated}
 use Rattle.il_image.specs.declared.instr.Instr.{Instr}
 use Rattle.il_image.specs.declared.opcode.Version.{Version}
 use Rattle.il_image.specs.declared.opcode.Version.TheVariants.{Two}
-use Rattle.il_image.specs.Decoding.{code_fault, code_of_length, fault_or_later, unless}
+use Rattle.il_image.specs.Decoding.{code_fault, code_of_length, fault_or_later, fault_or}
 use Rattle.il_image.specs.Images.{Each, IsCode, all_spelled}
 use Rattle.il_image.specs.Octets.{AreOctets}
 use Rattle.il_image.specs.Reading.{Read, instr_from}
@@ -239,7 +239,7 @@ sized-code version n octets code fits e =
   where
     go : (f : Option ImageFault) (b : Bool)
         → code_fault version (length (take n octets)) (take n octets) ≡ f
-        → eqb (length octets) n ≡ b → unless f (cond b (Ok octets) (Err Truncated)) ≡ Ok code
+        → eqb (length octets) n ≡ b → fault_or f (cond b (Ok octets) (Err Truncated)) ≡ Ok code
         → (octets ≡ code) × (length code ≡ n) × IsCode code
     go (Some fault) b h g e = absurd cc
     go None false h g e = absurd cc

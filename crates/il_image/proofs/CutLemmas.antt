@@ -8,8 +8,8 @@ use Rattle.il_image.specs.declared.image.ImagePoint.{ImagePoint}
 use Rattle.il_image.specs.declared.opcode.Version.{Version}
 use Rattle.il_image.specs.declared.opcode.Version.TheVariants.{One, Two}
 use Rattle.il_image.specs.declared.value.Value.{Value}
-use Rattle.il_image.specs.Cuts.{EndsInInstr, EndsInValue, HasOthers, IsImageOf}
-use Rattle.il_image.specs.Decoding.{code_at, code_fault, counted_at, image_spelled, point_at, timer_at, variable_at}
+use Rattle.il_image.specs.Cuts.{EndsInInstr, EndsInValue, HasTrailing, IsImageOf}
+use Rattle.il_image.specs.Decoding.{code_at, code_fault, counted_at, decoded_image, point_at, timer_at, variable_at}
 use Rattle.il_image.specs.Images.{HasName, Image, IsValue, count_and_items, image_octets, mark, point_octets, timer_octets, variable_octets, version_octet}
 use Rattle.il_image.specs.Octets.{number_octets, most_counted}
 use Rattle.il_image.specs.Reading.{Read}
@@ -51,7 +51,7 @@ reads-image : (version : Version) (p : List ImagePoint) (v : List Value) (t : Li
     → ReadsAll (timer_octets version) (timer_at version) t
     → code_at version (number_octets (length code) ++ code) ≡ Ok code
     → IsImageOf version (image_of p v t code)
-unfolding image_spelled image_octets
+unfolding decoded_image image_octets
 reads-image One p v t code a b d f =
     let rest3 = number_octets (length code) ++ code in
     let rest2 = count_and_items (timer_octets One) t ++ rest3 in
@@ -119,7 +119,7 @@ module _ (octets : List ℕ) (version : Version) (rest : List ℕ)
         reads-image version p.what v.what t.what code (behind-reads p) (behind-reads v)
         (behind-reads t) (reads-code version code small whole)
 
-    pub in-code : CodeCut version t.rest → HasOthers octets ⊎ EndsInInstr octets
+    pub in-code : CodeCut version t.rest → HasTrailing octets ⊎ EndsInInstr octets
     unfolding image_octets
     in-code c =
         let few = c.first.good in

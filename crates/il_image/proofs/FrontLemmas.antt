@@ -4,7 +4,7 @@ use Rattle.std.specs.Prelude.{Result, Err, slice_index}
 use Rattle.std.proofs.lemmas.Bool.{ne_eqb}
 use Rattle.il_image.specs.declared.fault.ImageFault.{ImageFault}
 use Rattle.il_image.specs.declared.fault.ImageFault.TheVariants.{BadMagic, BadVersion}
-use Rattle.il_image.specs.Decoding.{octets_after_prefix, image_spelled}
+use Rattle.il_image.specs.Decoding.{octets_after_prefix, decoded_image}
 use Rattle.il_image.specs.Images.{mark}
 
 either : (b : Bool) (r : Result (List ℕ) ImageFault) → r ≡ Err BadMagic
@@ -23,11 +23,11 @@ other-mark (m ∷ marks) (x ∷ octets) (suc k) h g other =
     (other-mark marks octets k (omega arith) (omega arith) other)
 
 pub no-mark : (octets : List ℕ) (k : ℕ) → k < 4 → k < length octets
-    → (slice_index octets k ≡ slice_index mark k → ⊥) → image_spelled octets ≡ Err BadMagic
-unfolding image_spelled
+    → (slice_index octets k ≡ slice_index mark k → ⊥) → decoded_image octets ≡ Err BadMagic
+unfolding decoded_image
 no-mark octets k h g other = rw (other-mark mark octets k h g other) refl
 
 pub no-version : (octet : ℕ) (rest : List ℕ) → (octet ≡ 1 → ⊥) → (octet ≡ 2 → ⊥)
-    → image_spelled (mark ++ octet ∷ rest) ≡ Err BadVersion
-unfolding image_spelled
+    → decoded_image (mark ++ octet ∷ rest) ≡ Err BadVersion
+unfolding decoded_image
 no-version octet rest one two = rw (ne_eqb octet 1 one, ne_eqb octet 2 two) refl

@@ -7,8 +7,8 @@ use Rattle.bay_base.specs.Results.{◌>>=◌}
 use Rattle.il_image.specs.declared.fault.ImageFault.{ImageFault}
 use Rattle.il_image.specs.declared.fault.ImageFault.TheVariants.{BadMagic, Truncated}
 use Rattle.il_image.specs.declared.opcode.Version.{Version}
-use Rattle.il_image.specs.Cuts.{EndsInInstr, EndsInValue, HasOthers, IsRightSoFar}
-use Rattle.il_image.specs.Decoding.{octets_after_prefix, image_spelled}
+use Rattle.il_image.specs.Cuts.{EndsInInstr, EndsInValue, HasTrailing, IsRightSoFar}
+use Rattle.il_image.specs.Decoding.{octets_after_prefix, decoded_image}
 use Rattle.il_image.specs.Images.{Image, IsImage, image_octets, mark, version_octet}
 use Rattle.il_image.specs.Octets.{AreOctets}
 use Rattle.il_image.proofs.CodeCuts.{code-lawful}
@@ -80,8 +80,8 @@ still h x (m ∷ more) = refl
 
 pub image-lawful :
     Lawful spoilt Any IsSpelled
-    (λ octets. HasOthers octets ⊎ (EndsInValue octets ⊎ EndsInInstr octets)) image_spelled
-unfolding image_spelled image_octets
+    (λ octets. HasTrailing octets ⊎ (EndsInValue octets ⊎ EndsInInstr octets)) decoded_image
+unfolding decoded_image image_octets
 image-lawful =
     lawful-so (mark-lawful mark mark-octets (lawful-then _ version-lawful
     (λ version. lawful-then _ (all-lawful (point-lawful version))
@@ -139,18 +139,18 @@ image-lawful =
       ]
     ])
 
-pub right-so-far : (octets : List ℕ) → AreOctets octets → image_spelled octets ≡ Err Truncated
+pub right-so-far : (octets : List ℕ) → AreOctets octets → decoded_image octets ≡ Err Truncated
     → IsRightSoFar octets
 right-so-far octets fits e = elim (image-lawful.short octets fits e) [
   | inl a ↦ inl (record { more = a.more; image = a.what; fits = a.fits; ends = a.is })
   | inr c ↦ inr c
 ]
 
-took-image : (octets : List ℕ) (i : Image) → AreOctets octets → image_spelled octets ≡ Ok i
+took-image : (octets : List ℕ) (i : Image) → AreOctets octets → decoded_image octets ≡ Ok i
     → IsSpelled octets i
 took-image octets i fits e = image-lawful.sound.spelled octets i fits e tt
 
-pub spelled-image : (octets : List ℕ) (i : Image) → AreOctets octets → image_spelled octets ≡ Ok i
+pub spelled-image : (octets : List ℕ) (i : Image) → AreOctets octets → decoded_image octets ≡ Ok i
     → IsImage i × ((version : Version) × (octets ≡ image_octets version i))
 spelled-image octets i fits e = let took =
     took-image octets i fits e in (took.good, (took.version, took.spelled))
@@ -166,7 +166,7 @@ same-version : (a b : Version) → version_octet a ≡ version_octet b → a ≡
 same-version a b h = grind (arith, common_steps)
 
 pub one-of-each : (octets others : List ℕ) (i : Image) → AreOctets octets → AreOctets others
-    → image_spelled octets ≡ Ok i → image_spelled others ≡ Ok i
+    → decoded_image octets ≡ Ok i → decoded_image others ≡ Ok i
     → slice_index octets 4 ≡ slice_index others 4
     → octets ≡ others
 one-of-each octets others i fits good e f same =

@@ -16,9 +16,9 @@ use Rattle.il_image.proofs.InstrLemmas.{back-instr, instr-sound, less}
 use Rattle.il_image.proofs.PieceLemmas.{spelled-first}
 
 -- what was read at a place
-pub record Placed (code : List ℕ) (place : ℕ) (i : Instr) (next : ℕ) : Type 0 where
+pub record Placed (code : List ℕ) (offset : ℕ) (i : Instr) (next : ℕ) : Type 0 where
   pub rest : List ℕ
-  pub read : instr_from Two (drop place code) ≡ Ok (i, rest)
+  pub read : instr_from Two (drop offset code) ≡ Ok (i, rest)
   pub is : next ≡ length code - length rest
 
 placed-is : (size : ℕ) (r : Read Instr) (i : Instr) (next : ℕ)
@@ -31,11 +31,11 @@ placed-is size (Ok r) i next h =
     let second : size - length r.1 ≡ next = ap (λ q. q.1) pair in
     (r.1, ap (λ (j : Instr). Ok (j, r.1)) first, sym second)
 
-pub read-at : (code : List ℕ) (place : ℕ) (i : Instr) (next : ℕ)
-    → instr_at code place ≡ Some (i, next) → Placed code place i next
+pub read-at : (code : List ℕ) (offset : ℕ) (i : Instr) (next : ℕ)
+    → instr_at code offset ≡ Some (i, next) → Placed code offset i next
 unfolding instr_at
-read-at code place i next e = let h =
-    placed-is (length code) (instr_from Two (drop place code)) i next e in
+read-at code offset i next e = let h =
+    placed-is (length code) (instr_from Two (drop offset code)) i next e in
     record { rest = h.0; read = h.1; is = h.2 }
 
 -- what was read of octets is spelled by their front
@@ -45,17 +45,17 @@ pub spelled-so : (version : Version) (octets : List ℕ) (i : Instr) (rest : Lis
 spelled-so version = spelled-first (instr-sound version)
 
 -- an instruction that is read at a place is spelled there
-pub stands : (code : List ℕ) (place : ℕ) (i : Instr) (next : ℕ) → AreOctets code
-    → instr_at code place ≡ Some (i, next) → HasInstructionAt code place i next
-stands code place i next fits e =
-    let p = read-at code place i next e in
-    let s = spelled-so Two (drop place code) i p.rest (drop-octets place code fits) p.read in
+pub stands : (code : List ℕ) (offset : ℕ) (i : Instr) (next : ℕ) → AreOctets code
+    → instr_at code offset ≡ Some (i, next) → HasInstructionAt code offset i next
+stands code offset i next fits e =
+    let p = read-at code offset i next e in
+    let s = spelled-so Two (drop offset code) i p.rest (drop-octets offset code fits) p.read in
     let parts = ap length s.1 ∙ length-append (spelling i) p.rest in
-    let cut = length-drop place code in
+    let cut = length-drop offset code in
     let is = p.is in
-    let size : next ≡ place + length (spelling i) = omega arith in
+    let size : next ≡ offset + length (spelling i) = omega arith in
     let rest : drop next code ≡ p.rest =
-    ap (λ (n : ℕ). drop n code) size ∙ sym (drop-drop (length (spelling i)) place code)
+    ap (λ (n : ℕ). drop n code) size ∙ sym (drop-drop (length (spelling i)) offset code)
     ∙ ap (drop (length (spelling i))) s.1 ∙ drop-append_seam (spelling i) p.rest in
     record {
       is_instr = s.0;
@@ -65,10 +65,10 @@ stands code place i next fits e =
     }
 
 -- an instruction that is spelled at a place is read there
-pub stood : (code : List ℕ) (place : ℕ) (i : Instr) (next : ℕ) → HasInstructionAt code place i next
-    → instr_at code place ≡ Some (i, next)
+pub stood : (code : List ℕ) (offset : ℕ) (i : Instr) (next : ℕ) → HasInstructionAt code offset i next
+    → instr_at code offset ≡ Some (i, next)
 unfolding instr_at
-stood code place i next s =
+stood code offset i next s =
     let back = back-instr i (drop next code) s.is_instr in
     let within = s.within in
     let left : length code - length (drop next code) ≡ next =
@@ -76,41 +76,41 @@ stood code place i next s =
     rw (s.spelled, back, left) refl
 
 -- past the end there is none
-pub none-past-end : (code : List ℕ) (place : ℕ) → length code ≤ place → instr_at code place ≡ None
+pub none-past-end : (code : List ℕ) (offset : ℕ) → length code ≤ offset → instr_at code offset ≡ None
 unfolding instr_at instr_from
-none-past-end code place past = rw (drop_of_length-le code past) refl
+none-past-end code offset past = rw (drop_of_length-le code past) refl
 
-pub goes-forward : (code : List ℕ) (place : ℕ) (i : Instr) (next : ℕ)
-    → instr_at code place ≡ Some (i, next) → (place < next) × (next ≤ length code)
-goes-forward code place i next e =
-    let p = read-at code place i next e in
-    let fewer = less Two (drop place code) i p.rest p.read in
-    let cut = length-drop place code in
+pub goes-forward : (code : List ℕ) (offset : ℕ) (i : Instr) (next : ℕ)
+    → instr_at code offset ≡ Some (i, next) → (offset < next) × (next ≤ length code)
+goes-forward code offset i next e =
+    let p = read-at code offset i next e in
+    let fewer = less Two (drop offset code) i p.rest p.read in
+    let cut = length-drop offset code in
     let is = p.is in
     (omega arith, omega arith)
 
 -- the octets from a place on
-whole : (code : List ℕ) (place : ℕ) → take (length code - place) (drop place code) ≡ drop place code
-whole code place =
-    ap (λ (n : ℕ). take n (drop place code)) (sym (length-drop place code))
-    ∙ take-length (drop place code)
+whole : (code : List ℕ) (offset : ℕ) → take (length code - offset) (drop offset code) ≡ drop offset code
+whole code offset =
+    ap (λ (n : ℕ). take n (drop offset code)) (sym (length-drop offset code))
+    ∙ take-length (drop offset code)
 
-pub from-place : (code : List ℕ) (place : ℕ) (found : Option (Instr × ℕ))
+pub from-place : (code : List ℕ) (offset : ℕ) (found : Option (Instr × ℕ))
     → found ≡ with_next_offset (length code)
-    (instr_from Two (take (length code - place) (drop place code)))
-    → found ≡ instr_at code place
+    (instr_from Two (take (length code - offset) (drop offset code)))
+    → found ≡ instr_at code offset
 unfolding instr_at
-from-place code place found e =
-    e ∙ ap (λ (xs : List ℕ). with_next_offset (length code) (instr_from Two xs)) (whole code place)
+from-place code offset found e =
+    e ∙ ap (λ (xs : List ℕ). with_next_offset (length code) (instr_from Two xs)) (whole code offset)
 
-pub found-forward : (code : List ℕ) (place : ℕ) (found : Option (Instr × ℕ))
-    → found ≡ instr_at code place → IfSome found (λ r. (place < r.1) × (r.1 ≤ length code))
-found-forward code place None e = tt
-found-forward code place (Some r) e = goes-forward code place r.0 r.1 (sym e)
+pub found-forward : (code : List ℕ) (offset : ℕ) (found : Option (Instr × ℕ))
+    → found ≡ instr_at code offset → IfSome found (λ r. (offset < r.1) × (r.1 ≤ length code))
+found-forward code offset None e = tt
+found-forward code offset (Some r) e = goes-forward code offset r.0 r.1 (sym e)
 
-pub stands-or-none : (code : List ℕ) (place : ℕ) (i : Instr) (next : ℕ) → AreOctets code
-    → (instr_at code place ≡ Some (i, next)) ↔ HasInstructionAt code place i next
-stands-or-none code place i next fits = (stands code place i next fits, stood code place i next)
+pub stands-or-none : (code : List ℕ) (offset : ℕ) (i : Instr) (next : ℕ) → AreOctets code
+    → (instr_at code offset ≡ Some (i, next)) ↔ HasInstructionAt code offset i next
+stands-or-none code offset i next fits = (stands code offset i next fits, stood code offset i next)
 
 -- what version 1 reads version 2 reads
 pub newer-reads : (octets : List ℕ) (i : Instr) (rest : List ℕ) → AreOctets octets

@@ -3,7 +3,7 @@ use Rattle.std.specs.Prelude.{ℕ, ◌≡◌, ◌<◌, ◌≤◌, ◌-◌, ◌++
 use Rattle.il_image.specs.declared.instr.Instr.{Instr}
 use Rattle.il_image.specs.declared.opcode.Version.{Version}
 use Rattle.il_image.specs.declared.value.Value.{Value}
-use Rattle.il_image.specs.Decoding.{image_spelled, variable_at}
+use Rattle.il_image.specs.Decoding.{decoded_image, variable_at}
 use Rattle.il_image.specs.Images.{Image, count_and_items, each_spelled, image_octets, mark, point_octets, timer_octets, variable_octets, version_octet}
 use Rattle.il_image.specs.Octets.{AreOctets, number_octets, most_counted}
 use Rattle.il_image.specs.Reading.{instr_from}
@@ -13,7 +13,7 @@ use Rattle.il_image.specs.Spelling.{spelling}
 
 -- The version can encode the image: its encoding decodes to the image.
 abbrev pub IsImageOf : Version → Image → Type 0
-IsImageOf version image = image_spelled (image_octets version image) ≡ Ok image
+IsImageOf version image = decoded_image (image_octets version image) ≡ Ok image
 
 -- The version can encode the initial value.
 abbrev pub IsValueOf : Version → Value → Type 0
@@ -29,18 +29,18 @@ pub record IsShortOf (octets spelled : List ℕ) : Type 0 where
   pub fewer : length octets < length spelled
 
 -- More octets complete these to an image.
-pub record CanEnd (octets : List ℕ) : Type 0 where
+pub record IsImagePrefix (octets : List ℕ) : Type 0 where
   pub more : List ℕ
   pub image : Image
   pub fits : AreOctets more
-  pub ends : image_spelled (octets ++ more) ≡ Ok image
+  pub ends : decoded_image (octets ++ more) ≡ Ok image
 
 -- The octets are those of an image, followed by at least one more.
-pub record HasOthers (octets : List ℕ) : Type 0 where
+pub record HasTrailing (octets : List ℕ) : Type 0 where
   pub front : List ℕ
   pub others : List ℕ
   pub image : Image
-  pub reads : image_spelled front ≡ Ok image
+  pub reads : decoded_image front ≡ Ok image
   pub some : 0 < length others
   pub parts : octets ≡ front ++ others
 
@@ -91,4 +91,4 @@ pub record EndsInInstr (octets : List ℕ) : Type 0 where
 -- by others; or they end in an initial value, or their code in an instruction, that can't be
 -- completed.
 abbrev pub IsRightSoFar : List ℕ → Type 0
-IsRightSoFar octets = CanEnd octets ⊎ (HasOthers octets ⊎ (EndsInValue octets ⊎ EndsInInstr octets))
+IsRightSoFar octets = IsImagePrefix octets ⊎ (HasTrailing octets ⊎ (EndsInValue octets ⊎ EndsInInstr octets))

@@ -132,15 +132,15 @@ code_fault version (suc most) (octet ∷ octets) =
     fault_or_later (instr_from version (octet ∷ octets)) (λ rest. code_fault version most rest)
 
 -- the fault, if there is one, or else the result
-abbrev pub unless : {A : Type 0} → Option ImageFault → Result A ImageFault → Result A ImageFault
-unless None r = r
-unless (Some fault) r = Err fault
+abbrev pub fault_or : {A : Type 0} → Option ImageFault → Result A ImageFault → Result A ImageFault
+fault_or None r = r
+fault_or (Some fault) r = Err fault
 
 -- code of this length, with no octets after it; a fault in the code is reported before a wrong
 -- length
 abbrev pub code_of_length : Version → ℕ → List ℕ → Result (List ℕ) ImageFault
 code_of_length version n octets =
-    unless (code_fault version (length (take n octets)) (take n octets))
+    fault_or (code_fault version (length (take n octets)) (take n octets))
     (if length octets == n then Ok octets else Err Truncated)
 
 -- the octets of the code after their number, with no octets after them
@@ -150,8 +150,8 @@ code_at version octets = do
   code_of_length version n.0 n.1
 
 -- the image that octets spell, or their first fault from the left
-unfoldable pub image_spelled : List ℕ → Result Image ImageFault
-image_spelled octets = do
+unfoldable pub decoded_image : List ℕ → Result Image ImageFault
+decoded_image octets = do
   rest ← octets_after_prefix mark octets
   version ← version_at rest
   points ← counted_at (point_at version.0) version.1
@@ -162,7 +162,7 @@ image_spelled octets = do
 
 -- The octets begin with the mark, a version and the number of points. Decoding runs out of memory
 -- only after it has read these.
-pub record TakesMemory (octets : List ℕ) : Type 0 where
+pub record Allocates (octets : List ℕ) : Type 0 where
   pub version : Version
   pub rest : List ℕ
   pub begins : (octets_after_prefix mark octets >>= version_at) ≡ Ok (version, rest)
@@ -175,5 +175,5 @@ pub record TakesMemory (octets : List ℕ) : Type 0 where
 pub record IsFirstBad (octets : List ℕ) : Type 0 where
   pub bad : ℕ
   pub within : bad < length octets
-  pub before : image_spelled (take bad octets) ≡ Err Truncated
-  pub here : (more : List ℕ) → image_spelled (take (suc bad) octets ++ more) ≡ Err BadOpcode
+  pub before : decoded_image (take bad octets) ≡ Err Truncated
+  pub here : (more : List ℕ) → decoded_image (take (suc bad) octets ++ more) ≡ Err BadOpcode

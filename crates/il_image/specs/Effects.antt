@@ -32,12 +32,12 @@ below wanted [] = None
 below wanted (top ∷ rest) = if is_within top wanted then Some rest else None
 
 -- the kinds unchanged, if the top is within the wanted kind
-abbrev pub looks_at : CellKind → List CellKind → Option (List CellKind)
-looks_at wanted kinds = below wanted kinds >>= (λ rest. Some kinds)
+abbrev pub peek_kind : CellKind → List CellKind → Option (List CellKind)
+peek_kind wanted kinds = below wanted kinds >>= (λ rest. Some kinds)
 
 -- replaces two cells within the wanted kinds, the top first, by one of the kind `gives`
-abbrev pub two : CellKind → CellKind → CellKind → List CellKind → Option (List CellKind)
-two top second gives kinds =
+abbrev pub replace_two : CellKind → CellKind → CellKind → List CellKind → Option (List CellKind)
+replace_two top second gives kinds =
     below top kinds >>= (λ more. below second more >>= (λ rest. Some (gives ∷ rest)))
 
 -- the kind of a number of a width: nonzero, or only its type
@@ -87,7 +87,7 @@ widens from to (top ∷ rest) =
 abbrev pub with_truth : List ElementaryType → ℕ → List CellKind → Option (List CellKind)
 with_truth slots n kinds =
     slice_get slots n >>= (λ t. if same_type t elementary.Bool
-    then looks_at (Plain elementary.Bool) kinds else None)
+    then peek_kind (Plain elementary.Bool) kinds else None)
 
 -- the kinds, if there is a timer with this number
 abbrev pub with_timer : ℕ → ℕ → Option (List CellKind) → Option (List CellKind)
@@ -101,21 +101,21 @@ kinds_after slots timers (Push v) kinds = Some (kind_of v ∷ kinds)
 kinds_after slots timers Drop kinds = below Any kinds
 kinds_after slots timers (Slot Load n) kinds = slice_get slots n >>= (λ t. Some (Plain t ∷ kinds))
 kinds_after slots timers (Slot Store n) kinds =
-    slice_get slots n >>= (λ t. looks_at (Plain t) kinds)
+    slice_get slots n >>= (λ t. peek_kind (Plain t) kinds)
 kinds_after slots timers (Slot SetIf n) kinds = with_truth slots n kinds
 kinds_after slots timers (Slot ResetIf n) kinds = with_truth slots n kinds
 kinds_after slots timers Not kinds =
     below (Plain elementary.Bool) kinds >>= (λ rest. Some (Plain elementary.Bool ∷ rest))
 kinds_after slots timers (Combine c) kinds =
-    two (Plain elementary.Bool) (Plain elementary.Bool) (Plain elementary.Bool) kinds
+    replace_two (Plain elementary.Bool) (Plain elementary.Bool) (Plain elementary.Bool) kinds
 kinds_after slots timers (Compute o w) kinds =
-    two (second_kind o w) (Plain (type_of_width w)) (Plain (type_of_width w)) kinds
+    replace_two (second_kind o w) (Plain (type_of_width w)) (Plain (type_of_width w)) kinds
 kinds_after slots timers (Compare c) kinds = compares c kinds
 kinds_after slots timers (Widen IntToDint) kinds = widens width.Int width.Dint kinds
 kinds_after slots timers (Widen DintToLint) kinds = widens width.Dint width.Lint kinds
 kinds_after slots timers (Jump Always distance) kinds = Some kinds
-kinds_after slots timers (Jump IfTrue distance) kinds = looks_at (Plain elementary.Bool) kinds
-kinds_after slots timers (Jump IfFalse distance) kinds = looks_at (Plain elementary.Bool) kinds
+kinds_after slots timers (Jump IfTrue distance) kinds = peek_kind (Plain elementary.Bool) kinds
+kinds_after slots timers (Jump IfFalse distance) kinds = peek_kind (Plain elementary.Bool) kinds
 kinds_after slots timers (Timer SetInput n) kinds =
     with_timer timers n (below (Plain elementary.Bool) kinds)
 kinds_after slots timers (Timer SetPreset n) kinds =

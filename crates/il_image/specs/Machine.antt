@@ -21,7 +21,7 @@ use Rattle.il_image.specs.declared.value.Value.TheVariants.{Truth, Short, Long, 
 use Rattle.bay_base.specs.declared.types.ElementaryType.TheVariants as elementary
 use Rattle.bay_base.specs.Types.{same_type}
 use Rattle.il_image.specs.Arithmetic.{comparison_holds, computation_of, logic_of, wider_value}
-use Rattle.il_image.specs.Offsets.{begun_at}
+use Rattle.il_image.specs.Offsets.{aligned_instr}
 use Rattle.il_image.specs.Timers.{after_call}
 use Rattle.il_image.specs.Values.{number_of, type_of}
 
@@ -30,7 +30,7 @@ use Rattle.il_image.specs.Values.{number_of, type_of}
 -- the offset of the next instruction in the code, the cells of the operand stack with the top
 -- first, the slots, and the timers
 pub record State : Type 0 where
-  pub place : ℕ
+  pub offset : ℕ
   pub cells : List Value
   pub slots : List Value
   pub timers : List TimerState
@@ -47,7 +47,7 @@ pub data Trap : Type 0 where
 
 -- the result of one step: the next state, the end of the run, or a trap
 pub data StepResult : Type 0 where
-  Goes : State → StepResult
+  Continues : State → StepResult
   Halts : StepResult
   Traps : Trap → StepResult
 
@@ -72,7 +72,7 @@ most_timers = 64
 
 -- continues at an offset, with these cells
 abbrev pub continues_at : ℕ → List Value → State → StepResult
-continues_at to cells s = Goes (record s { place = to; cells = cells })
+continues_at to cells s = Continues (record s { offset = to; cells = cells })
 
 -- pushes a cell, if there is room
 abbrev pub pushes : Value → ℕ → State → StepResult
@@ -129,12 +129,12 @@ with_numbers w s act =
 
 -- writes a slot and continues at an offset
 abbrev pub stores : ℕ → Value → ℕ → State → StepResult
-stores n v to s = Goes (record s { place = to; slots = slice_set s.slots n v })
+stores n v to s = Continues (record s { offset = to; slots = slice_set s.slots n v })
 
 -- writes a timer and the cells, and continues at an offset
 abbrev pub changes : ℕ → TimerState → ℕ → List Value → State → StepResult
 changes n t to cells s =
-    Goes (record s { place = to; cells = cells; timers = slice_set s.timers n t })
+    Continues (record s { offset = to; cells = cells; timers = slice_set s.timers n t })
 
 -- a number as a value of the width
 abbrev pub value_of_width : Width → ℤ → Value
@@ -280,7 +280,7 @@ step_of_read now (Some read) s = act now read.0 read.1 s
 
 -- the step from a state, at whose offset an instruction must begin
 abbrev pub step_at : List ℕ → ℕ → State → StepResult
-step_at code now s = step_of_read now (begun_at code s.place) s
+step_at code now s = step_of_read now (aligned_instr code s.offset) s
 
 -- how a run ends: at HALT, with the slots, the timers and the number of steps including HALT's; in
 -- a trap; or not within the limit of steps
@@ -291,7 +291,7 @@ pub data Ending : Type 0 where
 
 -- how a run ends, given its next step and how the rest ends
 abbrev pub ending_of : StepResult → State → ℕ → (State → Ending) → Ending
-ending_of (Goes after) s steps rest = rest after
+ending_of (Continues after) s steps rest = rest after
 ending_of Halts s steps rest = Halted s.slots s.timers steps
 ending_of (Traps trap) s steps rest = Trapped trap
 
@@ -303,4 +303,4 @@ run_from code now (suc most) s steps =
 
 -- the state in which a run begins: offset 0, and an empty operand stack
 abbrev pub initial_state : List Value → List TimerState → State
-initial_state slots timers = record { place = 0; cells = []; slots = slots; timers = timers }
+initial_state slots timers = record { offset = 0; cells = []; slots = slots; timers = timers }

@@ -107,11 +107,11 @@ with_next_offset size (Err e) = None
 
 -- the instruction at an offset in the code, and the offset after it
 unfoldable pub instr_at : List ℕ → ℕ → Option (Instr × ℕ)
-instr_at code place = with_next_offset (length code) (instr_from Two (drop place code))
+instr_at code offset = with_next_offset (length code) (instr_from Two (drop offset code))
 
 -- The code has the instruction at this offset, and the offset after it is `next`.
-pub record HasInstructionAt (code : List ℕ) (place : ℕ) (i : Instr) (next : ℕ) : Type 0 where
+pub record HasInstructionAt (code : List ℕ) (offset : ℕ) (i : Instr) (next : ℕ) : Type 0 where
   pub is_instr : IsInstr i
-  pub spelled : drop place code ≡ spelling i ++ drop next code
-  pub size : next ≡ place + length (spelling i)
+  pub spelled : drop offset code ≡ spelling i ++ drop next code
+  pub size : next ≡ offset + length (spelling i)
   pub within : next ≤ length code

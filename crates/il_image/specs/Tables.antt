@@ -9,7 +9,7 @@ use Rattle.il_image.specs.declared.opcode.When.TheVariants.{Always, IfTrue, IfFa
 use Rattle.il_image.specs.Effects.{kinds_after}
 use Rattle.il_image.specs.Images.{Image}
 use Rattle.il_image.specs.Kinds.{AreWithin}
-pub use Rattle.il_image.specs.Offsets.{offset_after, offset_of, IsPlace}
+pub use Rattle.il_image.specs.Offsets.{offset_after, offset_of, InstrBegins}
 use Rattle.il_image.specs.Reading.{instr_at}
 use Rattle.il_image.specs.Values.{type_of}
 use Rattle.il_image.specs.Machine.{most_cells}
@@ -39,10 +39,10 @@ LeadsTo (Widen w) next to = to ≡ next
 LeadsTo (Timer timer_use n) next to = to ≡ next
 
 -- The instruction at the first offset can continue at the other.
-pub record IsSuccessor (code : List ℕ) (place to : ℕ) : Type 0 where
+pub record IsSuccessor (code : List ℕ) (offset to : ℕ) : Type 0 where
   pub instr : Instr
   pub next : ℕ
-  pub here : instr_at code place ≡ Some (instr, next)
+  pub here : instr_at code offset ≡ Some (instr, next)
   pub leads : LeadsTo instr next to
 
 -- ---- own: tables of kinds
@@ -52,32 +52,32 @@ abbrev pub Table : Type 0
 Table = ℕ → Option (List CellKind)
 
 -- The table has kinds at the offset, and the kinds of the list are within them, one by one.
-abbrev pub Enters : Table → ℕ → List CellKind → Type 0
-Enters table place kinds = (most : List CellKind) × (table place ≡ Some most) × AreWithin kinds most
+abbrev pub FitsTable : Table → ℕ → List CellKind → Type 0
+FitsTable table offset kinds = (most : List CellKind) × (table offset ≡ Some most) × AreWithin kinds most
 
 -- The instruction at the offset is allowed on these kinds, and the kinds after it enter each of its
 -- successors.
-pub record IsAllowed (image : Image) (table : Table) (place : ℕ) (kinds : List CellKind)
+pub record IsAllowed (image : Image) (table : Table) (offset : ℕ) (kinds : List CellKind)
     : Type 0 where
   pub instr : Instr
   pub next : ℕ
   pub after : List CellKind
-  pub here : instr_at image.code place ≡ Some (instr, next)
+  pub here : instr_at image.code offset ≡ Some (instr, next)
   pub effect : kinds_after (slot_types image) (length image.timers) instr kinds ≡ Some after
-  pub enters : (to : ℕ) → LeadsTo instr next to → Enters table to after
+  pub enters : (to : ℕ) → LeadsTo instr next to → FitsTable table to after
 
 -- The table agrees with the code: it has kinds exactly at the offsets of instructions, no kinds on
 -- the stack before the first, and never more than the stack has cells; each instruction is allowed
 -- on its kinds; and each instruction but the first is a successor of one.
 pub record Agrees (image : Image) (table : Table) : Type 0 where
   pub starts : table 0 ≡ Some []
-  pub places : (place : ℕ) → IsSome (table place) ↔ IsPlace image.code place
-  pub allowed : (place : ℕ) (kinds : List CellKind) → table place ≡ Some kinds
-      → IsAllowed image table place kinds
-  pub room : (place : ℕ) (kinds : List CellKind) → table place ≡ Some kinds
+  pub places : (offset : ℕ) → IsSome (table offset) ↔ InstrBegins image.code offset
+  pub allowed : (offset : ℕ) (kinds : List CellKind) → table offset ≡ Some kinds
+      → IsAllowed image table offset kinds
+  pub room : (offset : ℕ) (kinds : List CellKind) → table offset ≡ Some kinds
       → length kinds ≤ most_cells
-  pub reached : (place : ℕ) → IsPlace image.code place → place ≢ 0
-      → (from : ℕ) × IsPlace image.code from × IsSuccessor image.code from place
+  pub reached : (offset : ℕ) → InstrBegins image.code offset → offset ≢ 0
+      → (from : ℕ) × InstrBegins image.code from × IsSuccessor image.code from offset
 
 -- Some table agrees with the image's code.
 abbrev pub HasTable : Image → Type 0
@@ -87,14 +87,14 @@ HasTable image = (table : Table) × Agrees image table
 
 -- a path of n offsets, from offset 0 to this one, each a successor of the one before
 abbrev pub Path : List ℕ → ℕ → ℕ → Type 0
-Path code zero place = ⊥
-Path code (suc zero) place = place ≡ 0
-Path code (suc (suc n)) place = (from : ℕ) × Path code (suc n) from × IsSuccessor code from place
+Path code zero offset = ⊥
+Path code (suc zero) offset = offset ≡ 0
+Path code (suc (suc n)) offset = (from : ℕ) × Path code (suc n) from × IsSuccessor code from offset
 
 -- The instruction at the offset is HALT.
 abbrev pub IsHalt : List ℕ → ℕ → Type 0
-IsHalt code place = (next : ℕ) × (instr_at code place ≡ Some (Halt, next))
+IsHalt code offset = (next : ℕ) × (instr_at code offset ≡ Some (Halt, next))
 
 -- a path of n offsets that ends at a HALT
-abbrev pub Ends : List ℕ → ℕ → Type 0
-Ends code n = (place : ℕ) × Path code n place × IsHalt code place
+abbrev pub HaltPath : List ℕ → ℕ → Type 0
+HaltPath code n = (offset : ℕ) × Path code n offset × IsHalt code offset

@@ -3,7 +3,7 @@ ghost use Rattle.std.specs.Prelude.{◌≡◌, ◌≤◌, ◌^◌, ◌<◌, leng
 ghost use Rattle.std.specs.List.{list_all};
 ghost use Rattle.bay_base.specs.Exact.{Gives};
 ghost use Rattle.bay_base.specs.Results.{IsRead};
-ghost use Rattle.il_image.specs.Decoding.{TakesMemory, access_of, octets_after_prefix, code_fault, counted_at, image_spelled, kind_of_octet};
+ghost use Rattle.il_image.specs.Decoding.{Allocates, access_of, octets_after_prefix, code_fault, counted_at, decoded_image, kind_of_octet};
 ghost use Rattle.il_image.specs.Decoding as spec;
 ghost use Rattle.il_image.specs.Images.{mark};
 ghost use Rattle.il_image.specs.Images as spec_images;
@@ -280,10 +280,10 @@ fn code_at(alloc: Global, version: Version, octets: &[u8]) -> Result<Listing<u8>
 /// octets begin with the mark, a version and the number of points. The memory used is a few times
 /// the number of octets, plus one octet for each timer of version 1, of which there are at most
 /// 65,535.
-#[tactic(auto, unfolding(crate::specs::Decoding::image_spelled))]
+#[tactic(auto, unfolding(crate::specs::Decoding::decoded_image))]
 pub fn decode(alloc: Global, octets: &[u8]) -> Result<Image, ImageFault>
-    ensures image { Gives ImageFault.OutOfMemory (λ i. i) result (image_spelled octets.now) }
-    ensures memory { IsErrOf result ImageFault.OutOfMemory → TakesMemory octets.now }
+    ensures image { Gives ImageFault.OutOfMemory (λ i. i) result (decoded_image octets.now) }
+    ensures memory { IsErrOf result ImageFault.OutOfMemory → Allocates octets.now }
 {
     let rest = octets_after_mark(octets)?;
     let (version, rest) = version_at(rest)?;

@@ -1,11 +1,11 @@
 // Laws of the definitions. Each function does nothing, and its contract is the law.
 ghost use Rattle.std.specs.Prelude.{◌≡◌, ◌∷◌, ◌++◌, ◌⊎◌, ◌↔◌, ◌<◌, Err, IsTrue, length, List, Ok, Some, slice_index, take, true, ℕ};
 ghost use Rattle.il_image.specs.Cuts.{IsRightSoFar};
-ghost use Rattle.il_image.specs.Decoding.{IsFirstBad, image_spelled};
+ghost use Rattle.il_image.specs.Decoding.{IsFirstBad, decoded_image};
 ghost use Rattle.il_image.specs.Images.{Image, IsImage, image_octets, mark};
 ghost use Rattle.il_image.specs.Kinds.{HasKind, is_within, join};
 ghost use Rattle.il_image.specs.Octets.{AreOctets};
-ghost use Rattle.il_image.specs.Offsets.{IsPlace, is_instruction_offset};
+ghost use Rattle.il_image.specs.Offsets.{InstrBegins, is_instruction_offset};
 ghost use Rattle.il_image.specs.Reading.{HasInstructionAt, instr_at, instr_from};
 ghost use Rattle.il_image.specs.Spelling.{IsInstr, spelling};
 ghost use Rattle.il_image.specs.declared.fault.ImageFault.TheVariants.{BadMagic, BadOpcode, BadVersion, Truncated};
@@ -45,26 +45,26 @@ pub fn one_spelling_of_instructions()
         instr_from version octets ≡ Ok (i, rest) → IsInstr i × (octets ≡ spelling i ++ rest) }
     ensures newer { (octets : List ℕ) (i : Instr) (rest : List ℕ) → AreOctets octets
         → instr_from One octets ≡ Ok (i, rest) → instr_from Two octets ≡ Ok (i, rest) }
-    ensures places { (code : List ℕ) (place : ℕ) (i : Instr) (next : ℕ) → AreOctets code
-        → (instr_at code place ≡ Some (i, next)) ↔ HasInstructionAt code place i next }
+    ensures places { (code : List ℕ) (offset : ℕ) (i : Instr) (next : ℕ) → AreOctets code
+        → (instr_at code offset ≡ Some (i, next)) ↔ HasInstructionAt code offset i next }
 {}
 
 /// `is_instruction_offset` accepts an offset exactly if one of the code's instructions begins
 /// there. The instructions follow one another without gaps.
 pub fn offsets_are_of_instructions()
-    ensures { (code : List ℕ) (place : ℕ) → IsTrue (is_instruction_offset code place)
-        ↔ IsPlace code place }
+    ensures { (code : List ℕ) (offset : ℕ) → IsTrue (is_instruction_offset code offset)
+        ↔ InstrBegins code offset }
 {}
 
 /// Encoding an image in version 2 and decoding it yields the same image. A decoded image is one
 /// that the format can represent, and the octets are its encoding in one of the format's versions.
 /// Octets with the same fifth octet, the version, that decode to the same image are equal.
 pub fn one_spelling_of_images()
-    ensures written { (i : Image) → IsImage i → image_spelled (image_octets Two i) ≡ Ok i }
-    ensures read { (octets : List ℕ) (i : Image) → AreOctets octets → image_spelled octets ≡ Ok i
+    ensures written { (i : Image) → IsImage i → decoded_image (image_octets Two i) ≡ Ok i }
+    ensures read { (octets : List ℕ) (i : Image) → AreOctets octets → decoded_image octets ≡ Ok i
         → IsImage i × ((version : Version) × (octets ≡ image_octets version i)) }
     ensures one { (octets others : List ℕ) (i : Image) → AreOctets octets → AreOctets others →
-        image_spelled octets ≡ Ok i → image_spelled others ≡ Ok i
+        decoded_image octets ≡ Ok i → decoded_image others ≡ Ok i
         → slice_index octets 4 ≡ slice_index others 4
         → octets ≡ others }
 {}
@@ -87,21 +87,21 @@ pub fn join_is_least()
 /// from the mark, and a version other than 1 or 2 after the mark.
 pub fn first_octets_decide()
     ensures mark { (octets : List ℕ) (k : ℕ) → k < 4 → k < length octets
-        → (slice_index octets k ≡ slice_index mark k → ⊥) → image_spelled octets ≡ Err BadMagic }
+        → (slice_index octets k ≡ slice_index mark k → ⊥) → decoded_image octets ≡ Err BadMagic }
     ensures version { (octet : ℕ) (rest : List ℕ) → (octet ≡ 1 → ⊥) → (octet ≡ 2 → ⊥)
-        → image_spelled (mark ++ octet ∷ rest) ≡ Err BadVersion }
+        → decoded_image (mark ++ octet ∷ rest) ≡ Err BadVersion }
 {}
 
 /// An image ends where its octets end: with more octets appended, or with some of the last ones
 /// removed, the octets are `Truncated`. Octets that are a `BadOpcode` have a first bad octet: the
 /// octets before it are `Truncated`, and those up to it are a `BadOpcode`, whatever follows.
 pub fn images_end()
-    ensures behind { (octets more : List ℕ) (i : Image) → image_spelled octets ≡ Ok i
+    ensures behind { (octets more : List ℕ) (i : Image) → decoded_image octets ≡ Ok i
         → 0 < length more
-        → image_spelled (octets ++ more) ≡ Err Truncated }
-    ensures front { (octets : List ℕ) (i : Image) (n : ℕ) → image_spelled octets ≡ Ok i
-        → n < length octets → image_spelled (take n octets) ≡ Err Truncated }
-    ensures first { (octets : List ℕ) → image_spelled octets ≡ Err BadOpcode → IsFirstBad octets }
+        → decoded_image (octets ++ more) ≡ Err Truncated }
+    ensures front { (octets : List ℕ) (i : Image) (n : ℕ) → decoded_image octets ≡ Ok i
+        → n < length octets → decoded_image (take n octets) ≡ Err Truncated }
+    ensures first { (octets : List ℕ) → decoded_image octets ≡ Err BadOpcode → IsFirstBad octets }
 {}
 
 /// Octets that are `Truncated` are right so far. Either more octets complete them to an image; or
@@ -109,6 +109,6 @@ pub fn images_end()
 /// ends within an instruction, but no value, or no instruction that fits the code's length, begins
 /// so.
 pub fn cut_short_is_right_so_far()
-    ensures { (octets : List ℕ) → AreOctets octets → image_spelled octets ≡ Err Truncated
+    ensures { (octets : List ℕ) → AreOctets octets → decoded_image octets ≡ Err Truncated
         → IsRightSoFar octets }
 {}

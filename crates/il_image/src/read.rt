@@ -128,7 +128,7 @@ pub(crate) fn instr_from(version: Version, octets: &[u8]) -> Result<(Instr, &[u8
 
 // Returns the instruction at the start of octets, which are the last of code of length `size`, and
 // the offset after it, or `None` if the octets spell none.
-fn first_of(size: usize, octets: &[u8]) -> Option<(Instr, usize)>
+fn first_instr(size: usize, octets: &[u8]) -> Option<(Instr, usize)>
     requires { length octets.now ≤ size }
     ensures { result ≡ with_next_offset size (spec.instr_from Version.Two octets.now) }
 {
@@ -147,5 +147,5 @@ pub fn instr_at(code: &[u8], offset: usize) -> Option<(Instr, usize)>
     if offset >= code.len() {
         return None;
     }
-    first_of(code.len(), &code[offset..])
+    first_instr(code.len(), &code[offset..])
 }

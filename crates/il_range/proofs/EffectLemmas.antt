@@ -21,7 +21,7 @@ use Rattle.il_image.specs.declared.opcode.TimerUse.{TimerUse}
 use Rattle.bay_base.specs.Types.{same_type}
 use Rattle.il_image.specs.Arithmetic.{comparison_holds, computation_of, logic_of}
 use Rattle.il_image.specs.Values.{number_of, type_of}
-use Rattle.il_image.specs.Machine.{State, Trap, StepResult, Goes, Halts, Traps, FullStack, WrongKind, MissingSlot, MissingTimer, ZeroDivisor, act, as_number, as_truth, changes, divides, is_comparable, pushes, stores, value_of_width, with_slot, most_cells}
+use Rattle.il_image.specs.Machine.{State, Trap, StepResult, Continues, Halts, Traps, FullStack, WrongKind, MissingSlot, MissingTimer, ZeroDivisor, act, as_number, as_truth, changes, divides, is_comparable, pushes, stores, value_of_width, with_slot, most_cells}
 use Rattle.il_image.specs.Machine as machine
 use Rattle.std.specs.Prelude.{ℤ, pos}
 use Rattle.il_image.specs.Timers.{after_call}
@@ -31,31 +31,31 @@ use Rattle.il_range.specs.declared.range.Range.{Range}
 use Rattle.il_range.specs.declared.range.Range.TheVariants.{Any, No, Yes, Either, Between, Among}
 use Rattle.il_range.specs.declared.known.Known.{Known}
 use Rattle.il_range.specs.Ranges.{AreIn, AreTimersIn, IsIn, IsTimerIn, Setting}
-use Rattle.il_range.specs.Effects.{Plain, and_ranges, compare_ranges, compute_range, connect_ranges, known_after, or_ranges, value_range, not_range, timer_after_call, slot_of, timer_of, with_cells, with_input, with_preset, with_timer}
-use Rattle.il_range.specs.Pending.{Arrives, Covers, CoversAt, Held, Lands, Moves, held_by}
+use Rattle.il_range.specs.Effects.{KnownData, and_ranges, compare_ranges, compute_range, connect_ranges, known_after, or_ranges, value_range, not_range, timer_after_call, slot_of, timer_of, with_cells, with_input, with_preset, with_timer}
+use Rattle.il_range.specs.Pending.{JoinsKnown, Covers, CoversAt, RunState, IsCoveredStep, CoversSteps, run_state}
 use Rattle.il_range.proofs.RangeLemmas.{in-exactly, of-both, of-compared, of-connected, of-either, of-negated}
 use Rattle.il_range.proofs.NumberLemmas.{of-computed}
 use Rattle.il_range.proofs.ListLemmas.{are-get, are-set, each-get, each-set}
 
 -- the step goes to the next place, with what is covered there; or it traps
-abbrev NextIs : Setting → StepResult → ℕ → ℕ → Plain → Type 0
-NextIs ps (Goes s) now next p = (s.place ≡ next) × Covers p (held_by now ps s)
+abbrev NextIs : Setting → StepResult → ℕ → ℕ → KnownData → Type 0
+NextIs ps (Continues s) now next p = (s.offset ≡ next) × Covers p (run_state now ps s)
 NextIs ps Halts now next p = ⊥
 NextIs ps (Traps trap) now next p = Unit {0}
 
-next-if : (ps : Setting) (b : Bool) (t : StepResult) (trap : Trap) (now next : ℕ) (p : Plain)
+next-if : (ps : Setting) (b : Bool) (t : StepResult) (trap : Trap) (now next : ℕ) (p : KnownData)
     → NextIs ps t now next p
     → NextIs ps (cond b t (Traps trap)) now next p
 next-if ps true t trap now next p h = h
 next-if ps false t trap now next p h = tt
 
-next-unless : (ps : Setting) (b : Bool) (t : StepResult) (trap : Trap) (now next : ℕ) (p : Plain)
+next-unless : (ps : Setting) (b : Bool) (t : StepResult) (trap : Trap) (now next : ℕ) (p : KnownData)
     → NextIs ps t now next p
     → NextIs ps (cond b (Traps trap) t) now next p
 next-unless ps true t trap now next p h = tt
 next-unless ps false t trap now next p h = h
 
-next-slot : (ps : Setting) (n : ℕ) (s : State) (f : Value → StepResult) (now next : ℕ) (p : Plain)
+next-slot : (ps : Setting) (n : ℕ) (s : State) (f : Value → StepResult) (now next : ℕ) (p : KnownData)
     → ((v : Value) → slice_get s.slots n ≡ Some v → NextIs ps (f v) now next p)
     → NextIs ps (with_slot n s f) now next p
 next-slot ps n s f now next p h = go (slice_get s.slots n) refl
@@ -66,7 +66,7 @@ next-slot ps n s f now next p h = go (slice_get s.slots n) refl
     go (Some v) e = h v e
 
 next-timer : (ps : Setting) (n : ℕ) (s : State) (f : TimerState → StepResult) (now next : ℕ)
-    (p : Plain)
+    (p : KnownData)
     → ((t : TimerState) → slice_get s.timers n ≡ Some t → NextIs ps (f t) now next p)
     → NextIs ps (machine.with_timer n s f) now next p
 next-timer ps n s f now next p h = go (slice_get s.timers n) refl
@@ -77,12 +77,12 @@ next-timer ps n s f now next p h = go (slice_get s.timers n) refl
     go (Some t) e = h t e
 
 -- the range of a slot, and what its effect gives
-record Has (n : ℕ) (us : List Range) (f : Range → Option Plain) (p : Plain) : Type 0 where
+record Has (n : ℕ) (us : List Range) (f : Range → Option KnownData) (p : KnownData) : Type 0 where
   range : Range
   at : slice_get us n ≡ Some range
   gives : f range ≡ Some p
 
-has : (n : ℕ) (us : List Range) (f : Range → Option Plain) (p : Plain)
+has : (n : ℕ) (us : List Range) (f : Range → Option KnownData) (p : KnownData)
     → slot_of n us f ≡ Some p → Has n us f p
 has n us f p e = go (slice_get us n) refl e
   where
@@ -91,17 +91,17 @@ has n us f p e = go (slice_get us n) refl e
     go (Some r) at e = record { range = r; at = at; gives = e }
 
 abbrev state_of : ℕ → List Value → List Value → List TimerState → State
-state_of place cells slots timers =
-    record { place = place; cells = cells; slots = slots; timers = timers }
+state_of offset cells slots timers =
+    record { offset = offset; cells = cells; slots = slots; timers = timers }
 
 -- the known of a timer, and what its effect gives
-record HasTimer (n : ℕ) (us : List KnownTimer) (f : KnownTimer → Option Plain) (p : Plain)
+record HasTimer (n : ℕ) (us : List KnownTimer) (f : KnownTimer → Option KnownData) (p : KnownData)
     : Type 0 where
   known : KnownTimer
   at : slice_get us n ≡ Some known
   gives : f known ≡ Some p
 
-has-timer : (n : ℕ) (us : List KnownTimer) (f : KnownTimer → Option Plain) (p : Plain)
+has-timer : (n : ℕ) (us : List KnownTimer) (f : KnownTimer → Option KnownData) (p : KnownData)
     → timer_of n us f ≡ Some p → HasTimer n us f p
 has-timer n us f p e = go (slice_get us n) refl e
   where
@@ -110,9 +110,9 @@ has-timer n us f p e = go (slice_get us n) refl e
     go None at e = absurd (cc)
     go (Some r) at e = record { known = r; at = at; gives = e }
 
-module _ (ps : Setting) (now next place : ℕ) (timers : List TimerState) (ts : List KnownTimer)
-    (fits : AreTimersIn ps now timers ts) (p : Plain) where
-  abbrev plain_of : List Range → List Range → Plain
+module _ (ps : Setting) (now next offset : ℕ) (timers : List TimerState) (ts : List KnownTimer)
+    (fits : AreTimersIn ps now timers ts) (p : KnownData) where
+  abbrev plain_of : List Range → List Range → KnownData
   plain_of rs us = record { cells = rs; slots = us; timers = ts }
 
   -- the state is covered with these cells, slots and timers
@@ -123,11 +123,11 @@ module _ (ps : Setting) (now next place : ℕ) (timers : List TimerState) (ts : 
   abbrev Done : List Value → List Value → Type 0
   Done cells slots = DoneWith cells slots timers
 
-  covers-with : (q : Plain) (cells slots : List Value) (after : List TimerState) → Some q ≡ Some p
+  covers-with : (q : KnownData) (cells slots : List Value) (after : List TimerState) → Some q ≡ Some p
       → AreIn ps cells q.cells → AreIn ps slots q.slots → AreTimersIn ps now after q.timers
       → DoneWith cells slots after
   covers-with q cells slots after e h k t =
-      subst (λ (r : Plain). Covers r
+      subst (λ (r : KnownData). Covers r
       (record { now = now; setting = ps; cells = cells; slots = slots; timers = after }))
       (same_Some q p e) (record { cells = h; slots = k; timers = t })
 
@@ -150,7 +150,7 @@ module _ (ps : Setting) (now next place : ℕ) (timers : List TimerState) (ts : 
 
   -- what the step of an instruction comes to
   abbrev Comes : Instr → List Value → List Value → Type 0
-  Comes i cells slots = NextIs ps (act now i next (state_of place cells slots timers)) now next p
+  Comes i cells slots = NextIs ps (act now i next (state_of offset cells slots timers)) now next p
 
   comes-load : (n : ℕ) (rs us : List Range) → known_after (Slot Load n) (plain_of rs us) ≡ Some p
       → (cells slots : List Value) → AreIn ps cells rs → AreIn ps slots us
@@ -158,7 +158,7 @@ module _ (ps : Setting) (now next place : ℕ) (timers : List TimerState) (ts : 
   unfolding act
   comes-load n rs us e cells slots h k =
       let g = has n us (λ r. with_cells (r ∷ rs) (plain_of rs us)) p e in
-      next-slot ps n (state_of place cells slots timers) _ now next p
+      next-slot ps n (state_of offset cells slots timers) _ now next p
       (λ v at. next-if ps (nat_lt (length cells) most_cells) _ FullStack now next p (
         refl,
         covers-along (g.range ∷ rs) us (v ∷ cells) slots g.gives
@@ -170,16 +170,16 @@ module _ (ps : Setting) (now next place : ℕ) (timers : List TimerState) (ts : 
       → Comes (Slot Store n) cells slots
   unfolding act
   comes-store n rs us e [] slots h k =
-      next-slot ps n (state_of place [] slots timers) _ now next p (λ v at. tt)
+      next-slot ps n (state_of offset [] slots timers) _ now next p (λ v at. tt)
   comes-store n [] us e (v ∷ cells) slots h k = absurd h
   comes-store n (r ∷ rs) us e (v ∷ cells) slots h k =
       let g = has n us (λ old. Some (plain_of (r ∷ rs) (slice_set us n r))) p e in
       let done : Done (v ∷ cells) (slice_set slots n v) =
       covers-along (r ∷ rs) (slice_set us n r) (v ∷ cells) (slice_set slots n v)
       g.gives h (are-set ps slots us n v r k h.0) in
-      next-slot ps n (state_of place (v ∷ cells) slots timers) _ now next p
+      next-slot ps n (state_of offset (v ∷ cells) slots timers) _ now next p
       (λ old at. next-if ps (same_type (type_of v) (type_of old))
-      (stores n v next (state_of place (v ∷ cells) slots timers)) WrongKind now next p (refl, done))
+      (stores n v next (state_of offset (v ∷ cells) slots timers)) WrongKind now next p (refl, done))
 
   -- a slot of a truth changes
   change-next : (old : Value) (n : ℕ) (f : Bool → Bool) (s : State) (range : Range)
@@ -197,15 +197,15 @@ module _ (ps : Setting) (now next place : ℕ) (timers : List TimerState) (ts : 
   comes-set n [] us e (v ∷ cells) slots h k = absurd h
   comes-set n (r ∷ rs) us e (Truth b ∷ cells) slots h k =
       let g = has n us (λ old. Some (plain_of (r ∷ rs) (slice_set us n (or_ranges r old)))) p e in
-      next-slot ps n (state_of place (Truth b ∷ cells) slots timers) _ now next p
-      (λ old at. change-next old n (λ o. b || o) (state_of place (Truth b ∷ cells) slots timers)
+      next-slot ps n (state_of offset (Truth b ∷ cells) slots timers) _ now next p
+      (λ old at. change-next old n (λ o. b || o) (state_of offset (Truth b ∷ cells) slots timers)
       g.range (are-get ps slots us n old g.range k at g.at)
       (λ o is. covers-along (r ∷ rs) (slice_set us n (or_ranges r g.range))
       (Truth b ∷ cells) (slice_set slots n (Truth (b || o))) g.gives h
       (are-set ps slots us n (Truth (b || o)) (or_ranges r g.range) k
       (of-either ps b o r g.range h.0 is))))
   comes-set n rs us e cells slots h k =
-      next-slot ps n (state_of place cells slots timers) _ now next p (λ v at. tt)
+      next-slot ps n (state_of offset cells slots timers) _ now next p (λ v at. tt)
 
   comes-reset : (n : ℕ) (rs us : List Range)
       → known_after (Slot ResetIf n) (plain_of rs us) ≡ Some p
@@ -217,15 +217,15 @@ module _ (ps : Setting) (now next place : ℕ) (timers : List TimerState) (ts : 
       let g = has n us (λ old. Some
       (plain_of (r ∷ rs) (slice_set us n (and_ranges (not_range r) old)))) p e
       in
-      next-slot ps n (state_of place (Truth b ∷ cells) slots timers) _ now next p
-      (λ old at. change-next old n (λ o. not b && o) (state_of place (Truth b ∷ cells) slots timers)
+      next-slot ps n (state_of offset (Truth b ∷ cells) slots timers) _ now next p
+      (λ old at. change-next old n (λ o. not b && o) (state_of offset (Truth b ∷ cells) slots timers)
       g.range (are-get ps slots us n old g.range k at g.at)
       (λ o is. covers-along (r ∷ rs) (slice_set us n (and_ranges (not_range r) g.range))
       (Truth b ∷ cells) (slice_set slots n (Truth (not b && o))) g.gives h
       (are-set ps slots us n (Truth (not b && o)) (and_ranges (not_range r) g.range) k
       (of-both ps (not b) o (not_range r) g.range (of-negated ps b r h.0) is))))
   comes-reset n rs us e cells slots h k =
-      next-slot ps n (state_of place cells slots timers) _ now next p (λ v at. tt)
+      next-slot ps n (state_of offset cells slots timers) _ now next p (λ v at. tt)
 
   comes-combine : (c : Connective) (rs us : List Range)
       → known_after (Combine c) (plain_of rs us) ≡ Some p
@@ -258,7 +258,7 @@ module _ (ps : Setting) (now next place : ℕ) (timers : List TimerState) (ts : 
       covers-along (compare_ranges c ra rb ∷ rs) us (x ∷ cells) slots e
       (of-compared ps c u v ra rb h.1.0 h.0, h.1.1) k in
       next-if ps (is_comparable c u v)
-      (Goes (state_of next (x ∷ cells) slots timers)) WrongKind now next p (refl, done)
+      (Continues (state_of next (x ∷ cells) slots timers)) WrongKind now next p (refl, done)
 
   number-next : (w : Width) (v : Value) (f : ℤ → StepResult)
       → ((z : ℤ) → number_of v ≡ z → NextIs ps (f z) now next p)
@@ -284,7 +284,7 @@ module _ (ps : Setting) (now next place : ℕ) (timers : List TimerState) (ts : 
       covers-along (compute_range o w ra rb ∷ rs) us (x ∷ cells) slots e
       (of-computed ps o w u v a b ra rb is_a is_b h.1.0 h.0, h.1.1) k in
       next-unless ps (divides o && int_eq b (pos 0))
-      (Goes (state_of next (x ∷ cells) slots timers)) ZeroDivisor now next p (refl, done)))
+      (Continues (state_of next (x ∷ cells) slots timers)) ZeroDivisor now next p (refl, done)))
 
   short-long : (z : ℤ) (r : Range) → IsIn ps (Short z) r → IsIn ps (Long z) r
   short-long z Any h = h
@@ -321,11 +321,11 @@ module _ (ps : Setting) (now next place : ℕ) (timers : List TimerState) (ts : 
       → IsTimerIn ps now (change t) (known u))
       → timer_of n ts (λ u. with_timer rs n (known u) (plain_of rs us)) ≡ Some p
       → (before cells slots : List Value) → AreIn ps cells rs → AreIn ps slots us
-      → NextIs ps (machine.with_timer n (state_of place before slots timers)
-      (λ t. changes n (change t) next cells (state_of place before slots timers))) now next p
+      → NextIs ps (machine.with_timer n (state_of offset before slots timers)
+      (λ t. changes n (change t) next cells (state_of offset before slots timers))) now next p
   comes-changed n rs us change known fits_in e before cells slots h k =
       let g = has-timer n ts (λ u. with_timer rs n (known u) (plain_of rs us)) p e in
-      next-timer ps n (state_of place before slots timers) _ now next p
+      next-timer ps n (state_of offset before slots timers) _ now next p
       (λ t at. (
         refl,
         timer-done rs us n (change t) (known g.known) cells slots g.gives h k
@@ -349,7 +349,7 @@ module _ (ps : Setting) (now next place : ℕ) (timers : List TimerState) (ts : 
         in_delay = was.in_delay;
       }) e (Truth b ∷ cells) cells slots h.1 k
   comes-input n rs us e cells slots h k =
-      next-timer ps n (state_of place cells slots timers) _ now next p (λ t at. tt)
+      next-timer ps n (state_of offset cells slots timers) _ now next p (λ t at. tt)
 
   comes-preset : (n : ℕ) (rs us : List Range)
       → known_after (Timer SetPreset n) (plain_of rs us) ≡ Some p
@@ -368,23 +368,23 @@ module _ (ps : Setting) (now next place : ℕ) (timers : List TimerState) (ts : 
         in_delay = was.in_delay;
       }) e (Span d ∷ cells) cells slots h.1 k
   comes-preset n rs us e cells slots h k =
-      next-timer ps n (state_of place cells slots timers) _ now next p (λ t at. tt)
+      next-timer ps n (state_of offset cells slots timers) _ now next p (λ t at. tt)
 
   -- what is known of a timer is pushed
   comes-read : (n : ℕ) (rs us : List Range) (read : KnownTimer → Range) (f : TimerState → Value)
       → ((t : TimerState) (u : KnownTimer) → IsTimerIn ps now t u → IsIn ps (f t) (read u))
       → timer_of n ts (λ u. with_cells (read u ∷ rs) (plain_of rs us)) ≡ Some p
       → (cells slots : List Value) → AreIn ps cells rs → AreIn ps slots us
-      → NextIs ps (machine.with_timer n (state_of place cells slots timers)
-      (λ t. pushes (f t) next (state_of place cells slots timers))) now next p
+      → NextIs ps (machine.with_timer n (state_of offset cells slots timers)
+      (λ t. pushes (f t) next (state_of offset cells slots timers))) now next p
   comes-read n rs us read f fits_in e cells slots h k =
       let g = has-timer n ts (λ u. with_cells (read u ∷ rs) (plain_of rs us)) p e in
-      next-timer ps n (state_of place cells slots timers) _ now next p
+      next-timer ps n (state_of offset cells slots timers) _ now next p
       (λ t at. let done : Done (f t ∷ cells) slots =
       covers-along (read g.known ∷ rs) us (f t ∷ cells) slots g.gives
       (fits_in t g.known (timers-get n t g.known at g.at), h) k in
       next-if ps (nat_lt (length cells) most_cells)
-      (Goes (state_of next (f t ∷ cells) slots timers)) FullStack now next p (refl, done))
+      (Continues (state_of next (f t ∷ cells) slots timers)) FullStack now next p (refl, done))
 
   comes-timer : (t : TimerUse) (n : ℕ) (rs us : List Range)
       → known_after (Timer t n) (plain_of rs us) ≡ Some p
@@ -413,7 +413,7 @@ module _ (ps : Setting) (now next place : ℕ) (timers : List TimerState) (ts : 
   comes (Push v) rs us e cells slots h k =
       let done : Done (v ∷ cells) slots =
       covers-along (value_range v ∷ rs) us (v ∷ cells) slots e (in-exactly ps v, h) k in
-      next-if ps (nat_lt (length cells) most_cells) (Goes (state_of next (v ∷ cells) slots timers))
+      next-if ps (nat_lt (length cells) most_cells) (Continues (state_of next (v ∷ cells) slots timers))
       FullStack
       now next p (refl, done)
   comes Drop [] us e cells slots h k = absurd (cc)
@@ -438,24 +438,24 @@ module _ (ps : Setting) (now next place : ℕ) (timers : List TimerState) (ts : 
   comes (Jump when distance) rs us e cells slots h k = absurd (cc)
   comes (Timer t n) rs us e cells slots h k = comes-timer t n rs us e cells slots h k
 
-next-lands : (t : StepResult) (next end : ℕ) (h : Held) (p : Plain) (old new : List (Option Known))
-    → Arrives old new next p → NextIs h.setting t h.now next p → Lands t next end h new
-next-lands (Goes s) next end h p old new a is =
-    let least : next ≤ s.place = (let at = is.0 in omega arith) in (
+next-lands : (t : StepResult) (next end : ℕ) (h : RunState) (p : KnownData) (old new : List (Option Known))
+    → JoinsKnown old new next p → NextIs h.setting t h.now next p → IsCoveredStep t next end h new
+next-lands (Continues s) next end h p old new a is =
+    let least : next ≤ s.offset = (let at = is.0 in omega arith) in (
       least,
-      subst (λ (n : ℕ). CoversAt new n (held_by h.now h.setting s)) (sym is.0)
-          (a.brings (held_by h.now h.setting s) is.1),
+      subst (λ (n : ℕ). CoversAt new n (run_state h.now h.setting s)) (sym is.0)
+          (a.brings (run_state h.now h.setting s) is.1),
     )
 next-lands Halts next end h p old new a is = absurd is
 next-lands (Traps trap) next end h p old new a is = tt
 
-pub step-moves : (instr : Instr) (next : ℕ) (come after : Plain) (old new : List (Option Known))
-    → known_after instr come ≡ Some after → Arrives old new next after
-    → Moves instr next come old new
+pub step-moves : (instr : Instr) (next : ℕ) (come after : KnownData) (old new : List (Option Known))
+    → known_after instr come ≡ Some after → JoinsKnown old new next after
+    → CoversSteps instr next come old new
 step-moves instr next come after old new e a = record {
   keeps = a.keeps;
   lands = λ now end ps s c.
-      next-lands (act now instr next s) next end (held_by now ps s) after old new a
-      (comes ps now next s.place s.timers come.timers c.timers after instr come.cells come.slots e
+      next-lands (act now instr next s) next end (run_state now ps s) after old new a
+      (comes ps now next s.offset s.timers come.timers c.timers after instr come.cells come.slots e
       s.cells s.slots c.cells c.slots);
 }

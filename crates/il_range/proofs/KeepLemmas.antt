@@ -14,8 +14,8 @@ use Rattle.il_image.specs.declared.timer.TimerState.{TimerState}
 use Rattle.il_image.specs.declared.value.Value.{Value}
 use Rattle.il_image.specs.declared.value.Value.TheVariants.{Truth, Short, Long, Wide, Span}
 use Rattle.il_image.specs.Arithmetic.{comparison_holds, computation_of, wider_value}
-use Rattle.il_image.specs.Machine.{Halted, State, Trap, StepResult, Goes, Halts, Traps, FullStack, WrongKind, MissingSlot, MissingTimer, ZeroDivisor, act, as_number, as_span, as_truth, divides, ending_of, continues_at, is_comparable, run_from, stores, step_of_read, value_of_width, with_slot, with_timer, with_top, with_two, most_cells}
-use Rattle.il_image.specs.Offsets.{begun_at}
+use Rattle.il_image.specs.Machine.{Halted, State, Trap, StepResult, Continues, Halts, Traps, FullStack, WrongKind, MissingSlot, MissingTimer, ZeroDivisor, act, as_number, as_span, as_truth, divides, ending_of, continues_at, is_comparable, run_from, stores, step_of_read, value_of_width, with_slot, with_timer, with_top, with_two, most_cells}
+use Rattle.il_image.specs.Offsets.{aligned_instr}
 use Rattle.il_image.specs.declared.timer.TimerPhase.{TimerPhase}
 use Rattle.il_image.specs.declared.timer.TimerPhase.TheVariants.{Idle, Held, Since}
 use Rattle.bay_base.specs.declared.types.TimerKind.{TimerKind}
@@ -24,7 +24,7 @@ use Rattle.il_image.specs.Timers.{after_call, phase_after}
 use Rattle.il_image.specs.Values.{number_of, type_of}
 use Rattle.bay_base.specs.Types.{same_type}
 use Rattle.std.proofs.lemmas.List.{length-set}
-use Rattle.il_range.specs.Laws.{Continues}
+use Rattle.il_range.specs.Laws.{DelayContinues}
 use Rattle.il_range.specs.Ranges.{delay_start, delay_start_at, kind_of}
 
 -- There are as many slots, the timers have the kinds that they had, and a delay that runs began
@@ -33,11 +33,11 @@ pub record Keeps (now : ℕ) (slots : List Value) (timers : List TimerState) (s 
     : Type 0 where
   pub size : length slots ≡ length s.slots
   pub kinds : map kind_of timers ≡ map kind_of s.timers
-  pub begins : Continues now timers s.timers
+  pub begins : DelayContinues now timers s.timers
 
 -- A step keeps them, unless it is the last.
 abbrev NextKeeps : ℕ → StepResult → State → Type 0
-NextKeeps now (Goes t) s = Keeps now t.slots t.timers s
+NextKeeps now (Continues t) s = Keeps now t.slots t.timers s
 NextKeeps now Halts s = Unit {0}
 NextKeeps now (Traps trap) s = Unit {0}
 
@@ -136,7 +136,7 @@ BeginsBy now u t =
 
 set-begins : (now : ℕ) (timers : List TimerState) (n : ℕ) (t u : TimerState)
     → slice_get timers n ≡ Some t → BeginsBy now u t
-    → Continues now (slice_set timers n u) timers
+    → DelayContinues now (slice_set timers n u) timers
 set-begins now [] n t u at by m start is = inr is
 set-begins now (x ∷ timers) zero t u at by zero start is =
     let same : x ≡ t = cc in
@@ -247,7 +247,7 @@ rest-keeps : (code : List ℕ) (now most steps count : ℕ) (slots : List Value)
     → Keeps now slots timers to)
     → ending_of t s steps (λ to. run_from code now most to steps) ≡ Halted slots timers count
     → Keeps now slots timers s
-rest-keeps code now most steps count slots timers (Goes to) s k later e =
+rest-keeps code now most steps count slots timers (Continues to) s k later e =
     let rest = later to e in
     record {
       size = rest.size ∙ k.size;
@@ -275,7 +275,7 @@ unfolding run_from
 run-keeps code now zero s steps slots timers count e = absurd (cc)
 run-keeps code now (suc most) s steps slots timers count e =
     rest-keeps code now most (steps + 1) count slots timers
-    (step_of_read now (begun_at code s.place) s)
+    (step_of_read now (aligned_instr code s.offset) s)
     s
-    (turn-keeps now (begun_at code s.place) s)
+    (turn-keeps now (aligned_instr code s.offset) s)
     (λ to is. run-keeps code now most to (steps + 1) slots timers count is) e

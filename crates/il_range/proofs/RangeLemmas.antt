@@ -19,7 +19,7 @@ use Rattle.bay_base.specs.declared.position.Dbpos.TheVariants.{Intermediate, Off
 use Rattle.il_range.specs.declared.range.Positions.{Positions}
 use Rattle.il_range.specs.declared.range.Range.{Range}
 use Rattle.il_range.specs.declared.range.Range.TheVariants.{Any, No, Yes, Either, Between, Among}
-use Rattle.il_range.specs.Effects.{and_ranges, common_positions, other_positions, same_positions, compare_ranges, connect_ranges, or_ranges, value_range, high_of, are_within, is_within, join, low_of, lower, not_range, xor_ranges, holds_if_known, surely_le, surely_lt, bool_range, upper, widen_range}
+use Rattle.il_range.specs.Effects.{and_ranges, common_positions, other_positions, same_positions, compare_ranges, connect_ranges, or_ranges, value_range, high_of, are_within, is_within, join, low_of, lesser, not_range, xor_ranges, holds_if_known, surely_le, surely_lt, bool_range, greater, widen_range}
 use Rattle.il_range.specs.Ranges.{AreIn, IsFalseValue, IsIn, IsTrueValue, IsTruth, Setting, among, are_all, are_any, has_position}
 
 -- ---- sets of positions
@@ -138,16 +138,16 @@ module _ (w : Setting) where
   true-truth (Truth true) h = tt
   true-truth v h = absurd h
 
-  lower-left : (a c n : ℤ) → a ≤ℤ n → lower a c ≤ℤ n
+  lower-left : (a c n : ℤ) → a ≤ℤ n → lesser a c ≤ℤ n
   lower-left a c n h = grind (arith, ints)
 
-  lower-right : (a c n : ℤ) → c ≤ℤ n → lower a c ≤ℤ n
+  lower-right : (a c n : ℤ) → c ≤ℤ n → lesser a c ≤ℤ n
   lower-right a c n h = grind (arith, ints)
 
-  upper-left : (b d n : ℤ) → n ≤ℤ b → n ≤ℤ upper b d
+  upper-left : (b d n : ℤ) → n ≤ℤ b → n ≤ℤ greater b d
   upper-left b d n h = grind (arith, ints)
 
-  upper-right : (b d n : ℤ) → n ≤ℤ d → n ≤ℤ upper b d
+  upper-right : (b d n : ℤ) → n ≤ℤ d → n ≤ℤ greater b d
   upper-right b d n h = grind (arith, ints)
 
   joined-left : (v : Value) (j k : ℕ) (s t : Positions) (b : Bool) → IsIn w v (Among j s)

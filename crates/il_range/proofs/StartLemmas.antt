@@ -13,9 +13,9 @@ use Rattle.il_range.specs.declared.range.Range.TheVariants.{Any}
 use Rattle.il_range.specs.declared.delay.KnownDelay.{KnownDelay}
 use Rattle.il_range.specs.declared.timer.KnownTimer.{KnownTimer}
 use Rattle.il_range.specs.Effects.{are_within, value_range, join_lists, widen_range}
-use Rattle.il_range.specs.Foretold.{Foretells, IsMemory, IsReached, First, Next, Leaves, with_memory}
+use Rattle.il_range.specs.Predictions.{PredictsScans, IsMemory, IsReached, First, Next, ScanLeaves, with_memory}
 use Rattle.il_range.specs.Laws.{DelaysContinue, ReachesByScan}
-use Rattle.il_range.specs.Outcomes.{Carries, Predicts, PredictsScan}
+use Rattle.il_range.specs.Outcomes.{PredictsMemory, PredictsRun, PredictsReached}
 use Rattle.il_range.specs.Ranges.{AreDelays, AreIn, AreTimersIn, IsDelay, IsIn, Setting, kind_of}
 use Rattle.il_range.specs.Starts.{first_delay, known_of_kinds, range_of_point}
 use Rattle.il_range.proofs.KeepLemmas.{Keeps, run-keeps}
@@ -129,7 +129,7 @@ delays-known w now (t ∷ timers) (u ∷ known) h = (h.0.in_delay, delays-known 
 -- ---- what each scan keeps
 
 leaves-keep : (machine : MachineData) (inputs : List Value) (now : ℕ) (slots : List Value)
-    (timers : List TimerState) → Leaves machine inputs now slots timers
+    (timers : List TimerState) → ScanLeaves machine inputs now slots timers
     → Keeps now slots timers (scan_start machine inputs)
 leaves-keep machine inputs now slots timers l =
     run-keeps machine.image.code now l.most (scan_start machine inputs) 0 slots timers l.steps
@@ -141,7 +141,7 @@ delays-continue machine inputs now slots timers l =
 
 -- What `scan` does is a run.
 pub leaves-by-scan : (old new : MachineData) (inputs outputs : List Value) (now steps : ℕ)
-    → Scans old inputs now new steps outputs → Leaves old inputs now new.slots new.timers
+    → Scans old inputs now new steps outputs → ScanLeaves old inputs now new.slots new.timers
 leaves-by-scan old new inputs outputs now steps s =
     record { most = steps; steps = steps; halts = s.halts steps (omega arith) }
 
@@ -202,7 +202,7 @@ any-memory image w machine is r =
 
 pub any-tells : (image : Image) (start : List Range) (delays last : List KnownDelay)
     (result : List Range) → last ≡ [] → result ≡ replicate (slot_count image) Any
-    → PredictsScan image start delays last result
+    → PredictsReached image start delays last result
 any-tells image start delays last result none all w machine inputs now slots timers is r h y l = (
   subst (AreIn w slots) (sym all)
       (any-memory image w (with_memory slots timers machine) is
@@ -213,13 +213,13 @@ any-tells image start delays last result none all w machine inputs now slots tim
 -- The result of the pass tells it.
 pub pass-tells : (image : Image) (start : List Range) (delays : List KnownDelay)
     (last : List KnownTimer) (result : List Range)
-    → Predicts image.code (known_of_kinds image.timers delays) start last result
-    → PredictsScan image start delays (map (λ u. u.delay) last) result
+    → PredictsRun image.code (known_of_kinds image.timers delays) start last result
+    → PredictsReached image start delays (map (λ u. u.delay) last) result
 pass-tells image start delays last result p w machine inputs now slots timers is r h y l =
-    let q : Predicts machine.image.code (known_of_kinds machine.image.timers delays) start last
+    let q : PredictsRun machine.image.code (known_of_kinds machine.image.timers delays) start last
     result =
     subst
-    (λ (i : Image). Predicts i.code (known_of_kinds i.timers delays) start last result) (sym is)
+    (λ (i : Image). PredictsRun i.code (known_of_kinds i.timers delays) start last result) (sym is)
     p in
     let end =
     q w (scan_start machine inputs).slots slots h
@@ -237,9 +237,9 @@ pass-tells image start delays last result p w machine inputs now slots timers is
 -- From given inputs.
 pub tells-given : (image : Image) (start memory : List Range) (delays : List KnownDelay)
     (given : List Range) (last : List KnownDelay) (result : List Range)
-    → start ≡ with_inputs image.points given memory → PredictsScan image start delays last result
-    → Foretells image memory delays given last result
-tells-given image start memory delays given last result at t w machine inputs now slots timers is r
+    → start ≡ with_inputs image.points given memory → PredictsReached image start delays last result
+    → PredictsScans image memory delays given last result
+predicts-given image start memory delays given last result at t w machine inputs now slots timers is r
     k
     y
     h l =
@@ -250,8 +250,8 @@ tells-given image start memory delays given last result at t w machine inputs no
 pub tells-any : (image : Image) (start memory : List Range) (last : List KnownDelay)
     (result : List Range)
     → start ≡ with_inputs image.points (replicate (length image.points) Any) memory
-    → PredictsScan image start [] last result → Carries image memory result
-tells-any image start memory last result at t w machine inputs now slots timers is r k l =
+    → PredictsReached image start [] last result → PredictsMemory image memory result
+predicts-any image start memory last result at t w machine inputs now slots timers is r k l =
     (t w machine inputs now slots timers is r
     (rw (at, ← is) (free-in w machine.image.points inputs (length machine.image.points)
     machine.slots memory (omega arith) k)) tt l).0
@@ -285,7 +285,7 @@ grows w is_late slots ranges left h =
 -- Ranges of the first values, within which a scan stays, are those of the memory.
 pub settled : (image : Image) (ranges left : List Range)
     → ((w : Setting) → AreIn w (first_machine image).slots ranges)
-    → Carries image ranges left → are_within left ranges ≡ true → IsMemory image ranges
+    → PredictsMemory image ranges left → are_within left ranges ≡ true → IsMemory image ranges
 settled image ranges left first carries inside w machine is r = go machine r is
   where
     go : (machine : MachineData) → IsReached machine → machine.image ≡ image

@@ -15,7 +15,7 @@ use Rattle.il_range.specs.declared.delay.KnownDelay.{KnownDelay}
 use Rattle.il_range.specs.declared.delay.KnownDelay.TheVariants.{Unknown, Below, Begun, AtLeast}
 use Rattle.il_range.specs.declared.timer.KnownTimer.{KnownTimer}
 use Rattle.il_range.specs.Ranges.{IsDelay, IsIn, IsKind, IsTimerIn, Setting, delay_onset, is_by}
-use Rattle.il_range.specs.Effects.{delay_after, elapsed_after, going_on, has_passed, join_delay, join_kind, join_timer, output_after, output_of_off, timer_after_call, up_to}
+use Rattle.il_range.specs.Effects.{delay_after, elapsed_after, begun_delay, has_passed, join_delay, join_kind, join_timer, output_after, output_of_tof, timer_after_call, up_to}
 use Rattle.il_range.proofs.RangeLemmas.{in-join_left, in-join_right, le-told}
 
 module _ (w : Setting) where
@@ -114,7 +114,7 @@ module _ (w : Setting) where
   -- a TON whose IN stays TRUE keeps the start of its delay, or begins one now
   on-goes : (now mark : ℕ) (phase : TimerPhase) (d : KnownDelay)
       → IsDelay mark now OnDelay phase d
-      → IsDelay mark now OnDelay (phase_after OnDelay true phase now) (going_on d)
+      → IsDelay mark now OnDelay (phase_after OnDelay true phase now) (begun_delay d)
   on-goes now mark Idle (AtLeast n) h = absurd (let none = h.0 in cc)
   on-goes now mark Held (AtLeast n) h = absurd (let none = h.0 in cc)
   on-goes now mark (Since start) (AtLeast n) h = h
@@ -131,7 +131,7 @@ module _ (w : Setting) where
   -- the same of a TOF whose IN stays FALSE
   off-goes : (now mark : ℕ) (phase : TimerPhase) (d : KnownDelay)
       → IsDelay mark now OffDelay phase d
-      → IsDelay mark now OffDelay (phase_after OffDelay false phase now) (going_on d)
+      → IsDelay mark now OffDelay (phase_after OffDelay false phase now) (begun_delay d)
   off-goes now mark Idle (AtLeast n) h = h
   off-goes now mark Held (AtLeast n) h = absurd (let none = h.0 in cc)
   off-goes now mark (Since start) (AtLeast n) h = h
@@ -250,11 +250,11 @@ module _ (w : Setting) where
 
   -- Q of a TOF by what is known of its delay
   of-off : (b sure : Bool) → (sure ≡ true → b ≡ false)
-      → IsIn w (Truth b) (output_of_off (cond sure Yes Either))
+      → IsIn w (Truth b) (output_of_tof (cond sure Yes Either))
   of-off b false none = tt
   of-off b true none = subst (λ (x : Bool). IsIn w (Truth x) No) (sym (none refl)) tt
 
-  no-off : (b sure : Bool) → IsIn w (Truth b) (output_of_off (cond sure No Either))
+  no-off : (b sure : Bool) → IsIn w (Truth b) (output_of_tof (cond sure No Either))
   no-off b false = tt
   no-off b true = tt
 
@@ -268,7 +268,7 @@ module _ (w : Setting) where
 
   off-output : (preset m mark : ℕ) (phase : TimerPhase) (d : KnownDelay) (p : Range)
       → IsDelay mark m OffDelay phase d → IsIn w (Span preset) p
-      → IsIn w (Truth (output_of OffDelay preset phase m)) (output_of_off (has_passed d p))
+      → IsIn w (Truth (output_of OffDelay preset phase m)) (output_of_tof (has_passed d p))
   off-output preset m mark phase (AtLeast n) (Between low high) y i =
       of-off (output_of OffDelay preset phase m) (int_le high (pos n))
       (λ s. off-passed preset m mark phase n low high y i s)

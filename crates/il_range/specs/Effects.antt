@@ -62,12 +62,12 @@ same_positions s t =
 -- ---- ranges
 
 -- the lesser of two numbers
-abbrev pub lower : ℤ → ℤ → ℤ
-lower a b = if int_le a b then a else b
+abbrev pub lesser : ℤ → ℤ → ℤ
+lesser a b = if int_le a b then a else b
 
 -- the greater of two numbers
-abbrev pub upper : ℤ → ℤ → ℤ
-upper a b = if int_le a b then b else a
+abbrev pub greater : ℤ → ℤ → ℤ
+greater a b = if int_le a b then b else a
 
 -- a range that includes both
 abbrev pub join : Range → Range → Range
@@ -90,7 +90,7 @@ join Either Either = Either
 join Either Any = Any
 join Either (Between c d) = Any
 join Either (Among k t) = Either
-join (Between a b) (Between c d) = Between (lower a c) (upper b d)
+join (Between a b) (Between c d) = Between (lesser a c) (greater b d)
 join (Between a b) No = Any
 join (Between a b) Yes = Any
 join (Between a b) Either = Any
@@ -171,40 +171,40 @@ join_timer a b =
     }
 
 -- a delay that has begun or begins now
-abbrev pub going_on : KnownDelay → KnownDelay
-going_on (AtLeast n) = AtLeast n
-going_on Unknown = Begun
-going_on (Below n) = Begun
-going_on Begun = Begun
+abbrev pub begun_delay : KnownDelay → KnownDelay
+begun_delay (AtLeast n) = AtLeast n
+begun_delay Unknown = Begun
+begun_delay (Below n) = Begun
+begun_delay Begun = Begun
 
 -- The delay of a TON after a call: no delay runs if IN is FALSE, one runs if IN is TRUE, and one
 -- that begins with the call has run for 0 ms.
-abbrev pub delay_of_on : Range → KnownDelay → KnownDelay
-delay_of_on No delay = Below 0
-delay_of_on Yes (Below n) = Below (max 1 n)
-delay_of_on Yes Unknown = going_on Unknown
-delay_of_on Yes Begun = going_on Begun
-delay_of_on Yes (AtLeast n) = going_on (AtLeast n)
-delay_of_on Either (Below n) = Below (max 1 n)
-delay_of_on Any (Below n) = Below (max 1 n)
-delay_of_on (Between l h) (Below n) = Below (max 1 n)
-delay_of_on (Among k s) (Below n) = Below (max 1 n)
-delay_of_on input delay = Unknown
+abbrev pub delay_of_ton : Range → KnownDelay → KnownDelay
+delay_of_ton No delay = Below 0
+delay_of_ton Yes (Below n) = Below (max 1 n)
+delay_of_ton Yes Unknown = begun_delay Unknown
+delay_of_ton Yes Begun = begun_delay Begun
+delay_of_ton Yes (AtLeast n) = begun_delay (AtLeast n)
+delay_of_ton Either (Below n) = Below (max 1 n)
+delay_of_ton Any (Below n) = Below (max 1 n)
+delay_of_ton (Between l h) (Below n) = Below (max 1 n)
+delay_of_ton (Among k s) (Below n) = Below (max 1 n)
+delay_of_ton input delay = Unknown
 
 -- the delay of a TOF after a call: it goes on or begins if IN is FALSE
-abbrev pub delay_of_off : Range → KnownDelay → KnownDelay
-delay_of_off No delay = going_on delay
-delay_of_off Yes delay = Unknown
-delay_of_off Either delay = Unknown
-delay_of_off Any delay = Unknown
-delay_of_off (Between l h) delay = Unknown
-delay_of_off (Among k s) delay = Unknown
+abbrev pub delay_of_tof : Range → KnownDelay → KnownDelay
+delay_of_tof No delay = begun_delay delay
+delay_of_tof Yes delay = Unknown
+delay_of_tof Either delay = Unknown
+delay_of_tof Any delay = Unknown
+delay_of_tof (Between l h) delay = Unknown
+delay_of_tof (Among k s) delay = Unknown
 
 -- what is known of the delay after a call of a timer of this kind with this IN
 abbrev pub delay_after : Option TimerKind → Range → KnownDelay → KnownDelay
 delay_after None input delay = Unknown
-delay_after (Some OnDelay) input delay = delay_of_on input delay
-delay_after (Some OffDelay) input delay = delay_of_off input delay
+delay_after (Some OnDelay) input delay = delay_of_ton input delay
+delay_after (Some OffDelay) input delay = delay_of_tof input delay
 
 -- the range of whether PT has passed since the delay began
 abbrev pub has_passed : KnownDelay → Range → Range
@@ -213,13 +213,13 @@ has_passed (AtLeast n) (Between low high) = if int_le high (pos n) then Yes else
 has_passed delay preset = Either
 
 -- Q of a TOF with IN FALSE, or with an IN that is not known
-abbrev pub output_of_off : Range → Range
-output_of_off Yes = No
-output_of_off No = Either
-output_of_off Either = Either
-output_of_off Any = Either
-output_of_off (Between l h) = Either
-output_of_off (Among k s) = Either
+abbrev pub output_of_tof : Range → Range
+output_of_tof Yes = No
+output_of_tof No = Either
+output_of_tof Either = Either
+output_of_tof Any = Either
+output_of_tof (Between l h) = Either
+output_of_tof (Among k s) = Either
 
 -- Q after a call: FALSE for a TON whose IN is FALSE, and TRUE for a TOF whose IN is TRUE; else by
 -- whether PT has passed since the delay began
@@ -227,7 +227,7 @@ abbrev pub output_after : Option TimerKind → Range → Range → Range
 output_after (Some OnDelay) No passed = No
 output_after (Some OffDelay) Yes passed = Yes
 output_after (Some OnDelay) input passed = passed
-output_after (Some OffDelay) input passed = output_of_off passed
+output_after (Some OffDelay) input passed = output_of_tof passed
 output_after None input passed = Either
 
 -- the numbers that are at most PT, if PT is known
@@ -419,27 +419,27 @@ compute_range o w a b = full_range w
 -- ---- instructions
 
 -- the ranges of the stack, the top first, and of the slots, and what is known of the timers
-pub record Plain : Type 0 where
+pub record KnownData : Type 0 where
   pub cells : List Range
   pub slots : List Range
   pub timers : List KnownTimer
 
 -- the same slots and timers, with these cells
-abbrev pub with_cells : List Range → Plain → Option Plain
+abbrev pub with_cells : List Range → KnownData → Option KnownData
 with_cells cells p = Some (record { cells = cells; slots = p.slots; timers = p.timers })
 
 -- applies a function to the top and the cells below it; none if the stack is empty
-abbrev pub top_of : List Range → (Range → List Range → Option Plain) → Option Plain
+abbrev pub top_of : List Range → (Range → List Range → Option KnownData) → Option KnownData
 top_of [] act = None
 top_of (top ∷ below) act = act top below
 
 -- applies a function to the range of a slot; none if there is no such slot
-abbrev pub slot_of : ℕ → List Range → (Range → Option Plain) → Option Plain
+abbrev pub slot_of : ℕ → List Range → (Range → Option KnownData) → Option KnownData
 slot_of n slots act = option_and_then act (slice_get slots n)
 
 -- changes a slot depending on the top, which stays
-abbrev pub slot_by : (Range → Range → Range) → ℕ → Plain → Option Plain
-slot_by change n p =
+abbrev pub change_slot : (Range → Range → Range) → ℕ → KnownData → Option KnownData
+change_slot change n p =
     slot_of n p.slots (λ old. top_of p.cells
     (λ top below. Some (record {
       cells = p.cells;
@@ -448,33 +448,33 @@ slot_by change n p =
     })))
 
 -- replaces the two cells on top by the result of a function; none if there are fewer
-abbrev pub two_of : (Range → Range → Range) → Plain → Option Plain
-two_of f p =
+abbrev pub replace_two : (Range → Range → Range) → KnownData → Option KnownData
+replace_two f p =
     top_of p.cells (λ b rest. top_of rest (λ a below. with_cells (f a b ∷ below) p))
 
 -- applies a function to a timer; none if there is no such timer
-abbrev pub timer_of : ℕ → List KnownTimer → (KnownTimer → Option Plain) → Option Plain
+abbrev pub timer_of : ℕ → List KnownTimer → (KnownTimer → Option KnownData) → Option KnownData
 timer_of n timers act = option_and_then act (slice_get timers n)
 
 -- changes a timer and the stack
-abbrev pub with_timer : List Range → ℕ → KnownTimer → Plain → Option Plain
+abbrev pub with_timer : List Range → ℕ → KnownTimer → KnownData → Option KnownData
 with_timer cells n u p =
     Some (record { cells = cells; slots = p.slots; timers = slice_set p.timers n u })
 
 -- what is known after an instruction; none for HALT and a jump, and if a cell, a slot or a timer is
 -- missing
-abbrev pub known_after : Instr → Plain → Option Plain
+abbrev pub known_after : Instr → KnownData → Option KnownData
 known_after Halt p = None
 known_after (Push v) p = with_cells (value_range v ∷ p.cells) p
 known_after Drop p = top_of p.cells (λ top below. with_cells below p)
 known_after (Slot Load n) p = slot_of n p.slots (λ r. with_cells (r ∷ p.cells) p)
-known_after (Slot Store n) p = slot_by (λ top old. top) n p
-known_after (Slot SetIf n) p = slot_by or_ranges n p
-known_after (Slot ResetIf n) p = slot_by (λ top old. and_ranges (not_range top) old) n p
+known_after (Slot Store n) p = change_slot (λ top old. top) n p
+known_after (Slot SetIf n) p = change_slot or_ranges n p
+known_after (Slot ResetIf n) p = change_slot (λ top old. and_ranges (not_range top) old) n p
 known_after Not p = top_of p.cells (λ top below. with_cells (not_range top ∷ below) p)
-known_after (Combine c) p = two_of (connect_ranges c) p
-known_after (Compute o w) p = two_of (compute_range o w) p
-known_after (Compare c) p = two_of (compare_ranges c) p
+known_after (Combine c) p = replace_two (connect_ranges c) p
+known_after (Compute o w) p = replace_two (compute_range o w) p
+known_after (Compare c) p = replace_two (compare_ranges c) p
 known_after (Widen w) p = Some p
 known_after (Jump when distance) p = None
 known_after (Timer SetInput n) p =

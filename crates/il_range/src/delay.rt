@@ -36,8 +36,8 @@ pub(crate) fn join_delay(a: KnownDelay, b: KnownDelay) -> KnownDelay
 }
 
 // Returns what is known of the delay of a TON after a call with this IN.
-fn delay_of_on(input: Range, delay: KnownDelay) -> KnownDelay
-    ensures { result ≡ spec.delay_of_on input delay }
+fn delay_of_ton(input: Range, delay: KnownDelay) -> KnownDelay
+    ensures { result ≡ spec.delay_of_ton input delay }
 {
     match delay {
         KnownDelay::Below(below) => match input {
@@ -58,8 +58,8 @@ fn delay_of_on(input: Range, delay: KnownDelay) -> KnownDelay
 }
 
 // Returns what is known of the delay of a TOF after a call with this IN.
-fn delay_of_off(input: Range, delay: KnownDelay) -> KnownDelay
-    ensures { result ≡ spec.delay_of_off input delay }
+fn delay_of_tof(input: Range, delay: KnownDelay) -> KnownDelay
+    ensures { result ≡ spec.delay_of_tof input delay }
 {
     match (input, delay) {
         (Range::No, KnownDelay::AtLeast(least)) => KnownDelay::AtLeast(least),
@@ -73,8 +73,8 @@ pub(crate) fn delay_after(kind: Option<TimerKind>, input: Range, delay: KnownDel
     ensures { result ≡ spec.delay_after kind input delay }
 {
     match kind {
-        Some(TimerKind::OnDelay) => delay_of_on(input, delay),
-        Some(TimerKind::OffDelay) => delay_of_off(input, delay),
+        Some(TimerKind::OnDelay) => delay_of_ton(input, delay),
+        Some(TimerKind::OffDelay) => delay_of_tof(input, delay),
         None => KnownDelay::Unknown,
     }
 }

@@ -14,7 +14,7 @@ pub(crate) struct Dependencies {
     pub cells: Vec<SourceSet>,
     pub slots: Vec<SourceSet>,
     pub timers: Vec<SourceSet>,
-    pub way: SourceSet,
+    pub path: SourceSet,
 }
 
 // Returns the set at an index, or the empty set if there is none.
@@ -45,7 +45,7 @@ fn is_known(range: Range) -> bool {
 // Reduces the set of what a value depends on by the value's range: to nothing if the range has one
 // value; and if the range is one of a switch's positions, to these positions and the slots and
 // timers of the set.
-fn settled(set: SourceSet, range: Range) -> SourceSet {
+fn reduce_set(set: SourceSet, range: Range) -> SourceSet {
     match range {
         Range::Among(switch, positions) => set
             .without_positions()
@@ -67,13 +67,13 @@ fn join_sets<T: PartialEq>(
     others: &[SourceSet],
     known: &[T],
     other_known: &[T],
-    way: SourceSet,
+    path: SourceSet,
 ) {
     for n in 0..sets.len() {
         if n < others.len() && n < known.len() && n < other_known.len() {
             let is_same = sets[n] == others[n] && known[n] == other_known[n];
             if !is_same {
-                sets[n] = sets[n].or(others[n]).or(way);
+                sets[n] = sets[n].or(others[n]).or(path);
             }
         }
     }
@@ -83,7 +83,7 @@ fn join_sets<T: PartialEq>(
 fn slot_sets(alloc: Global, ranges: &[Range]) -> Result<Vec<SourceSet>, AllocError> {
     let mut sets = Vec::new(alloc);
     for n in 0..ranges.len() {
-        sets.push(settled(SourceSet::of_slot(n), ranges[n]))?;
+        sets.push(reduce_set(SourceSet::of_slot(n), ranges[n]))?;
     }
     Ok(sets)
 }
@@ -109,7 +109,7 @@ impl Dependencies {
             cells: Vec::new(alloc),
             slots: slot_sets(alloc, ranges)?,
             timers: timer_sets(alloc, timers)?,
-            way: SourceSet::new(),
+            path: SourceSet::new(),
         })
     }
 
@@ -186,21 +186,21 @@ impl Dependencies {
     /// Updates the dependencies of the top and of a slot that was used, by their ranges.
     pub(crate) fn settle(&mut self, instr: Instr, cells: &[Range], slots: &[Range]) {
         if let Some(top) = cells.last() {
-            let set = settled(self.top(), *top);
+            let set = reduce_set(self.top(), *top);
             put(&mut self.cells, cells.len() - 1, set);
         }
         if let Instr::Slot(_, n) = instr {
             let n = usize::from(n);
             if n < slots.len() {
-                let set = settled(at(self.slots.as_slice(), n), slots[n]);
+                let set = reduce_set(at(self.slots.as_slice(), n), slots[n]);
                 put(&mut self.slots, n, set);
             }
         }
     }
 
     /// Makes the path depend on the top.
-    pub(crate) fn turn(&mut self) {
-        self.way = self.way.or(self.top());
+    pub(crate) fn branch(&mut self) {
+        self.path = self.path.or(self.top());
     }
 
     /// Joins what the cells depend on with another path's, whose cells are in the other ranges.
@@ -210,14 +210,14 @@ impl Dependencies {
         ranges: &[Range],
         other_ranges: &[Range],
     ) {
-        self.way = self.way.or(other.way);
-        let way = self.way;
+        self.path = self.path.or(other.path);
+        let path = self.path;
         join_sets(
             &mut self.cells,
             other.cells.as_slice(),
             ranges,
             other_ranges,
-            way,
+            path,
         );
     }
 
@@ -228,14 +228,14 @@ impl Dependencies {
         ranges: &[Range],
         other_ranges: &[Range],
     ) {
-        self.way = self.way.or(other.way);
-        let way = self.way;
+        self.path = self.path.or(other.path);
+        let path = self.path;
         join_sets(
             &mut self.slots,
             other.slots.as_slice(),
             ranges,
             other_ranges,
-            way,
+            path,
         );
     }
 
@@ -247,14 +247,14 @@ impl Dependencies {
         known: &[KnownTimer],
         other_known: &[KnownTimer],
     ) {
-        self.way = self.way.or(other.way);
-        let way = self.way;
+        self.path = self.path.or(other.path);
+        let path = self.path;
         join_sets(
             &mut self.timers,
             other.timers.as_slice(),
             known,
             other_known,
-            way,
+            path,
         );
     }
 
@@ -264,7 +264,7 @@ impl Dependencies {
             cells: Vec::from_slice(alloc, self.cells.as_slice())?,
             slots: Vec::from_slice(alloc, self.slots.as_slice())?,
             timers: Vec::from_slice(alloc, self.timers.as_slice())?,
-            way: self.way,
+            path: self.path,
         })
     }
 }

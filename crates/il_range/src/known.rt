@@ -2,7 +2,7 @@
 ghost use Rattle.std.specs.Prelude.{◌≡◌, ◌<◌, ◌∷◌, List, length, OnOk, IfOk, Some};
 ghost use Rattle.il_range.specs.Effects.{known_after, join_lists};
 ghost use Rattle.il_range.specs.Effects as spec;
-ghost use Rattle.il_range.specs.Pending.{Arrives, IsJoin, known_view};
+ghost use Rattle.il_range.specs.Pending.{JoinsKnown, IsJoin, known_view};
 
 use crate::dependencies::Dependencies;
 use crate::range::{
@@ -23,7 +23,7 @@ pub(crate) struct Known {
     pub slots: Vec<Range>,
     pub timers: Vec<KnownTimer>,
     /// What all these depend on. No clause states anything of it.
-    pub traces: Dependencies,
+    pub dependencies: Dependencies,
 }
 
 // Returns the index of a slot or a timer, or `Undecided` if it is not below `count`.
@@ -69,7 +69,7 @@ pub(crate) fn top_of(known: &mut Known) -> Result<Range, PassStop>
     ensures top { IfOk result
         (λ r. (below : List Range) × ((known_view known.old).cells ≡ r ∷ below)) }
 {
-    known.traces.turn();
+    known.dependencies.branch();
     let top = pop(known)?;
     push(known, top)?;
     Ok(top)
@@ -276,12 +276,12 @@ pub(crate) fn apply(known: &mut Known, instr: Instr) -> Result<(), PassStop>
 }
 
 /// Updates what the values depend on after an instruction.
-pub(crate) fn follow(known: &mut Known, instr: Instr) -> Result<(), PassStop>
+pub(crate) fn update_dependencies(known: &mut Known, instr: Instr) -> Result<(), PassStop>
     ensures { known_view known.new ≡ known_view known.old }
 {
-    known.traces.step(instr)?;
+    known.dependencies.step(instr)?;
     known
-        .traces
+        .dependencies
         .settle(instr, known.cells.as_slice(), known.slots.as_slice());
     Ok(())
 }
@@ -307,7 +307,7 @@ fn join_timers(timers: &mut Vec<KnownTimer>, others: &[KnownTimer])
 }
 
 // Joins what is known on two paths.
-fn merged(one: Known, other: Known) -> Result<Known, PassStop>
+fn merge_known(one: Known, other: Known) -> Result<Known, PassStop>
     ensures { IfOk result (λ both. IsJoin one other both) }
 {
     if one.cells.len() != other.cells.len() || one.slots.len() != other.slots.len() {
@@ -320,11 +320,11 @@ fn merged(one: Known, other: Known) -> Result<Known, PassStop>
         mut cells,
         mut slots,
         mut timers,
-        mut traces,
+        mut dependencies,
     } = one;
-    traces.join_cells(&other.traces, cells.as_slice(), other.cells.as_slice());
-    traces.join_slots(&other.traces, slots.as_slice(), other.slots.as_slice());
-    traces.join_timers(&other.traces, timers.as_slice(), other.timers.as_slice());
+    dependencies.join_cells(&other.dependencies, cells.as_slice(), other.cells.as_slice());
+    dependencies.join_slots(&other.dependencies, slots.as_slice(), other.slots.as_slice());
+    dependencies.join_timers(&other.dependencies, timers.as_slice(), other.timers.as_slice());
     join_all(&mut cells, other.cells.as_slice());
     join_all(&mut slots, other.slots.as_slice());
     join_timers(&mut timers, other.timers.as_slice());
@@ -332,7 +332,7 @@ fn merged(one: Known, other: Known) -> Result<Known, PassStop>
         cells,
         slots,
         timers,
-        traces,
+        dependencies,
     })
 }
 
@@ -346,14 +346,14 @@ pub(crate) fn arrive(
 ) -> Result<(), PassStop>
     ensures size { length pending.new.items ≡ length pending.old.items }
     ensures ok { OnOk result
-        (Arrives pending.old.items pending.new.items place (known_view known)) }
+        (JoinsKnown pending.old.items pending.new.items place (known_view known)) }
 {
     if place >= pending.len() {
         return Err(PassStop::Undecided);
     }
     let come = match pending[place].take() {
         None => known,
-        Some(other) => merged(other, known)?,
+        Some(other) => merge_known(other, known)?,
     };
     pending[place] = Some(come);
     Ok(())
@@ -366,11 +366,11 @@ pub(crate) fn copy_of(alloc: Global, known: &Known) -> Result<Known, PassStop>
     let cells = Vec::from_slice(alloc, known.cells.as_slice())?;
     let slots = Vec::from_slice(alloc, known.slots.as_slice())?;
     let timers = Vec::from_slice(alloc, known.timers.as_slice())?;
-    let traces = known.traces.copy(alloc)?;
+    let dependencies = known.dependencies.copy(alloc)?;
     Ok(Known {
         cells,
         slots,
         timers,
-        traces,
+        dependencies,
     })
 }

@@ -2,8 +2,8 @@
 ghost use Rattle.std.specs.Prelude.{◌≡◌, ◌+◌, ◌++◌, IfOk, length, map};
 ghost use Rattle.il_range.specs.Effects.{join_lists};
 ghost use Rattle.il_range.specs.Effects as spec;
-ghost use Rattle.il_range.specs.Foretold.{IsMemory};
-ghost use Rattle.il_range.specs.Outcomes.{Carries};
+ghost use Rattle.il_range.specs.Predictions.{IsMemory};
+ghost use Rattle.il_range.specs.Outcomes.{PredictsMemory};
 ghost use Rattle.il_range.specs.Starts.{range_of_point};
 
 use crate::range::{Range, join, value_range};
@@ -100,7 +100,7 @@ fn first_ranges(alloc: Global, image: &Image) -> Result<Vec<Range>, AllocError>
 fn ranges_after(alloc: Global, image: &Image, memory: &[Range]) -> Result<Vec<Range>, AllocError>
     ensures size { IfOk result
         (λ left. length left.items ≡ length image.now.points + length image.now.variables) }
-    ensures carries { IfOk result (λ left. Carries image.now memory.now left.items) }
+    ensures carries { IfOk result (λ left. PredictsMemory image.now memory.now left.items) }
 {
     let free = free_ranges(alloc, image.points().len())?;
     let start = start_ranges(alloc, image.points(), free.as_slice(), memory)?;

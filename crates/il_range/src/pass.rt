@@ -2,10 +2,10 @@
 // 0.
 ghost use Rattle.std.specs.Prelude.{◌≡◌, ◌+◌, ◌<◌, [], List, length, slice_get, slice_set, IfOk, OnOk, Some, None, Vec};
 ghost use Rattle.std.specs.Global.{Global};
-ghost use Rattle.il_range.specs.Outcomes.{Predicts};
-ghost use Rattle.il_range.specs.Pending.{Arrives, Branches, Moves, Visits, known_view};
+ghost use Rattle.il_range.specs.Outcomes.{PredictsRun};
+ghost use Rattle.il_range.specs.Pending.{JoinsKnown, Branches, CoversSteps, CoversStepsAt, known_view};
 
-use crate::known::{Known, apply, arrive, copy_of, follow, top_of};
+use crate::known::{Known, apply, arrive, copy_of, update_dependencies, top_of};
 use crate::range::{Range, not_range};
 use crate::stop::PassStop;
 use il_image::instr::Instr;
@@ -22,11 +22,11 @@ fn step(
 ) -> Result<(), PassStop>
     ensures size { length pending.new.items ≡ length pending.old.items }
     ensures ok { OnOk result
-        (Moves instr next (known_view here) pending.old.items pending.new.items) }
+        (CoversSteps instr next (known_view here) pending.old.items pending.new.items) }
 {
     let mut here = here;
     apply(&mut here, instr)?;
-    follow(&mut here, instr)?;
+    update_dependencies(&mut here, instr)?;
     arrive(pending, next, here)
 }
 
@@ -39,7 +39,7 @@ fn jump_past(
 ) -> Result<(), PassStop>
     ensures size { length pending.new.items ≡ length pending.old.items }
     ensures ok { OnOk result
-        (Arrives pending.old.items pending.new.items (next + distance) (known_view here)) }
+        (JoinsKnown pending.old.items pending.new.items (next + distance) (known_view here)) }
 {
     let Some(to) = next.checked_add(usize::from(distance)) else {
         return Err(PassStop::Undecided);
@@ -82,7 +82,7 @@ fn jump(
 ) -> Result<(), PassStop>
     ensures size { length pending.new.items ≡ length pending.old.items }
     ensures ok { OnOk result
-        (Moves (Instr.Jump when distance) next (known_view here) pending.old.items
+        (CoversSteps (Instr.Jump when distance) next (known_view here) pending.old.items
         pending.new.items) }
 {
     let mut here = here;
@@ -100,13 +100,13 @@ fn jump(
 }
 
 // Removes what is pending at an offset, and returns it.
-fn take_pending(pending: &mut Vec<Option<Known>>, place: usize) -> Option<Known>
-    requires { place < length pending.old.items }
-    ensures value { slice_get pending.old.items place ≡ Some result }
-    ensures after { pending.new.items ≡ slice_set pending.old.items place None }
+fn take_pending(pending: &mut Vec<Option<Known>>, offset: usize) -> Option<Known>
+    requires { offset < length pending.old.items }
+    ensures value { slice_get pending.old.items offset ≡ Some result }
+    ensures after { pending.new.items ≡ slice_set pending.old.items offset None }
     ensures size { length pending.new.items ≡ length pending.old.items }
 {
-    pending[place].take()
+    pending[offset].take()
 }
 
 // Applies the instruction at an offset to what is pending there. The end of the code represents the
@@ -114,17 +114,17 @@ fn take_pending(pending: &mut Vec<Option<Known>>, place: usize) -> Option<Known>
 fn visit(
     alloc: Global,
     code: &[u8],
-    place: usize,
+    offset: usize,
     pending: &mut Vec<Option<Known>>,
 ) -> Result<(), PassStop>
-    requires { place < length pending.old.items }
+    requires { offset < length pending.old.items }
     ensures size { length pending.new.items ≡ length pending.old.items }
-    ensures ok { OnOk result (Visits code.now place pending.old.items pending.new.items) }
+    ensures ok { OnOk result (CoversStepsAt code.now offset pending.old.items pending.new.items) }
 {
-    let Some(here) = take_pending(pending, place) else {
+    let Some(here) = take_pending(pending, offset) else {
         return Ok(());
     };
-    let Some((instr, next)) = instr_at(code, place) else {
+    let Some((instr, next)) = instr_at(code, offset) else {
         return Err(PassStop::Undecided);
     };
     match instr {
@@ -148,16 +148,16 @@ fn none_pending(alloc: Global, count: usize) -> Result<Vec<Option<Known>>, PassS
 /// Returns what is known at the end of a run of the code, at any moment, from what is known at its
 /// start. Returns `Undecided` if the code is not that of a verified image, and `OutOfMemory` if an
 /// allocation fails.
-pub(crate) fn outcome(alloc: Global, code: &[u8], first: Known) -> Result<Known, PassStop>
+pub(crate) fn run_pass(alloc: Global, code: &[u8], first: Known) -> Result<Known, PassStop>
     requires { first.cells.items ≡ [] }
     ensures { IfOk result
-        (λ end. Predicts code.now first.timers.items first.slots.items end.timers.items
+        (λ end. PredictsRun code.now first.timers.items first.slots.items end.timers.items
         end.slots.items) }
 {
     let mut pending = none_pending(alloc, code.len() + 1)?;
     arrive(&mut pending, 0, first)?;
-    for place in 0..code.len() {
-        visit(alloc, code, place, &mut pending)?;
+    for offset in 0..code.len() {
+        visit(alloc, code, offset, &mut pending)?;
     }
     match take_pending(&mut pending, code.len()) {
         Some(end) => Ok(end),

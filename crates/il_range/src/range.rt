@@ -96,15 +96,15 @@ pub(crate) fn value_range(value: Value) -> Range
 }
 
 // Returns the lesser of two numbers.
-fn lower(a: i64, b: i64) -> i64
-    ensures { result ≡ spec.lower a b }
+fn lesser(a: i64, b: i64) -> i64
+    ensures { result ≡ spec.lesser a b }
 {
     if a <= b { a } else { b }
 }
 
 // Returns the greater of two numbers.
-fn upper(a: i64, b: i64) -> i64
-    ensures { result ≡ spec.upper a b }
+fn greater(a: i64, b: i64) -> i64
+    ensures { result ≡ spec.greater a b }
 {
     if a <= b { b } else { a }
 }
@@ -115,7 +115,7 @@ pub(crate) fn join(a: Range, b: Range) -> Range
 {
     match (a, b) {
         (Range::Any, _) | (_, Range::Any) => Range::Any,
-        (Range::Between(a, b), Range::Between(c, d)) => Range::Between(lower(a, c), upper(b, d)),
+        (Range::Between(a, b), Range::Between(c, d)) => Range::Between(lesser(a, c), greater(b, d)),
         (Range::Between(_, _), _) | (_, Range::Between(_, _)) => Range::Any,
         (Range::No, Range::No) => Range::No,
         (Range::Yes, Range::Yes) => Range::Yes,
@@ -299,14 +299,14 @@ fn wrap_range(width: Width, low: Option<i64>, high: Option<i64>) -> Range
 }
 
 // Returns the range of the sums of numbers of a to b and of c to d.
-fn sums(width: Width, a: i64, b: i64, c: i64, d: i64) -> Range
+fn add_ranges(width: Width, a: i64, b: i64, c: i64, d: i64) -> Range
     ensures { result ≡ spec.wrap_range width (a +ℤ c) (b +ℤ d) }
 {
     wrap_range(width, a.checked_add(c), b.checked_add(d))
 }
 
 // Returns the range of the differences of numbers of a to b and of c to d.
-fn differences(width: Width, a: i64, b: i64, c: i64, d: i64) -> Range
+fn subtract_ranges(width: Width, a: i64, b: i64, c: i64, d: i64) -> Range
     ensures { result ≡ spec.wrap_range width (a -ℤ d) (b -ℤ c) }
 {
     wrap_range(width, a.checked_sub(d), b.checked_sub(c))
@@ -324,11 +324,11 @@ pub(crate) fn compute_range(
     ensures { result ≡ spec.compute_range operation width a b }
 {
     match (operation, a, b) {
-        (ArithmeticOperation::Add, Range::Between(a, b), Range::Between(c, d)) => sums(
+        (ArithmeticOperation::Add, Range::Between(a, b), Range::Between(c, d)) => add_ranges(
             width, a, b, c, d,
         ),
         (ArithmeticOperation::Sub, Range::Between(a, b), Range::Between(c, d)) => {
-            differences(width, a, b, c, d)
+            subtract_ranges(width, a, b, c, d)
         }
         _ => Range::Between(least_of(width), greatest_of(width)),
     }

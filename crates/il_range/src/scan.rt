@@ -1,14 +1,14 @@
 // What a scan of a verified image may leave in the slots.
 ghost use Rattle.std.specs.Prelude.{◌≡◌, ◌+◌, IfOk, List, [], length, map};
 ghost use Rattle.il_range.specs.declared.delay.KnownDelay.{KnownDelay};
-ghost use Rattle.il_range.specs.Foretold.{Foretells};
-ghost use Rattle.il_range.specs.Outcomes.{PredictsScan};
+ghost use Rattle.il_range.specs.Predictions.{PredictsScans};
+ghost use Rattle.il_range.specs.Outcomes.{PredictsReached};
 ghost use Rattle.il_range.specs.Starts as spec;
 
 use crate::delay::KnownDelay;
 use crate::dependencies::Dependencies;
 use crate::known::Known;
-use crate::pass::outcome;
+use crate::pass::run_pass;
 use crate::range::Range;
 use crate::sources::SlotSources;
 use crate::start::{free_ranges, start_ranges, timers_of};
@@ -42,21 +42,21 @@ fn first_known(
         (λ first. first.timers.items ≡ spec.known_of_kinds image.now.timers delays.now) }
 {
     let timers = timers_of(alloc, image.timers(), delays)?;
-    let traces = Dependencies::new(alloc, slots.as_slice(), timers.len())?;
+    let dependencies = Dependencies::new(alloc, slots.as_slice(), timers.len())?;
     Ok(Known {
         cells: Vec::new(alloc),
         slots,
         timers,
-        traces,
+        dependencies,
     })
 }
 
 // Returns a prediction in which nothing is known.
-fn unknown(alloc: Global, image: &Image) -> Result<ScanPrediction, AllocError>
+fn predict_nothing(alloc: Global, image: &Image) -> Result<ScanPrediction, AllocError>
     ensures size { IfOk result
         (λ f. length f.ranges.items ≡ length image.now.points + length image.now.variables) }
-    ensures tells { (start : List Range) (delays : List KnownDelay)
-        → IfOk result (λ f. PredictsScan image.now start delays f.delays.items f.ranges.items) }
+    ensures predicts { (start : List Range) (delays : List KnownDelay)
+        → IfOk result (λ f. PredictsReached image.now start delays f.delays.items f.ranges.items) }
 {
     let ranges = free_ranges(alloc, image.points().len() + image.variables().len())?;
     Ok(ScanPrediction {
@@ -86,9 +86,9 @@ fn prediction_at(alloc: Global, end: Known) -> Result<ScanPrediction, AllocError
 {
     let delays = delays_of(alloc, end.timers.as_slice())?;
     let ranges = end.slots;
-    let traces = end.traces;
-    let mut sets = traces.slots;
-    sets.extend_from_slice(traces.timers.as_slice())?;
+    let dependencies = end.dependencies;
+    let mut sets = dependencies.slots;
+    sets.extend_from_slice(dependencies.timers.as_slice())?;
     Ok(ScanPrediction {
         ranges,
         delays,
@@ -106,16 +106,16 @@ pub(crate) fn predict(
 ) -> Result<ScanPrediction, AllocError>
     ensures size { IfOk result
         (λ f. length f.ranges.items ≡ length image.now.points + length image.now.variables) }
-    ensures tells { IfOk result
-        (λ f. PredictsScan image.now start.items delays.now f.delays.items f.ranges.items) }
+    ensures predicts { IfOk result
+        (λ f. PredictsReached image.now start.items delays.now f.delays.items f.ranges.items) }
 {
     let first = first_known(alloc, image, delays, start)?;
-    match outcome(alloc, image.code(), first) {
+    match run_pass(alloc, image.code(), first) {
         Ok(end) if end.slots.len() == image.points().len() + image.variables().len() => {
             prediction_at(alloc, end)
         }
         Err(PassStop::OutOfMemory) => Err(AllocError),
-        _ => unknown(alloc, image),
+        _ => predict_nothing(alloc, image),
     }
 }
 
@@ -136,7 +136,7 @@ pub fn scan_ranges(
 ) -> Result<ScanPrediction, AllocError>
     ensures size { IfOk result
         (λ f. length f.ranges.items ≡ length verified.now.points + length verified.now.variables) }
-    ensures foretells { IfOk result (λ f. Foretells verified.now memory.now delays.now given.now
+    ensures predicts { IfOk result (λ f. PredictsScans verified.now memory.now delays.now given.now
         f.delays.items f.ranges.items) }
 {
     let image = verified.image();

@@ -17,29 +17,29 @@ use Rattle.il_image.specs.Machine.{StepResult, Traps, MissingSlot, MissingTimer}
 use Rattle.il_image.specs.Timers.{after_call, elapsed_of, first_state, phase_after}
 use Rattle.il_image.specs.Values.{number_of, type_of}
 use Rattle.il_image.proofs.KindLemmas.{kind-above}
-use Rattle.il_scan.specs.MachineStates.{Fit, IsTimer}
+use Rattle.il_scan.specs.MachineStates.{HaveKinds, IsTimer}
 use Rattle.il_scan.specs.Words.{AreTyped, slot_at, words_of}
-use Rattle.il_scan.specs.Working.{timer_at}
+use Rattle.il_scan.specs.WordEffects.{timer_at}
 
 -- ---- values on the stack
 
-pub fit-length : (values : List Value) (kinds : List CellKind) → Fit values kinds
+pub fit-length : (values : List Value) (kinds : List CellKind) → HaveKinds values kinds
     → length values ≡ length kinds
 fit-length [] [] h = refl
 fit-length [] (k ∷ kinds) h = absurd h
 fit-length (v ∷ values) [] h = absurd h
 fit-length (v ∷ values) (k ∷ kinds) h = ap suc (fit-length values kinds h.1)
 
-pub depth_of : (values : List Value) (kinds : List CellKind) → Fit values kinds
+pub depth_of : (values : List Value) (kinds : List CellKind) → HaveKinds values kinds
     → length (words_of values) ≡ length kinds
 depth_of values kinds h = length-map values number_of ∙ fit-length values kinds h
 
 -- a value of the wanted kind is on top
 pub on-top : (wanted : CellKind) (kinds rest : List CellKind) (P : List Value → Type 0)
     → below wanted kinds ≡ Some rest
-    → ((v : Value) (others : List Value) → HasKind v wanted → IsValue v → Fit others rest
-    → Fit (v ∷ others) kinds → P (v ∷ others))
-    → (cells : List Value) → Fit cells kinds → P cells
+    → ((v : Value) (others : List Value) → HasKind v wanted → IsValue v → HaveKinds others rest
+    → HaveKinds (v ∷ others) kinds → P (v ∷ others))
+    → (cells : List Value) → HaveKinds cells kinds → P cells
 on-top wanted [] rest P e does cells fit = absurd cc
 on-top wanted (k ∷ kinds) rest P e does [] fit = absurd fit
 on-top wanted (k ∷ kinds) rest P e does (v ∷ others) fit = go (is_within k wanted) refl e
@@ -48,7 +48,7 @@ on-top wanted (k ∷ kinds) rest P e does (v ∷ others) fit = go (is_within k w
         → P (v ∷ others)
     go true f g =
         does v others (kind-above v k wanted f fit.0.0) fit.0.1
-        (subst (Fit others) (same_Some kinds rest g) fit.1) fit
+        (subst (HaveKinds others) (same_Some kinds rest g) fit.1) fit
     go false f g = absurd cc
 
 -- ---- slots

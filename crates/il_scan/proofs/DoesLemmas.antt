@@ -27,52 +27,52 @@ use Rattle.il_image.specs.Arithmetic.{DividesBy, comparison_holds, computation_o
 use Rattle.il_image.specs.Effects.{below, kind_of}
 use Rattle.il_image.specs.Images.{IsValue}
 use Rattle.il_image.specs.Kinds.{HasKind}
-use Rattle.il_image.specs.Machine.{State, StepResult, Goes, Traps, WrongKind, ZeroDivisor, act, divides, continues_at, is_comparable, pushes, stores, value_of_width, most_cells}
+use Rattle.il_image.specs.Machine.{State, StepResult, Continues, Traps, WrongKind, ZeroDivisor, act, divides, continues_at, is_comparable, pushes, stores, value_of_width, most_cells}
 use Rattle.il_image.specs.Machine as machine
 use Rattle.il_image.specs.Timers.{after_call}
 use Rattle.il_image.specs.Values.{number_of, type_of}
 use Rattle.il_image.proofs.KindLemmas.{same-self}
-use Rattle.il_scan.specs.MachineStates.{Fit, IsTimer, Typed}
+use Rattle.il_scan.specs.MachineStates.{HaveKinds, IsTimer, HaveTypes}
 use Rattle.il_scan.specs.Words.{slot_at, words_of}
-use Rattle.il_scan.specs.Working.{IsReady, Words, leads, timer_at, words, words_after}
+use Rattle.il_scan.specs.WordEffects.{IsReady, Words, next_offset, timer_at, words, words_after}
 use Rattle.il_scan.proofs.ValueLemmas.{combined-is, kind-there, number_in, span-value, span-within, truth-there, truth-value, truth-word, type-in, widened-long, widened-short, wrapped-value}
 use Rattle.il_scan.proofs.CellLemmas.{call-good, depth_of, fit-length, slot-set, slot-there, timer-good, timer-is, timers-set, with-slot-is, with-timer-is}
 
 -- ---- what an instruction does
 
 abbrev pub state : ℕ → List Value → List Value → List TimerState → State
-state place cells slots timers =
-    record { place = place; cells = cells; slots = slots; timers = timers }
+state offset cells slots timers =
+    record { offset = offset; cells = cells; slots = slots; timers = timers }
 
 abbrev pub words_for : List Value → List Value → List TimerState → Words
 words_for cells slots timers = words (words_of cells) (words_of slots) timers
 
 -- It needs no more than the words have, goes on at a place, and the words then stand for the values
 -- then, which fit the kinds.
-pub record Does (types : List ElementaryType) (count now : ℕ) (i : Instr) (next place : ℕ)
+pub record Does (types : List ElementaryType) (count now : ℕ) (i : Instr) (next offset : ℕ)
     (cells slots : List Value) (timers : List TimerState) (kinds : List CellKind) : Type 0 where
   pub ready : IsReady i (words_for cells slots timers)
   pub to : ℕ
   pub new_cells : List Value
   pub new_slots : List Value
   pub new_timers : List TimerState
-  pub goes_on : act now i next (state place cells slots timers)
-      ≡ Goes (state to new_cells new_slots new_timers)
-  pub leads_to : leads i next (words_of cells) ≡ Some to
+  pub goes_on : act now i next (state offset cells slots timers)
+      ≡ Continues (state to new_cells new_slots new_timers)
+  pub leads_to : next_offset i next (words_of cells) ≡ Some to
   pub words_are : words_after now i (words_for cells slots timers)
       ≡ words_for new_cells new_slots new_timers
-  pub fit : Fit new_cells kinds
-  pub typed : Typed types count new_slots new_timers
+  pub fit : HaveKinds new_cells kinds
+  pub typed : HaveTypes types count new_slots new_timers
 
 -- Only the stack changes, and the next place.
 on-stack : {types : List ElementaryType} {count now next p : ℕ} {i : Instr}
     {cells slots : List Value}
     {timers : List TimerState} {kinds : List CellKind} (to : ℕ) (new : List Value)
     → IsReady i (words_for cells slots timers)
-    → act now i next (state p cells slots timers) ≡ Goes (state to new slots timers)
-    → leads i next (words_of cells) ≡ Some to
-    → words_after now i (words_for cells slots timers) ≡ words_for new slots timers → Fit new kinds
-    → Typed types count slots timers → Does types count now i next p cells slots timers kinds
+    → act now i next (state p cells slots timers) ≡ Continues (state to new slots timers)
+    → next_offset i next (words_of cells) ≡ Some to
+    → words_after now i (words_for cells slots timers) ≡ words_for new slots timers → HaveKinds new kinds
+    → HaveTypes types count slots timers → Does types count now i next p cells slots timers kinds
 on-stack {slots = slots} {timers = timers} to new ready goes_on leads_to words_are fit typed =
     record {
       ready = ready;
@@ -89,14 +89,14 @@ on-stack {slots = slots} {timers = timers} to new ready goes_on leads_to words_a
 
 -- for each instruction, with any values on the stack
 module _ (types : List ElementaryType) (count now next p : ℕ) (cells slots : List Value)
-    (timers : List TimerState) (typed : Typed types count slots timers) where
+    (timers : List TimerState) (typed : HaveTypes types count slots timers) where
   abbrev here : State
   here = state p cells slots timers
 
   -- A value is put on the stack.
-  put : {kinds : List CellKind} (i : Instr) (v : Value) (k : CellKind) → Fit cells kinds
+  put : {kinds : List CellKind} (i : Instr) (v : Value) (k : CellKind) → HaveKinds cells kinds
       → (length (words_of cells) < most_cells → IsReady i (words_for cells slots timers))
-      → act now i next here ≡ pushes v next here → leads i next (words_of cells) ≡ Some next
+      → act now i next here ≡ pushes v next here → next_offset i next (words_of cells) ≡ Some next
       → words_after now i (words_for cells slots timers) ≡ words_for (v ∷ cells) slots timers
       → HasKind v k × IsValue v → length (k ∷ kinds) ≤ most_cells
       → Does types count now i next p cells slots timers (k ∷ kinds)
@@ -110,9 +110,9 @@ module _ (types : List ElementaryType) (count now next p : ℕ) (cells slots : L
 
   -- A slot takes a value of its type.
   put-slot : {kinds : List CellKind} (i : Instr) (n : ℕ) (t : ElementaryType) (v : Value)
-      → slice_get types n ≡ Some t → type_of v ≡ t → IsValue v → Fit cells kinds
+      → slice_get types n ≡ Some t → type_of v ≡ t → IsValue v → HaveKinds cells kinds
       → IsReady i (words_for cells slots timers)
-      → act now i next here ≡ stores n v next here → leads i next (words_of cells) ≡ Some next
+      → act now i next here ≡ stores n v next here → next_offset i next (words_of cells) ≡ Some next
       → words_after now i (words_for cells slots timers)
       ≡ words (words_of cells) (slice_set (words_of slots) n (number_of v)) timers
       → Does types count now i next p cells slots timers kinds
@@ -131,7 +131,7 @@ module _ (types : List ElementaryType) (count now next p : ℕ) (cells slots : L
         fit = fit;
         typed = record {
           of_types = slot-set types slots n t v e typed.of_types is good;
-          so_many = typed.so_many;
+          timer_count = typed.timer_count;
           times = typed.times;
         };
       }
@@ -142,13 +142,13 @@ module _ (types : List ElementaryType) (count now next p : ℕ) (cells slots : L
       → (n < length timers → IsReady i (words_for cells slots timers))
       → act now i next here
       ≡ machine.with_timer n here (λ t. machine.changes n (make t) next new here)
-      → leads i next (words_of cells) ≡ Some next
+      → next_offset i next (words_of cells) ≡ Some next
       → words_after now i (words_for cells slots timers)
-      ≡ words_for new slots (slice_set timers n (make (timer_at timers n))) → Fit new kinds
+      ≡ words_for new slots (slice_set timers n (make (timer_at timers n))) → HaveKinds new kinds
       → IsTimer (make (timer_at timers n))
       → Does types count now i next p cells slots timers kinds
   change i n make new below ready continues_at leads_to words_are fit good =
-      let size : length timers ≡ count = typed.so_many in
+      let size : length timers ≡ count = typed.timer_count in
       let there : n < length timers = omega arith in
       let t : TimerState = make (timer_at timers n) in
       record {
@@ -164,31 +164,31 @@ module _ (types : List ElementaryType) (count now next p : ℕ) (cells slots : L
         fit = fit;
         typed = record {
           of_types = typed.of_types;
-          so_many = length-set timers n t ∙ size;
+          timer_count = length-set timers n t ∙ size;
           times = timers-set timers n t typed.times good;
         };
       }
 
   -- what a timer shows is put on the stack
   show : {kinds : List CellKind} (i : Instr) (n : ℕ) (make : TimerState → Value) (k : CellKind)
-      → n < count → Fit cells kinds
+      → n < count → HaveKinds cells kinds
       → (length (words_of cells) < most_cells → n < length timers
       → IsReady i (words_for cells slots timers))
       → act now i next here ≡ machine.with_timer n here (λ t. pushes (make t) next here)
-      → leads i next (words_of cells) ≡ Some next
+      → next_offset i next (words_of cells) ≡ Some next
       → words_after now i (words_for cells slots timers)
       ≡ words_for (make (timer_at timers n) ∷ cells) slots timers
       → HasKind (make (timer_at timers n)) k × IsValue (make (timer_at timers n))
       → length (k ∷ kinds) ≤ most_cells
       → Does types count now i next p cells slots timers (k ∷ kinds)
   show i n make k below fit ready continues_at leads_to words_are good room =
-      let size : length timers ≡ count = typed.so_many in
+      let size : length timers ≡ count = typed.timer_count in
       let there : n < length timers = omega arith in
       put i (make (timer_at timers n)) k fit (λ deep. ready deep there)
       (continues_at ∙ with-timer-is timers n (timer_at timers n) (λ u. pushes (make u) next here)
       (timer-is timers n there)) leads_to words_are good room
 
-  module _ (kinds : List CellKind) (fit : Fit cells kinds) where
+  module _ (kinds : List CellKind) (fit : HaveKinds cells kinds) where
     pub does-push : (v : Value) → IsValue v → length (kind_of v ∷ kinds) ≤ most_cells
         → Does types count now (Push v) next p cells slots timers (kind_of v ∷ kinds)
     unfolding act
@@ -243,13 +243,13 @@ module _ (types : List ElementaryType) (count now next p : ℕ) (cells slots : L
 -- with a value on top
 module _ (types : List ElementaryType) (count now next p : ℕ) (top : Value)
     (others slots : List Value) (timers : List TimerState) (rest : List CellKind)
-    (fit : Fit others rest) (typed : Typed types count slots timers) where
+    (fit : HaveKinds others rest) (typed : HaveTypes types count slots timers) where
   pub does-drop : Does types count now Drop next p (top ∷ others) slots timers rest
   unfolding act
   does-drop = on-stack next others (omega arith) refl refl refl fit typed
 
   pub does-store : (n : ℕ) (t : ElementaryType) (kinds : List CellKind) → slice_get types n ≡ Some t
-      → type_of top ≡ t → IsValue top → Fit (top ∷ others) kinds
+      → type_of top ≡ t → IsValue top → HaveKinds (top ∷ others) kinds
       → Does types count now (Slot Store n) next p (top ∷ others) slots timers kinds
   unfolding act
   does-store n t kinds e is good all =
@@ -262,8 +262,8 @@ module _ (types : List ElementaryType) (count now next p : ℕ) (top : Value)
 
 -- with a BOOL on top
 module _ (types : List ElementaryType) (count now next p : ℕ) (others slots : List Value)
-    (timers : List TimerState) (rest : List CellKind) (fit : Fit others rest)
-    (typed : Typed types count slots timers) where
+    (timers : List TimerState) (rest : List CellKind) (fit : HaveKinds others rest)
+    (typed : HaveTypes types count slots timers) where
   pub does-not : (b : Bool) → Does types count now Not next p (Truth b ∷ others) slots timers
       (Plain elementary.Bool ∷ rest)
   unfolding act
@@ -275,7 +275,7 @@ module _ (types : List ElementaryType) (count now next p : ℕ) (others slots : 
       ((refl, truth-value true), fit) typed
 
   pub does-jump-if : (b : Bool) (distance : ℕ) (kinds : List CellKind)
-      → Fit (Truth b ∷ others) kinds
+      → HaveKinds (Truth b ∷ others) kinds
       → Does types count now (Jump IfTrue distance) next p (Truth b ∷ others) slots timers kinds
   unfolding act
   does-jump-if true distance kinds all =
@@ -284,7 +284,7 @@ module _ (types : List ElementaryType) (count now next p : ℕ) (others slots : 
       on-stack next (Truth false ∷ others) (omega arith) refl refl refl all typed
 
   pub does-jump-if-not : (b : Bool) (distance : ℕ) (kinds : List CellKind)
-      → Fit (Truth b ∷ others) kinds
+      → HaveKinds (Truth b ∷ others) kinds
       → Does types count now (Jump IfFalse distance) next p (Truth b ∷ others) slots timers kinds
   unfolding act
   does-jump-if-not true distance kinds all =
@@ -303,27 +303,27 @@ module _ (types : List ElementaryType) (count now next p : ℕ) (others slots : 
 
   -- SETIF and RESETIF: a BOOL slot takes a value that has this word
   sets : (i : Instr) (n : ℕ) (b : Bool) (kinds : List CellKind) (made : Bool → Bool)
-      → slice_get types n ≡ Some elementary.Bool → Fit (Truth b ∷ others) kinds
+      → slice_get types n ≡ Some elementary.Bool → HaveKinds (Truth b ∷ others) kinds
       → (n < length (words_of slots) → IsReady i (words_for (Truth b ∷ others) slots timers))
       → ((old : Bool) → slice_get slots n ≡ Some (Truth old)
       → act now i next (state p (Truth b ∷ others) slots timers)
       ≡ stores n (Truth (made old)) next (state p (Truth b ∷ others) slots timers))
-      → leads i next (words_of (Truth b ∷ others)) ≡ Some next
+      → next_offset i next (words_of (Truth b ∷ others)) ≡ Some next
       → ((old : Bool) → slot_at (words_of slots) n ≡ number_of (Truth old)
       → words_after now i (words_for (Truth b ∷ others) slots timers)
       ≡ words (words_of (Truth b ∷ others))
       (slice_set (words_of slots) n (number_of (Truth (made old)))) timers)
       → Does types count now i next p (Truth b ∷ others) slots timers kinds
-  sets i n b kinds made e all ready continues_at leads done =
+  sets i n b kinds made e all ready continues_at next_offset done =
       let s = slot-there types slots n elementary.Bool e typed.of_types in
       let t = truth-there s.value s.type in
       put-slot types count now next p (Truth b ∷ others) slots timers typed i n elementary.Bool
       (Truth (made t.0)) e refl (truth-value (made t.0)) all (ready s.below)
-      (continues_at t.0 (s.get ∙ ap (λ (u : Value). Some u) t.1)) leads
+      (continues_at t.0 (s.get ∙ ap (λ (u : Value). Some u) t.1)) next_offset
       (done t.0 (s.word ∙ ap number_of t.1))
 
   pub does-set-if : (n : ℕ) (b : Bool) (kinds : List CellKind)
-      → slice_get types n ≡ Some elementary.Bool → Fit (Truth b ∷ others) kinds
+      → slice_get types n ≡ Some elementary.Bool → HaveKinds (Truth b ∷ others) kinds
       → Does types count now (Slot SetIf n) next p (Truth b ∷ others) slots timers kinds
   unfolding act
   does-set-if n true kinds e all =
@@ -334,7 +334,7 @@ module _ (types : List ElementaryType) (count now next p : ℕ) (others slots : 
       (λ old get. rw get refl) refl (λ old word. rw word refl)
 
   pub does-reset-if : (n : ℕ) (b : Bool) (kinds : List CellKind)
-      → slice_get types n ≡ Some elementary.Bool → Fit (Truth b ∷ others) kinds
+      → slice_get types n ≡ Some elementary.Bool → HaveKinds (Truth b ∷ others) kinds
       → Does types count now (Slot ResetIf n) next p (Truth b ∷ others) slots timers kinds
   unfolding act
   does-reset-if n true kinds e all =
@@ -386,7 +386,7 @@ module _ (types : List ElementaryType) (count now next p : ℕ) (others slots : 
       with-numbers-is : (w : Width) (a b : ℤ) → (divides o && int_eq b (pos 0)) ≡ false
           → machine.computes o w next
           (state p (value_of_width w b ∷ value_of_width w a ∷ others) slots timers)
-          ≡ Goes (state next (value_of_width w (computation_of o w a b) ∷ others) slots timers)
+          ≡ Continues (state next (value_of_width w (computation_of o w a b) ∷ others) slots timers)
       with-numbers-is width.Int a b e = rw e refl
       with-numbers-is width.Dint a b e = rw e refl
       with-numbers-is width.Lint a b e = rw e refl

@@ -80,30 +80,30 @@ operand-is : (o : Opcode) (rest : List ℕ)
 unfolding instr_from
 operand-is o rest = rw (opcode-back o) refl
 
-behind-first : (code : List ℕ) (place x : ℕ) (xs : List ℕ) → drop place code ≡ x ∷ xs
-    → drop (place + 1) code ≡ xs
-behind-first code place x xs e = sym (drop-drop 1 place code) ∙ ap (drop 1) e
+behind-first : (code : List ℕ) (offset x : ℕ) (xs : List ℕ) → drop offset code ≡ x ∷ xs
+    → drop (offset + 1) code ≡ xs
+behind-first code offset x xs e = sym (drop-drop 1 offset code) ∙ ap (drop 1) e
 
 -- What stands at the place: its opcode's operand, read behind the first octet.
-pub record Found (code : List ℕ) (place : ℕ) (i : Instr) (next : ℕ) : Type 0 where
-  pub here : instr_at code place ≡ Some (i, next)
-  pub opcode : opcode_of (get_or code place 0) ≡ Some (opcode_of_instr i)
-  pub operand : operand_from Two (opcode_of_instr i) (drop (place + 1) code)
+pub record Found (code : List ℕ) (offset : ℕ) (i : Instr) (next : ℕ) : Type 0 where
+  pub here : instr_at code offset ≡ Some (i, next)
+  pub opcode : opcode_of (get_or code offset 0) ≡ Some (opcode_of_instr i)
+  pub operand : operand_from Two (opcode_of_instr i) (drop (offset + 1) code)
       ≡ Ok (i, drop next code)
-  pub forward : place < next
+  pub forward : offset < next
   pub within : next ≤ length code
 
-pub found-at : (code : List ℕ) (place : ℕ) (i : Instr) (next : ℕ) → AreOctets code
-    → instr_at code place ≡ Some (i, next) → Found code place i next
-found-at code place i next fits e =
-    let s = stands code place i next fits e in
-    let size : next ≡ place + suc (length (operand_of i)) = s.size in
+pub found-at : (code : List ℕ) (offset : ℕ) (i : Instr) (next : ℕ) → AreOctets code
+    → instr_at code offset ≡ Some (i, next) → Found code offset i next
+found-at code offset i next fits e =
+    let s = stands code offset i next fits e in
+    let size : next ≡ offset + suc (length (operand_of i)) = s.size in
     record {
       here = e;
-      opcode = opcode-there code place 0 i next fits e;
+      opcode = opcode-there code offset 0 i next fits e;
       operand =
           ap (operand_from Two (opcode_of_instr i))
-          (behind-first code place (octet_of (opcode_of_instr i)) (operand_of i ++ drop next code)
+          (behind-first code offset (octet_of (opcode_of_instr i)) (operand_of i ++ drop next code)
           s.spelled)
           ∙ sym (operand-is (opcode_of_instr i) (operand_of i ++ drop next code))
           ∙ back-instr i (drop next code) s.is_instr;
@@ -111,41 +111,41 @@ found-at code place i next fits e =
       within = s.within;
     }
 
-pub found : (code : List ℕ) (place : ℕ) → AreOctets code → IsSome (instr_at code place)
-    → (i : Instr) × (next : ℕ) × Found code place i next
-found code place fits h = let t =
-    there (instr_at code place) h in (t.0.0, t.0.1, found-at code place t.0.0 t.0.1 fits t.1)
+pub found : (code : List ℕ) (offset : ℕ) → AreOctets code → IsSome (instr_at code offset)
+    → (i : Instr) × (next : ℕ) × Found code offset i next
+found code offset fits h = let t =
+    there (instr_at code offset) h in (t.0.0, t.0.1, found-at code offset t.0.0 t.0.1 fits t.1)
 
-module _ (code : List ℕ) (place : ℕ) (fits : AreOctets code) (h : IsSome (instr_at code place))
+module _ (code : List ℕ) (offset : ℕ) (fits : AreOctets code) (h : IsSome (instr_at code offset))
   where
-    pub place-within : place < length code
-    place-within = let f = found code place fits h in let a : place < f.1 =
+    pub place-within : offset < length code
+    place-within = let f = found code offset fits h in let a : offset < f.1 =
         f.2.forward in let b : f.1 ≤ length code = f.2.within in omega arith
 
-    pub no-opcode : opcode_of (get_or code place 0) ≡ None → ⊥
-    no-opcode e = let f = found code place fits h in
-        not-both (opcode_of (get_or code place 0)) (opcode_of_instr f.0) e f.2.opcode
+    pub no-opcode : opcode_of (get_or code offset 0) ≡ None → ⊥
+    no-opcode e = let f = found code offset fits h in
+        not-both (opcode_of (get_or code offset 0)) (opcode_of_instr f.0) e f.2.opcode
 
-    module _ (o : Opcode) (is : opcode_of (get_or code place 0) ≡ Some o) where
-      same-opcode : opcode_of_instr (found code place fits h).0 ≡ o
+    module _ (o : Opcode) (is : opcode_of (get_or code offset 0) ≡ Some o) where
+      same-opcode : opcode_of_instr (found code offset fits h).0 ≡ o
       same-opcode = let f =
-          found code place fits h in same_Some (opcode_of_instr f.0) o (sym f.2.opcode ∙ is)
+          found code offset fits h in same_Some (opcode_of_instr f.0) o (sym f.2.opcode ∙ is)
 
-      operand-there : operand_from Two o (drop (place + 1) code)
-          ≡ Ok ((found code place fits h).0, drop (found code place fits h).1 code)
-      operand-there = let f = found code place fits h in
-          ap (λ (p : Opcode). operand_from Two p (drop (place + 1) code)) (sym same-opcode)
+      operand-there : operand_from Two o (drop (offset + 1) code)
+          ≡ Ok ((found code offset fits h).0, drop (found code offset fits h).1 code)
+      operand-there = let f = found code offset fits h in
+          ap (λ (p : Opcode). operand_from Two p (drop (offset + 1) code)) (sym same-opcode)
           ∙ f.2.operand
 
-      pub whole-operand : IsOk (operand_from Two o (drop (place + 1) code))
-      whole-operand = let f = found code place fits h in
-          is-ok-of (operand_from Two o (drop (place + 1) code)) (f.0, drop f.1 code) operand-there
+      pub whole-operand : IsOk (operand_from Two o (drop (offset + 1) code))
+      whole-operand = let f = found code offset fits h in
+          is-ok-of (operand_from Two o (drop (offset + 1) code)) (f.0, drop f.1 code) operand-there
 
       pub fetched : (r : Instr × ℕ)
-          → operand_from Two o (drop (place + 1) code) ≡ Ok (r.0, drop r.1 code) → r.1 ≤ length code
-          → instr_at code place ≡ Some r
+          → operand_from Two o (drop (offset + 1) code) ≡ Ok (r.0, drop r.1 code) → r.1 ≤ length code
+          → instr_at code offset ≡ Some r
       fetched r e within =
-          let f = found code place fits h in
+          let f = found code offset fits h in
           let same = ok-same (f.0, drop f.1 code) (r.0, drop r.1 code) (sym operand-there ∙ e) in
           let i : f.0 ≡ r.0 = ap (λ (q : Instr × List ℕ). q.0) same in
           let left : length (drop f.1 code) ≡ length (drop r.1 code) =

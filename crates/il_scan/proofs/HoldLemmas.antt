@@ -12,18 +12,18 @@ use Rattle.il_image.specs.Images.{Image, IsValue}
 use Rattle.il_image.specs.Tables.{slot_types}
 use Rattle.il_image.specs.Values.{number_of, type_of}
 use Rattle.il_scan.specs.declared.span.Span.{Span}
-use Rattle.il_scan.specs.PointPlaces.{AllAbove, IsPut, IsRising, read_indices, with_words}
+use Rattle.il_scan.specs.PointIndices.{AllAbove, IsPut, IsRising, read_indices, with_words}
 use Rattle.il_scan.specs.Scans.{AreHeld, AreInputs, MachineData, IsOutside, Scans, first_input, inputs_in, read_only, type_of_point, with_inputs}
-use Rattle.il_scan.specs.MachineStates.{IsHeld}
+use Rattle.il_scan.specs.MachineStates.{EncodesMemory}
 use Rattle.il_scan.specs.Words.{AreTyped, slot_at, values_of, words_of}
 use Rattle.il_scan.proofs.SlotLemmas.{held-points}
 
 -- ---- places rise
 
-above-case : (b : Bool) (least n : ℕ) (places : List ℕ) → least < n → AllAbove least places
-    → AllAbove least (cond b places (n ∷ places))
-above-case true least n places l h = h
-above-case false least n places l h = (l, h)
+above-case : (b : Bool) (least n : ℕ) (indices : List ℕ) → least < n → AllAbove least indices
+    → AllAbove least (cond b indices (n ∷ indices))
+above-case true least n indices l h = h
+above-case false least n indices l h = (l, h)
 
 reads-above : (least n : ℕ) (points : List ImagePoint) → least < n
     → AllAbove least (read_indices n points)
@@ -32,10 +32,10 @@ reads-above least n (p ∷ points) l =
     above-case p.writable least n (read_indices (n + 1) points) l
     (reads-above least (n + 1) points (omega (arith, l)))
 
-rising-case : (b : Bool) (n : ℕ) (places : List ℕ) → AllAbove n places → IsRising places
-    → IsRising (cond b places (n ∷ places))
-rising-case true n places a h = h
-rising-case false n places a h = (a, h)
+rising-case : (b : Bool) (n : ℕ) (indices : List ℕ) → AllAbove n indices → IsRising indices
+    → IsRising (cond b indices (n ∷ indices))
+rising-case true n indices a h = h
+rising-case false n indices a h = (a, h)
 
 pub reads-rise : (n : ℕ) (points : List ImagePoint) → IsRising (read_indices n points)
 reads-rise n [] = tt
@@ -43,18 +43,18 @@ reads-rise n (p ∷ points) =
     rising-case p.writable n (read_indices (n + 1) points)
     (reads-above n (n + 1) points (omega arith)) (reads-rise (n + 1) points)
 
-above-at : (least : ℕ) (places : List ℕ) (k : ℕ) → AllAbove least places → k < length places
-    → least < slice_index_or places k 0
+above-at : (least : ℕ) (indices : List ℕ) (k : ℕ) → AllAbove least indices → k < length indices
+    → least < slice_index_or indices k 0
 above-at least [] k h l = absurd (omega (arith, l))
-above-at least (n ∷ places) zero h l = h.0
-above-at least (n ∷ places) (suc k) h l = above-at least places k h.1 (omega (arith, l))
+above-at least (n ∷ indices) zero h l = h.0
+above-at least (n ∷ indices) (suc k) h l = above-at least indices k h.1 (omega (arith, l))
 
-rise : (places : List ℕ) (j k : ℕ) → IsRising places → j < k → k < length places
-    → slice_index_or places j 0 < slice_index_or places k 0
+rise : (indices : List ℕ) (j k : ℕ) → IsRising indices → j < k → k < length indices
+    → slice_index_or indices j 0 < slice_index_or indices k 0
 rise [] j k h l m = absurd (omega (arith, m))
-rise (n ∷ places) j zero h l m = absurd (omega (arith, l))
-rise (n ∷ places) zero (suc k) h l m = above-at n places k h.0 (omega (arith, m))
-rise (n ∷ places) (suc j) (suc k) h l m = rise places j k h.1 (omega (arith, l)) (omega (arith, m))
+rise (n ∷ indices) j zero h l m = absurd (omega (arith, l))
+rise (n ∷ indices) zero (suc k) h l m = above-at n indices k h.0 (omega (arith, m))
+rise (n ∷ indices) (suc j) (suc k) h l m = rise indices j k h.1 (omega (arith, l)) (omega (arith, m))
 
 -- ---- a word that is put
 
@@ -91,30 +91,30 @@ at-other (s ∷ slots) (suc m) zero w h = refl
 at-other (s ∷ slots) (suc m) (suc n) w h = at-other slots m n w (λ e. h (ap suc e))
 
 -- what stands at the place of an input is no matter, where all inputs are put
-pub put-over : (places : List ℕ) (words slots : List ℤ) (k : ℕ) (x : ℤ) → IsRising places
-    → k < length places → k < length words
-    → with_words places words (slice_set slots (slice_index_or places k 0) x)
-    ≡ with_words places words slots
+pub put-over : (indices : List ℕ) (words slots : List ℤ) (k : ℕ) (x : ℤ) → IsRising indices
+    → k < length indices → k < length words
+    → with_words indices words (slice_set slots (slice_index_or indices k 0) x)
+    ≡ with_words indices words slots
 put-over [] words slots k x r l m = absurd (omega (arith, l))
-put-over (n ∷ places) [] slots k x r l m = absurd (omega (arith, m))
-put-over (n ∷ places) (w ∷ words) slots zero x r l m =
-    ap (with_words places words) (set-twice slots n x w)
-put-over (n ∷ places) (w ∷ words) slots (suc k) x r l m =
-    ap (with_words places words) (set-apart slots (slice_index_or places k 0) n x w
-    (above-at n places k r.0 (omega (arith, l))))
-    ∙ put-over places words (slice_set slots n w) k x r.1 (omega (arith, l)) (omega (arith, m))
+put-over (n ∷ indices) [] slots k x r l m = absurd (omega (arith, m))
+put-over (n ∷ indices) (w ∷ words) slots zero x r l m =
+    ap (with_words indices words) (set-twice slots n x w)
+put-over (n ∷ indices) (w ∷ words) slots (suc k) x r l m =
+    ap (with_words indices words) (set-apart slots (slice_index_or indices k 0) n x w
+    (above-at n indices k r.0 (omega (arith, l))))
+    ∙ put-over indices words (slice_set slots n w) k x r.1 (omega (arith, l)) (omega (arith, m))
 
 -- inputs that stand at their places change nothing
-pub put-all : (places : List ℕ) (values : List Value) (slots : List ℤ)
+pub put-all : (indices : List ℕ) (values : List Value) (slots : List ℤ)
     → ((k : ℕ) (v : Value) → slice_get values k ≡ Some v
-    → slot_at slots (slice_index_or places k 0) ≡ number_of v)
-    → with_words places (words_of values) slots ≡ slots
+    → slot_at slots (slice_index_or indices k 0) ≡ number_of v)
+    → with_words indices (words_of values) slots ≡ slots
 put-all [] values slots all = refl
-put-all (n ∷ places) [] slots all = refl
-put-all (n ∷ places) (v ∷ values) slots all =
-    ap (λ (w : ℤ). with_words places (words_of values) (slice_set slots n w)) (sym (all 0 v refl))
-    ∙ ap (with_words places (words_of values)) (set-itself slots n)
-    ∙ put-all places values slots (λ k. all (suc k))
+put-all (n ∷ indices) [] slots all = refl
+put-all (n ∷ indices) (v ∷ values) slots all =
+    ap (λ (w : ℤ). with_words indices (words_of values) (slice_set slots n w)) (sym (all 0 v refl))
+    ∙ ap (with_words indices (words_of values)) (set-itself slots n)
+    ∙ put-all indices values slots (λ k. all (suc k))
 
 pub all-typed : (types : List ElementaryType) (values : List Value)
     → length values ≡ length types
@@ -128,29 +128,29 @@ all-typed (t ∷ types) (v ∷ values) e all =
     (all 0 t v refl refl, all-typed types values (omega (arith, e)) (λ k. all (suc k)))
 
 -- one input more is put, and the others stay so
-module _ (places : List ℕ) (types : List ElementaryType) (values : List Value)
-    (rising : IsRising places) (sized : length values ≡ length places) where
-  put-own : (slots : List ℤ) (k : ℕ) (v : Value) → slice_index_or places k 0 < length slots
+module _ (indices : List ℕ) (types : List ElementaryType) (values : List Value)
+    (rising : IsRising indices) (sized : length values ≡ length indices) where
+  put-own : (slots : List ℤ) (k : ℕ) (v : Value) → slice_index_or indices k 0 < length slots
       → slice_get types k ≡ Some (type_of v) → slice_get values k ≡ Some v → IsValue v
-      → IsPut places types values (slice_set slots (slice_index_or places k 0) (number_of v)) k
+      → IsPut indices types values (slice_set slots (slice_index_or indices k 0) (number_of v)) k
   put-own slots k v l e f is = record {
-    word = λ u g. at-own slots (slice_index_or places k 0) (number_of v) l
+    word = λ u g. at-own slots (slice_index_or indices k 0) (number_of v) l
         ∙ ap number_of (same_Some v u (sym f ∙ g));
     typed = λ t u g h.
         let same : v ≡ u = same_Some v u (sym f ∙ h) in
         (ap type_of (sym same) ∙ same_Some (type_of v) t (sym e ∙ g), subst IsValue same is);
   }
 
-  put-other : (slots : List ℤ) (j k : ℕ) (w : ℤ) → (j < k) ⊎ (k < j) → k < length places
-      → IsPut places types values slots j
-      → IsPut places types values (slice_set slots (slice_index_or places k 0) w) j
+  put-other : (slots : List ℤ) (j k : ℕ) (w : ℤ) → (j < k) ⊎ (k < j) → k < length indices
+      → IsPut indices types values slots j
+      → IsPut indices types values (slice_set slots (slice_index_or indices k 0) w) j
   put-other slots j k w apart l p = record {
     word = λ u g.
         let within : j < length values = slice_get_within values j u g in
-        at-other slots (slice_index_or places j 0) (slice_index_or places k 0) w
+        at-other slots (slice_index_or indices j 0) (slice_index_or indices k 0) w
         (λ e. elim apart [
-          | inl a ↦ (let r = rise places j k rising a l in omega (arith, e, r))
-          | inr a ↦ (let r = rise places k j rising a (omega (arith, within, sized)) in
+          | inl a ↦ (let r = rise indices j k rising a l in omega (arith, e, r))
+          | inr a ↦ (let r = rise indices k j rising a (omega (arith, within, sized)) in
               omega (arith, e, r))
         ])
         ∙ p.word u g;
@@ -162,18 +162,18 @@ module _ (places : List ℕ) (types : List ElementaryType) (values : List Value)
   later j k last (inr b) a = b
 
   pub put-next : (slots : List ℤ) (k : ℕ) (v : Value) (last : ℕ)
-      → slice_index_or places k 0 < length slots → k < length places
+      → slice_index_or indices k 0 < length slots → k < length indices
       → slice_get types k ≡ Some (type_of v) → slice_get values k ≡ Some v → IsValue v
-      → ((j : ℕ) → (j < k) ⊎ (last ≤ j) → IsPut places types values slots j)
+      → ((j : ℕ) → (j < k) ⊎ (last ≤ j) → IsPut indices types values slots j)
       → (j : ℕ) → (j < k + 1) ⊎ (last ≤ j)
-      → IsPut places types values (slice_set slots (slice_index_or places k 0) (number_of v)) j
+      → IsPut indices types values (slice_set slots (slice_index_or indices k 0) (number_of v)) j
   put-next slots k v last l within e f is all j near = by-order (cases_order j k)
     where
       by-order : (j ≡ k) ⊎ ((j < k) ⊎ (k < j))
-          → IsPut places types values (slice_set slots (slice_index_or places k 0) (number_of v)) j
+          → IsPut indices types values (slice_set slots (slice_index_or indices k 0) (number_of v)) j
       by-order (inl same) =
-          subst (IsPut places types values
-          (slice_set slots (slice_index_or places k 0) (number_of v))) (sym same)
+          subst (IsPut indices types values
+          (slice_set slots (slice_index_or indices k 0) (number_of v))) (sym same)
           (put-own slots k v l e f is)
       by-order (inr (inl a)) =
           put-other slots j k (number_of v) (inl a) within (all j (inl a))
@@ -182,12 +182,12 @@ module _ (places : List ℕ) (types : List ElementaryType) (values : List Value)
 
   -- behind the last all are put
   pub all-put : (slots : List ℤ) (k last : ℕ)
-      → ((j : ℕ) → (j < k) ⊎ (last ≤ j) → IsPut places types values slots j)
-      → ((j : ℕ) → k ≤ j → (last ≤ j) ⊎ (length places ≤ j))
-      → (j : ℕ) → IsPut places types values slots j
+      → ((j : ℕ) → (j < k) ⊎ (last ≤ j) → IsPut indices types values slots j)
+      → ((j : ℕ) → k ≤ j → (last ≤ j) ⊎ (length indices ≤ j))
+      → (j : ℕ) → IsPut indices types values slots j
   all-put slots k last put behind j = by-order (cases_lt j k)
     where
-      past : (last ≤ j) ⊎ (length places ≤ j) → IsPut places types values slots j
+      past : (last ≤ j) ⊎ (length indices ≤ j) → IsPut indices types values slots j
       past (inl a) = put j (inr a)
       past (inr a) = record {
         word = λ v e. let l : j < length values = slice_get_within values j v e in
@@ -196,7 +196,7 @@ module _ (places : List ℕ) (types : List ElementaryType) (values : List Value)
             absurd (omega (arith, l, a, sized));
       }
 
-      by-order : (j < k) ⊎ (k ≤ j) → IsPut places types values slots j
+      by-order : (j < k) ⊎ (k ≤ j) → IsPut indices types values slots j
       by-order (inl a) = put j (inl a)
       by-order (inr a) = past (behind j a)
 
@@ -269,7 +269,7 @@ all-held span inputs held first last k v (inr a) e =
     absurd (omega (arith, a, within, last))
 
 module _ (image : Image) (slots : List ℤ) (timers : List TimerState)
-    (h : IsHeld image slots timers) where
+    (h : EncodesMemory image slots timers) where
   abbrev values : List Value
   values = values_of (slot_types image) slots
 

@@ -8,6 +8,6 @@ pub mod RunLemmas
 pub mod ScanLemmas
 pub mod SimLemmas
 pub mod SlotLemmas
-pub mod StandLemmas
-pub mod TurnLemmas
+pub mod EncodingLemmas
+pub mod StepLemmas
 pub mod ValueLemmas

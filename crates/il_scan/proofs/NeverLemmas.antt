@@ -7,17 +7,17 @@ use Rattle.il_image.specs.Octets.{AreOctets}
 use Rattle.il_image.specs.Tables.{slot_types}
 use Rattle.il_image.specs.Values.{type_of}
 use Rattle.il_verify.specs.Verdicts.{IsSafe}
-use Rattle.il_scan.specs.Laws.{Ends, NeverGoesWrong}
+use Rattle.il_scan.specs.Laws.{ScanEnds, NeverGoesWrong}
 use Rattle.il_scan.specs.Scans.{AreInputs, with_inputs}
-use Rattle.il_scan.specs.MachineStates.{IsHeld, RunsTo, Turns, first_state, words_at}
+use Rattle.il_scan.specs.MachineStates.{EncodesMemory, RunsTo, StepsTo, first_state, words_at}
 use Rattle.il_scan.specs.Scans.{machine_data}
 use Rattle.il_scan.specs.Words.{values_of, words_of}
-use Rattle.il_scan.specs.Working.{Words, leads, words_after}
+use Rattle.il_scan.specs.WordEffects.{Words, next_offset, words_after}
 use Rattle.il_scan.proofs.RunLemmas.{Comes, comes-next, forward, run-ends, starts}
 use Rattle.il_scan.proofs.ScanLemmas.{held-taken, scanned}
 use Rattle.il_scan.proofs.SlotLemmas.{outputs_are}
-use Rattle.il_scan.proofs.StandLemmas.{held-by, stand-again}
-use Rattle.il_scan.proofs.TurnLemmas.{place-within, turned}
+use Rattle.il_scan.proofs.EncodingLemmas.{held-by, stand-again}
+use Rattle.il_scan.proofs.StepLemmas.{place-within, turned}
 
 -- the run from these slots and timers ends somewhere
 record RunEnds (image : Image) (now : ℕ) (slots : List ℤ) (timers : List TimerState) : Type 0 where
@@ -27,46 +27,46 @@ record RunEnds (image : Image) (now : ℕ) (slots : List ℤ) (timers : List Tim
   runs : RunsTo image now slots timers new_slots new_timers steps
 
 module _ (image : Image) (now : ℕ) (slots : List ℤ) (timers : List TimerState) (safe : IsSafe image)
-    (is-held : IsHeld image slots timers) where
+    (is-held : EncodesMemory image slots timers) where
   -- a run that has come to a place goes on to its end
-  goes_on : (left place steps : ℕ) (w : Words)
-      (c : Comes image now (first_state image slots timers) place steps w)
-      → length image.code ≤ place + left → RunEnds image now slots timers
-  goes_on zero place steps w c past =
-      let within = place-within image now c.state c.stands.standing in
-      let there : c.state.place ≡ place = c.stands.there in
+  goes_on : (left offset steps : ℕ) (w : Words)
+      (c : Comes image now (first_state image slots timers) offset steps w)
+      → length image.code ≤ offset + left → RunEnds image now slots timers
+  goes_on zero offset steps w c past =
+      let within = place-within image now c.state c.stands.allowed in
+      let there : c.state.offset ≡ offset = c.stands.there in
       absurd (omega arith)
-  goes_on (suc left) place steps w c past =
-      let h = c.stands.standing in
-      let a = h.agrees.allowed c.state.place h.kinds h.here in
+  goes_on (suc left) offset steps w c past =
+      let h = c.stands.allowed in
+      let a = h.agrees.allowed c.state.offset h.kinds h.here in
       let within = place-within image now c.state h in
-      let there : c.state.place ≡ place = c.stands.there in
-      let less : place < length image.code = omega arith in
+      let there : c.state.offset ≡ offset = c.stands.there in
+      let less : offset < length image.code = omega arith in
       let after : Words = words_after now a.instr (words_at c.state) in
       let turn =
       turned image now c.state h a.instr a.next a.here c.octets
-      (leads a.instr a.next (words_at c.state).stack) after refl refl in
-      next-turn left place steps w c past less after (leads a.instr a.next (words_at c.state).stack)
+      (next_offset a.instr a.next (words_at c.state).stack) after refl refl in
+      next-turn left offset steps w c past less after (next_offset a.instr a.next (words_at c.state).stack)
       turn (λ to later. goes_on left to (steps + 1) after later)
     where
-      next-turn : (left place steps : ℕ) (w : Words)
-          (c : Comes image now (first_state image slots timers) place steps w)
-          → length image.code ≤ place + suc left → place < length image.code
-          → (after : Words) (to : Option ℕ) → Turns image now c.state to after
+      next-turn : (left offset steps : ℕ) (w : Words)
+          (c : Comes image now (first_state image slots timers) offset steps w)
+          → length image.code ≤ offset + suc left → offset < length image.code
+          → (after : Words) (to : Option ℕ) → StepsTo image now c.state to after
           → ((q : ℕ) → Comes image now (first_state image slots timers) q (steps + 1) after
           → length image.code ≤ q + left → RunEnds image now slots timers)
           → RunEnds image now slots timers
-      next-turn left place steps w c past less after None turn more = record {
+      next-turn left offset steps w c past less after None turn more = record {
         new_slots = after.slots;
         new_timers = after.timers;
         steps = steps + 1;
-        runs = run-ends image now slots timers place steps w c less safe is-held after turn;
+        runs = run-ends image now slots timers offset steps w c less safe is-held after turn;
       }
-      next-turn left place steps w c past less after (Some to) turn more =
-          let on : place < to =
-          forward image now (first_state image slots timers) place steps w c less to after turn
+      next-turn left offset steps w c past less after (Some to) turn more =
+          let on : offset < to =
+          forward image now (first_state image slots timers) offset steps w c less to after turn
           in
-          more to (comes-next image now (first_state image slots timers) place steps w c less to
+          more to (comes-next image now (first_state image slots timers) offset steps w c less to
           after turn) (omega arith)
 
   run-ends-somewhere : AreOctets image.code → RunEnds image now slots timers
@@ -76,11 +76,11 @@ module _ (image : Image) (now : ℕ) (slots : List ℤ) (timers : List TimerStat
 
 -- a scan of words, from words that are held
 scan-ends : (image : Image) (inputs : List Value) (now : ℕ) (slots : List ℤ)
-    (timers : List TimerState) → AreOctets image.code → IsSafe image → IsHeld image slots timers
-    → AreInputs image.points inputs → Ends (machine_data image slots timers) inputs now
+    (timers : List TimerState) → AreOctets image.code → IsSafe image → EncodesMemory image slots timers
+    → AreInputs image.points inputs → ScanEnds (machine_data image slots timers) inputs now
 scan-ends image inputs now slots timers octets safe is-held are =
     let taken : List ℤ = with_inputs image.points (words_of inputs) slots in
-    let before : IsHeld image taken timers =
+    let before : EncodesMemory image taken timers =
     held-taken image image.points refl inputs now slots timers is-held are taken refl in
     let e = run-ends-somewhere image now taken timers safe before octets in
     record {
@@ -93,11 +93,11 @@ scan-ends image inputs now slots timers octets safe is-held are =
 
 pub never_goes_wrong : NeverGoesWrong
 never_goes_wrong image slots timers inputs now octets safe typed are =
-    let is-held : IsHeld image (words_of slots) timers =
+    let is-held : EncodesMemory image (words_of slots) timers =
     held-by image (words_of slots) slots timers refl typed in
     let same : values_of (slot_types image) (words_of slots) ≡ slots =
     stand-again (slot_types image) (words_of slots) slots
     (record { are = refl; typed = typed.of_types }) in
-    subst (λ (values : List Value). Ends (record { image = image; slots = values; timers = timers })
+    subst (λ (values : List Value). ScanEnds (record { image = image; slots = values; timers = timers })
     inputs now) same (scan-ends image inputs now (words_of slots) timers octets safe is-held
     are)

@@ -6,10 +6,10 @@ use Rattle.il_image.specs.Images.{IsValue}
 use Rattle.il_image.specs.declared.image.ImagePoint.{ImagePoint}
 use Rattle.il_image.specs.declared.value.Value.{Value}
 use Rattle.il_image.specs.Values.{type_of, value_of}
-use Rattle.il_scan.specs.Places.{output_value, value_there}
-use Rattle.il_scan.specs.PointPlaces.{AllBelow, read_indices, with_words, write_indices}
+use Rattle.il_scan.specs.OutputValues.{output_value, point_value}
+use Rattle.il_scan.specs.PointIndices.{AllBelow, read_indices, with_words, write_indices}
 use Rattle.il_scan.specs.Scans.{first_input, read_only, type_of_point, with_inputs}
-use Rattle.il_scan.specs.PointPlaces.{AreValues, writable_count}
+use Rattle.il_scan.specs.PointIndices.{AreValues, writable_count}
 use Rattle.il_scan.specs.MachineStates.{AreWords, outputs_by}
 use Rattle.il_scan.specs.Words.{AreTyped, slot_at, value_at}
 
@@ -27,15 +27,15 @@ longer (y ∷ front) x = let e : length (front ++ (x ∷ [])) ≡ length front +
 
 -- ---- the places, point by point
 
-below-case : (b : Bool) (most n : ℕ) (places : List ℕ) → n < most → AllBelow most places
-    → AllBelow most (cond b places (n ∷ places))
-below-case true most n places l h = h
-below-case false most n places l h = (l, h)
+below-case : (b : Bool) (most n : ℕ) (indices : List ℕ) → n < most → AllBelow most indices
+    → AllBelow most (cond b indices (n ∷ indices))
+below-case true most n indices l h = h
+below-case false most n indices l h = (l, h)
 
-below-case-not : (b : Bool) (most n : ℕ) (places : List ℕ) → n < most → AllBelow most places
-    → AllBelow most (cond b (n ∷ places) places)
-below-case-not true most n places l h = (l, h)
-below-case-not false most n places l h = h
+below-case-not : (b : Bool) (most n : ℕ) (indices : List ℕ) → n < most → AllBelow most indices
+    → AllBelow most (cond b (n ∷ indices) indices)
+below-case-not true most n indices l h = (l, h)
+below-case-not false most n indices l h = h
 
 pub reads_below : (most n : ℕ) (points : List ImagePoint) → n + length points ≤ most
     → AllBelow most (read_indices n points)
@@ -51,10 +51,10 @@ writes-below most n (p ∷ points) h =
     below-case-not p.writable most n (write_indices (n + 1) points) (omega (arith, h))
     (writes-below most (n + 1) points (omega (arith, h)))
 
-count-case : (b : Bool) (n count : ℕ) (places : List ℕ) → count ≡ length places
-    → cond b 1 0 + count ≡ length (cond b (n ∷ places) places)
-count-case true n count places e = omega (arith, e)
-count-case false n count places e = omega (arith, e)
+count-case : (b : Bool) (n count : ℕ) (indices : List ℕ) → count ≡ length indices
+    → cond b 1 0 + count ≡ length (cond b (n ∷ indices) indices)
+count-case true n count indices e = omega (arith, e)
+count-case false n count indices e = omega (arith, e)
 
 pub so-many-writes : (n : ℕ) (points : List ImagePoint)
     → writable_count points ≡ length (write_indices n points)
@@ -160,26 +160,26 @@ pub inputs-taken : (points : List ImagePoint) (reads : List ℕ) (words slots ta
 inputs-taken points reads words slots taken few read e =
     e ∙ ap (λ (ns : List ℕ). with_words ns words slots) read ∙ inputs-placed points words slots few
 
-pub below-at : (most : ℕ) (places : List ℕ) (k : ℕ) → AllBelow most places → k < length places
-    → slice_index_or places k 0 < most
+pub below-at : (most : ℕ) (indices : List ℕ) (k : ℕ) → AllBelow most indices → k < length indices
+    → slice_index_or indices k 0 < most
 below-at most [] k h l = absurd (omega (arith, l))
-below-at most (n ∷ places) zero h l = h.0
-below-at most (n ∷ places) (suc k) h l = below-at most places k h.1 (omega (arith, l))
+below-at most (n ∷ indices) zero h l = h.0
+below-at most (n ∷ indices) (suc k) h l = below-at most indices k h.1 (omega (arith, l))
 
 -- ---- outputs
 
 -- what a function gives of the element at a place
-pub mapped-at : (f : ℕ → Value) (places : List ℕ) (k : ℕ) → k < length places
-    → slice_get (map f places) k ≡ Some (f (slice_index_or places k 0))
+pub mapped-at : (f : ℕ → Value) (indices : List ℕ) (k : ℕ) → k < length indices
+    → slice_get (map f indices) k ≡ Some (f (slice_index_or indices k 0))
 mapped-at f [] k l = absurd (omega (arith, l))
-mapped-at f (n ∷ places) zero l = refl
-mapped-at f (n ∷ places) (suc k) l = mapped-at f places k (omega (arith, l))
+mapped-at f (n ∷ indices) zero l = refl
+mapped-at f (n ∷ indices) (suc k) l = mapped-at f indices k (omega (arith, l))
 
-pub mapped-none : (f : ℕ → Value) (places : List ℕ) (k : ℕ) → length places ≤ k
-    → slice_get (map f places) k ≡ None
+pub mapped-none : (f : ℕ → Value) (indices : List ℕ) (k : ℕ) → length indices ≤ k
+    → slice_get (map f indices) k ≡ None
 mapped-none f [] k l = refl
-mapped-none f (n ∷ places) zero l = absurd (omega (arith, l))
-mapped-none f (n ∷ places) (suc k) l = mapped-none f places k (omega (arith, l))
+mapped-none f (n ∷ indices) zero l = absurd (omega (arith, l))
+mapped-none f (n ∷ indices) (suc k) l = mapped-none f indices k (omega (arith, l))
 
 get-behind : (front : List ImagePoint) (p : ImagePoint) (points : List ImagePoint)
     → slice_get (front ++ (p ∷ points)) (length front) ≡ Some p
@@ -209,7 +209,7 @@ given before front same (p ∷ points) (w ∷ slots) h =
     first : output_value (before ++ (p ∷ points)) (front ++ (w ∷ slots)) (length before)
         ≡ value_at p.elementary w
     first =
-        ap (λ (o : Option ImagePoint). value_there o
+        ap (λ (o : Option ImagePoint). point_value o
         (slot_at (front ++ (w ∷ slots)) (length before))) (get-behind before p points)
         ∙ ap (λ (n : ℕ). value_at p.elementary (slot_at (front ++ (w ∷ slots)) n)) same
         ∙ ap (value_at p.elementary) (word-behind front w slots)
@@ -260,7 +260,7 @@ pub output-there : (points : List ImagePoint) (slots : List ℤ) (place : ℕ) (
     → place < length points → p ≡ slice_index_or points place p
     → output_value points slots place ≡ value_at p.elementary (slot_at slots place)
 output-there points slots place p l e =
-    ap (λ (o : Option ImagePoint). value_there o (slot_at slots place)) (got points place l e)
+    ap (λ (o : Option ImagePoint). point_value o (slot_at slots place)) (got points place l e)
   where
     got : (ps : List ImagePoint) (k : ℕ) → k < length ps → p ≡ slice_index_or ps k p
         → slice_get ps k ≡ Some p

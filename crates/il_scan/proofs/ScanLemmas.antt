@@ -11,34 +11,34 @@ use Rattle.il_image.specs.Timers as time
 use Rattle.il_image.specs.Tables.{slot_types}
 use Rattle.il_image.specs.Values.{type_of}
 use Rattle.il_scan.specs.Scans.{AreInputs, MachineData, IsWithin, Scans, first_slots, first_machine, scan_start, with_inputs}
-use Rattle.il_scan.specs.MachineStates.{AreWords, IsHeld, RunsTo, first_state, outputs_by}
+use Rattle.il_scan.specs.MachineStates.{AreWords, EncodesMemory, RunsTo, first_state, outputs_by}
 use Rattle.il_scan.specs.Scans.{machine_data}
-use Rattle.il_scan.specs.Words.{StandFor, values_of, words_of}
+use Rattle.il_scan.specs.Words.{EncodeValues, values_of, words_of}
 use Rattle.il_scan.proofs.SlotLemmas.{first-stand, held-words, only-read, outputs_are, same-slot, taken-stand, times-first}
-use Rattle.il_scan.proofs.StandLemmas.{stand-again, stand-itself}
+use Rattle.il_scan.proofs.EncodingLemmas.{stand-again, stand-itself}
 
 module _ (image : Image) (points : List ImagePoint) (is : points ≡ image.points) where
-  pub points-words : (slots : List ℤ) (timers : List TimerState) → IsHeld image slots timers
+  pub points-words : (slots : List ℤ) (timers : List TimerState) → EncodesMemory image slots timers
       → AreWords points slots
   points-words slots timers h =
       subst (λ (ps : List ImagePoint). AreWords ps slots) (sym is) (held-words image slots timers h)
 
   module _ (inputs : List Value) (now : ℕ) (slots : List ℤ) (timers : List TimerState)
-      (h : IsHeld image slots timers) (are : AreInputs image.points inputs) (taken : List ℤ)
+      (h : EncodesMemory image slots timers) (are : AreInputs image.points inputs) (taken : List ℤ)
       (e : taken ≡ with_inputs points (words_of inputs) slots) where
-    stand : StandFor (slot_types image) taken
+    stand : EncodeValues (slot_types image) taken
         (with_inputs image.points inputs (values_of (slot_types image) slots))
-    stand = subst (λ (w : List ℤ). StandFor (slot_types image) w
+    stand = subst (λ (w : List ℤ). EncodeValues (slot_types image) w
         (with_inputs image.points inputs (values_of (slot_types image) slots)))
         (sym (e ∙ ap (λ (ps : List ImagePoint). with_inputs ps (words_of inputs) slots) is))
         (taken-stand image slots timers inputs h are)
 
-    pub held-taken : IsHeld image taken timers
+    pub held-taken : EncodesMemory image taken timers
     held-taken =
         record {
           stand = stand-itself (slot_types image) taken
               (with_inputs image.points inputs (values_of (slot_types image) slots)) stand;
-          so_many = h.so_many;
+          timer_count = h.timer_count;
           times = h.times;
         }
 
@@ -75,11 +75,11 @@ module _ (image : Image) (points : List ImagePoint) (is : points ≡ image.point
 module _ (image : Image) (kept : IsImage image) (slots : List ℤ) (timers : List TimerState)
     (e : slots ≡ map (λ (p : ImagePoint). pos 0) image.points ++ words_of image.variables)
     (f : timers ≡ map time.first_state image.timers) where
-  pub held-at-first : IsHeld image slots timers
+  pub held-at-first : EncodesMemory image slots timers
   held-at-first = record {
     stand = stand-itself (slot_types image) slots (first_slots image.points image.variables)
         (first-stand image slots kept.values e);
-    so_many = ap (λ (ts : List TimerState). length ts) f ∙ length-map image.timers time.first_state;
+    timer_count = ap (λ (ts : List TimerState). length ts) f ∙ length-map image.timers time.first_state;
     times = times-first timers image.timers f;
   }
 

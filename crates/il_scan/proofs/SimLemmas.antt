@@ -28,7 +28,7 @@ use Rattle.il_image.specs.declared.timer.TimerState.{TimerState}
 use Rattle.il_image.specs.declared.value.Value.{Value}
 use Rattle.il_image.specs.declared.value.Value.TheVariants.{Truth}
 use Rattle.il_image.specs.Arithmetic.{DividesBy, type_of_width}
-use Rattle.il_image.specs.Effects.{are_compared, below, compares, kinds_after, kind_of, looks_at, second_kind, two, type_of_kind, widens, with_timer, with_truth}
+use Rattle.il_image.specs.Effects.{are_compared, below, compares, kinds_after, kind_of, peek_kind, second_kind, replace_two, type_of_kind, widens, with_timer, with_truth}
 use Rattle.il_image.specs.Images.{IsValue}
 use Rattle.il_image.specs.Kinds.{HasKind, is_within}
 use Rattle.il_image.specs.Machine.{divides, value_of_width, most_cells}
@@ -36,7 +36,7 @@ use Rattle.il_image.specs.Spelling.{IsInstr}
 use Rattle.il_image.specs.Values.{number_of, type_of}
 use Rattle.il_image.proofs.KindLemmas.{kind-above, same-is}
 use Rattle.il_verify.proofs.EffectLemmas.{bind-some}
-use Rattle.il_scan.specs.MachineStates.{Fit, Typed}
+use Rattle.il_scan.specs.MachineStates.{HaveKinds, HaveTypes}
 use Rattle.il_scan.proofs.ValueLemmas.{number_in, number-there, span-there, truth-there, type-in}
 use Rattle.il_scan.proofs.CellLemmas.{on-top}
 use Rattle.il_scan.proofs.DoesLemmas.{Does, does-combine, does-compare, does-compute, does-drop, does-jump, does-jump-if, does-jump-if-not, does-load, does-load-elapsed, does-load-output, does-not, does-push, does-reset-if, does-run, does-set-if, does-set-input, does-set-preset, does-store, does-widen, does-widen-long}
@@ -74,7 +74,7 @@ shown v (Plain u) t h e = h ∙ same_Some u t e
 shown v (NotZero w) t h e = h.0 ∙ same_Some (type_of_width w) t e
 
 module _ (types : List ElementaryType) (count now next p : ℕ) (slots : List Value)
-    (timers : List TimerState) (after : List CellKind) (typed : Typed types count slots timers)
+    (timers : List TimerState) (after : List CellKind) (typed : HaveTypes types count slots timers)
   where
     abbrev Done : Instr → List Value → List CellKind → Type 0
     Done i cells kinds = Does types count now i next p cells slots timers kinds
@@ -86,36 +86,36 @@ module _ (types : List ElementaryType) (count now next p : ℕ) (slots : List Va
     -- a BOOL is on top
     on-bool : (i : Instr) (kinds rest given : List CellKind)
         → below (Plain elementary.Bool) kinds ≡ Some rest
-        → ((b : Bool) (others : List Value) → Fit others rest → Fit (Truth b ∷ others) kinds
+        → ((b : Bool) (others : List Value) → HaveKinds others rest → HaveKinds (Truth b ∷ others) kinds
         → Done i (Truth b ∷ others) given)
-        → (cells : List Value) → Fit cells kinds → Done i cells given
+        → (cells : List Value) → HaveKinds cells kinds → Done i cells given
     on-bool i kinds rest given e does =
         on-top (Plain elementary.Bool) kinds rest (λ cells. Done i cells given) e
         (λ v others is good f all. let b = truth-there v is in
-        rw b.1 (does b.0 others f (subst (λ (u : Value). Fit (u ∷ others) kinds) b.1 all)))
+        rw b.1 (does b.0 others f (subst (λ (u : Value). HaveKinds (u ∷ others) kinds) b.1 all)))
 
     -- a BOOL on top that stays
     on-truth : (i : Instr) (cells : List Value) (kinds : List CellKind)
-        → looks_at (Plain elementary.Bool) kinds ≡ Some after → Fit cells kinds
-        → ((b : Bool) (others : List Value) (rest : List CellKind) → Fit others rest
-        → Fit (Truth b ∷ others) kinds → Done i (Truth b ∷ others) kinds) → Done i cells after
+        → peek_kind (Plain elementary.Bool) kinds ≡ Some after → HaveKinds cells kinds
+        → ((b : Bool) (others : List Value) (rest : List CellKind) → HaveKinds others rest
+        → HaveKinds (Truth b ∷ others) kinds → Done i (Truth b ∷ others) kinds) → Done i cells after
     on-truth i cells kinds e fit does =
         let r = bind-some (below (Plain elementary.Bool) kinds) _ _ e in
         to-kinds i cells kinds r.2
         (on-bool i kinds r.0 kinds r.1 (λ b others f all. does b others r.0 f all) cells fit)
 
     on-bool-slot : (i : Instr) (n : ℕ) (cells : List Value) (kinds : List CellKind)
-        → with_truth types n kinds ≡ Some after → Fit cells kinds
+        → with_truth types n kinds ≡ Some after → HaveKinds cells kinds
         → ((b : Bool) (others : List Value) (rest : List CellKind)
-        → slice_get types n ≡ Some elementary.Bool → Fit others rest
-        → Fit (Truth b ∷ others) kinds → Done i (Truth b ∷ others) kinds) → Done i cells after
+        → slice_get types n ≡ Some elementary.Bool → HaveKinds others rest
+        → HaveKinds (Truth b ∷ others) kinds → Done i (Truth b ∷ others) kinds) → Done i cells after
     on-bool-slot i n cells kinds e fit does =
         let t = bind-some (slice_get types n) _ _ e in
         go t.0 (same_type t.0 elementary.Bool) refl t.1 t.2
       where
         go : (t : ElementaryType) (b : Bool) → same_type t elementary.Bool ≡ b
             → slice_get types n ≡ Some t
-            → cond b (looks_at (Plain elementary.Bool) kinds) None ≡ Some after → Done i cells after
+            → cond b (peek_kind (Plain elementary.Bool) kinds) None ≡ Some after → Done i cells after
         go t false same get h = absurd cc
         go t true same get h =
             on-truth i cells kinds h fit
@@ -134,9 +134,9 @@ module _ (types : List ElementaryType) (count now next p : ℕ) (slots : List Va
 
     -- two values become one
     on-two : (i : Instr) (top second gives : CellKind) (cells : List Value) (kinds : List CellKind)
-        → two top second gives kinds ≡ Some after → Fit cells kinds
+        → replace_two top second gives kinds ≡ Some after → HaveKinds cells kinds
         → ((v u : Value) (others : List Value) (rest : List CellKind) → HasKind v top
-        → HasKind u second → Fit others rest → Done i (v ∷ u ∷ others) (gives ∷ rest))
+        → HasKind u second → HaveKinds others rest → Done i (v ∷ u ∷ others) (gives ∷ rest))
         → Done i cells after
     on-two i top second gives cells kinds e fit does =
         let m = bind-some (below top kinds) _ _ e in
@@ -148,9 +148,9 @@ module _ (types : List ElementaryType) (count now next p : ℕ) (slots : List Va
 
     compute-does : (o : ArithmeticOperation) (w : Width) (cells : List Value)
         (kinds : List CellKind)
-        → two (second_kind o w) (Plain (type_of_width w)) (Plain (type_of_width w)) kinds
+        → replace_two (second_kind o w) (Plain (type_of_width w)) (Plain (type_of_width w)) kinds
         ≡ Some after
-        → Fit cells kinds → Done (Compute o w) cells after
+        → HaveKinds cells kinds → Done (Compute o w) cells after
     compute-does o w cells kinds e fit =
         on-two (Compute o w) (second_kind o w) (Plain (type_of_width w)) (Plain (type_of_width w))
         cells kinds e fit
@@ -160,8 +160,8 @@ module _ (types : List ElementaryType) (count now next p : ℕ) (slots : List Va
         (number_of v) d.test d.divisor))
 
     combine-does : (c : Connective) (cells : List Value) (kinds : List CellKind)
-        → two (Plain elementary.Bool) (Plain elementary.Bool) (Plain elementary.Bool) kinds
-        ≡ Some after → Fit cells kinds → Done (Combine c) cells after
+        → replace_two (Plain elementary.Bool) (Plain elementary.Bool) (Plain elementary.Bool) kinds
+        ≡ Some after → HaveKinds cells kinds → Done (Combine c) cells after
     combine-does c cells kinds e fit =
         on-two (Combine c) (Plain elementary.Bool) (Plain elementary.Bool) (Plain elementary.Bool)
         cells kinds e fit
@@ -170,7 +170,7 @@ module _ (types : List ElementaryType) (count now next p : ℕ) (slots : List Va
         b.0))
 
     compare-does : (c : Comparison) (cells : List Value) (kinds : List CellKind)
-        → compares c kinds ≡ Some after → Fit cells kinds → Done (Compare c) cells after
+        → compares c kinds ≡ Some after → HaveKinds cells kinds → Done (Compare c) cells after
     compare-does c cells [] e fit = absurd cc
     compare-does c cells (k ∷ []) e fit = absurd cc
     compare-does c [] (k ∷ l ∷ rest) e fit = absurd fit
@@ -187,7 +187,7 @@ module _ (types : List ElementaryType) (count now next p : ℕ) (slots : List Va
 
     not-does : (cells : List Value) (kinds : List CellKind)
         → (below (Plain elementary.Bool) kinds >>= (λ rest. Some (Plain elementary.Bool ∷ rest)))
-        ≡ Some after → Fit cells kinds → Done Not cells after
+        ≡ Some after → HaveKinds cells kinds → Done Not cells after
     not-does cells kinds e fit =
         let k = Plain elementary.Bool in
         let r = bind-some (below k kinds) _ _ e in
@@ -196,7 +196,7 @@ module _ (types : List ElementaryType) (count now next p : ℕ) (slots : List Va
         others slots timers r.0 f typed b) cells fit)
 
     store-does : (n : ℕ) (cells : List Value) (kinds : List CellKind)
-        → (slice_get types n >>= (λ t. looks_at (Plain t) kinds)) ≡ Some after → Fit cells kinds
+        → (slice_get types n >>= (λ t. peek_kind (Plain t) kinds)) ≡ Some after → HaveKinds cells kinds
         → Done (Slot Store n) cells after
     store-does n cells kinds e fit =
         let s = bind-some (slice_get types n) _ _ e in
@@ -209,9 +209,9 @@ module _ (types : List ElementaryType) (count now next p : ℕ) (slots : List Va
 
     -- WIDEN and WIDENL
     widen-does : (i : Instr) (from to : Width) (cells : List Value) (kinds : List CellKind)
-        → widens from to kinds ≡ Some after → Fit cells kinds
+        → widens from to kinds ≡ Some after → HaveKinds cells kinds
         → ((z : ℤ) (others : List Value) (rest : List CellKind) (k : CellKind)
-        → HasKind (value_of_width to z) k → IsValue (value_of_width from z) → Fit others rest
+        → HasKind (value_of_width to z) k → IsValue (value_of_width from z) → HaveKinds others rest
         → Done i (value_of_width from z ∷ others) (k ∷ rest)) → Done i cells after
     widen-does i from to cells [] e fit does = absurd cc
     widen-does i from to [] (k ∷ rest) e fit does = absurd fit
@@ -241,7 +241,7 @@ module _ (types : List ElementaryType) (count now next p : ℕ) (slots : List Va
 
     pub does : (i : Instr) (cells : List Value) (kinds : List CellKind)
         → kinds_after types count i kinds ≡ Some after → IsInstr i → (i ≡ Halt → ⊥)
-        → Fit cells kinds
+        → HaveKinds cells kinds
         → length after ≤ most_cells → Done i cells after
     does Halt cells kinds e good going fit room = absurd (going refl)
     does (Push v) cells kinds e good going fit room =

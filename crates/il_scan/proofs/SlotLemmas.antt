@@ -22,9 +22,9 @@ use Rattle.bay_base.specs.Types.{same_type}
 use Rattle.std.proofs.lemmas.Bool.{and_parts}
 use Rattle.std.specs.Prelude.{is_some}
 use Rattle.il_scan.specs.Scans.{AreInputs, first_input, first_slots, outputs_of, read_only, type_of_point, with_inputs}
-use Rattle.il_scan.specs.PointPlaces.{are_inputs, begins_with, is_of}
-use Rattle.il_scan.specs.MachineStates.{AreWords, IsHeld, IsTimer, outputs_by}
-use Rattle.il_scan.specs.Words.{AreTyped, StandFor, value_at, values_of, words_of}
+use Rattle.il_scan.specs.PointIndices.{are_inputs, begins_with, is_of}
+use Rattle.il_scan.specs.MachineStates.{AreWords, EncodesMemory, IsTimer, outputs_by}
+use Rattle.il_scan.specs.Words.{AreTyped, EncodeValues, value_at, values_of, words_of}
 
 -- ---- first words, variable by variable
 
@@ -114,19 +114,19 @@ outputs_are (p ∷ points) more (w ∷ words) =
 -- ---- of an image
 
 pub held-words : (image : Image) (words : List ℤ) (timers : List TimerState)
-    → IsHeld image words timers → AreWords image.points words
+    → EncodesMemory image words timers → AreWords image.points words
 held-words image words timers h =
     subst (AreWords image.points) (sym h.stand.are)
     (are-words image.points (map type_of image.variables) (values_of (slot_types image) words)
     h.stand.typed)
 
 pub held-points : (image : Image) (words : List ℤ) (timers : List TimerState)
-    → IsHeld image words timers → length image.points ≤ length words
+    → EncodesMemory image words timers → length image.points ≤ length words
 held-points image words timers h = few-points image.points words (held-words image words timers h)
 
 pub taken-stand : (image : Image) (words : List ℤ) (timers : List TimerState) (inputs : List Value)
-    → IsHeld image words timers → AreInputs image.points inputs
-    → StandFor (slot_types image) (with_inputs image.points (words_of inputs) words)
+    → EncodesMemory image words timers → AreInputs image.points inputs
+    → EncodeValues (slot_types image) (with_inputs image.points (words_of inputs) words)
     (with_inputs image.points inputs (values_of (slot_types image) words))
 taken-stand image words timers inputs h are = record {
   are = ap (with_inputs image.points (words_of inputs)) h.stand.are
@@ -202,7 +202,7 @@ timers-first (k ∷ kinds) = ((omega arith, omega arith), timers-first kinds)
 
 pub first-stand : (image : Image) (words : List ℤ) → Each IsValue image.variables
     → words ≡ map (λ (p : ImagePoint). pos 0) image.points ++ words_of image.variables
-    → StandFor (slot_types image) words (first_slots image.points image.variables)
+    → EncodeValues (slot_types image) words (first_slots image.points image.variables)
 first-stand image words h e =
     record {
       are = e ∙ first-words image.points image.variables;

@@ -24,7 +24,7 @@ use Rattle.il_image.specs.Machine.{value_of_width}
 use Rattle.il_image.specs.Values.{number_of, type_of, value_of, is_between}
 use Rattle.il_image.proofs.ValueLemmas.{value-back}
 use Rattle.il_scan.specs.Words.{value_at}
-use Rattle.il_scan.specs.Working.{logic_word, word_of}
+use Rattle.il_scan.specs.WordEffects.{logic_word, word_of}
 
 pub truth-word : (b : Bool) → number_of (Truth b) ≡ word_of b
 truth-word true = refl

@@ -7,10 +7,10 @@ use Rattle.il_image.specs.Octets.{AreOctets}
 use Rattle.il_image.specs.Tables.{slot_types}
 use Rattle.il_verify.specs.Verdicts.{IsSafe}
 use Rattle.il_scan.specs.Scans.{AreInputs, MachineData, Scans, outputs_of}
-use Rattle.il_scan.specs.MachineStates.{Typed}
+use Rattle.il_scan.specs.MachineStates.{HaveTypes}
 
 -- A scan with these inputs at this moment ends: there are a state and a number of steps after it.
-pub record Ends (old : MachineData) (inputs : List Value) (now : ℕ) : Type 0 where
+pub record ScanEnds (old : MachineData) (inputs : List Value) (now : ℕ) : Type 0 where
   pub new : MachineData
   pub steps : ℕ
   pub scans : Scans old inputs now new steps (outputs_of old.image.points new.slots)
@@ -22,5 +22,5 @@ abbrev pub NeverGoesWrong : Type 0
 NeverGoesWrong =
     (image : Image) (slots : List Value) (timers : List TimerState) (inputs : List Value) (now : ℕ)
     → AreOctets image.code → IsSafe image
-    → Typed (slot_types image) (length image.timers) slots timers → AreInputs image.points inputs
-    → Ends (record { image = image; slots = slots; timers = timers }) inputs now
+    → HaveTypes (slot_types image) (length image.timers) slots timers → AreInputs image.points inputs
+    → ScanEnds (record { image = image; slots = slots; timers = timers }) inputs now

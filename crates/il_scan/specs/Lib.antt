@@ -13,10 +13,10 @@
 
 pub mod Laws
 pub mod Loan
-pub mod Places
+pub mod OutputValues
 pub mod Scans
 pub mod MachineStates
 pub mod Words
 -- Inner ones: private functions, invariants and proofs cite them, public clauses don't.
-pub mod PointPlaces
-pub mod Working
+pub mod PointIndices
+pub mod WordEffects

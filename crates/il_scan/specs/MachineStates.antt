@@ -7,61 +7,61 @@ use Rattle.il_image.specs.declared.timer.TimerState.{TimerState}
 use Rattle.il_image.specs.declared.value.Value.{Value}
 use Rattle.il_image.specs.Images.{Each, Image, IsValue}
 use Rattle.il_image.specs.Kinds.{HasKind}
-use Rattle.il_image.specs.Machine.{Goes, Halted, Halts, State, run_from, initial_state, step_at}
+use Rattle.il_image.specs.Machine.{Continues, Halted, Halts, State, run_from, initial_state, step_at}
 use Rattle.il_image.specs.Tables.{Agrees, IsHalt, IsSuccessor, Table, slot_types}
 use Rattle.il_verify.specs.Judging.{is_read_only}
 use Rattle.il_verify.specs.Slots.{slots_of}
-use Rattle.il_verify.specs.Verdicts.{IsBudget, IsDepth, KeepsReadOnly}
+use Rattle.il_verify.specs.Verdicts.{IsBudget, IsDepth, WritesNoReadOnly}
 use Rattle.il_image.specs.declared.image.ImagePoint.{ImagePoint}
 use Rattle.il_image.specs.Values.{value_of}
 use Rattle.il_scan.specs.Scans.{IsWithin}
-use Rattle.il_scan.specs.PointPlaces.{writable_count}
-use Rattle.il_scan.specs.PointPlaces.{read_indices, write_indices}
-use Rattle.il_scan.specs.Words.{AreTyped, StandFor, value_at, values_of, words_of}
-use Rattle.il_scan.specs.Working.{Words, words}
+use Rattle.il_scan.specs.PointIndices.{writable_count}
+use Rattle.il_scan.specs.PointIndices.{read_indices, write_indices}
+use Rattle.il_scan.specs.Words.{AreTyped, EncodeValues, value_at, values_of, words_of}
+use Rattle.il_scan.specs.WordEffects.{Words, words}
 
 -- Each value has the kind at the same index, and is in the range of its type.
-abbrev pub Fit : List Value → List CellKind → Type 0
-Fit [] [] = Unit {0}
-Fit (v ∷ values) (k ∷ kinds) = (HasKind v k × IsValue v) × Fit values kinds
-Fit [] (k ∷ kinds) = ⊥
-Fit (v ∷ values) [] = ⊥
+abbrev pub HaveKinds : List Value → List CellKind → Type 0
+HaveKinds [] [] = Unit {0}
+HaveKinds (v ∷ values) (k ∷ kinds) = (HasKind v k × IsValue v) × HaveKinds values kinds
+HaveKinds [] (k ∷ kinds) = ⊥
+HaveKinds (v ∷ values) [] = ⊥
 
 -- PT and ET are in the range of TIME.
 abbrev pub IsTimer : TimerState → Type 0
 IsTimer t = (t.preset ≤ 0x7FFF_FFFF) × (t.elapsed ≤ 0x7FFF_FFFF)
 
 -- The slots hold values of these types, and there are `count` timers.
-pub record Typed (types : List ElementaryType) (count : ℕ) (slots : List Value)
+pub record HaveTypes (types : List ElementaryType) (count : ℕ) (slots : List Value)
     (timers : List TimerState) : Type 0 where
   pub of_types : AreTyped types slots
-  pub so_many : length timers ≡ count
+  pub timer_count : length timers ≡ count
   pub times : Each IsTimer timers
 
 -- An agreeing table allows the cells at the state's offset, and the code writes only what it may.
 pub record IsAllowedAt (image : Image) (s : State) : Type 0 where
   pub table : Table
   pub agrees : Agrees image table
-  pub writes : KeepsReadOnly image
+  pub writes : WritesNoReadOnly image
   pub kinds : List CellKind
-  pub here : table s.place ≡ Some kinds
-  pub fit : Fit s.cells kinds
-  pub typed : Typed (slot_types image) (length image.timers) s.slots s.timers
+  pub here : table s.offset ≡ Some kinds
+  pub fit : HaveKinds s.cells kinds
+  pub typed : HaveTypes (slot_types image) (length image.timers) s.slots s.timers
 
 -- the words that encode a state's values, and its timers
 abbrev pub words_at : State → Words
 words_at s = words (words_of s.cells) (words_of s.slots) s.timers
 
 -- The words encode this state, which is at this offset in the code.
-pub record EncodesStateAt (image : Image) (place : ℕ) (w : Words) (s : State) : Type 0 where
-  pub standing : IsAllowedAt image s
-  pub there : s.place ≡ place
+pub record EncodesStateAt (image : Image) (offset : ℕ) (w : Words) (s : State) : Type 0 where
+  pub allowed : IsAllowedAt image s
+  pub there : s.offset ≡ offset
   pub are : words_at s ≡ w
 
 -- The words encode a state of some image with this code, at this offset.
-abbrev pub IsAt : List ℕ → ℕ → Words → Type 0
-IsAt code place w =
-    (image : Image) × (s : State) × (image.code ≡ code) × EncodesStateAt image place w s
+abbrev pub EncodesAt : List ℕ → ℕ → Words → Type 0
+EncodesAt code offset w =
+    (image : Image) × (s : State) × (image.code ≡ code) × EncodesStateAt image offset w s
 
 -- The slots of points that may only be read are unchanged.
 abbrev pub KeepsSlots : Image → Words → Words → Type 0
@@ -70,20 +70,20 @@ KeepsSlots image old new = (n : ℕ) → is_read_only (slots_of image) n ≡ tru
 
 -- One step of the machine of typed values from the state results in these words: the machine halts
 -- if there is no next offset, and otherwise goes to that offset.
-abbrev pub Turns : Image → ℕ → State → Option ℕ → Words → Type 0
-Turns image now s None after =
-    (step_at image.code now s ≡ Halts) × (after ≡ words_at s) × IsHalt image.code s.place
-Turns image now s (Some to) after =
-    IsSuccessor image.code s.place to
-    × ((t : State) × (step_at image.code now s ≡ Goes t) × EncodesStateAt image to after t)
+abbrev pub StepsTo : Image → ℕ → State → Option ℕ → Words → Type 0
+StepsTo image now s None after =
+    (step_at image.code now s ≡ Halts) × (after ≡ words_at s) × IsHalt image.code s.offset
+StepsTo image now s (Some to) after =
+    IsSuccessor image.code s.offset to
+    × ((t : State) × (step_at image.code now s ≡ Continues t) × EncodesStateAt image to after t)
     × KeepsSlots image (words_at s) after
 
 -- ---- between runs
 
 -- The words encode values of the slots' types, and the timers are as many as the image has.
-pub record IsHeld (image : Image) (slots : List ℤ) (timers : List TimerState) : Type 0 where
-  pub stand : StandFor (slot_types image) slots (values_of (slot_types image) slots)
-  pub so_many : length timers ≡ length image.timers
+pub record EncodesMemory (image : Image) (slots : List ℤ) (timers : List TimerState) : Type 0 where
+  pub stand : EncodeValues (slot_types image) slots (values_of (slot_types image) slots)
+  pub timer_count : length timers ≡ length image.timers
   pub times : Each IsTimer timers
 
 -- the state in which a run starts, given as words
@@ -103,7 +103,7 @@ pub record RunsTo (image : Image) (now : ℕ) (slots : List ℤ) (timers : List 
       → IsWithin image.code now most count (first_state image slots timers)
   pub keeps : (n : ℕ) → is_read_only (slots_of image) n ≡ true
       → slice_get new_slots n ≡ slice_get slots n
-  pub held : IsHeld image new_slots new_timers
+  pub held : EncodesMemory image new_slots new_timers
 
 -- ---- the machine
 
@@ -111,7 +111,7 @@ pub record RunsTo (image : Image) (now : ℕ) (slots : List ℤ) (timers : List 
 -- only be read and of those that may be written, and room for an output for each of the latter.
 pub record IsContentOf (image : Image) (slots : List ℤ) (timers : List TimerState)
     (reads writes : List ℕ) (outputs : List Value) : Type 0 where
-  pub held : IsHeld image slots timers
+  pub held : EncodesMemory image slots timers
   pub read : reads ≡ read_indices 0 image.points
   pub written : writes ≡ write_indices 0 image.points
   pub room : length outputs ≡ writable_count image.points

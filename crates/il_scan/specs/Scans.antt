@@ -5,7 +5,7 @@ use Rattle.il_image.specs.declared.image.ImagePoint.{ImagePoint}
 use Rattle.il_image.specs.declared.timer.TimerState.{TimerState}
 use Rattle.il_image.specs.declared.value.Value.{Value}
 use Rattle.il_image.specs.Images.{Image}
-use Rattle.il_image.specs.Machine.{Goes, Halted, State, run_from, initial_state, step_at}
+use Rattle.il_image.specs.Machine.{Continues, Halted, State, run_from, initial_state, step_at}
 use Rattle.il_image.specs.Tables.{slot_types}
 use Rattle.il_image.specs.Timers.{first_state}
 use Rattle.il_image.specs.Values.{default_value}
@@ -42,8 +42,8 @@ first_machine image =
     }
 
 -- The image has a slot or a timer. Creating a machine of another image does not run out of memory.
-abbrev pub TakesMemory : Image → Type 0
-TakesMemory image = 0 < length image.points + length image.variables + length image.timers
+abbrev pub Allocates : Image → Type 0
+Allocates image = 0 < length image.points + length image.variables + length image.timers
 
 -- ---- inputs and outputs
 
@@ -110,7 +110,7 @@ abbrev pub IsWithin : List ℕ → ℕ → ℕ → ℕ → State → Type 0
 IsWithin code now depth zero s = length s.cells ≤ depth
 IsWithin code now depth (suc most) s =
     (length s.cells ≤ depth)
-    × ((next : State) → step_at code now s ≡ Goes next → IsWithin code now depth most next)
+    × ((next : State) → step_at code now s ≡ Continues next → IsWithin code now depth most next)
 
 -- The machine's run from these inputs at this moment ends at HALT, after `steps` steps, with the
 -- new slots and timers.

@@ -18,7 +18,7 @@ abbrev pub words_of : List Value → List ℤ
 words_of values = map number_of values
 
 -- The words encode these values, which are of these types.
-pub record StandFor (types : List ElementaryType) (words : List ℤ) (values : List Value)
+pub record EncodeValues (types : List ElementaryType) (words : List ℤ) (values : List Value)
     : Type 0 where
   pub are : words ≡ words_of values
   pub typed : AreTyped types values

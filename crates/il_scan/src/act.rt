@@ -5,9 +5,9 @@ ghost use Rattle.std.specs.Ordering.{int_eq};
 ghost use Rattle.il_image.specs.Arithmetic.{DividesBy, comparison_holds, computation_of};
 ghost use Rattle.il_image.specs.Timers as time;
 ghost use Rattle.il_image.specs.Machine.{most_cells};
-ghost use Rattle.il_scan.specs.Working as spec;
+ghost use Rattle.il_scan.specs.WordEffects as spec;
 ghost use Rattle.il_scan.specs.Words.{slot_at};
-ghost use Rattle.il_scan.specs.Working.{IsReady, IsSpan, is_not_zero, logic_word, timer_at, word_of, words_after, words};
+ghost use Rattle.il_scan.specs.WordEffects.{IsReady, IsSpan, is_not_zero, logic_word, timer_at, word_of, words_after, words};
 
 use crate::stack::OperandStack;
 use il_image::arithmetic::{ArithmeticOperation, Comparison, Width, compare, compute};
@@ -29,7 +29,7 @@ fn negate(stack: &mut OperandStack)
 #[inline(always)]
 fn and(stack: &mut OperandStack)
     requires two { 1 < length stack.old }
-    ensures { stack.new ≡ logic_word Connective.And (spec.first stack.old) (spec.top stack.old)
+    ensures { stack.new ≡ logic_word Connective.And (spec.below_top stack.old) (spec.top stack.old)
         ∷ drop 2 stack.old }
 {
     let second = stack.pop();
@@ -41,7 +41,7 @@ fn and(stack: &mut OperandStack)
 #[inline(always)]
 fn or(stack: &mut OperandStack)
     requires two { 1 < length stack.old }
-    ensures { stack.new ≡ logic_word Connective.Or (spec.first stack.old) (spec.top stack.old)
+    ensures { stack.new ≡ logic_word Connective.Or (spec.below_top stack.old) (spec.top stack.old)
         ∷ drop 2 stack.old }
 {
     let second = stack.pop();
@@ -53,7 +53,7 @@ fn or(stack: &mut OperandStack)
 #[inline(always)]
 fn xor(stack: &mut OperandStack)
     requires two { 1 < length stack.old }
-    ensures { stack.new ≡ logic_word Connective.Xor (spec.first stack.old) (spec.top stack.old)
+    ensures { stack.new ≡ logic_word Connective.Xor (spec.below_top stack.old) (spec.top stack.old)
         ∷ drop 2 stack.old }
 {
     let second = stack.pop();
@@ -65,7 +65,7 @@ fn xor(stack: &mut OperandStack)
 #[inline(always)]
 fn combine(stack: &mut OperandStack, connective: Connective)
     requires two { 1 < length stack.old }
-    ensures { stack.new ≡ logic_word connective (spec.first stack.old) (spec.top stack.old)
+    ensures { stack.new ≡ logic_word connective (spec.below_top stack.old) (spec.top stack.old)
         ∷ drop 2 stack.old }
 {
     match connective {
@@ -80,7 +80,7 @@ fn combine(stack: &mut OperandStack, connective: Connective)
 fn calculate(stack: &mut OperandStack, operation: ArithmeticOperation, width: Width)
     requires two { 1 < length stack.old }
     requires divisor { DividesBy operation (spec.top stack.old) }
-    ensures { stack.new ≡ computation_of operation width (spec.first stack.old) (spec.top stack.old)
+    ensures { stack.new ≡ computation_of operation width (spec.below_top stack.old) (spec.top stack.old)
         ∷ drop 2 stack.old }
 {
     let second = stack.pop();
@@ -91,10 +91,10 @@ fn calculate(stack: &mut OperandStack, operation: ArithmeticOperation, width: Wi
 // Replaces two numbers by the result of ADD, SUB, MUL, DIV or MOD. Each is a separate call, so that
 // the compiler knows the operation at each opcode.
 #[inline(always)]
-fn calculate_by(stack: &mut OperandStack, operation: ArithmeticOperation, width: Width)
+fn dispatch_calculate(stack: &mut OperandStack, operation: ArithmeticOperation, width: Width)
     requires two { 1 < length stack.old }
     requires divisor { DividesBy operation (spec.top stack.old) }
-    ensures { stack.new ≡ computation_of operation width (spec.first stack.old) (spec.top stack.old)
+    ensures { stack.new ≡ computation_of operation width (spec.below_top stack.old) (spec.top stack.old)
         ∷ drop 2 stack.old }
 {
     match operation {
@@ -111,7 +111,7 @@ fn calculate_by(stack: &mut OperandStack, operation: ArithmeticOperation, width:
 fn relate(stack: &mut OperandStack, comparison: Comparison)
     requires two { 1 < length stack.old }
     ensures { stack.new ≡ word_of
-        (comparison_holds comparison (spec.first stack.old) (spec.top stack.old))
+        (comparison_holds comparison (spec.below_top stack.old) (spec.top stack.old))
         ∷ drop 2 stack.old }
 {
     let second = stack.pop();
@@ -121,10 +121,10 @@ fn relate(stack: &mut OperandStack, comparison: Comparison)
 
 // Replaces two values of the same type by the result of GT, GE, EQ, NE, LE or LT.
 #[inline(always)]
-fn relate_by(stack: &mut OperandStack, comparison: Comparison)
+fn dispatch_relate(stack: &mut OperandStack, comparison: Comparison)
     requires two { 1 < length stack.old }
     ensures { stack.new ≡ word_of
-        (comparison_holds comparison (spec.first stack.old) (spec.top stack.old))
+        (comparison_holds comparison (spec.below_top stack.old) (spec.top stack.old))
         ∷ drop 2 stack.old }
 {
     match comparison {
@@ -260,7 +260,7 @@ pub(crate) fn act(
 ) -> Option<usize>
     requires next { next < 2 ^ 63 }
     requires ready { IsReady instr (words stack.old slots.old timers.old) }
-    ensures to { result ≡ spec.leads instr next stack.old }
+    ensures to { result ≡ spec.next_offset instr next stack.old }
     ensures words { words stack.new slots.new timers.new
         ≡ words_after now instr (words stack.old slots.old timers.old) }
 {
@@ -276,8 +276,8 @@ pub(crate) fn act(
         Instr::Slot(SlotUse::ResetIf, number) => set_if(stack, slots, number, 0),
         Instr::Not => negate(stack),
         Instr::Combine(connective) => combine(stack, connective),
-        Instr::Compute(operation, width) => calculate_by(stack, operation, width),
-        Instr::Compare(comparison) => relate_by(stack, comparison),
+        Instr::Compute(operation, width) => dispatch_calculate(stack, operation, width),
+        Instr::Compare(comparison) => dispatch_relate(stack, comparison),
         // The word of a number is the same at each width.
         Instr::Widen(_) => {}
         Instr::Jump(When::Always, distance) => return Some(next + usize::from(distance)),
@@ -313,7 +313,7 @@ pub(crate) fn act_both(
     requires last { second.1 < 2 ^ 63 }
     requires ready { IsReady first.0 (words stack.old slots.old timers.old)
         × IsReady second.0 (words_after now first.0 (words stack.old slots.old timers.old)) }
-    ensures to { result ≡ spec.leads second.0 second.1
+    ensures to { result ≡ spec.next_offset second.0 second.1
         (words_after now first.0 (words stack.old slots.old timers.old)).stack }
     ensures words { words stack.new slots.new timers.new ≡ words_after now second.0
         (words_after now first.0 (words stack.old slots.old timers.old)) }

@@ -14,7 +14,7 @@ use il_image::value::Value;
 
 // Reads a number of two octets.
 #[inline(always)]
-fn number(code: &[u8], at: usize) -> u16
+fn read_number(code: &[u8], at: usize) -> u16
     requires { at + 2 ≤ length code.now }
     ensures { result ≡ from_be_bytes w16 (drop at code.now) }
 {
@@ -23,7 +23,7 @@ fn number(code: &[u8], at: usize) -> u16
 
 // Reads the number of a value of the type, in two's complement.
 #[inline(always)]
-fn signed(elementary: ElementaryType, code: &[u8], at: usize) -> i64
+fn read_signed(elementary: ElementaryType, code: &[u8], at: usize) -> i64
     requires { at + octet_count (size_of elementary) ≤ length code.now }
     ensures { signed_at (size_of elementary) (drop at code.now)
         ≡ Ok (result, drop (at + octet_count (size_of elementary)) code.now) }
@@ -58,7 +58,7 @@ fn signed(elementary: ElementaryType, code: &[u8], at: usize) -> i64
 
 // Returns the number of octets of a value of the type.
 #[inline(always)]
-fn size(elementary: ElementaryType) -> usize
+fn size_of_type(elementary: ElementaryType) -> usize
     ensures value { result ≡ octet_count (size_of elementary) }
     ensures few { result ≤ 8 }
 {
@@ -77,7 +77,7 @@ fn value(elementary: ElementaryType, code: &[u8], at: usize) -> Value
     ensures { value_at (size_of elementary) elementary (drop at code.now)
         ≡ Ok (result, drop (at + octet_count (size_of elementary)) code.now) }
 {
-    match Value::of(elementary, signed(elementary, code, at)) {
+    match Value::of(elementary, read_signed(elementary, code, at)) {
         Some(value) => value,
         None => unreachable!(),
     }
@@ -85,7 +85,7 @@ fn value(elementary: ElementaryType, code: &[u8], at: usize) -> Value
 
 // Reads the width at an offset.
 #[inline(always)]
-fn width(code: &[u8], at: usize) -> Width
+fn read_width(code: &[u8], at: usize) -> Width
     requires { IsOk (width_at Two (drop at code.now)) }
     ensures { width_at Two (drop at code.now) ≡ Ok (result, drop (at + 1) code.now) }
 {
@@ -99,7 +99,7 @@ fn width(code: &[u8], at: usize) -> Width
 
 // Returns the instruction with this opcode and the operand at an offset, and the offset after it.
 #[inline(always)]
-fn operand(opcode: Opcode, code: &[u8], at: usize) -> (Instr, usize)
+fn read_operand(opcode: Opcode, code: &[u8], at: usize) -> (Instr, usize)
     requires whole { IsOk (operand_from Two opcode (drop at code.now)) }
     requires within { at ≤ length code.now }
     ensures value { operand_from Two opcode (drop at code.now)
@@ -110,30 +110,30 @@ fn operand(opcode: Opcode, code: &[u8], at: usize) -> (Instr, usize)
         Opcode::Halt => (Instr::Halt, at),
         Opcode::Push(elementary) => (
             Instr::Push(value(elementary, code, at)),
-            at + size(elementary),
+            at + size_of_type(elementary),
         ),
         Opcode::Drop => (Instr::Drop, at),
-        Opcode::Slot(slot_use) => (Instr::Slot(slot_use, number(code, at)), at + 2),
+        Opcode::Slot(slot_use) => (Instr::Slot(slot_use, read_number(code, at)), at + 2),
         Opcode::Not => (Instr::Not, at),
         Opcode::Combine(connective) => (Instr::Combine(connective), at),
-        Opcode::Compute(operation) => (Instr::Compute(operation, width(code, at)), at + 1),
+        Opcode::Compute(operation) => (Instr::Compute(operation, read_width(code, at)), at + 1),
         Opcode::Compare(comparison) => (Instr::Compare(comparison), at),
         Opcode::Widen(widening) => (Instr::Widen(widening), at),
-        Opcode::Jump(when) => (Instr::Jump(when, number(code, at)), at + 2),
-        Opcode::Timer(timer_use) => (Instr::Timer(timer_use, number(code, at)), at + 2),
+        Opcode::Jump(when) => (Instr::Jump(when, read_number(code, at)), at + 2),
+        Opcode::Timer(timer_use) => (Instr::Timer(timer_use, read_number(code, at)), at + 2),
     }
 }
 
 /// Returns the instruction at an offset, and the offset after it. An instruction must begin at the
 /// offset.
 #[inline(always)]
-pub(crate) fn fetch(code: &[u8], place: usize) -> (Instr, usize)
-    requires { IsSome (instr_at code.now place) }
-    ensures value { instr_at code.now place ≡ Some result }
+pub(crate) fn fetch(code: &[u8], offset: usize) -> (Instr, usize)
+    requires { IsSome (instr_at code.now offset) }
+    ensures value { instr_at code.now offset ≡ Some result }
     ensures within { result.1 ≤ length code.now }
 {
-    match Opcode::of(code[place]) {
-        Some(opcode) => operand(opcode, code, place + 1),
+    match Opcode::of(code[offset]) {
+        Some(opcode) => read_operand(opcode, code, offset + 1),
         None => unreachable!(),
     }
 }

@@ -1,18 +1,18 @@
 // The machine, which runs a verified image scan by scan.
 ghost use Rattle.std.specs.Prelude.{◌≡◌, ◌↔◌, IfErr, IfOk, IsTrue, map};
 ghost use Rattle.std.specs.Borrow.{sem};
-ghost use Rattle.il_scan.specs.PointPlaces.{read_indices};
-ghost use Rattle.il_scan.specs.Scans.{AreHeld, AreInputs, Scans, TakesMemory, first_machine, inputs_in, outputs_of, read_only, type_of_point};
-ghost use Rattle.il_scan.specs.MachineStates.{IsHeld, IsContentOf};
+ghost use Rattle.il_scan.specs.PointIndices.{read_indices};
+ghost use Rattle.il_scan.specs.Scans.{AreHeld, AreInputs, Scans, Allocates, first_machine, inputs_in, outputs_of, read_only, type_of_point};
+ghost use Rattle.il_scan.specs.MachineStates.{EncodesMemory, IsContentOf};
 ghost use Rattle.il_scan.specs.Scans.{machine_data};
 ghost use Rattle.il_scan.specs.Words.{values_of};
 ghost use Rattle.il_image.specs.Tables.{slot_types};
 ghost use Rattle.il_verify.specs.Verdicts.{IsSafe};
 
-use crate::points::{Inputs, Listed, Outputs};
+use crate::points::{Inputs, InputList, Outputs};
 use crate::run::run;
 use crate::slots::{
-    Places, are_inputs, first_slots, first_timers, give_outputs, point_indices, read_inputs,
+    PointIndices, are_inputs, first_slots, first_timers, copy_outputs, point_indices, read_inputs,
     room_for_outputs,
 };
 use crate::span::Span;
@@ -30,7 +30,7 @@ pub struct Machine {
     verified: Verified,
     slots: Vec<i64>,
     timers: Vec<TimerState>,
-    places: Places,
+    indices: PointIndices,
     outputs: Vec<Value>,
 }
 
@@ -43,8 +43,8 @@ impl Model for Machine {
 
     ghost view = { λ m. machine_data m.verified m.slots.items m.timers.items };
 
-    ghost invariant = { λ m. IsContentOf m.verified m.slots.items m.timers.items m.places.reads.items
-        m.places.writes.items m.outputs.items };
+    ghost invariant = { λ m. IsContentOf m.verified m.slots.items m.timers.items m.indices.reads.items
+        m.indices.writes.items m.outputs.items };
 }
 
 /// The result of a scan.
@@ -62,7 +62,7 @@ pub struct Scan<'a> {
 struct Memory {
     slots: Vec<i64>,
     timers: Vec<TimerState>,
-    places: Places,
+    indices: PointIndices,
     outputs: Vec<Value>,
 }
 
@@ -71,18 +71,18 @@ fn memory_of(alloc: Global, image: &Image) -> Result<Memory, AllocError>
     ensures first { IfOk result
         (λ m. machine_data image.now m.slots.items m.timers.items ≡ first_machine image.now) }
     ensures kept { IfOk result
-        (λ m. IsContentOf image.now m.slots.items m.timers.items m.places.reads.items
-        m.places.writes.items m.outputs.items) }
-    ensures memory { IfErr result (λ e. TakesMemory image.now) }
+        (λ m. IsContentOf image.now m.slots.items m.timers.items m.indices.reads.items
+        m.indices.writes.items m.outputs.items) }
+    ensures memory { IfErr result (λ e. Allocates image.now) }
 {
     let slots = first_slots(alloc, image)?;
     let timers = first_timers(alloc, image.timers())?;
-    let places = point_indices(alloc, image.points())?;
+    let indices = point_indices(alloc, image.points())?;
     let outputs = room_for_outputs(alloc, image.points())?;
     Ok(Memory {
         slots,
         timers,
-        places,
+        indices,
         outputs,
     })
 }
@@ -100,14 +100,14 @@ fn run_points<I: Inputs>(
 ) -> u32
     requires safe { IsSafe image.now }
     requires types { I.types inputs.now ≡ map type_of_point (read_only image.now.points) }
-    requires held { IsHeld image.now slots.old timers.old }
+    requires held { EncodesMemory image.now slots.old timers.old }
     requires read { reads.now ≡ read_indices 0 image.now.points }
     requires hold { AreHeld span (I.values inputs.now)
         (inputs_in image.now.points (values_of (slot_types image.now) slots.old)) }
     ensures scans { Scans (machine_data image.now slots.old timers.old) (I.values inputs.now) now
         (machine_data image.now slots.new timers.new) result
         (outputs_of image.now.points (values_of (slot_types image.now) slots.new)) }
-    ensures held { IsHeld image.now slots.new timers.new }
+    ensures held { EncodesMemory image.now slots.new timers.new }
     ensures kept { inputs_in image.now.points (values_of (slot_types image.now) slots.new)
         ≡ I.values inputs.now }
 {
@@ -122,26 +122,26 @@ fn run_once(
     now: u64,
     slots: &mut [i64],
     timers: &mut [TimerState],
-    places: &Places,
+    indices: &PointIndices,
     outputs: &mut [Value],
 ) -> u32
     requires safe { IsSafe image.now }
     requires inputs { AreInputs image.now.points inputs.now }
-    requires kept { IsContentOf image.now slots.old timers.old places.now.reads.items
-        places.now.writes.items outputs.old }
+    requires kept { IsContentOf image.now slots.old timers.old indices.now.reads.items
+        indices.now.writes.items outputs.old }
     ensures scans { Scans (machine_data image.now slots.old timers.old) inputs.now now
         (machine_data image.now slots.new timers.new) result outputs.new }
-    ensures kept { IsContentOf image.now slots.new timers.new places.now.reads.items
-        places.now.writes.items outputs.new }
+    ensures kept { IsContentOf image.now slots.new timers.new indices.now.reads.items
+        indices.now.writes.items outputs.new }
 {
-    let inputs = Listed { values: inputs };
-    let reads = places.reads.as_slice();
+    let inputs = InputList { values: inputs };
+    let reads = indices.reads.as_slice();
     let all = Span {
         from: 0,
         to: reads.len(),
     };
     let steps = run_points(image, &inputs, all, now, slots, timers, reads);
-    give_outputs(image.points(), places.writes.as_slice(), slots, outputs);
+    copy_outputs(image.points(), indices.writes.as_slice(), slots, outputs);
     steps
 }
 
@@ -154,21 +154,21 @@ impl Machine {
     pub fn new(alloc: Global, verified: Verified) -> Result<Machine, AllocFailed<Verified>>
         ensures ok { IfOk result (λ m. m ≡ first_machine verified) }
         ensures back { IfErr result (λ refused. refused.value ≡ verified) }
-        ensures memory { IfErr result (λ _. TakesMemory verified) }
+        ensures memory { IfErr result (λ _. Allocates verified) }
     {
         match memory_of(alloc, verified.image()) {
             Ok(
                 Memory {
                     slots,
                     timers,
-                    places,
+                    indices,
                     outputs,
                 },
             ) => Ok(Machine {
                 verified,
                 slots,
                 timers,
-                places,
+                indices,
                 outputs,
             }),
             Err(AllocError) => Err(AllocFailed { value: verified }),
@@ -202,7 +202,7 @@ impl Machine {
     {
         let all = Span {
             from: 0,
-            to: self.places.reads.len(),
+            to: self.indices.reads.len(),
         };
         self.scan_changed(inputs, all, now)
     }
@@ -224,7 +224,7 @@ impl Machine {
             now,
             self.slots.as_mut_slice(),
             self.timers.as_mut_slice(),
-            self.places.reads.as_slice(),
+            self.indices.reads.as_slice(),
         )
     }
 
@@ -235,7 +235,7 @@ impl Machine {
     {
         Outputs::new(
             self.verified.image().points(),
-            self.places.writes.as_slice(),
+            self.indices.writes.as_slice(),
             self.slots.as_slice(),
         )
     }
@@ -251,7 +251,7 @@ impl Machine {
             now,
             self.slots.as_mut_slice(),
             self.timers.as_mut_slice(),
-            &self.places,
+            &self.indices,
             self.outputs.as_mut_slice(),
         );
         Scan {

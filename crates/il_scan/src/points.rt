@@ -2,10 +2,10 @@
 ghost use Rattle.std.specs.Prelude.{◌≡◌, ◌<◌, Some, length, map, slice_get};
 ghost use Rattle.il_image.specs.Images.{IsValue};
 ghost use Rattle.il_image.specs.Values.{type_of};
-ghost use Rattle.il_scan.specs.Places.{output_value};
-ghost use Rattle.il_scan.specs.Places as spec;
-ghost use Rattle.il_scan.specs.PointPlaces.{AllBelow};
-ghost use Rattle.il_scan.specs.PointPlaces.{AreValues};
+ghost use Rattle.il_scan.specs.OutputValues.{output_value};
+ghost use Rattle.il_scan.specs.OutputValues as spec;
+ghost use Rattle.il_scan.specs.PointIndices.{AllBelow};
+ghost use Rattle.il_scan.specs.PointIndices.{AreValues};
 ghost use Rattle.il_scan.specs.MachineStates.{AreWords};
 
 use crate::slots::is_output_true;
@@ -38,12 +38,12 @@ pub trait Inputs {
 
 /// Inputs from a list.
 #[derive(Drop)]
-pub(crate) struct Listed<'a> {
+pub(crate) struct InputList<'a> {
     pub values: &'a [Value],
     ghost are: { AreValues values.now },
 }
 
-impl<'a> Inputs for Listed<'a> {
+impl<'a> Inputs for InputList<'a> {
     ghost use Rattle.std.specs.Prelude.{map};
     ghost use Rattle.std.proofs.Common.{sym};
     ghost use Rattle.std.proofs.lemmas.List.{length-map};
@@ -71,8 +71,8 @@ pub struct Outputs<'a> {
 impl<'a> Model for Outputs<'a> {
     ghost use Rattle.std.specs.Prelude.{List, length, map};
     ghost use Rattle.il_image.specs.declared.value.Value.{Value as ImageValue};
-    ghost use Rattle.il_scan.specs.Places.{output_value};
-    ghost use Rattle.il_scan.specs.PointPlaces.{AllBelow};
+    ghost use Rattle.il_scan.specs.OutputValues.{output_value};
+    ghost use Rattle.il_scan.specs.PointIndices.{AllBelow};
     ghost use Rattle.il_scan.specs.MachineStates.{AreWords};
 
     ghost Value = { List ImageValue };

@@ -3,8 +3,8 @@
 ghost use Rattle.std.specs.Prelude.{ℕ, ◌≡◌, ◌≤◌, Some};
 ghost use Rattle.il_image.specs.declared.instr.Instr.TheVariants.{Drop};
 ghost use Rattle.il_image.specs.Reading.{instr_at};
-ghost use Rattle.il_scan.specs.MachineStates.{IsAt, IsHeld, RunsTo};
-ghost use Rattle.il_scan.specs.Working.{Steps, words};
+ghost use Rattle.il_scan.specs.MachineStates.{EncodesAt, EncodesMemory, RunsTo};
+ghost use Rattle.il_scan.specs.WordEffects.{Steps, words};
 ghost use Rattle.il_verify.specs.Verdicts.{IsSafe};
 
 use crate::act::{act, act_both};
@@ -19,21 +19,21 @@ use il_image::timer::TimerState;
 // LOAD. Returns the offset of the next instruction, or `None` if there is none, and the number of
 // instructions executed.
 #[inline(always)]
-fn turn_drop(
+fn execute_drop(
     code: &[u8],
     now: u64,
-    place: usize,
+    offset: usize,
     stack: &mut OperandStack,
     slots: &mut [i64],
     timers: &mut [TimerState],
 ) -> (Option<usize>, u32)
-    requires there { IsAt code.now place (words stack.old slots.old timers.old) }
-    requires drops { (next : ℕ) × (instr_at code.now place ≡ Some (Drop, next)) }
-    ensures steps { Steps now code.now result.1 place (words stack.old slots.old timers.old)
+    requires there { EncodesAt code.now offset (words stack.old slots.old timers.old) }
+    requires drops { (next : ℕ) × (instr_at code.now offset ≡ Some (Drop, next)) }
+    ensures steps { Steps now code.now result.1 offset (words stack.old slots.old timers.old)
         result.0 (words stack.new slots.new timers.new) }
     ensures few { result.1 ≤ 3 }
 {
-    let first = fetch(code, place);
+    let first = fetch(code, offset);
     if code[first.1] != 0x07 {
         return (act(now, first.0, first.1, stack, slots, timers), 1);
     }
@@ -52,20 +52,20 @@ fn turn_drop(
 // the offset of the next instruction, or `None` if there is none, and the number executed. Each
 // pair is a call of its own, so that the compiler knows both instructions at their opcodes.
 #[inline(always)]
-fn turn(
+fn execute(
     code: &[u8],
     now: u64,
-    place: usize,
+    offset: usize,
     stack: &mut OperandStack,
     slots: &mut [i64],
     timers: &mut [TimerState],
 ) -> (Option<usize>, u32)
-    requires there { IsAt code.now place (words stack.old slots.old timers.old) }
-    ensures steps { Steps now code.now result.1 place (words stack.old slots.old timers.old)
+    requires there { EncodesAt code.now offset (words stack.old slots.old timers.old) }
+    ensures steps { Steps now code.now result.1 offset (words stack.old slots.old timers.old)
         result.0 (words stack.new slots.new timers.new) }
     ensures few { result.1 ≤ 3 }
 {
-    let first = fetch(code, place);
+    let first = fetch(code, offset);
     match first.0 {
         Instr::Slot(SlotUse::Load, _) => match code[first.1] {
             0x0B => (
@@ -82,7 +82,7 @@ fn turn(
             ),
             _ => (act(now, first.0, first.1, stack, slots, timers), 1),
         },
-        Instr::Drop => turn_drop(code, now, place, stack, slots, timers),
+        Instr::Drop => execute_drop(code, now, offset, stack, slots, timers),
         _ => (act(now, first.0, first.1, stack, slots, timers), 1),
     }
 }
@@ -91,18 +91,18 @@ fn turn(
 /// executed, including HALT.
 pub(crate) fn run(image: &Image, now: u64, slots: &mut [i64], timers: &mut [TimerState]) -> u32
     requires safe { IsSafe image.now }
-    requires held { IsHeld image.now slots.old timers.old }
+    requires held { EncodesMemory image.now slots.old timers.old }
     ensures { RunsTo image.now now slots.old timers.old slots.new timers.new result }
 {
     let code = image.code();
     let mut stack = OperandStack::new();
-    let mut place = 0;
+    let mut offset = 0;
     let mut steps = 0;
     loop {
-        let (to, count) = turn(code, now, place, &mut stack, slots, timers);
+        let (to, count) = execute(code, now, offset, &mut stack, slots, timers);
         steps += count;
         match to {
-            Some(next) => place = next,
+            Some(next) => offset = next,
             None => return steps,
         }
     }

@@ -2,12 +2,12 @@
 ghost use Rattle.std.specs.Prelude.{ℕ, ◌≡◌, ◌+◌, ◌<◌, ◌≤◌, ◌++◌, IfErr, IfOk, IsSome, OnOk, Some, drop, if◌then◌else◌, length, map, pos, slice_set};
 ghost use Rattle.il_image.specs.Timers.{first_state};
 ghost use Rattle.il_image.specs.Values as values;
-ghost use Rattle.il_scan.specs.PointPlaces as places;
-ghost use Rattle.il_scan.specs.PointPlaces.{writable_count};
+ghost use Rattle.il_scan.specs.PointIndices as indices;
+ghost use Rattle.il_scan.specs.PointIndices.{writable_count};
 ghost use Rattle.il_scan.specs.Scans.{IsOutside};
 ghost use Rattle.il_scan.specs.MachineStates.{AreWords};
-ghost use Rattle.il_scan.specs.Places as spec;
-ghost use Rattle.il_scan.specs.PointPlaces.{AllBelow, IsPut, IsRising, read_indices, with_words, write_indices};
+ghost use Rattle.il_scan.specs.OutputValues as spec;
+ghost use Rattle.il_scan.specs.PointIndices.{AllBelow, IsPut, IsRising, read_indices, with_words, write_indices};
 ghost use Rattle.il_scan.specs.Words.{AreTyped, slot_at, value_at, words_of};
 
 use crate::points::Inputs;
@@ -20,14 +20,14 @@ use std::alloc::{AllocError, Global};
 
 // Returns whether the value is one of the type.
 fn is_of(elementary: ElementaryType, value: Value) -> bool
-    ensures { result ≡ places.is_of elementary value }
+    ensures { result ≡ indices.is_of elementary value }
 {
     value.type_of() == elementary && Value::of(elementary, value.number()).is_some()
 }
 
 // Returns whether there is a first input and it is of the type.
 fn begins_with(elementary: ElementaryType, inputs: &[Value]) -> bool
-    ensures { result ≡ places.begins_with elementary inputs.now }
+    ensures { result ≡ indices.begins_with elementary inputs.now }
 {
     match inputs {
         [input, ..] => is_of(elementary, *input),
@@ -47,7 +47,7 @@ fn inputs_after_first(inputs: &[Value]) -> &[Value]
 
 /// Returns whether there is one input for each read-only point, in order, of the point's type.
 pub(crate) fn are_inputs(points: &[ImagePoint], inputs: &[Value]) -> bool
-    ensures { result ≡ places.are_inputs points.now inputs.now }
+    ensures { result ≡ indices.are_inputs points.now inputs.now }
 {
     let mut rest = points;
     let mut left = inputs;
@@ -65,7 +65,7 @@ pub(crate) fn are_inputs(points: &[ImagePoint], inputs: &[Value]) -> bool
 
 /// The indices of the points that are inputs, and of those that are outputs.
 #[derive(Drop)]
-pub(crate) struct Places {
+pub(crate) struct PointIndices {
     /// The indices of the read-only points.
     pub reads: Vec<usize>,
     /// The indices of the writable points.
@@ -73,9 +73,9 @@ pub(crate) struct Places {
 }
 
 /// Returns the indices of the read-only points and of the writable points.
-pub(crate) fn point_indices(alloc: Global, points: &[ImagePoint]) -> Result<Places, AllocError>
-    ensures reads { IfOk result (λ places. places.reads.items ≡ read_indices 0 points.now) }
-    ensures writes { IfOk result (λ places. places.writes.items ≡ write_indices 0 points.now) }
+pub(crate) fn point_indices(alloc: Global, points: &[ImagePoint]) -> Result<PointIndices, AllocError>
+    ensures reads { IfOk result (λ indices. indices.reads.items ≡ read_indices 0 points.now) }
+    ensures writes { IfOk result (λ indices. indices.writes.items ≡ write_indices 0 points.now) }
     ensures memory { IfErr result (λ e. 0 < length points.now) }
 {
     let mut reads = Vec::new(alloc);
@@ -87,12 +87,12 @@ pub(crate) fn point_indices(alloc: Global, points: &[ImagePoint]) -> Result<Plac
             reads.push(place)?;
         }
     }
-    Ok(Places { reads, writes })
+    Ok(PointIndices { reads, writes })
 }
 
 // Writes an input to the slot at an index.
 #[inline(always)]
-fn take_input(slots: &mut [i64], place: usize, input: Value)
+fn write_input(slots: &mut [i64], place: usize, input: Value)
     requires { place < length slots.old }
     ensures { slots.new ≡ slice_set slots.old place (values.number_of input) }
 {
@@ -114,7 +114,7 @@ pub(crate) fn read_inputs<I: Inputs>(reads: &[usize], inputs: &I, span: Span, sl
     let count = reads.len();
     let to = if span.to < count { span.to } else { count };
     for k in span.from..to {
-        take_input(slots, reads[k], inputs.input(k));
+        write_input(slots, reads[k], inputs.input(k));
     }
 }
 
@@ -162,7 +162,7 @@ pub(crate) fn is_output_true(points: &[ImagePoint], slots: &[i64], place: usize)
 }
 
 /// Copies the values of the points at these indices to the outputs, one for each.
-pub(crate) fn give_outputs(
+pub(crate) fn copy_outputs(
     points: &[ImagePoint],
     writes: &[usize],
     slots: &[i64],

@@ -1,7 +1,7 @@
 // The operand stack: words, which contracts see with the top first.
 ghost use Rattle.std.specs.Prelude.{◌≡◌, ◌<◌, ◌∷◌, [], drop, length};
 ghost use Rattle.il_image.specs.Machine.{most_cells};
-ghost use Rattle.il_scan.specs.Working as spec;
+ghost use Rattle.il_scan.specs.WordEffects as spec;
 
 use arrayvec::ArrayVec;
 use std::marker::Model;

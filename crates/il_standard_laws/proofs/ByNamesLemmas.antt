@@ -14,7 +14,7 @@ use Rattle.il_image.specs.declared.timer.TimerState.{TimerState}
 use Rattle.il_image.specs.declared.value.Value.{Value}
 use Rattle.il_check.specs.Checking.{checked_of}
 use Rattle.il_check.specs.Declaring.{looked_up, meanings_of, names_in}
-use Rattle.il_check.specs.OwnPlaces.{MeanOwnPlaces}
+use Rattle.il_check.specs.OwnDeclarations.{MeanOwnDeclarations}
 use Rattle.il_check.specs.Program.{Checked}
 use Rattle.il_check.specs.declared.source_operand.Meaning.{Meaning}
 use Rattle.il_check.specs.declared.source_operand.Meaning.TheVariants as meaning
@@ -24,7 +24,7 @@ use Rattle.il_check.specs.declared.typed.Slot.TheVariants as slot
 use Rattle.il_check.specs.declared.typed.Timer.{Timer as Declared}
 use Rattle.il_check.specs.declared.typed.Variable.{Variable}
 use Rattle.il_check.proofs.OwnLemmas.{mean-own-places}
-use Rattle.il_standard_laws.specs.ByNames.{GoesByNames, changed_at, named_memory}
+use Rattle.il_standard_laws.specs.ByNames.{AccessesByName, changed_at, named_memory}
 use Rattle.il_compile.specs.Meaning.{Memory, slot_value, with_value}
 
 -- ---- lists
@@ -74,7 +74,7 @@ changed-elsewhere {A} name x values other ne =
 -- ---- a program's names
 
 module _ (points : List Point) (program : text.PlainProgram) (c : Checked)
-    (o : MeanOwnPlaces (names_in points program) c program.items) (name : List ℕ) where
+    (o : MeanOwnDeclarations (names_in points program) c program.items) (name : List ℕ) where
   -- a name means what it means in upper case
   in-upper : (m : Meaning) → (names_in points program).meaning name ≡ Some m
       → (names_in points program).meaning (upper name) ≡ Some m
@@ -165,7 +165,7 @@ module _ (points : List Point) (program : text.PlainProgram) (c : Checked)
 
 pub goes-by-names : (points : List Point) (program : text.PlainProgram) (c : Checked)
     (values : List ℕ → Value) (timers : List ℕ → TimerState) → checked_of points program ≡ Ok c
-    → GoesByNames (names_in points program) c values timers
+    → AccessesByName (names_in points program) c values timers
 goes-by-names points program c values timers e =
     let o = mean-own-places points program c e in
     record {

@@ -24,7 +24,7 @@ use Rattle.il_image.proofs.KindLemmas.{same-is, same-self}
 use Rattle.il_check.specs.Declaring.{literal_value, of_type}
 use Rattle.il_check.specs.SourceOperands.{ProgramNames, resolve_arguments, called_of, source_operand, is_nonzero, is_nonzero_literal, is_zero, resolve_output, resolve_variable_or_output, resolution_of, resolve_operand, resolve_variable}
 use Rattle.il_check.specs.Labelling.{IsCombined, IsRight}
-use Rattle.il_check.specs.Rules.{allows, arguments_fit, converted_from, divides, fits, type_of_result, input_type, is_fixed, is_missing, is_plain, is_timer, is_unset, is_wrong, jumps_back, load_type, may_divide_by_zero, may_load, may_negate, misses_argument, misses_label, misses_name, misses_timer, number_in, own_type, accepts_type, type_after, works, writes_fixed}
+use Rattle.il_check.specs.Rules.{is_valid_on, arguments_fit, converted_from, divides, operand_fits, type_of_result, input_type, is_read_only, is_undeclared, is_plain, is_timer, is_unset, is_wrong, jumps_back, load_type, may_divide_by_zero, may_load, may_negate, has_undeclared_argument, jumps_to_undefined_label, uses_undeclared_name, is_undeclared_timer, typed_number, own_type, accepts_type, type_after, works, writes_read_only}
 use Rattle.il_check.specs.declared.source_operand.SourceOperand.{SourceOperand}
 use Rattle.il_check.specs.declared.source_operand.SourceOperand.TheVariants.{Missing, Misused, Known, Number}
 use Rattle.il_check.specs.declared.source_operand.Meaning.{Meaning}
@@ -32,7 +32,7 @@ use Rattle.il_check.specs.declared.source_operand.Meaning.TheVariants as meaning
 use Rattle.il_check.specs.declared.source_operand.Resolved.{Resolved}
 use Rattle.il_check.specs.declared.source_operand.Resolved.TheVariants as resolved
 use Rattle.il_check.proofs.GivenLemmas.{allows-any}
-use Rattle.il_standard_laws.specs.Instructions.{AreArguments, CanHave, Combines, DoesNotDivide, IsDivisor, IsLiteralOf, IsLoaded, IsNotZero, IsRightAction, IsRightBlock, IsTimer, IsWritable, MayDivide, MayWrite, operand_kind, timer_output, variable_kind}
+use Rattle.il_standard_laws.specs.Instructions.{AreArguments, CanHaveType, Combines, DoesNotDivide, IsDivisor, IsLiteralOf, IsLoaded, IsNotZero, IsRightAction, IsRightBlock, IsTimer, IsWritable, MayDivide, MayWrite, operand_kind, timer_output, variable_kind}
 use Rattle.il_standard_laws.specs.Table.{IsFirstFit, MayNegate, Stores, Tests}
 use Rattle.il_standard_laws.proofs.NumberLemmas.{first-in-lint, first-own, has-value, in-lint, is-between, not-same, own-first}
 use Rattle.il_standard_laws.proofs.TableLemmas.{negation, row, table}
@@ -54,7 +54,7 @@ known-fits {A} k kind x = (
 
 -- a typed literal with a number of its type, and without
 typed-fits : (kind : ElementaryType) (v : Value) (b : Truth) (P : Type 0) → ((b ≡ true) ↔ P)
-    → (fits kind (source_operand (cond b (Some v) None)) ≡ true) ↔ ((kind ≡ type_of v) × P)
+    → (operand_fits kind (source_operand (cond b (Some v) None)) ≡ true) ↔ ((kind ≡ type_of v) × P)
 typed-fits kind v true P h =
     let k = known-fits (type_of v) kind _ in (λ e. (k.0 e, h.0 refl), λ p. k.1 p.0)
 typed-fits kind v false P h = (λ e. absurd (cc), λ p. absurd (let t = h.1 p.1 in cc))
@@ -73,16 +73,16 @@ mapped f None = refl
 mapped f (Some x) = refl
 
 -- a number without a type can have each type that it fits, except TIME
-number-is : (kind : ElementaryType) (z : ℤ) → (is_some (number_in kind z) ≡ true)
+number-is : (kind : ElementaryType) (z : ℤ) → (is_some (typed_number kind z) ≡ true)
     ↔ IsLiteralOf (literal.Number z) kind
 number-is elementary.Time z = (λ e. absurd (cc), λ p. absurd (p.1 refl))
 number-is kind z = let h = has-value kind z in (λ e. (h.0 e, λ t. cc), λ p. h.1 p.0)
 
 number-fits : (kind : ElementaryType) (z : ℤ) (b : Truth)
     → is_some (value_of elementary.Lint z) ≡ b
-    → (fits kind (cond b (Number z) Misused) ≡ true) ↔ IsLiteralOf (literal.Number z) kind
+    → (operand_fits kind (cond b (Number z) Misused) ≡ true) ↔ IsLiteralOf (literal.Number z) kind
 number-fits kind z true is =
-    let same = mapped (λ v. _) (number_in kind z) in
+    let same = mapped (λ v. _) (typed_number kind z) in
     let h = number-is kind z in (λ e. h.0 (sym same ∙ e), λ p. same ∙ h.1 p)
 number-fits kind z false is = (
   λ e. absurd (cc),
@@ -103,7 +103,7 @@ number-loads kind z false is = (
 )
 
 variable-fits : (m : Option Meaning) (kind : ElementaryType)
-    → (fits kind (resolve_variable m) ≡ true) ↔ (variable_kind m ≡ Some kind)
+    → (operand_fits kind (resolve_variable m) ≡ true) ↔ (variable_kind m ≡ Some kind)
 variable-fits None kind = (λ e. absurd (cc), λ e. absurd (cc))
 variable-fits (Some (meaning.Variable s k w)) kind =
     let f = known-fits k kind _ in
@@ -111,24 +111,24 @@ variable-fits (Some (meaning.Variable s k w)) kind =
 variable-fits (Some (meaning.Timer n)) kind = (λ e. absurd (cc), λ e. absurd (cc))
 
 output-fits : (what : TimerOutput) (m : Option Meaning) (kind : ElementaryType)
-    → (fits kind (resolve_output m what) ≡ true) ↔ (timer_output what m ≡ Some kind)
+    → (operand_fits kind (resolve_output m what) ≡ true) ↔ (timer_output what m ≡ Some kind)
 output-fits what None kind = (λ e. absurd (cc), λ e. absurd (cc))
 output-fits what (Some (meaning.Variable s k w)) kind = (λ e. absurd (cc), λ e. absurd (cc))
 output-fits what (Some (meaning.Timer n)) kind =
     let f = known-fits _ kind _ in
     let g = some-same _ kind in (λ e. g.1 (f.0 e), λ e. f.1 (g.0 e))
 
-place-fits : (names : ProgramNames) (place : text.Place) (kind : ElementaryType)
-    → (fits kind (resolve_variable_or_output names place) ≡ true)
+place-fits : (names : ProgramNames) (place : text.VariableData) (kind : ElementaryType)
+    → (operand_fits kind (resolve_variable_or_output names place) ≡ true)
     ↔ (operand_kind names place ≡ Some kind)
 place-fits names (text.named name) kind = variable-fits (names.meaning name) kind
 place-fits names (text.output timer what) kind = output-fits what (names.meaning timer) kind
 
 fits-is : (names : ProgramNames) (source : text.OperandData) (kind : ElementaryType)
-    → (fits kind (resolve_operand names source) ≡ true) ↔ CanHave names source kind
-fits-is names (text.constant (literal.Truth b)) kind = known-fits elementary.Bool kind _
-fits-is names (text.constant (literal.Number z)) kind = number-fits kind z _ refl
-fits-is names (text.constant (literal.Int z)) kind =
+    → (operand_fits kind (resolve_operand names source) ≡ true) ↔ CanHaveType names source kind
+operand_fits-is names (text.constant (literal.Truth b)) kind = known-fits elementary.Bool kind _
+operand_fits-is names (text.constant (literal.Number z)) kind = number-fits kind z _ refl
+operand_fits-is names (text.constant (literal.Int z)) kind =
     typed-fits kind (value.Short z) _ _ (is-between (negsuc 0x7FFF) (pos 0x7FFF) z)
 fits-is names (text.constant (literal.Dint z)) kind =
     typed-fits kind (value.Long z) _ _ (is-between (negsuc 0x7FFF_FFFF) (pos 0x7FFF_FFFF) z)
@@ -172,14 +172,14 @@ load-is names (text.variable (text.output timer what)) kind =
     along _ _ (Some kind) (output-loads what (names.meaning timer))
 
 -- what has a type is no name that is missing
-fits-there : (kind : ElementaryType) (g : SourceOperand) → fits kind g ≡ true → is_missing g ≡ false
-fits-there kind Missing e = absurd (cc)
+operand_fits-there : (kind : ElementaryType) (g : SourceOperand) → operand_fits kind g ≡ true → is_undeclared g ≡ false
+operand_fits-there kind Missing e = absurd (cc)
 fits-there kind Misused e = refl
-fits-there kind (Known s) e = refl
-fits-there kind (Number z) e = refl
+operand_fits-there kind (Known s) e = refl
+operand_fits-there kind (Number z) e = refl
 
 loads-there : (kind : ElementaryType) (g : SourceOperand) → load_type g ≡ Some kind
-    → is_missing g ≡ false
+    → is_undeclared g ≡ false
 loads-there kind Missing e = absurd (cc)
 loads-there kind Misused e = refl
 loads-there kind (Known s) e = refl
@@ -211,20 +211,20 @@ initial-is kind (literal.Time n) =
 -- ---- what else is looked at
 
 -- a target that has a type is a variable that may be written, or it is fixed
-may-write : (names : ProgramNames) (place : text.Place) (kind : ElementaryType)
+may-write : (names : ProgramNames) (place : text.VariableData) (kind : ElementaryType)
     → operand_kind names place ≡ Some kind
-    → (is_fixed (resolve_variable_or_output names place) ≡ false) ↔ MayWrite names place
+    → (is_read_only (resolve_variable_or_output names place) ≡ false) ↔ MayWrite names place
 may-write names (text.named name) kind e = named (names.meaning name) e
   where
     named : (m : Option Meaning) → variable_kind m ≡ Some kind
-        → (is_fixed (resolve_variable m) ≡ false) ↔ IsWritable m
+        → (is_read_only (resolve_variable m) ≡ false) ↔ IsWritable m
     named None e = absurd (cc)
     named (Some (meaning.Variable s k w)) e = (λ f. not-false w f, λ h. ap not h)
     named (Some (meaning.Timer n)) e = absurd (cc)
 may-write names (text.output timer what) kind e = fixed (names.meaning timer) e
   where
     fixed : (m : Option Meaning) → timer_output what m ≡ Some kind
-        → (is_fixed (resolve_output m what) ≡ false) ↔ ⊥
+        → (is_read_only (resolve_output m what) ≡ false) ↔ ⊥
     fixed None e = absurd (cc)
     fixed (Some (meaning.Variable s k w)) e = absurd (cc)
     fixed (Some (meaning.Timer n)) e = (λ f. absurd (cc), λ h. absurd h)
@@ -304,15 +304,15 @@ left-tested condition (Some kind) = tested condition None (Some kind)
 
 -- an instruction that is right on each result is right where the result is not set
 right-any : (r : Resolved) (t : Option ElementaryType)
-    → ((kind : ElementaryType) → allows r kind ≡ true) → is_wrong r t ≡ false
+    → ((kind : ElementaryType) → is_valid_on r kind ≡ true) → is_wrong r t ≡ false
 right-any r None h =
-    ap (λ (b : Truth). not (b || allows r elementary.Int || allows r elementary.Dint
-    || allows r elementary.Lint || allows r elementary.Time)) (h elementary.Bool)
+    ap (λ (b : Truth). not (b || is_valid_on r elementary.Int || is_valid_on r elementary.Dint
+    || is_valid_on r elementary.Lint || is_valid_on r elementary.Time)) (h elementary.Bool)
 right-any r (Some kind) h = ap not (h kind)
 
-right-where : (passed : ℕ) (r : Resolved) (t : Option ElementaryType) → misses_name r ≡ false
+right-where : (passed : ℕ) (r : Resolved) (t : Option ElementaryType) → uses_undeclared_name r ≡ false
     → is_wrong r t ≡ false → is_unset r t ≡ false → jumps_back passed r ≡ false
-    → misses_label r ≡ false → writes_fixed r ≡ false → may_divide_by_zero r ≡ false
+    → jumps_to_undefined_label r ≡ false → writes_read_only r ≡ false → may_divide_by_zero r ≡ false
     → IsRight passed r t
 right-where passed r t named allowed set forward labelled writable nonzero = record {
   named = named;
@@ -331,14 +331,14 @@ timer-is None = (λ e. absurd (cc), λ h. absurd h)
 timer-is (Some (meaning.Variable s k w)) = (λ e. absurd (cc), λ h. absurd h)
 timer-is (Some (meaning.Timer n)) = (λ e. tt, λ h. refl)
 
-timer-there : (m : Option Meaning) → IsTimer m → misses_timer (called_of m) ≡ false
+timer-there : (m : Option Meaning) → IsTimer m → is_undeclared_timer (called_of m) ≡ false
 timer-there None h = absurd h
 timer-there (Some (meaning.Variable s k w)) h = absurd h
 timer-there (Some (meaning.Timer n)) h = refl
 
 given-is : (names : ProgramNames) (a : Input × text.OperandData)
-    → (fits (input_type a.0) (resolve_operand names a.1) ≡ true)
-    ↔ CanHave names a.1 (input_type a.0)
+    → (operand_fits (input_type a.0) (resolve_operand names a.1) ≡ true)
+    ↔ CanHaveType names a.1 (input_type a.0)
 given-is names a = fits-is names a.1 (input_type a.0)
 
 are-given : (names : ProgramNames) (args : List (Input × text.OperandData))
@@ -348,8 +348,8 @@ are-given names (a ∷ []) = given-is names a
 are-given names (a ∷ b ∷ more) =
     let f = given-is names a in
     let g = given-is names b in (
-      λ e. let both = and_parts (fits (input_type a.0) (resolve_operand names a.1))
-          (fits (input_type b.0) (resolve_operand names b.1)) e in (f.0 both.0, g.0 both.1),
+      λ e. let both = and_parts (operand_fits (input_type a.0) (resolve_operand names a.1))
+          (operand_fits (input_type b.0) (resolve_operand names b.1)) e in (f.0 both.0, g.0 both.1),
       λ h. both-are _ _ (f.1 h.0) (g.1 h.1),
     )
 
@@ -359,7 +359,7 @@ none-of false b e f = f
 
 given-there : (names : ProgramNames) (args : List (Input × text.OperandData))
     → AreArguments names args
-    → misses_argument (resolve_arguments names args) ≡ false
+    → has_undeclared_argument (resolve_arguments names args) ≡ false
 given-there names [] h = refl
 given-there names (a ∷ []) h =
     fits-there (input_type a.0) (resolve_operand names a.1) ((given-is names a).1 h)
@@ -471,7 +471,7 @@ acts names passed (text.load negated source) t u ok e =
 acts names passed (text.store how place) None u ok e = absurd (let k = ok.set in cc)
 acts names passed (text.store how place) (Some kind) u ok e =
     let g = resolve_variable_or_output names place in
-    let both = and_parts (fits kind g) (may_negate (not (is_plain how)) kind)
+    let both = and_parts (operand_fits kind g) (may_negate (not (is_plain how)) kind)
     (not-false _ ok.allowed) in
     let is = (place-fits names place kind).0 both.0 in (
       kind,
@@ -485,7 +485,7 @@ acts names passed (text.store how place) (Some kind) u ok e =
 acts names passed (text.combine operator negated source) None u ok e =
     absurd (let k = ok.set in cc)
 acts names passed (text.combine operator negated source) (Some kind) u ok e =
-    let both = and_parts (works operator negated kind) (fits kind (resolve_operand names source))
+    let both = and_parts (works operator negated kind) (operand_fits kind (resolve_operand names source))
     (not-false _ ok.allowed) in (
       kind,
       (fits-is names source kind).0 both.1,
@@ -551,7 +551,7 @@ right-by names passed (text.combine operator negated source) None u h =
 right-by names passed (text.combine operator negated source) (Some kind) u h =
     let g = resolve_operand names source in
     let w = working operator negated kind h.0 u h.2 in
-    let fit = (fits-is names source kind).1 (subst (CanHave names source) w.alike h.1) in (
+    let fit = (fits-is names source kind).1 (subst (CanHaveType names source) w.alike h.1) in (
       right-where passed (resolved.Combine operator negated g (is_nonzero source)) (Some kind)
           (fits-there kind g fit) (ap not (both-are _ _ w.works fit)) refl refl refl refl
           ((may-divide operator source).1 h.3),

@@ -11,8 +11,8 @@ use Rattle.il_image.specs.declared.arithmetic.ArithmeticOperation.{ArithmeticOpe
 use Rattle.il_image.specs.declared.arithmetic.ArithmeticOperation.TheVariants.{Add, Sub, Mul, Div, Mod}
 use Rattle.il_image.specs.declared.arithmetic.Width.{Width}
 use Rattle.il_image.specs.declared.arithmetic.Width.TheVariants.{Int, Dint, Lint}
-use Rattle.il_compile.specs.Senses.{computes, sense_of}
-use Rattle.il_standard_laws.specs.Integers.{HasSign, IsOutcome, IsQuotient, IsReduced, how_many}
+use Rattle.il_compile.specs.OperatorClasses.{computes, class_of}
+use Rattle.il_standard_laws.specs.Integers.{HasSign, IsOutcome, IsQuotient, IsReduced, value_count}
 use Rattle.il_standard_laws.specs.Table.{IsNumberOf}
 
 -- ---- reduced into a type
@@ -55,7 +55,7 @@ wrapped-within Lint (pos a) = (omega (arith, ints), omega (arith, ints))
 wrapped-within Lint (negsuc a) = (omega (arith, ints), omega (arith, ints))
 
 wrapped-differs : (w : Width) (z : ℤ)
-    → (times : ℤ) × (z ≡ wrap_to w z +ℤ times *ℤ pos (how_many (type_of_width w)))
+    → (times : ℤ) × (z ≡ wrap_to w z +ℤ times *ℤ pos (value_count (type_of_width w)))
 unfolding int_wrap
 wrapped-differs Int z = differs (λ n. ltb n (2 ^ 15)) 65_536 z (omega arith)
 wrapped-differs Dint z = differs (λ n. ltb n (2 ^ 31)) 4_294_967_296 z (omega arith)
@@ -156,7 +156,7 @@ no-quotient a q h = let e = h.greatest (unsigned_abs q + 1) (omega arith) in ome
 
 -- the machine's arithmetic is that of the standard
 pub computed : (operator : Operator) (o : ArithmeticOperation) (w : Width) (a b z : ℤ)
-    → sense_of operator ≡ computes o → DividesBy o b
+    → class_of operator ≡ computes o → DividesBy o b
     → (computation_of o w a b ≡ z) ↔ IsOutcome operator (type_of_width w) a b z
 computed operator.Add Add w a b z e d = wraps w (a +ℤ b) z
 computed operator.Sub Sub w a b z e d = wraps w (a -ℤ b) z

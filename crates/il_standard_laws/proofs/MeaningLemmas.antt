@@ -26,8 +26,8 @@ use Rattle.il_image.specs.declared.value.Value.TheVariants.{Truth as Logical, Sh
 use Rattle.il_check.specs.declared.typed.SimpleOperation.TheVariants as op
 use Rattle.il_check.specs.declared.typed.TypedOperand.{TypedOperand}
 use Rattle.il_compile.specs.Meaning.{Memory, State, combination_of, computed_in, computed_values, connected_values, inverse, inverse_if, operand_value, state_after, state_after_close}
-use Rattle.il_compile.specs.Senses.{compares, computes, connects, sense_of, widening_of}
-use Rattle.il_standard_laws.specs.Integers.{IsApplied, IsConverted, IsInverted, IsMadeOf, IsNegatedWhere, IsOutcome, IsQuotient}
+use Rattle.il_compile.specs.OperatorClasses.{compares, computes, connects, class_of, widening_of}
+use Rattle.il_standard_laws.specs.Integers.{IsApplied, IsConverted, IsInverted, IsMadeOf, IsNegatedIf, IsOutcome, IsQuotient}
 use Rattle.il_check.specs.Operators.{arithmetic, equality, logic, order, result_type}
 use Rattle.il_standard_laws.proofs.IntegerLemmas.{computed, no-quotient}
 use Rattle.il_standard_laws.proofs.NumberLemmas.{is-at-most, is-equal, is-less, not-same}
@@ -147,7 +147,7 @@ of-width w z v = (λ e. absurd (cc), λ k. absurd (let t = k.0 in cc))
 
 -- nothing comes of a division by 0
 no-outcome : (operator : Operator) (o : ArithmeticOperation) (kind : ElementaryType) (a b z : ℤ)
-    → sense_of operator ≡ computes o → divides o && int_eq b (pos 0) ≡ true
+    → class_of operator ≡ computes o → divides o && int_eq b (pos 0) ≡ true
     → IsOutcome operator kind a b z → ⊥
 no-outcome operator.Div Div kind a b z s e h =
     no-quotient a h.0 (subst (λ (x : ℤ). IsQuotient a x h.0) ((is-equal b (pos 0)).0 e) h.1)
@@ -165,7 +165,7 @@ some-divisor Mod b e = λ zero. absurd (let t = (is-equal b (pos 0)).1 zero in c
 
 computed-by : (operator : Operator) (o : ArithmeticOperation) (w : Width) (a b : ℤ) (v : Value)
     (d : Truth)
-    → sense_of operator ≡ computes o → divides o && int_eq b (pos 0) ≡ d
+    → class_of operator ≡ computes o → divides o && int_eq b (pos 0) ≡ d
     → (cond d None (Some (value_of_width w (computation_of o w a b))) ≡ Some v)
     ↔ ((Some (type_of_width w) ≡ Some (type_of v))
     × IsOutcome operator (type_of_width w) a b (number_of v))
@@ -179,14 +179,14 @@ computed-by operator o w a b v false s e =
     )
 
 computed-in : (operator : Operator) (o : ArithmeticOperation) (w : Width) (a b : ℤ) (v : Value)
-    → sense_of operator ≡ computes o → (computed_in w o a b ≡ Some v)
+    → class_of operator ≡ computes o → (computed_in w o a b ≡ Some v)
     ↔ ((Some (type_of_width w) ≡ Some (type_of v))
     × IsOutcome operator (type_of_width w) a b (number_of v))
 computed-in operator o w a b v s =
     computed-by operator o w a b v (divides o && int_eq b (pos 0)) s refl
 
 calculated : (operator : Operator) (o : ArithmeticOperation) (a b v : Value)
-    → sense_of operator ≡ computes o
+    → class_of operator ≡ computes o
     → (computed_values o a b ≡ Some v)
     ↔ ((arithmetic (type_of a) (type_of b) ≡ Some (type_of v))
     × IsOutcome operator (type_of a) (number_of a) (number_of b) (number_of v))
@@ -205,7 +205,7 @@ as-made operator a b v X h =
     (λ x. record { typed = (h.0 x).0; number = (h.0 x).1 }, λ m. h.1 (m.typed, m.number))
 
 pub means : (operator : Operator) (a b v : Value)
-    → (combination_of (sense_of operator) a b ≡ Some v) ↔ IsMadeOf operator a b v
+    → (combination_of (class_of operator) a b ≡ Some v) ↔ IsMadeOf operator a b v
 means operator.And a b v =
     as-made operator.And a b v _
     (connected (logic_of And) (λ x y. (x ≡ pos 1) × (y ≡ pos 1)) both-true a b v)
@@ -251,7 +251,7 @@ says-so x P h = (λ e. h.0 ((one-is-true x).0 e), λ p. (one-is-true x).1 (h.1 p
 
 -- the machine's comparisons are those of the standard
 pub tests : (operator : Operator) (c : Comparison) (kind : ElementaryType) (a b : ℤ)
-    → sense_of operator ≡ compares c
+    → class_of operator ≡ compares c
     → IsOutcome operator kind a b (number_of (Logical (comparison_holds c a b)))
 tests operator.Gt comparison.Gt kind a b e = says-so _ _ (is-less b a)
 tests operator.Ge comparison.Ge kind a b e = says-so _ _ (is-at-most b a)
@@ -263,7 +263,7 @@ tests operator c kind a b e = absurd (cc)
 
 -- the machine's connectives are those of the standard
 pub joins : (operator : Operator) (c : Connective) (kind : ElementaryType) (a b : Truth)
-    → sense_of operator ≡ connects c
+    → class_of operator ≡ connects c
     → IsOutcome operator kind (number_of (Logical a)) (number_of (Logical b))
     (number_of (Logical (logic_of c a b)))
 joins operator.And And kind a b e = says-so _ _ (both-true a b)
@@ -296,7 +296,7 @@ inverts v w = (λ e. absurd (cc), λ h. absurd (let t = h.0 in let s = h.1 in cc
 -- ---- an operator with its operand, or with its parenthesis
 
 negates : (negated : Truth) (v w : Value) → (inverse_if negated v ≡ Some w)
-    ↔ IsNegatedWhere negated v w
+    ↔ IsNegatedIf negated v w
 negates false v w = (λ e. cc, λ e. ap Some (sym e))
 negates true v w = inverts v w
 
@@ -306,12 +306,12 @@ state_of operator negated before operand m = do
   a ← before
   v ← operand
   b ← inverse_if negated v
-  c ← combination_of (sense_of operator) a b
+  c ← combination_of (class_of operator) a b
   Some (record { result = Some c; memory = m })
 
 module _ (operator : Operator) (negated : Truth) (m : Memory) (t : State) where
-  from-made : (a v b : Value) (k : Option Value) → IsNegatedWhere negated v b
-      → combination_of (sense_of operator) a b ≡ k
+  from-made : (a v b : Value) (k : Option Value) → IsNegatedIf negated v b
+      → combination_of (class_of operator) a b ≡ k
       → (k >>= (λ c. Some (record { result = Some c; memory = m }))) ≡ Some t
       → IsApplied operator negated (Some a) (Some v) t.result × (t.memory ≡ m)
   from-made a v b None n is e = absurd (cc)
@@ -333,12 +333,12 @@ module _ (operator : Operator) (negated : Truth) (m : Memory) (t : State) where
       )
 
   from-negated : (a v : Value) (i : Option Value) → inverse_if negated v ≡ i
-      → (i >>= (λ b. combination_of (sense_of operator) a b
+      → (i >>= (λ b. combination_of (class_of operator) a b
       >>= (λ c. Some (record { result = Some c; memory = m })))) ≡ Some t
       → IsApplied operator negated (Some a) (Some v) t.result × (t.memory ≡ m)
   from-negated a v None is e = absurd (cc)
   from-negated a v (Some b) is e =
-      from-made a v b (combination_of (sense_of operator) a b) ((negates negated v b).0 is) refl e
+      from-made a v b (combination_of (class_of operator) a b) ((negates negated v b).0 is) refl e
 
   applied : (before operand : Option Value) → state_of operator negated before operand m ≡ Some t
       → IsApplied operator negated before operand t.result × (t.memory ≡ m)
@@ -354,7 +354,7 @@ module _ (operator : Operator) (negated : Truth) (m : Memory) (t : State) where
       let k = (means operator h.0.first h.0.second h.0.new).1 h.0.made in
       ap (λ (o : Option Value). state_of operator negated o operand m) h.0.result
       ∙ ap (λ (o : Option Value). state_of operator negated (Some h.0.first) o m) h.0.read
-      ∙ ap (λ (o : Option Value). o >>= (λ b. combination_of (sense_of operator) h.0.first b
+      ∙ ap (λ (o : Option Value). o >>= (λ b. combination_of (class_of operator) h.0.first b
       >>= (λ c. Some (record { result = Some c; memory = m })))) i
       ∙ ap (λ (o : Option Value). o >>= (λ c. Some (record { result = Some c; memory = m }))) k
       ∙ ap (λ (r : Option Value). Some (record { result = r; memory = m })) (sym h.0.leaves)

@@ -8,7 +8,7 @@ use Rattle.bay_base.specs.declared.types.ElementaryType.{ElementaryType}
 use Rattle.bay_base.specs.declared.types.ElementaryType.TheVariants.{Bool, Int, Dint, Lint, Time}
 use Rattle.il_image.specs.Values.{is_between, value_of}
 use Rattle.il_image.specs.declared.value.Value.TheVariants as value
-use Rattle.il_check.specs.Rules.{number_in, own_type}
+use Rattle.il_check.specs.Rules.{typed_number, own_type}
 use Rattle.il_standard_laws.specs.Table.{IsFirstFit, IsNumberOf}
 
 -- ---- tests
@@ -114,14 +114,14 @@ own-first z h = first-case z _ _ refl refl h
 
 pub first-own : (z : ℤ) (kind : ElementaryType) → IsFirstFit z kind → own_type z ≡ kind
 first-own z Int h =
-    ap (λ (b : Truth). cond b Int (cond (is_some (number_in Dint z)) Dint Lint))
+    ap (λ (b : Truth). cond b Int (cond (is_some (typed_number Dint z)) Dint Lint))
     ((has-value Int z).1 h)
 first-own z Dint h =
-    ap (λ (b : Truth). cond b Int (cond (is_some (number_in Dint z)) Dint Lint))
+    ap (λ (b : Truth). cond b Int (cond (is_some (typed_number Dint z)) Dint Lint))
     (not-true _ (λ e. h.1 ((has-value Int z).0 e)))
     ∙ ap (λ (b : Truth). cond b Dint Lint) ((has-value Dint z).1 h.0)
 first-own z Lint h =
-    ap (λ (b : Truth). cond b Int (cond (is_some (number_in Dint z)) Dint Lint))
+    ap (λ (b : Truth). cond b Int (cond (is_some (typed_number Dint z)) Dint Lint))
     (not-true _ (λ e. h.1 (in-dint z ((has-value Int z).0 e))))
     ∙ ap (λ (b : Truth). cond b Dint Lint) (not-true _ (λ e. h.1 ((has-value Dint z).0 e)))
 first-own z Bool h = absurd h

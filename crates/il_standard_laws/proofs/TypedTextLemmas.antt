@@ -24,13 +24,13 @@ use Rattle.il_check.specs.Checking.{checked_of, checked_program, faults_of, init
 use Rattle.il_check.specs.Declaring.{names_in}
 use Rattle.il_check.specs.Faults.{least_fault}
 use Rattle.il_check.specs.SourceOperands.{ProgramNames, resolution_of}
-use Rattle.il_check.specs.Keeping.{AreArgumentsOf, AreEntriesOf, AreItemsOf, IsArgumentOf, IsEntryOf, IsOperandOf, IsOperationOf, IsTransferOf, Keeps, label_names}
-use Rattle.il_check.specs.Labelling.{Carried, Labelling, initial_carried, carried_after_label}
+use Rattle.il_check.specs.Keeping.{AreArgumentsOf, AreEntriesOf, AreItemsOf, IsArgumentOf, IsEntryOf, IsOperandOf, IsOperationOf, IsTransferOf, Preserves, label_names}
+use Rattle.il_check.specs.Labelling.{FlowState, Labelling, initial_flow, flow_after_label}
 use Rattle.il_check.specs.Program.{Checked, Entries, Entry, ProgramItem, block, entry, entry_before, label, no_entries, operation, plain, transfer}
-use Rattle.il_check.specs.Rules.{converted_from, converted_to, type_of_result, input_type, is_plain, load_type, may_negate, number_in, own_type, accepts_type, works}
-use Rattle.il_check.specs.TypedProgram.{AreArguments, AreEntries, AreItems, Decides, IsArgument, IsEntry, IsOperand, IsOperation, IsTransfer, IsTyped, carried_after_entry, carried_after_transfer}
-use Rattle.il_check.specs.Typing.{block_in, load_in, load_operation, operation_in, or_entry, transfer_in}
-use Rattle.il_check.specs.WellTyped.{Progress, progress_after_entry, entries_left, entry_left, progress_after_item, progress_after_items, type_after_entry}
+use Rattle.il_check.specs.Rules.{converted_from, converted_to, type_of_result, input_type, is_plain, load_type, may_negate, typed_number, own_type, accepts_type, works}
+use Rattle.il_check.specs.TypedProgram.{AreArguments, AreEntries, AreItems, TestsBool, IsArgument, IsEntry, IsOperand, IsOperation, IsTransfer, IsTyped, flow_after_entry, flow_after_transfer}
+use Rattle.il_check.specs.Typing.{typed_block, typed_load, load_operation, typed_operation, or_entry, typed_transfer}
+use Rattle.il_check.specs.WellTyped.{Progress, progress_after_entry, typed_entries_of, typed_entry_of, typed_item_of, typed_items_of, type_after_entry}
 use Rattle.il_check.specs.declared.fault.CheckFault.{CheckFault}
 use Rattle.il_check.specs.declared.source_operand.SourceOperand.TheVariants.{Misused, Number}
 use Rattle.il_check.specs.declared.typed.SimpleOperation.{SimpleOperation}
@@ -47,13 +47,13 @@ use Rattle.il_check.proofs.TypedLemmas.{typed-of}
 use Rattle.il_check.specs.Limits.{most_nested}
 use Rattle.il_check.specs.Operators.{result_type}
 use Rattle.il_standard_laws.specs.Table.{IsFirstFit, MayNegate, Stores, Tests}
-use Rattle.il_standard_laws.specs.TypedText.{ArgumentHasType, ArgumentsHaveTypes, EntriesHaveTypes, EntryHasTypes, HasTypes, IsLoadedAs, ItemsHaveTypes, MayHave, OperationHasTypes, TransferHasTypes, operand_type}
+use Rattle.il_standard_laws.specs.TypedText.{ArgumentHasType, ArgumentsHaveTypes, EntriesHaveTypes, EntryHasTypes, HasTypes, IsLoadedAs, ItemsHaveTypes, TextAllowsType, OperationHasTypes, TransferHasTypes, operand_type}
 use Rattle.il_standard_laws.proofs.NumberLemmas.{has-value, own-first}
 use Rattle.il_standard_laws.proofs.TableLemmas.{negation, row}
 
 -- ---- the type of a number without a type
 
-number-typed : (kind : ElementaryType) (z : ℤ) (v : Value) → number_in kind z ≡ Some v
+number-typed : (kind : ElementaryType) (z : ℤ) (v : Value) → typed_number kind z ≡ Some v
     → type_of v ≡ kind
 number-typed elementary.Bool z v e = (value_is elementary.Bool z v e).type
 number-typed elementary.Int z v e = (value_is elementary.Int z v e).type
@@ -97,7 +97,7 @@ ItemsLoad (e ∷ es) [] = Unit {0}
 ItemsLoad (e ∷ es) (x ∷ xs) = (ItemLoads e x × ItemsLoad es xs) ⊎ ItemsLoad es (x ∷ xs)
 
 number-load : (negated : Truth) (z : ℤ) (kind : ElementaryType) (m : Option Value)
-    (o : SimpleOperation) → number_in kind z ≡ m → IsFirstFit z kind
+    (o : SimpleOperation) → typed_number kind z ≡ m → IsFirstFit z kind
     → load_operation negated (option_map (λ v. operand.Literal v) m) ≡ Some o
     → OwnLoad (text.load negated (text.constant (literal.Number z))) o
 number-load negated z kind None o is h e = absurd (cc)
@@ -108,16 +108,16 @@ number-load negated z kind (Some v) o is h e =
 
 number-case : (negated : Truth) (z : ℤ) (b : Truth) (o : SimpleOperation)
     → is_some (value_of elementary.Lint z) ≡ b
-    → load_in negated (cond b (Number z) Misused) (load_type (cond b (Number z) Misused)) ≡ Some o
+    → typed_load negated (cond b (Number z) Misused) (load_type (cond b (Number z) Misused)) ≡ Some o
     → OwnLoad (text.load negated (text.constant (literal.Number z))) o
 number-case negated z true o is e =
-    number-load negated z (own_type z) (number_in (own_type z) z) o refl
+    number-load negated z (own_type z) (typed_number (own_type z) z) o refl
     (own-first z ((has-value elementary.Lint z).0 is)) e
 number-case negated z false o is e = absurd (cc)
 
 module _ (names : ProgramNames) where
   operation-loads : (a : text.Action) (t : Option ElementaryType) (o : SimpleOperation)
-      → operation_in (resolution_of names a) t ≡ Some o → OwnLoad a o
+      → typed_operation (resolution_of names a) t ≡ Some o → OwnLoad a o
   operation-loads (text.load negated (text.constant (literal.Number z))) t o e =
       number-case negated z (is_some (value_of elementary.Lint z)) o refl e
   operation-loads a t (op.Load n (operand.Literal v)) e = tt
@@ -135,7 +135,7 @@ module _ (names : ProgramNames) where
   skipped e es (entry x xs) h = inr h
 
   action-loads : (line : ℕ) (a : text.Action) (t : Option ElementaryType)
-      (o : Option SimpleOperation) (x : Entry) → operation_in (resolution_of names a) t ≡ o
+      (o : Option SimpleOperation) (x : Entry) → typed_operation (resolution_of names a) t ≡ o
       → option_map operation o ≡ Some x → EntryLoads (text.action line a) x
   action-loads line a t None x is e = absurd (cc)
   action-loads line a t (Some o) x is e =
@@ -144,7 +144,7 @@ module _ (names : ProgramNames) where
 
   block-loads : (line : ℕ) (operator : Operator) (negated : Truth) (items : text.Entries) (end : ℕ)
       (es : Entries) (t : Option ElementaryType) (x : Entry) → Loads items es
-      → block_in operator negated es t ≡ Some x
+      → typed_block operator negated es t ≡ Some x
       → EntryLoads (text.block line operator negated items end) x
   block-loads line operator negated items end es None x h e = absurd (cc)
   block-loads line operator negated items end es (Some kind) x h e =
@@ -164,19 +164,19 @@ module _ (names : ProgramNames) where
 
   mutual
     entry-loads : (room : ℕ) (e : text.Entry) (t : Option ElementaryType) (x : Entry)
-        → entry_left names room e t ≡ Some x → EntryLoads e x
+        → typed_entry_of names room e t ≡ Some x → EntryLoads e x
     entry-loads room (text.label line name) t x e = absurd (cc)
     entry-loads room (text.action line a) t x e =
-        action-loads line a t (operation_in (resolution_of names a) t) x refl e
+        action-loads line a t (typed_operation (resolution_of names a) t) x refl e
     entry-loads room (text.block line operator negated items end) t x e =
         block-loads line operator negated items end _ t x
         (roomy items (room == 0) _ (entries-load (room - 1) items None)) e
 
     entries-load : (room : ℕ) (es : text.Entries) (t : Option ElementaryType)
-        → Loads es (entries_left names room es t)
+        → Loads es (typed_entries_of names room es t)
     entries-load room text.no_entries t = tt
     entries-load room (text.entry e es) t =
-        before-loads e es (entry_left names room e t) _ (entry-loads room e t)
+        before-loads e es (typed_entry_of names room e t) _ (entry-loads room e t)
         (entries-load room es (type_after_entry names e t))
 
   -- ---- items
@@ -206,23 +206,23 @@ module _ (names : ProgramNames) where
       let same : transfer m ≡ x = cc in subst (ItemLoads e) same tt
 
   item-loads : (e : text.Entry) (s : Progress) (x : ProgramItem)
-      → progress_after_item names e s ≡ Some x
+      → typed_item_of names e s ≡ Some x
       → ItemLoads e x
   item-loads (text.label line name) s x is =
       let same : label s.passed ≡ x = cc in subst (ItemLoads (text.label line name)) same tt
   item-loads (text.action line a) s x is =
-      either-loads (text.action line a) (transfer_in (resolution_of names a)) _ x
-      (λ y at. action-loads line a s.now.kind (operation_in (resolution_of names a) s.now.kind) y
+      either-loads (text.action line a) (typed_transfer (resolution_of names a)) _ x
+      (λ y at. action-loads line a s.now.kind (typed_operation (resolution_of names a) s.now.kind) y
       refl at) is
   item-loads (text.block line operator negated items end) s x is =
       plain-loads (text.block line operator negated items end) _ x
       (entry-loads most_nested (text.block line operator negated items end) s.now.kind) is
 
   items-load : (es : List text.Entry) (s : Progress)
-      → ItemsLoad es (progress_after_items names es s)
+      → ItemsLoad es (typed_items_of names es s)
   items-load [] s = tt
   items-load (e ∷ es) s =
-      item-before e es (progress_after_item names e s) _ (item-loads e s)
+      item-before e es (typed_item_of names e s) _ (item-loads e s)
       (items-load es (progress_after_entry names e s))
 
 -- ---- as many are left as there are
@@ -264,7 +264,7 @@ stored-right store.Negated kind e = let b = (negation true kind).0 e in (b, b)
 stored-right store.Set kind e = let b = (negation true kind).0 e in (b, b)
 stored-right store.Reset kind e = let b = (negation true kind).0 e in (b, b)
 
-tested-right : (condition : Condition) (t : Option ElementaryType) → Decides condition t
+tested-right : (condition : Condition) (t : Option ElementaryType) → TestsBool condition t
     → Tests condition t
 tested-right Always t h = h
 tested-right IfTrue t h = h
@@ -278,7 +278,7 @@ module _ (c : Checked) where
   operand-typed (operand.TimerOutput n what) kind h = ap Some h.1
 
   may-have : (source : text.OperandData) (x : TypedOperand) (kind : ElementaryType)
-      → IsOperandOf c source x → operand_type c x ≡ Some kind → MayHave source kind
+      → IsOperandOf c source x → operand_type c x ≡ Some kind → TextAllowsType source kind
   may-have (text.variable place) x kind h e = tt
   may-have (text.constant (literal.Truth b)) (operand.Literal v) kind h e =
       let t = ap type_of h in cc
@@ -422,7 +422,7 @@ module _ (c : Checked) where
 
   items-have : (names : List (List ℕ)) (labels : Labelling) (es : List text.Entry)
       (xs : List ProgramItem)
-      (k : Carried) → AreItemsOf c names es xs → AreItems c labels xs k → ItemsLoad es xs
+      (k : FlowState) → AreItemsOf c names es xs → AreItems c labels xs k → ItemsLoad es xs
       → ItemsHaveTypes c labels es xs k
   items-have names labels [] [] k h w own = tt
   items-have names labels (e ∷ es) (x ∷ xs) k h w (inr skip) =
@@ -430,20 +430,20 @@ module _ (c : Checked) where
       let same = same-length names es xs h.1 in
       absurd (omega arith)
   items-have names labels (text.label line name ∷ es) (label n ∷ xs) k h w (inl own) =
-      (w.0.2, items-have names labels es xs (carried_after_label labels k) h.1 w.1 own.1)
+      (w.0.2, items-have names labels es xs (flow_after_label labels k) h.1 w.1 own.1)
   items-have names labels (text.action line a ∷ es) (transfer x ∷ xs) k h w (inl own) = (
     w.0,
     w.1.0,
     transfer-has names xs a x w.0 h.0 w.1.1,
     w.1.2,
-    items-have names labels es xs (carried_after_transfer x w.0 k) h.1 w.2 own.1,
+    items-have names labels es xs (flow_after_transfer x w.0 k) h.1 w.2 own.1,
   )
   items-have names labels (e ∷ es) (plain x ∷ xs) k h w (inl own) = (
     w.0,
     w.1,
     w.2.0,
     entry-has e x w.0 w.1 h.0 w.2.1 own.0,
-    items-have names labels es xs (carried_after_entry w.1 k) h.1 w.3 own.1,
+    items-have names labels es xs (flow_after_entry w.1 k) h.1 w.3 own.1,
   )
   items-have names labels (e ∷ es) (x ∷ xs) k h w (inl own) = absurd h.0
   items-have names labels es xs k h w own = absurd h
@@ -458,7 +458,7 @@ pub has-types : (points : List Point) (program : text.PlainProgram) (c : Checked
     → checked_of points program ≡ Ok c → list_all is_outer program.items ≡ true
     → HasTypes program c
 has-types points program c e may =
-    let kept : Keeps points program c = keeps points program c e may in
+    let kept : Preserves points program c = keeps points program c e may in
     let typed : IsTyped c = typed-of points program c e in
     let left = left-of (least_fault (faults_of points program)) (checked_program points program) c e
     in
@@ -468,6 +468,6 @@ has-types points program c e may =
     record {
       labels = typed.labels;
       items = items-have c (label_names program.items) typed.labels program.items c.items
-          initial_carried
+          initial_flow
           kept.items typed.items loads;
     }

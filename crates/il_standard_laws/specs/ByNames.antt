@@ -25,7 +25,7 @@ changed_at name x values other = if bytes_eq name other then x else values other
 
 -- Reading a name results in the value that a map has for it, in upper case; and writing to a name
 -- changes the map at this name and nowhere else.
-pub record GoesByNames (names : ProgramNames) (c : Checked) (values : List ℕ → Value)
+pub record AccessesByName (names : ProgramNames) (c : Checked) (values : List ℕ → Value)
     (timers : List ℕ → TimerState) : Type 0 where
   pub reads : (name : List ℕ) (s : Slot) (kind : ElementaryType) (writable : Bool)
       → names.meaning name ≡ Some (meaning.Variable s kind writable) →

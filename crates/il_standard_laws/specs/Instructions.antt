@@ -40,20 +40,20 @@ timer_output what (Some (meaning.Timer timer)) = Some (output_type what)
 timer_output what other = None
 
 -- the type of a variable or of an output
-abbrev pub operand_kind : ProgramNames → text.Place → Option ElementaryType
+abbrev pub operand_kind : ProgramNames → text.VariableData → Option ElementaryType
 operand_kind names (text.named name) = variable_kind (names.meaning name)
 operand_kind names (text.output timer what) = timer_output what (names.meaning timer)
 
 -- The operand can have the type.
-abbrev pub CanHave : ProgramNames → text.OperandData → ElementaryType → Type 0
-CanHave names (text.constant l) kind = IsLiteralOf l kind
-CanHave names (text.variable place) kind = operand_kind names place ≡ Some kind
+abbrev pub CanHaveType : ProgramNames → text.OperandData → ElementaryType → Type 0
+CanHaveType names (text.constant l) kind = IsLiteralOf l kind
+CanHaveType names (text.variable place) kind = operand_kind names place ≡ Some kind
 
 -- A load of the operand results in this type: an untyped number has the first of INT, DINT and LINT
 -- that it fits.
 abbrev pub IsLoaded : ProgramNames → text.OperandData → ElementaryType → Type 0
 IsLoaded names (text.constant (literal.Number z)) kind = IsFirstFit z kind
-IsLoaded names source kind = CanHave names source kind
+IsLoaded names source kind = CanHaveType names source kind
 
 -- ---- what else an instruction needs
 
@@ -63,7 +63,7 @@ IsWritable (Some (meaning.Variable slot kind writable)) = writable ≡ true
 IsWritable other = ⊥
 
 -- The target is a variable that the program may write.
-abbrev pub MayWrite : ProgramNames → text.Place → Type 0
+abbrev pub MayWrite : ProgramNames → text.VariableData → Type 0
 MayWrite names (text.named name) = IsWritable (names.meaning name)
 MayWrite names (text.output timer what) = ⊥
 
@@ -101,9 +101,9 @@ IsTimer other = ⊥
 -- Each argument of a call, at most two, can have the type of its input.
 abbrev pub AreArguments : ProgramNames → List (Input × text.OperandData) → Type 0
 AreArguments names [] = Unit {0}
-AreArguments names (a ∷ []) = CanHave names a.1 (input_type a.0)
+AreArguments names (a ∷ []) = CanHaveType names a.1 (input_type a.0)
 AreArguments names (a ∷ b ∷ more) =
-    CanHave names a.1 (input_type a.0) × CanHave names b.1 (input_type b.0)
+    CanHaveType names a.1 (input_type a.0) × CanHaveType names b.1 (input_type b.0)
 
 -- ---- instructions and parentheses, on a result of type t, which leave one of type u; none is an
 -- unset result
@@ -130,7 +130,7 @@ IsRightAction names passed (text.store how place) t u =
     × (operand_kind names place ≡ Some target) × Stores how kind target × MayWrite names place
     × (u ≡ t)
 IsRightAction names passed (text.combine operator negated source) t u =
-    (second : ElementaryType) × CanHave names source second × Combines operator negated t u second
+    (second : ElementaryType) × CanHaveType names source second × Combines operator negated t u second
     × MayDivide operator source
 IsRightAction names passed text.invert t u = (t ≡ Some elementary.Bool) × (u ≡ t)
 IsRightAction names passed (text.convert conversion) t u =

@@ -12,18 +12,18 @@ use Rattle.il_check.specs.Rules.{converted_from, converted_to}
 use Rattle.il_standard_laws.specs.Table.{IsNumberOf}
 
 -- the number of values of a type
-abbrev pub how_many : ElementaryType → ℕ
-how_many Bool = 2
-how_many Int = 65_536
-how_many Dint = 4_294_967_296
-how_many Lint = 18_446_744_073_709_551_616
-how_many Time = 2_147_483_648
+abbrev pub value_count : ElementaryType → ℕ
+value_count Bool = 2
+value_count Int = 65_536
+value_count Dint = 4_294_967_296
+value_count Lint = 18_446_744_073_709_551_616
+value_count Time = 2_147_483_648
 
 -- The number is the one of the type that differs from the integer by a multiple of the number of
 -- the type's values.
 abbrev pub IsReduced : ElementaryType → ℤ → ℤ → Type 0
 IsReduced kind exact z =
-    IsNumberOf kind z × ((times : ℤ) × (exact ≡ z +ℤ times *ℤ pos (how_many kind)))
+    IsNumberOf kind z × ((times : ℤ) × (exact ≡ z +ℤ times *ℤ pos (value_count kind)))
 
 -- A quotient is not negative if both have one sign, and not positive if their signs differ.
 abbrev pub HasSign : ℤ → ℤ → ℤ → Type 0
@@ -74,9 +74,9 @@ IsInverted v w =
     (type_of v ≡ Bool) × (type_of w ≡ Bool) × ((number_of w ≡ pos 1) ↔ (number_of v ≡ pos 0))
 
 -- A value, negated if the flag is true.
-abbrev pub IsNegatedWhere : Truth → Value → Value → Type 0
-IsNegatedWhere false v w = w ≡ v
-IsNegatedWhere true v w = IsInverted v w
+abbrev pub IsNegatedIf : Truth → Value → Value → Type 0
+IsNegatedIf false v w = w ≡ v
+IsNegatedIf true v w = IsInverted v w
 
 -- An operator, which may negate its operand first, is applied to the current result before it and
 -- to the operand, and leaves the result after it; none is an unset result.
@@ -88,6 +88,6 @@ pub record IsApplied (operator : Operator) (negated : Truth) (before operand aft
   pub new : Value
   pub result : before ≡ Some first
   pub read : operand ≡ Some given
-  pub negation : IsNegatedWhere negated given second
+  pub negation : IsNegatedIf negated given second
   pub made : IsMadeOf operator first second new
   pub leaves : after ≡ Some new

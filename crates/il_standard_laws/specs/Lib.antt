@@ -14,7 +14,7 @@ pub use Rattle.il_check.specs.Operators
 pub use Rattle.il_check.specs.Program
 pub use Rattle.il_check.specs.Rules
 pub use Rattle.il_compile.specs.Meaning
-pub use Rattle.il_compile.specs.Senses
+pub use Rattle.il_compile.specs.OperatorClasses
 pub use Rattle.il_image.specs.Arithmetic
 pub use Rattle.il_text.specs.Listing
 -- Its own definitions.

@@ -7,9 +7,9 @@ use Rattle.il_text.specs.Listing as text
 use Rattle.il_text.specs.declared.program.Input.{Input}
 use Rattle.il_text.specs.declared.program.Literal.TheVariants as literal
 use Rattle.il_image.specs.Values.{type_of}
-use Rattle.il_check.specs.Labelling.{Carried, Falls, Jumps, Labelling, initial_carried, carried_after_label}
+use Rattle.il_check.specs.Labelling.{FlowState, FallAgrees, JumpAgrees, Labelling, initial_flow, flow_after_label}
 use Rattle.il_check.specs.Program.{Checked, Entries, Entry, ProgramItem, block, entry, label, no_entries, operation, plain, transfer}
-use Rattle.il_check.specs.TypedProgram.{carried_after_entry, carried_after_transfer, slot_type, target_of}
+use Rattle.il_check.specs.TypedProgram.{flow_after_entry, flow_after_transfer, slot_type, target_of}
 use Rattle.il_check.specs.declared.typed.SimpleOperation.{SimpleOperation}
 use Rattle.il_check.specs.declared.typed.SimpleOperation.TheVariants as op
 use Rattle.il_check.specs.declared.typed.Transfer.{Transfer}
@@ -33,23 +33,23 @@ operand_type c (operand.Slot s) = slot_type c s
 operand_type c (operand.TimerOutput timer what) = Some (output_type what)
 
 -- A literal that names a type has this type. An untyped number, and a variable, may have each type.
-abbrev pub MayHave : text.OperandData → ElementaryType → Type 0
-MayHave (text.constant (literal.Truth b)) kind = kind ≡ elementary.Bool
-MayHave (text.constant (literal.Number z)) kind = Unit {0}
-MayHave (text.constant (literal.Int z)) kind = kind ≡ elementary.Int
-MayHave (text.constant (literal.Dint z)) kind = kind ≡ elementary.Dint
-MayHave (text.constant (literal.Lint z)) kind = kind ≡ elementary.Lint
-MayHave (text.constant (literal.Time n)) kind = kind ≡ elementary.Time
-MayHave (text.variable place) kind = Unit {0}
+abbrev pub TextAllowsType : text.OperandData → ElementaryType → Type 0
+TextAllowsType (text.constant (literal.Truth b)) kind = kind ≡ elementary.Bool
+TextAllowsType (text.constant (literal.Number z)) kind = Unit {0}
+TextAllowsType (text.constant (literal.Int z)) kind = kind ≡ elementary.Int
+TextAllowsType (text.constant (literal.Dint z)) kind = kind ≡ elementary.Dint
+TextAllowsType (text.constant (literal.Lint z)) kind = kind ≡ elementary.Lint
+TextAllowsType (text.constant (literal.Time n)) kind = kind ≡ elementary.Time
+TextAllowsType (text.variable place) kind = Unit {0}
 
 -- An untyped number that is loaded has the first of INT, DINT and LINT that it fits.
 abbrev pub IsLoadedAs : text.OperandData → ElementaryType → Type 0
 IsLoadedAs (text.constant (literal.Number z)) kind = IsFirstFit z kind
-IsLoadedAs source kind = MayHave source kind
+IsLoadedAs source kind = TextAllowsType source kind
 
 -- The operand of the checked program has the type, and the operand of the text may have it.
 abbrev pub HasType : Checked → text.OperandData → TypedOperand → ElementaryType → Type 0
-HasType c source x kind = (operand_type c x ≡ Some kind) × MayHave source kind
+HasType c source x kind = (operand_type c x ≡ Some kind) × TextAllowsType source kind
 
 -- ---- operations and parentheses, on a result of type t, which leave one of type u; none is an
 -- unset result
@@ -114,21 +114,21 @@ TransferHasTypes c a x t = ⊥
 
 -- Each item has its types on the result that reaches it; what reaches a label, from above or by a
 -- jump, has the label's type, or the label is unset.
-abbrev pub ItemsHaveTypes : Checked → Labelling → List text.Entry → List ProgramItem → Carried
+abbrev pub ItemsHaveTypes : Checked → Labelling → List text.Entry → List ProgramItem → FlowState
     → Type 0
 ItemsHaveTypes c labels [] [] k = Unit {0}
 ItemsHaveTypes c labels (text.label line name ∷ es) (label n ∷ is) k =
-    Falls labels k.passed k.now × ItemsHaveTypes c labels es is (carried_after_label labels k)
+    FallAgrees labels k.passed k.now × ItemsHaveTypes c labels es is (flow_after_label labels k)
 ItemsHaveTypes c labels (text.action line a ∷ es) (transfer x ∷ is) k =
     (t : Option ElementaryType) × (k.now ≡ Some t) × TransferHasTypes c a x t
-    × Jumps labels (target_of x) t × ItemsHaveTypes c labels es is (carried_after_transfer x t k)
+    × JumpAgrees labels (target_of x) t × ItemsHaveTypes c labels es is (flow_after_transfer x t k)
 ItemsHaveTypes c labels (e ∷ es) (plain x ∷ is) k =
     (t : Option ElementaryType) × (u : Option ElementaryType) × (k.now ≡ Some t)
-    × EntryHasTypes c e x t u × ItemsHaveTypes c labels es is (carried_after_entry u k)
+    × EntryHasTypes c e x t u × ItemsHaveTypes c labels es is (flow_after_entry u k)
 ItemsHaveTypes c labels es is k = ⊥
 
 -- With some labelling (a type of the current result, or unset, for each label) each item has its
 -- types.
 pub record HasTypes (program : text.PlainProgram) (c : Checked) : Type 0 where
   pub labels : Labelling
-  pub items : ItemsHaveTypes c labels program.items c.items initial_carried
+  pub items : ItemsHaveTypes c labels program.items c.items initial_flow

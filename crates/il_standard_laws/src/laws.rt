@@ -24,8 +24,8 @@ ghost use Rattle.il_check.specs.Rules.{type_of_result, accepts_type};
 ghost use Rattle.il_check.specs.declared.typed.SimpleOperation.TheVariants as SimpleOperation;
 ghost use Rattle.il_check.specs.declared.typed.TypedOperand.{TypedOperand};
 ghost use Rattle.il_compile.specs.Meaning.{State, inverse, operand_value, state_after, state_after_close};
-ghost use Rattle.il_compile.specs.Senses.{compares, computes, connects, sense_of, widening_of};
-ghost use Rattle.il_standard_laws.specs.ByNames.{GoesByNames};
+ghost use Rattle.il_compile.specs.OperatorClasses.{compares, computes, connects, class_of, widening_of};
+ghost use Rattle.il_standard_laws.specs.ByNames.{AccessesByName};
 ghost use Rattle.il_standard_laws.specs.Instructions.{IsLiteralOf};
 ghost use Rattle.il_standard_laws.specs.Integers.{IsApplied, IsConverted, IsInverted, IsOutcome};
 ghost use Rattle.il_standard_laws.specs.RightText.{IsRightText};
@@ -35,10 +35,10 @@ ghost use Rattle.il_standard_laws.specs.TypedText.{HasTypes};
 /// A program reads and writes by name. Take a memory in which each external, variable and timer has
 /// the value that a map from names has for its name. What an instruction reads under a name is then
 /// what the map has for this name, and what it writes changes the map at this name only.
-pub fn meaning_goes_by_names()
+pub fn programs_read_and_write_by_name()
     ensures { (points : List Point) (program : text.PlainProgram) (c : Checked)
         (values : List ℕ → Value) (timers : List ℕ → TimerState) →
-        checked_of points program ≡ Ok c → GoesByNames (names_in points program) c values timers }
+        checked_of points program ≡ Ok c → AccessesByName (names_in points program) c values timers }
 {}
 
 /// The checks use the language's tables. The table of an operator has a row with these types
@@ -63,13 +63,13 @@ pub fn rules_are_the_tables()
 /// its connectives are those of FALSE and TRUE.
 pub fn arithmetic_is_that_of_the_integers()
     ensures computed { (operator : Operator) (o : ArithmeticOperation) (width : Width) (a b z : ℤ)
-        → sense_of operator ≡ computes o → DividesBy o b →
+        → class_of operator ≡ computes o → DividesBy o b →
         (computation_of o width a b ≡ z) ↔ IsOutcome operator (type_of_width width) a b z }
     ensures compared { (operator : Operator) (c : Comparison) (kind : ElementaryType) (a b : ℤ)
-        → sense_of operator ≡ compares c
+        → class_of operator ≡ compares c
         → IsOutcome operator kind a b (number_of (Truth (comparison_holds c a b))) }
     ensures connected { (operator : Operator) (c : Connective) (kind : ElementaryType) (a b : Bool)
-        → sense_of operator ≡ connects c →
+        → class_of operator ≡ connects c →
         IsOutcome operator kind (number_of (Truth a)) (number_of (Truth b))
         (number_of (Truth (logic_of c a b))) }
 {}

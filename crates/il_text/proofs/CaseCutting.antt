@@ -7,12 +7,12 @@ use Rattle.std.specs.Str.{bytes_eq}
 use Rattle.std.proofs.lemmas.Bool.{ltb-true}
 use Rattle.il_text.proofs.CutLemmas.{and-left, and-right}
 use Rattle.il_text.specs.Characters.{is_blank, is_sign, is_word, begins_word, begins_name, are_linked}
-use Rattle.il_text.specs.Literals.{halves, prefixed_literal, decimal, plain_literal}
+use Rattle.il_text.specs.Literals.{split_at_hash, prefixed_literal, decimal, plain_literal}
 use Rattle.bay_base.proofs.WordLemmas.{reserved-upper}
 use Rattle.il_text.specs.Words.{symbol_of_word, reserved_symbol}
-use Rattle.il_text.specs.Pieces.{opens, ends, closes, without_comments, blank_of, joins, join, pieces}
+use Rattle.il_text.specs.Lexemes.{opens_comment, ends_comment, ends_later, without_comments, blank_of, joins_lexeme, join, lexemes}
 use Rattle.il_text.specs.Places.{last_line}
-use Rattle.il_text.specs.Symbols.{literal_piece, name_or_reserved, plain_word, word, mark_of, mark_piece, is_line_end, piece, pieces_of}
+use Rattle.il_text.specs.Symbols.{literal_lexeme, name_or_reserved, plain_word, word, mark_of, mark_lexeme, is_line_end, lexeme_of, text_lexemes}
 use Rattle.il_text.specs.Tokens.{Symbol, name, keyword_word, type_word, literal, mnemonic_word, mark_symbol, LexemeData, blank, line_end, token, bad_token, bad_literal}
 use Rattle.bay_base.specs.Words.{reserved_of}
 use Rattle.bay_base.specs.declared.words.ReservedWord.{ReservedWord}
@@ -73,9 +73,9 @@ index-up [] k = refl
 index-up (x ∷ xs) zero = refl
 index-up (x ∷ xs) (suc k) = index-up xs k
 
-joins-up : (x : ℕ) (p : List ℕ) → joins (up x) (map up p) ≡ joins x p
-unfolding joins
-joins-up x p =
+joins-up : (x : ℕ) (p : List ℕ) → joins_lexeme (up x) (map up p) ≡ joins_lexeme x p
+unfolding joins_lexeme
+joins_lexeme-up x p =
     rw (index-up p 0, linked-up x (slice_index p 0), up-eqb x 38 (lit< tt), same-up p (78 ∷ []))
     refl
 
@@ -83,26 +83,26 @@ join-up : (x : ℕ) (ps : List (List ℕ)) → join (up x) (map (map up) ps) ≡
 join-up x [] = refl
 join-up x (p ∷ ps) =
     rw (joins-up x p)
-    (cond-up (map (map up)) (joins x p) ((x ∷ p) ∷ ps) ((x ∷ []) ∷ p ∷ ps))
+    (cond-up (map (map up)) (joins_lexeme x p) ((x ∷ p) ∷ ps) ((x ∷ []) ∷ p ∷ ps))
 
-pieces-up : (xs : List ℕ) → pieces (map up xs) ≡ map (map up) (pieces xs)
-unfolding pieces
-pieces-up [] = refl
-pieces-up (x ∷ xs) = ap (join (up x)) (unfold pieces in pieces-up xs) ∙ join-up x (pieces xs)
+pieces-up : (xs : List ℕ) → lexemes (map up xs) ≡ map (map up) (lexemes xs)
+unfolding lexemes
+lexemes-up [] = refl
+lexemes-up (x ∷ xs) = ap (join (up x)) (unfold lexemes in pieces-up xs) ∙ join-up x (lexemes xs)
 
-opens-up : (xs : List ℕ) → opens (map up xs) ≡ opens xs
-opens-up xs = rw (index-up xs 0, index-up xs 1, up-eqb _ 40 (lit< tt), up-eqb _ 42 (lit< tt)) refl
+opens-up : (xs : List ℕ) → opens_comment (map up xs) ≡ opens_comment xs
+opens_comment-up xs = rw (index-up xs 0, index-up xs 1, up-eqb _ 40 (lit< tt), up-eqb _ 42 (lit< tt)) refl
 
-ends-up : (xs : List ℕ) → ends (map up xs) ≡ ends xs
-ends-up xs = rw (index-up xs 0, index-up xs 1, up-eqb _ 42 (lit< tt), up-eqb _ 41 (lit< tt)) refl
+ends-up : (xs : List ℕ) → ends_comment (map up xs) ≡ ends_comment xs
+ends_comment-up xs = rw (index-up xs 0, index-up xs 1, up-eqb _ 42 (lit< tt), up-eqb _ 41 (lit< tt)) refl
 
-closes-up : (xs : List ℕ) → closes (map up xs) ≡ closes xs
-unfolding closes
-closes-up [] = refl
-closes-up (x ∷ xs) =
-    let rest : closes (map up xs) ≡ closes xs = unfold closes in closes-up xs in
-    ap (λ (b : Bool). b || closes (map up xs)) (ends-up (x ∷ xs))
-    ∙ ap (λ (b : Bool). ends (x ∷ xs) || b) rest
+closes-up : (xs : List ℕ) → ends_later (map up xs) ≡ ends_later xs
+unfolding ends_later
+ends_later-up [] = refl
+ends_later-up (x ∷ xs) =
+    let rest : ends_later (map up xs) ≡ ends_later xs = unfold ends_later in closes-up xs in
+    ap (λ (b : Bool). b || ends_later (map up xs)) (ends-up (x ∷ xs))
+    ∙ ap (λ (b : Bool). ends_comment (x ∷ xs) || b) rest
 
 blank_of-up : (x : ℕ) → blank_of (up x) ≡ up (blank_of x)
 blank_of-up x = rw (up-eqb x 10 (lit< tt)) (cond-up up (eqb x 10) 10 32)
@@ -122,7 +122,7 @@ blanked-up true (x ∷ y ∷ xs) =
     ap (λ (b : Bool). cond b (32 ∷ 32 ∷ without_comments false (map up xs))
     (blank_of (up x) ∷ without_comments true (up y ∷ map up xs))) (ends-up (x ∷ y ∷ xs))
     ∙ rw (outside, inside, blank_of-up x)
-    (cond-up (map up) (ends (x ∷ y ∷ xs)) (32 ∷ 32 ∷ without_comments false xs)
+    (cond-up (map up) (ends_comment (x ∷ y ∷ xs)) (32 ∷ 32 ∷ without_comments false xs)
     (blank_of x ∷ without_comments true (y ∷ xs)))
 blanked-up false (x ∷ y ∷ xs) =
     let inside : without_comments true (map up xs) ≡ map up (without_comments true xs) =
@@ -131,13 +131,13 @@ blanked-up false (x ∷ y ∷ xs) =
     ≡ map up (without_comments false (y ∷ xs)) =
     unfold without_comments in blanked-up false (y ∷ xs) in
     ap (λ (b : Bool). cond b
-    (cond (closes (map up xs)) 32 256 ∷ 32 ∷ without_comments true (map up xs))
+    (cond (ends_later (map up xs)) 32 256 ∷ 32 ∷ without_comments true (map up xs))
     (up x ∷ without_comments false (up y ∷ map up xs))) (opens-up (x ∷ y ∷ xs))
     ∙ rw (outside, inside, closes-up xs)
-    (ap (λ (c : ℕ). cond (opens (x ∷ y ∷ xs)) (c ∷ 32 ∷ map up (without_comments true xs))
-    (up x ∷ map up (without_comments false (y ∷ xs)))) (cond-up up (closes xs) 32 256)
-    ∙ cond-up (map up) (opens (x ∷ y ∷ xs))
-    (cond (closes xs) 32 256 ∷ 32 ∷ without_comments true xs)
+    (ap (λ (c : ℕ). cond (opens_comment (x ∷ y ∷ xs)) (c ∷ 32 ∷ map up (without_comments true xs))
+    (up x ∷ map up (without_comments false (y ∷ xs)))) (cond-up up (ends_later xs) 32 256)
+    ∙ cond-up (map up) (opens_comment (x ∷ y ∷ xs))
+    (cond (ends_later xs) 32 256 ∷ 32 ∷ without_comments true xs)
     (x ∷ without_comments false (y ∷ xs)))
 
 pub last_line-up : (xs : List ℕ) → last_line (map up xs) ≡ last_line xs
@@ -187,7 +187,7 @@ reserved-up : (w : List ℕ)
 unfolding reserved_symbol
 reserved-up w = ap (option_map symbol_of_word) (reserved-upper w) ∙ sym (symbols-by (reserved_of w))
 
-literal-up : (r : Result Literal LiteralFault) → literal_piece r ≡ upper_piece (literal_piece r)
+literal-up : (r : Result Literal LiteralFault) → literal_lexeme r ≡ upper_piece (literal_lexeme r)
 literal-up (Ok v) = refl
 literal-up (Err Malformed) = refl
 literal-up (Err OutOfRange) = refl
@@ -202,7 +202,7 @@ plain_word-up : (w : List ℕ) → plain_word (map up w) ≡ upper_piece (plain_
 unfolding plain_word
 plain_word-up w = ap (name_or_reserved (map up w)) (reserved-up w) ∙ named-by w (reserved_symbol w)
 
-word-by : (w : List ℕ) (o : Option (List ℕ × List ℕ)) → halves w ≡ o → (b : Bool)
+word-by : (w : List ℕ) (o : Option (List ℕ × List ℕ)) → split_at_hash w ≡ o → (b : Bool)
     → begins_name (slice_index w 0) ≡ b → word (map up w) ≡ upper_piece (word w)
 unfolding word
 word-by w (Some h) e b f =
@@ -214,13 +214,13 @@ word-by w None e false f =
     (literal-up (plain_literal (decimal w)))
 
 -- no mark is a name
-mark_piece-up : (p : List ℕ)
-    → mark_piece (mark_of (map up p)) ≡ upper_piece (mark_piece (mark_of p))
+mark_lexeme-up : (p : List ℕ)
+    → mark_lexeme (mark_of (map up p)) ≡ upper_piece (mark_lexeme (mark_of p))
 mark_piece-up p = rw (mark-up p) (unfold mark_of in grind (arith, common_steps))
 
-piece-up : (p : List ℕ) → piece (map up p) ≡ upper_piece (piece p)
-unfolding piece
-piece-up p =
+piece-up : (p : List ℕ) → lexeme_of (map up p) ≡ upper_piece (lexeme_of p)
+unfolding lexeme_of
+lexeme_of-up p =
     rw (
       index-up p 0,
       blank-up (slice_index p 0),
@@ -231,18 +231,18 @@ piece-up p =
     )
     (ap (cond (is_blank (slice_index p 0)) blank)
     (ap (cond (is_line_end p) line_end)
-    (cond-up upper_piece (begins_word (slice_index p 0)) (word p) (mark_piece (mark_of p)))
+    (cond-up upper_piece (begins_word (slice_index p 0)) (word p) (mark_lexeme (mark_of p)))
     ∙ cond-up upper_piece (is_line_end p) line_end _)
     ∙ cond-up upper_piece (is_blank (slice_index p 0)) blank _)
 
-pieces-map : (ps : List (List ℕ)) → map piece (map (map up) ps) ≡ map upper_piece (map piece ps)
+pieces-map : (ps : List (List ℕ)) → map lexeme_of (map (map up) ps) ≡ map upper_piece (map lexeme_of ps)
 pieces-map [] = refl
-pieces-map (p ∷ ps) = rw (piece-up p, pieces-map ps) refl
+lexemes-map (p ∷ ps) = rw (piece-up p, pieces-map ps) refl
 
 pub cut-up : (text : List ℕ)
-    → pieces_of false (map up text) ≡ map upper_piece (pieces_of false text)
-unfolding pieces_of
+    → text_lexemes false (map up text) ≡ map upper_piece (text_lexemes false text)
+unfolding text_lexemes
 cut-up text =
-    ap (λ (l : List ℕ). map piece (pieces l)) (blanked-up false text)
-    ∙ ap (map piece) (pieces-up (without_comments false text))
-    ∙ pieces-map (pieces (without_comments false text))
+    ap (λ (l : List ℕ). map lexeme_of (lexemes l)) (blanked-up false text)
+    ∙ ap (map lexeme_of) (pieces-up (without_comments false text))
+    ∙ pieces-map (lexemes (without_comments false text))

@@ -6,7 +6,7 @@ use Rattle.il_text.specs.Forms as form
 use Rattle.il_text.specs.TokenForms.{Form, map_form, try_map_form, no_token, one, one_of, bind_form, after_mark, after_mark_of, either, or_of, choose_by, split_at_mark, before_first, has_mark, split_form, split_form_of, name_of, is_mark, names_from}
 use Rattle.il_text.specs.LetterCase.{upper_place, upper_source, upper_argument, upper_action}
 use Rattle.il_text.specs.Listing.{OperandData, Action}
-use Rattle.il_text.specs.Parts.{LineContent, heading, opening, declaring, closing, labelling, acting, entering, leaving, ending}
+use Rattle.il_text.specs.Parts.{LineContent, program_start, block_start, names_part, block_end, label_part, action_part, parenthesis_start, parenthesis_end, program_end}
 use Rattle.il_text.specs.Tokens.{Symbol, name, keyword_word, mnemonic_word, mark_symbol}
 use Rattle.il_text.specs.declared.program.Input.{Input}
 use Rattle.il_text.specs.declared.program.Operator.{Operator}
@@ -23,15 +23,15 @@ abbrev pub upper_symbols : List Symbol → List Symbol
 upper_symbols = map upper_symbol
 
 abbrev pub upper_part : LineContent → LineContent
-upper_part (heading n) = heading (map up n)
-upper_part (opening scope) = opening scope
-upper_part (declaring ns kind initial) = declaring (map (map up) ns) kind initial
-upper_part closing = closing
-upper_part (labelling n) = labelling (map up n)
-upper_part (acting a) = acting (upper_action a)
-upper_part (entering o g) = entering o g
-upper_part leaving = leaving
-upper_part ending = ending
+upper_part (program_start n) = program_start (map up n)
+upper_part (block_start scope) = block_start scope
+upper_part (names_part ns kind initial) = names_part (map (map up) ns) kind initial
+upper_part block_end = block_end
+upper_part (label_part n) = label_part (map up n)
+upper_part (action_part a) = action_part (upper_action a)
+upper_part (parenthesis_start o g) = parenthesis_start o g
+upper_part parenthesis_end = parenthesis_end
+upper_part program_end = program_end
 
 abbrev pub upper_parts : List LineContent → List LineContent
 upper_parts = map upper_part
@@ -208,8 +208,8 @@ input-up =
     word-up (λ w. (unfold form.input_named in
     rw (same-up w (codes "IN"), same-up w (codes "PT")) refl))
 
-place-up : Up upper_place form.place form.place
-unfolding form.place
+place-up : Up upper_place form.symbolic_variable form.symbolic_variable
+unfolding form.symbolic_variable
 place-up =
     by-up is-one (made-up (λ n. refl) (one-up name-up))
     (behind-up (map up) name-up (λ t. after-up (made-up (λ o. refl) (one-up output-up))))
@@ -255,7 +255,7 @@ call-up =
     let closed = parted-up given (nothing-up {u = same} refl) in
     behind-up _ name-up (λ t. after-up (made-up (λ x. refl) (made-up (λ p. refl) closed)))
 
-acts-up : {f g : Form Action} → Up upper_action f g → Up upper_parts (form.acts f) (form.acts g)
+acts-up : {f g : Form Action} → Up upper_action f g → Up upper_parts (form.only_action f) (form.only_action g)
 acts-up k = made-up (λ a. refl) k
 
 parenthesis-up : (o : Operator) (n : Bool)

@@ -11,7 +11,7 @@ use Rattle.bay_base.specs.Names.{same_name}
 use Rattle.il_text.specs.declared.literal.LiteralFault.{LiteralFault}
 use Rattle.il_text.specs.declared.program.Literal.TheVariants.{Lint}
 use Rattle.bay_base.proofs.NameLemmas.{same-upper}
-use Rattle.il_text.specs.Literals.{is_underscore, is_hash, is_integer, number, halves, base_of, decimal, based_integer, integer, Signed, number_value, truth_of, number_or_truth, bool_or_truth, typed_number, bool_literal, int_literal, dint_literal, time_literal, typed_bool, typed_int, typed_dint, typed_lint, typed_time, Duration, number_len, unit_len, number_of_part, with_part, part, parts, total_of, milliseconds, prefixed_literal}
+use Rattle.il_text.specs.Literals.{is_underscore, is_hash, is_integer, number, split_at_hash, base_of, decimal, based_integer, integer, Signed, number_value, truth_of, number_or_truth, bool_or_truth, typed_number, bool_literal, int_literal, dint_literal, time_literal, typed_bool, typed_int, typed_dint, typed_lint, typed_time, Duration, number_len, unit_len, number_of_part, with_part, part, parts, total_of, milliseconds, prefixed_literal}
 
 -- a character in upper case
 abbrev pub up : ℕ → ℕ
@@ -89,9 +89,9 @@ up_both h = (map up h.0, map up h.1)
 hash-up : (w : List ℕ) → position_or_len is_hash (map up w) ≡ position_or_len is_hash w
 hash-up w = prefix-up (λ x. not (is_hash x)) (λ x. ap not (up-eqb x 35 (lit< tt))) w
 
-pub halves-up : (w : List ℕ) → halves (map up w) ≡ option_map up_both (halves w)
-unfolding halves
-halves-up w =
+pub halves-up : (w : List ℕ) → split_at_hash (map up w) ≡ option_map up_both (split_at_hash w)
+unfolding split_at_hash
+split_at_hash-up w =
     let n : ℕ = position_or_len is_hash w in
     rw (hash-up w, length-up w, take-map up n w, drop-map up (n + 1) w)
     (cond-up (option_map up_both) (ltb n (length w)) (Some (take n w, drop (n + 1) w)) None)
@@ -110,14 +110,14 @@ based-up : (a b : List ℕ) → based_integer (map up a) (map up b) ≡ based_in
 unfolding based_integer
 based-up a b = simp (base-up, number-up)
 
-integer-by : (w : List ℕ) (o : Option (List ℕ × List ℕ)) → halves w ≡ o
+integer-by : (w : List ℕ) (o : Option (List ℕ × List ℕ)) → split_at_hash w ≡ o
     → integer (map up w) ≡ integer w
 unfolding integer
 integer-by w None e = rw (halves-up w, e) (decimal-up w)
 integer-by w (Some h) e = rw (halves-up w, e) (based-up h.0 h.1)
 
 integer-up : (w : List ℕ) → integer (map up w) ≡ integer w
-integer-up w = integer-by w (halves w) refl
+integer-up w = integer-by w (split_at_hash w) refl
 
 part_number-up : (b : Bool) (ds : List ℕ) → number_of_part b (map up ds) ≡ number_of_part b ds
 part_number-up b [] = refl

@@ -7,8 +7,8 @@ use Rattle.std.proofs.Math.Bool.{and-false, or-true}
 use Rattle.std.specs.Char.{to_ascii_uppercase}
 use Rattle.il_text.specs.Characters.{are_linked}
 use Rattle.bay_base.specs.Names.{same_name}
-use Rattle.il_text.specs.Pieces.{opens, without_comments, closes, joins, join, pieces}
-use Rattle.il_text.specs.Runs.{IsRun, IsPiece, is_negated_and}
+use Rattle.il_text.specs.Lexemes.{opens_comment, without_comments, ends_later, joins_lexeme, join, lexemes}
+use Rattle.il_text.specs.Runs.{IsRun, IsFirstLexeme, is_negated_and}
 use Rattle.bay_base.proofs.ListLemmas.{front_of}
 use Rattle.il_text.proofs.PieceLemmas.{index-drop, run-ascii}
 
@@ -23,7 +23,7 @@ N = 78 ∷ []
 abbrev pub is_N : ℕ → List (List ℕ) → Bool
 is_N x ps = eqb x 38 && same_name (first_piece ps) N
 
-pub blanked-plain : (x : ℕ) (xs : List ℕ) → opens (x ∷ xs) ≡ false
+pub blanked-plain : (x : ℕ) (xs : List ℕ) → opens_comment (x ∷ xs) ≡ false
     → without_comments false (x ∷ xs) ≡ x ∷ without_comments false xs
 unfolding without_comments
 blanked-plain x [] h = refl
@@ -59,10 +59,10 @@ stand-in false = inr refl
 is_open : (y z : ℕ) → eqb y 40 && eqb z 42 ≡ true → y ≡ 40
 is_open y z h = grind (arith, nat_tests)
 
-first-stands : (y z : ℕ) (zs : List ℕ) (b : Bool) → opens (y ∷ z ∷ zs) ≡ b
+first-stands : (y z : ℕ) (zs : List ℕ) (b : Bool) → opens_comment (y ∷ z ∷ zs) ≡ b
     → Stands (slice_index (without_comments false (y ∷ z ∷ zs)) 0) y
 unfolding without_comments
-first-stands y z zs true h = rw h (inr (is_open y z h, stand-in (closes zs)))
+first-stands y z zs true h = rw h (inr (is_open y z h, stand-in (ends_later zs)))
 first-stands y z zs false h = rw h (inl refl)
 
 pub blanked-first : (r : List ℕ)
@@ -70,7 +70,7 @@ pub blanked-first : (r : List ℕ)
 unfolding without_comments
 blanked-first [] = inl refl
 blanked-first (y ∷ []) = inl refl
-blanked-first (y ∷ z ∷ zs) = first-stands y z zs (opens (y ∷ z ∷ zs)) refl
+blanked-first (y ∷ z ∷ zs) = first-stands y z zs (opens_comment (y ∷ z ∷ zs)) refl
 
 linked-stands : (x y' y : ℕ) → Stands y' y → are_linked x y' ≡ are_linked x y
 linked-stands x y' y (inl e) = ap (are_linked x) e
@@ -90,39 +90,39 @@ cond-lead x p ps false = refl
 
 join-lead : (x : ℕ) (ps : List (List ℕ)) → slice_index (first_piece (join x ps)) 0 ≡ x
 join-lead x [] = refl
-join-lead x (p ∷ ps) = cond-lead x p ps (joins x p)
+join-lead x (p ∷ ps) = cond-lead x p ps (joins_lexeme x p)
 
-lead : (b : List ℕ) → slice_index (first_piece (pieces b)) 0 ≡ slice_index b 0
-unfolding pieces
+lead : (b : List ℕ) → slice_index (first_piece (lexemes b)) 0 ≡ slice_index b 0
+unfolding lexemes
 lead [] = refl
-lead (x ∷ xs) = join-lead x (pieces xs)
+lead (x ∷ xs) = join-lead x (lexemes xs)
 
 pub join-alone : (x : ℕ) (ps : List (List ℕ))
     → are_linked x (slice_index (first_piece ps) 0) ≡ false
     → is_N x ps ≡ false → join x ps ≡ (x ∷ []) ∷ ps
-unfolding joins
+unfolding joins_lexeme
 join-alone x [] h k = refl
 join-alone x (p ∷ ps) h k = rw (h, k) refl
 
 join-linked : (x : ℕ) (p : List ℕ) (ps : List (List ℕ)) → are_linked x (slice_index p 0) ≡ true
     → join x (p ∷ ps) ≡ (x ∷ p) ∷ ps
-unfolding joins
+unfolding joins_lexeme
 join-linked x p ps h = rw h refl
 
-pieces-cons : (x : ℕ) (xs : List ℕ) → opens (x ∷ xs) ≡ false
-    → pieces (without_comments false (x ∷ xs)) ≡ join x (pieces (without_comments false xs))
-unfolding pieces
-pieces-cons x xs h = rw (blanked-plain x xs h) refl
+pieces-cons : (x : ℕ) (xs : List ℕ) → opens_comment (x ∷ xs) ≡ false
+    → lexemes (without_comments false (x ∷ xs)) ≡ join x (lexemes (without_comments false xs))
+unfolding lexemes
+lexemes-cons x xs h = rw (blanked-plain x xs h) refl
 
 -- the pieces from a place on
 abbrev cut_at : List ℕ → ℕ → List (List ℕ)
-cut_at bs k = pieces (without_comments false (drop k bs))
+cut_at bs k = lexemes (without_comments false (drop k bs))
 
-unroll : (bs : List ℕ) (k : ℕ) → k < length bs → opens (drop k bs) ≡ false
+unroll : (bs : List ℕ) (k : ℕ) → k < length bs → opens_comment (drop k bs) ≡ false
     → cut_at bs k ≡ join (slice_index bs k) (cut_at bs (k + 1))
 unroll bs k w o =
-    ap (λ (t : List ℕ). pieces (without_comments false t)) (front_of bs k w)
-    ∙ pieces-cons _ _ (subst (λ (t : List ℕ). opens t ≡ false) (front_of bs k w) o)
+    ap (λ (t : List ℕ). lexemes (without_comments false t)) (front_of bs k w)
+    ∙ pieces-cons _ _ (subst (λ (t : List ℕ). opens_comment t ≡ false) (front_of bs k w) o)
 
 first-of-drop : (bs : List ℕ) (k : ℕ) → slice_index (drop k bs) 0 ≡ slice_index bs k
 first-of-drop bs k = index-drop bs k 0 ∙ ap (λ (i : ℕ). slice_index bs i) (add-zero k)
@@ -143,7 +143,7 @@ range-more bs k e h w =
     let i : k < length bs = omega arith in
     rw (d, front_of bs k i) refl
 
-not-open : (bs : List ℕ) (k : ℕ) → slice_index bs k ≢ 40 → opens (drop k bs) ≡ false
+not-open : (bs : List ℕ) (k : ℕ) → slice_index bs k ≢ 40 → opens_comment (drop k bs) ≡ false
 not-open bs k h =
     let n : slice_index (drop k bs) 0 ≢ 40 = λ e. h (sym (first-of-drop bs k) ∙ e) in
     rw (ne_eqb _ _ n) refl
@@ -151,8 +151,8 @@ not-open bs k h =
 pub not-N : (x : ℕ) (ps : List (List ℕ)) → x ≢ 38 → is_N x ps ≡ false
 not-N x ps h = rw (ne_eqb x 38 h) refl
 
-run-cut : (d : ℕ) (bs : List ℕ) (k e : ℕ) → k + suc d ≡ e → IsRun bs k e → opens (drop k bs) ≡ false
-    → is_N (slice_index bs k) (cut_at bs (k + 1)) ≡ false → IsPiece bs k e
+run-cut : (d : ℕ) (bs : List ℕ) (k e : ℕ) → k + suc d ≡ e → IsRun bs k e → opens_comment (drop k bs) ≡ false
+    → is_N (slice_index bs k) (cut_at bs (k + 1)) ≡ false → IsFirstLexeme bs k e
 run-cut zero bs k e q r o n =
     let same : e ≡ k + 1 = omega arith in
     let before : e - 1 ≡ k = omega arith in
@@ -253,13 +253,13 @@ within-of bs k h =
     ⊎_elim (λ (l : k < length bs). l) (λ (l : length bs ≤ k). absurd (h (past bs k l)))
     (cases_lt k (length bs))
 
-join-joined : (x : ℕ) (p : List ℕ) (ps : List (List ℕ)) → joins x p ≡ true
+join-joined : (x : ℕ) (p : List ℕ) (ps : List (List ℕ)) → joins_lexeme x p ≡ true
     → join x (p ∷ ps) ≡ (x ∷ p) ∷ ps
 join-joined x p ps h = rw h refl
 
-joins-N : (x n : ℕ) → eqb x 38 ≡ true → to_ascii_uppercase n ≡ 78 → joins x (n ∷ []) ≡ true
-unfolding joins
-joins-N x n a e = rw (a, N_of n e) (or-true (are_linked x n))
+joins-N : (x n : ℕ) → eqb x 38 ≡ true → to_ascii_uppercase n ≡ 78 → joins_lexeme x (n ∷ []) ≡ true
+unfolding joins_lexeme
+joins_lexeme-N x n a e = rw (a, N_of n e) (or-true (are_linked x n))
 
 pub and-right : (a b : Bool) → a && b ≡ true → b ≡ true
 and-right true b h = h
@@ -267,7 +267,7 @@ and-right false b h = absurd (false≢true h)
 
 -- where `&N` stands, it is one piece
 negated-cut : (bs : List ℕ) (s : ℕ) → s < length bs → is_negated_and bs s ≡ true
-    → IsPiece bs s (s + 2)
+    → IsFirstLexeme bs s (s + 2)
 unfolding is_negated_and
 negated-cut bs s w h =
     let x : ℕ = slice_index bs s in
@@ -286,7 +286,7 @@ negated-cut bs s w h =
       inner = λ k a b. absurd (omega arith);
       last = rw before t.2;
     } in
-    let after : IsPiece bs (s + 1) (s + 2) =
+    let after : IsFirstLexeme bs (s + 1) (s + 2) =
     run-cut zero bs (s + 1) (s + 2) (omega arith) run (not-open bs (s + 1) (upper-open n up))
     (not-N n (cut_at bs ((s + 1) + 1)) (upper-and n up)) in
     let one : slice_range bs (s + 1) (s + 2) ≡ n ∷ [] = rw two at (range-one bs (s + 1) here) in
@@ -324,11 +324,11 @@ not-negated bs s h = false_from_ne_true _ (λ e.
     ∙ long-first n (cut_at bs ((s + 1) + 1)) more) ∙ same))
 
 pub piece-negated : (bs : List ℕ) (s : ℕ) → s < length bs → is_negated_and bs s ≡ true
-    → IsPiece bs s (s + 2)
+    → IsFirstLexeme bs s (s + 2)
 piece-negated bs s w h = negated-cut bs s w h
 
-pub piece-run : (bs : List ℕ) (s e : ℕ) → opens (drop s bs) ≡ false → is_negated_and bs s ≡ false
-    → IsRun bs s e → IsPiece bs s e
+pub piece-run : (bs : List ℕ) (s e : ℕ) → opens_comment (drop s bs) ≡ false → is_negated_and bs s ≡ false
+    → IsRun bs s e → IsFirstLexeme bs s e
 piece-run bs s e o h r =
     run-cut (e - (s + 1)) bs s e (let a = r.after in omega arith) r o (not-negated bs s h)
 

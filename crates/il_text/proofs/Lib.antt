@@ -6,7 +6,7 @@ pub mod CutLemmas
 pub mod DerivedLemmas
 pub mod DurationLemmas
 pub mod ExactLemmas
-pub mod FallingLemmas
+pub mod DurationGrammarLemmas
 pub mod FinishLemmas
 pub mod FormLemmas
 pub mod GrammarLemmas

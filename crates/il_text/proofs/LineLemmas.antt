@@ -4,7 +4,7 @@ use Rattle.std.specs.List.{list_any}
 use Rattle.std.specs.Option.{is_some}
 use Rattle.std.proofs.lemmas.Bool.{or_parts}
 use Rattle.std.proofs.lemmas.Option.{same_Some}
-use Rattle.il_text.specs.Forms.{literal_of, type_of, elementary_of, output_named, input_named, place, operand, argument, argument_list, arguments, closed_arguments, call_action, parenthesis, operator_parts, statement, instruction, tail, declaration, is_mnemonic, may_follow_label, is_labelled, label_parts, begins_named, named_line, keyword_line, other_line, whole_line, LinesAreProduced}
+use Rattle.il_text.specs.Forms.{literal_of, type_of, elementary_of, output_named, input_named, symbolic_variable, operand, argument, argument_list, arguments, closed_arguments, call_action, parenthesis, operator_parts, statement, instruction, tail, declaration, is_mnemonic, may_follow_label, is_labelled, label_parts, begins_named, named_line, keyword_line, other_line, whole_line, LinesAreProduced}
 use Rattle.il_text.specs.Listing.{OperandData}
 use Rattle.il_text.specs.Parts.{LineContent}
 use Rattle.il_text.specs.TokenForms.{no_token_of, split_at_mark, name_of, is_mark, same_mark, names, spelled_names}
@@ -65,26 +65,26 @@ some-behind x (s ∷ front) t rest = refl
 
 -- ---- operands
 
-place-exact : Exact place
-unfolding place
-place-exact =
+place-exact : Exact symbolic_variable
+unfolding symbolic_variable
+symbolic_variable-exact =
     by-exact _ (made-exact _ (one-exact _))
     (behind-exact _ _ (λ t. after-exact _ (made-exact _ (one-exact _))))
     (λ ts x s. rw s.1.1 refl) (λ ts x s. rw (s.3, s.5.1) refl)
 
 operand-exact : Exact operand
-unfolding operand place
+unfolding operand symbolic_variable
 operand-exact =
-    either-exact (made-exact _ (one-exact _)) (made-exact _ (unfold place in place-exact))
+    either-exact (made-exact _ (one-exact _)) (made-exact _ (unfold symbolic_variable in place-exact))
     (λ ts x s. elim s.1 [
       | inl here ↦ rw (here.1.1, name-no-literal here.1.0 here.0 here.1.2) refl
       | inr other ↦ rw (other.3, other.5.1) refl
     ])
 
-place-lacks : (m : Mark) → same_mark m mark.Dot ≡ false → Lacks m place
-unfolding place
-place-lacks m dot ts x (inl s) = rw (s.1.1, name-no-mark m s.1.0 s.0 s.1.2) refl
-place-lacks m dot ts x (inr s) =
+place-lacks : (m : Mark) → same_mark m mark.Dot ≡ false → Lacks m symbolic_variable
+unfolding symbolic_variable
+symbolic_variable-lacks m dot ts x (inl s) = rw (s.1.1, name-no-mark m s.1.0 s.0 s.1.2) refl
+symbolic_variable-lacks m dot ts x (inr s) =
     let o = s.5.2.1 in
     let w = then-some output_named (name_of o.0) s.5.2.0 o.2 in
     rw (s.3, s.5.1, o.1, name-no-mark m s.0 s.2 s.4, dot, name-no-mark m o.0 w.0 w.1) refl
@@ -97,7 +97,7 @@ operand-lacks m dot ts x (inr s) = place-lacks m dot ts s.0 s.1
 -- an operand begins with a token other than `(`
 operand-first : (ts : List Symbol) (x : OperandData) → operand.Spells ts x
     → (t : Symbol) × (rest : List Symbol) × (ts ≡ t ∷ rest) × (is_mark mark.Open t ≡ false)
-unfolding operand place
+unfolding operand symbolic_variable
 operand-first ts x (inl s) = (s.1.0, [], s.1.1, literal-no-mark mark.Open s.1.0 s.0 s.1.2)
 operand-first ts x (inr s) = elim s.1 [
   | inl here ↦ (here.1.0, [], here.1.1, name-no-mark mark.Open here.1.0 here.0 here.1.2)

@@ -7,7 +7,7 @@ use Rattle.std.proofs.lemmas.Bool.Decides.{nat_tests}
 use Rattle.std.specs.List.{position_or_len, before_first, after_first}
 use Rattle.std.proofs.Math.Bool.{and-false}
 use Rattle.std.proofs.Math.Nat.{mul-le-mul_left, mul-le-mul_right}
-use Rattle.il_text.specs.Literals.{is_underscore, is_hash, is_integer, number, halves, decimal, based_integer, integer, number_value, plain_literal, Signed}
+use Rattle.il_text.specs.Literals.{is_underscore, is_hash, is_integer, number, split_at_hash, decimal, based_integer, integer, number_value, plain_literal, Signed}
 use Rattle.il_text.specs.Runs.{capped_number, capped_signed}
 use Rattle.bay_base.proofs.ListLemmas.{front_of, none-left}
 
@@ -155,16 +155,16 @@ pub halves_of : (bs : List ℕ) (r : Option (Bor (List ℕ) × Bor (List ℕ)))
     → MatchOption r (position_or_len is_hash bs ≡ length bs)
     (λ x. (position_or_len is_hash bs < length bs) × (x.0.now ≡ before_first is_hash bs)
     × (x.1.now ≡ after_first is_hash bs))
-    → option_map (λ h. (h.0.now, h.1.now)) r ≡ halves bs
-unfolding halves
+    → option_map (λ h. (h.0.now, h.1.now)) r ≡ split_at_hash bs
+unfolding split_at_hash
 halves_of bs None h = rw (le-ltb (position_or_len is_hash bs) (length bs) (omega (arith, h))) refl
 halves_of bs (Some x) h = rw (lt-ltb (position_or_len is_hash bs) (length bs) h.0, h.1, h.2) refl
 
-pub integer_some : (w : List ℕ) (h : List ℕ × List ℕ) → halves w ≡ Some h
+pub integer_some : (w : List ℕ) (h : List ℕ × List ℕ) → split_at_hash w ≡ Some h
     → integer w ≡ based_integer h.0 h.1
 unfolding integer
 integer_some w h e = rw e refl
 
-pub integer_none : (w : List ℕ) → halves w ≡ None → integer w ≡ decimal w
+pub integer_none : (w : List ℕ) → split_at_hash w ≡ None → integer w ≡ decimal w
 unfolding integer
 integer_none w e = rw e refl

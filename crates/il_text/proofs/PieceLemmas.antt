@@ -6,7 +6,7 @@ use Rattle.std.proofs.lemmas.Bool.{cases_lt}
 use Rattle.std.specs.Str.{IsUtf8, IsCharBoundary}
 use Rattle.std.proofs.lemmas.Str.{IsCharBoundary-after_ascii}
 use Rattle.il_text.specs.Characters.{are_linked}
-use Rattle.il_text.specs.Pieces.{closes, ends}
+use Rattle.il_text.specs.Lexemes.{ends_later, ends_comment}
 use Rattle.il_text.specs.Runs.{IsRun}
 use Rattle.bay_base.proofs.ListLemmas.{front_of, none-left}
 
@@ -17,19 +17,19 @@ pub linked-none : (x : ℕ) → are_linked x 0 ≡ false
 unfolding are_linked
 linked-none x = refl
 
-pub closes-here : (bs : List ℕ) (i : ℕ) → i < length bs → ends (drop i bs) ≡ true
-    → closes (drop i bs) ≡ true
-unfolding closes
-closes-here bs i h e = let f = rw (front_of bs i h) at e in rw (front_of bs i h) (rw f refl)
+pub closes-here : (bs : List ℕ) (i : ℕ) → i < length bs → ends_comment (drop i bs) ≡ true
+    → ends_later (drop i bs) ≡ true
+unfolding ends_later
+ends_later-here bs i h e = let f = rw (front_of bs i h) at e in rw (front_of bs i h) (rw f refl)
 
-pub closes-later : (bs : List ℕ) (i : ℕ) → i < length bs → ends (drop i bs) ≡ false
-    → closes (drop i bs) ≡ closes (drop (i + 1) bs)
-unfolding closes
-closes-later bs i h e = let f = rw (front_of bs i h) at e in rw (front_of bs i h) (rw f refl)
+pub closes-later : (bs : List ℕ) (i : ℕ) → i < length bs → ends_comment (drop i bs) ≡ false
+    → ends_later (drop i bs) ≡ ends_later (drop (i + 1) bs)
+unfolding ends_later
+ends_later-later bs i h e = let f = rw (front_of bs i h) at e in rw (front_of bs i h) (rw f refl)
 
-pub closes-never : (bs : List ℕ) (i : ℕ) → length bs ≤ i → closes (drop i bs) ≡ false
-unfolding closes
-closes-never bs i h = rw (none-left bs i h) refl
+pub closes-never : (bs : List ℕ) (i : ℕ) → length bs ≤ i → ends_later (drop i bs) ≡ false
+unfolding ends_later
+ends_later-never bs i h = rw (none-left bs i h) refl
 
 pub ruleset closes_rules = (closes-here, closes-later, closes-never)
 

@@ -4,18 +4,18 @@ use Rattle.std.proofs.lemmas.Bool.{false≢true, eqb-true, ne_eqb}
 use Rattle.std.proofs.lemmas.List.{map-append}
 use Rattle.std.proofs.Math.Bool.{and-false}
 use Rattle.il_text.specs.Characters.{are_linked}
-use Rattle.il_text.specs.Forms.{tail, declaration, named_line, other_line, whole_line, is_hopeless, parts_of}
+use Rattle.il_text.specs.Forms.{tail, declaration, named_line, other_line, whole_line, begins_no_line, parts_of}
 use Rattle.il_text.specs.TokenForms.{names, names_from, split_form_of, split_at_mark, before_first, is_mark}
 use Rattle.bay_base.specs.Results.{◌>>=◌}
 use Rattle.il_text.specs.Listing.{PlainProgram}
 use Rattle.il_text.specs.declared.token.Mark.TheVariants as mark
-use Rattle.il_text.specs.Pieces.{opens, ends, closes, without_comments, pieces}
-use Rattle.il_text.specs.Reading.{Read, program_of_lines, lines, prepend_lexeme, tokens_of, after_line, complete_program, none_yet, program_of}
+use Rattle.il_text.specs.Lexemes.{opens_comment, ends_comment, ends_later, without_comments, lexemes}
+use Rattle.il_text.specs.Reading.{Progress, program_of_lines, lines, prepend_lexeme, tokens_of, after_line, complete_program, no_progress, program_of}
 use Rattle.il_text.specs.Places.{last_line}
 use Rattle.il_text.specs.ReaderViews.{read_on}
-use Rattle.il_text.specs.Runs.{IsPiece}
+use Rattle.il_text.specs.Runs.{IsFirstLexeme}
 use Rattle.bay_base.specs.Names.{same_name}
-use Rattle.il_text.specs.Symbols.{piece, pieces_of, mark_of}
+use Rattle.il_text.specs.Symbols.{lexeme_of, text_lexemes, mark_of}
 use Rattle.il_text.specs.Tokens.{Symbol, name, keyword_word, type_word, literal, mnemonic_word, mark_symbol, LexemeData, blank, line_end, token, bad_token, bad_literal}
 use Rattle.il_text.specs.declared.fault.TextFault.{TextFault}
 use Rattle.il_text.specs.declared.fault.TextFault.TheVariants.{BadToken, BadLine, BadLiteral}
@@ -67,13 +67,13 @@ tokens-bad-literal line (s ∷ ss) l =
     ap (λ (r : Result (List Symbol) TextFault). r >>= (λ xs. Ok (s ∷ xs)))
     (unfold tokens_of in tokens-bad-literal line ss l)
 
-read-blank : (last : ℕ) (r : Read) (n : ℕ) (ss : List Symbol) (ps : List LexemeData)
+read-blank : (last : ℕ) (r : Progress) (n : ℕ) (ss : List Symbol) (ps : List LexemeData)
     → read_on last r n ss (blank ∷ ps) ≡ read_on last r n ss ps
 unfolding read_on lines
 read-blank last r n ss ps =
     ap (program_of_lines last r n) (lines-onto ss (blank ∷ ps) ∙ sym (lines-onto ss ps))
 
-read-token : (last : ℕ) (r : Read) (n : ℕ) (ss : List Symbol) (s : Symbol) (ps : List LexemeData)
+read-token : (last : ℕ) (r : Progress) (n : ℕ) (ss : List Symbol) (s : Symbol) (ps : List LexemeData)
     → read_on last r n ss (token s ∷ ps) ≡ read_on last r n (ss ++ s ∷ []) ps
 unfolding read_on lines
 read-token last r n ss s ps =
@@ -81,7 +81,7 @@ read-token last r n ss s ps =
     ∙ sym (lines-onto (ss ++ s ∷ []) ps))
 
 -- a line of good tokens, and the lines after it
-reading-line : (last : ℕ) (r : Read) (n : ℕ) (ss : List Symbol) (ls : List (List LexemeData))
+reading-line : (last : ℕ) (r : Progress) (n : ℕ) (ss : List Symbol) (ls : List (List LexemeData))
     → program_of_lines last r n (map token ss ∷ ls)
     ≡ (after_line n last r ss >>= (λ s. program_of_lines last s (n + 1) ls))
 unfolding program_of_lines
@@ -90,7 +90,7 @@ reading-line last r n ss ls =
     >>= (λ ts. after_line n last r ts >>= (λ s. program_of_lines last s (n + 1) ls)))
     (tokens-good n ss)
 
-read-line-end : (last : ℕ) (r : Read) (n : ℕ) (ss : List Symbol) (ps : List LexemeData)
+read-line-end : (last : ℕ) (r : Progress) (n : ℕ) (ss : List Symbol) (ps : List LexemeData)
     → read_on last r n ss (line_end ∷ ps)
     ≡ (after_line n last r ss >>= (λ s. read_on last s (n + 1) [] ps))
 unfolding read_on lines
@@ -99,21 +99,21 @@ read-line-end last r n ss ps =
     ∙ ap (λ (l : List LexemeData). l ∷ lines ps) (append-nil (map token ss)))
     ∙ reading-line last r n ss (lines ps)
 
-pub read-end : (last : ℕ) (r : Read) (n : ℕ) (ss : List Symbol)
-    → read_on last r n ss [] ≡ (after_line n last r ss >>= (λ s. complete_program last s.reached))
+pub read-end : (last : ℕ) (r : Progress) (n : ℕ) (ss : List Symbol)
+    → read_on last r n ss [] ≡ (after_line n last r ss >>= (λ s. complete_program last s.draft))
 unfolding read_on lines program_of_lines
 read-end last r n ss =
     ap (program_of_lines last r n) (lines-onto ss [] ∙ onto-line ss [] []
     ∙ ap (λ (l : List LexemeData). l ∷ []) (append-nil (map token ss)))
     ∙ reading-line last r n ss []
 
-bad-lines : (last : ℕ) (r : Read) (n : ℕ) (ss : List Symbol) (ls : List (List LexemeData))
+bad-lines : (last : ℕ) (r : Progress) (n : ℕ) (ss : List Symbol) (ls : List (List LexemeData))
     → program_of_lines last r n (onto_all ss (prepend_lexeme bad_token ls)) ≡ Err (BadToken n)
 unfolding program_of_lines
 bad-lines last r n ss [] = rw (onto-line ss (bad_token ∷ []) [], tokens-bad n ss []) refl
 bad-lines last r n ss (l ∷ ls) = rw (onto-line ss (bad_token ∷ l) ls, tokens-bad n ss l) refl
 
-bad-literal-lines : (last : ℕ) (r : Read) (n : ℕ) (ss : List Symbol) (ls : List (List LexemeData))
+bad-literal-lines : (last : ℕ) (r : Progress) (n : ℕ) (ss : List Symbol) (ls : List (List LexemeData))
     → program_of_lines last r n (onto_all ss (prepend_lexeme bad_literal ls)) ≡ Err (BadLiteral n)
 unfolding program_of_lines
 bad-literal-lines last r n ss [] =
@@ -121,14 +121,14 @@ bad-literal-lines last r n ss [] =
 bad-literal-lines last r n ss (l ∷ ls) =
     rw (onto-line ss (bad_literal ∷ l) ls, tokens-bad-literal n ss l) refl
 
-read-bad : (last : ℕ) (r : Read) (n : ℕ) (ss : List Symbol) (ps : List LexemeData)
+read-bad : (last : ℕ) (r : Progress) (n : ℕ) (ss : List Symbol) (ps : List LexemeData)
     → read_on last r n ss (bad_token ∷ ps) ≡ Err (BadToken n)
 unfolding read_on lines
 read-bad last r n ss ps =
     ap (program_of_lines last r n) (lines-onto ss (bad_token ∷ ps))
     ∙ bad-lines last r n ss (lines ps)
 
-read-bad-literal : (last : ℕ) (r : Read) (n : ℕ) (ss : List Symbol) (ps : List LexemeData)
+read-bad-literal : (last : ℕ) (r : Progress) (n : ℕ) (ss : List Symbol) (ps : List LexemeData)
     → read_on last r n ss (bad_literal ∷ ps) ≡ Err (BadLiteral n)
 unfolding read_on lines
 read-bad-literal last r n ss ps =
@@ -136,10 +136,10 @@ read-bad-literal last r n ss ps =
     ∙ bad-literal-lines last r n ss (lines ps)
 
 -- the first piece from a place on
-cut-piece : (bs : List ℕ) (s e : ℕ) → IsPiece bs s e
-    → pieces_of false (drop s bs) ≡ piece (slice_range bs s e) ∷ pieces_of false (drop e bs)
-unfolding pieces_of
-cut-piece bs s e h = ap (map piece) h
+cut-piece : (bs : List ℕ) (s e : ℕ) → IsFirstLexeme bs s e
+    → text_lexemes false (drop s bs) ≡ lexeme_of (slice_range bs s e) ∷ text_lexemes false (drop e bs)
+unfolding text_lexemes
+cut-piece bs s e h = ap (map lexeme_of) h
 
 -- what begins no longer piece
 abbrev pub Alone : ℕ → Type 0
@@ -157,9 +157,9 @@ alone-unclosed : Alone 256
 unfolding are_linked
 alone-unclosed y = simp and-false refl
 
-pub pieces-alone : (x : ℕ) (xs : List ℕ) → Alone x → x ≢ 38 → pieces (x ∷ xs) ≡ (x ∷ []) ∷ pieces xs
-unfolding pieces
-pieces-alone x xs a n = join-alone x (pieces xs) (a _) (not-N x (pieces xs) n)
+pub pieces-alone : (x : ℕ) (xs : List ℕ) → Alone x → x ≢ 38 → lexemes (x ∷ xs) ≡ (x ∷ []) ∷ lexemes xs
+unfolding lexemes
+lexemes-alone x xs a n = join-alone x (lexemes xs) (a _) (not-N x (lexemes xs) n)
 
 two-of : (bs : List ℕ) (s : ℕ) → s + 1 < length bs
     → drop s bs ≡ slice_index bs s ∷ slice_index bs (s + 1) ∷ drop (s + 2) bs
@@ -171,127 +171,127 @@ two-of bs s h =
 
 -- what the cut of a text that begins with a blanked character is
 cut-first : (x : ℕ) (xs : List ℕ) → Alone x → x ≢ 38
-    → map piece (pieces (x ∷ xs)) ≡ piece (x ∷ []) ∷ map piece (pieces xs)
-cut-first x xs a n = ap (map piece) (pieces-alone x xs a n)
+    → map lexeme_of (lexemes (x ∷ xs)) ≡ lexeme_of (x ∷ []) ∷ map lexeme_of (lexemes xs)
+cut-first x xs a n = ap (map lexeme_of) (pieces-alone x xs a n)
 
-pub space-piece : piece (32 ∷ []) ≡ blank
-unfolding piece
+pub space-piece : lexeme_of (32 ∷ []) ≡ blank
+unfolding lexeme_of
 space-piece = refl
 
-end-piece : piece (10 ∷ []) ≡ line_end
-unfolding piece
+end-piece : lexeme_of (10 ∷ []) ≡ line_end
+unfolding lexeme_of
 end-piece = refl
 
-unclosed-piece : piece (256 ∷ []) ≡ bad_token
-unfolding piece mark_of same_name
+unclosed-piece : lexeme_of (256 ∷ []) ≡ bad_token
+unfolding lexeme_of mark_of same_name
 unclosed-piece = refl
 
-space-first : (xs : List ℕ) → map piece (pieces (32 ∷ xs)) ≡ blank ∷ map piece (pieces xs)
+space-first : (xs : List ℕ) → map lexeme_of (lexemes (32 ∷ xs)) ≡ blank ∷ map lexeme_of (lexemes xs)
 space-first xs =
     cut-first 32 xs alone-space (λ e. absurd (omega (arith, e)))
-    ∙ ap (λ (p : LexemeData). p ∷ map piece (pieces xs)) space-piece
+    ∙ ap (λ (p : LexemeData). p ∷ map lexeme_of (lexemes xs)) space-piece
 
-end-first : (xs : List ℕ) → map piece (pieces (10 ∷ xs)) ≡ line_end ∷ map piece (pieces xs)
+end-first : (xs : List ℕ) → map lexeme_of (lexemes (10 ∷ xs)) ≡ line_end ∷ map lexeme_of (lexemes xs)
 end-first xs =
     cut-first 10 xs alone-line_end (λ e. absurd (omega (arith, e)))
-    ∙ ap (λ (p : LexemeData). p ∷ map piece (pieces xs)) end-piece
+    ∙ ap (λ (p : LexemeData). p ∷ map lexeme_of (lexemes xs)) end-piece
 
-unclosed-first : (xs : List ℕ) → map piece (pieces (256 ∷ xs)) ≡ bad_token ∷ map piece (pieces xs)
+unclosed-first : (xs : List ℕ) → map lexeme_of (lexemes (256 ∷ xs)) ≡ bad_token ∷ map lexeme_of (lexemes xs)
 unclosed-first xs =
     cut-first 256 xs alone-unclosed (λ e. absurd (omega (arith, e)))
-    ∙ ap (λ (p : LexemeData). p ∷ map piece (pieces xs)) unclosed-piece
+    ∙ ap (λ (p : LexemeData). p ∷ map lexeme_of (lexemes xs)) unclosed-piece
 
-opening-cons : (x y : ℕ) (xs : List ℕ) → opens (x ∷ y ∷ xs) ≡ true → closes xs ≡ true
-    → pieces_of false (x ∷ y ∷ xs) ≡ blank ∷ blank ∷ pieces_of true xs
-unfolding pieces_of without_comments
+opening-cons : (x y : ℕ) (xs : List ℕ) → opens_comment (x ∷ y ∷ xs) ≡ true → ends_later xs ≡ true
+    → text_lexemes false (x ∷ y ∷ xs) ≡ blank ∷ blank ∷ text_lexemes true xs
+unfolding text_lexemes without_comments
 opening-cons x y xs h k =
     rw (h, k) (space-first _
     ∙ ap (λ (l : List LexemeData). blank ∷ l) (space-first (without_comments true xs)))
 
-unclosed-cons : (x y : ℕ) (xs : List ℕ) → opens (x ∷ y ∷ xs) ≡ true → closes xs ≡ false
-    → pieces_of false (x ∷ y ∷ xs) ≡ bad_token ∷ blank ∷ pieces_of true xs
-unfolding pieces_of without_comments
+unclosed-cons : (x y : ℕ) (xs : List ℕ) → opens_comment (x ∷ y ∷ xs) ≡ true → ends_later xs ≡ false
+    → text_lexemes false (x ∷ y ∷ xs) ≡ bad_token ∷ blank ∷ text_lexemes true xs
+unfolding text_lexemes without_comments
 unclosed-cons x y xs h k =
     rw (h, k) (unclosed-first _
     ∙ ap (λ (l : List LexemeData). bad_token ∷ l) (space-first (without_comments true xs)))
 
-closing-cons : (x y : ℕ) (xs : List ℕ) → ends (x ∷ y ∷ xs) ≡ true
-    → pieces_of true (x ∷ y ∷ xs) ≡ blank ∷ blank ∷ pieces_of false xs
-unfolding pieces_of without_comments
+closing-cons : (x y : ℕ) (xs : List ℕ) → ends_comment (x ∷ y ∷ xs) ≡ true
+    → text_lexemes true (x ∷ y ∷ xs) ≡ blank ∷ blank ∷ text_lexemes false xs
+unfolding text_lexemes without_comments
 closing-cons x y xs h =
     rw h (space-first _ ∙ ap (λ (l : List LexemeData). blank ∷ l)
     (space-first (without_comments false xs)))
 
-inside-end : (x : ℕ) (xs : List ℕ) → ends (x ∷ xs) ≡ false → x ≡ 10
-    → pieces_of true (x ∷ xs) ≡ line_end ∷ pieces_of true xs
-unfolding pieces_of without_comments
+inside-end : (x : ℕ) (xs : List ℕ) → ends_comment (x ∷ xs) ≡ false → x ≡ 10
+    → text_lexemes true (x ∷ xs) ≡ line_end ∷ text_lexemes true xs
+unfolding text_lexemes without_comments
 inside-end x [] h e = rw e (end-first [])
 inside-end x (y ∷ ys) h e = rw (h, e) (end-first (without_comments true (y ∷ ys)))
 
-inside-other : (x : ℕ) (xs : List ℕ) → ends (x ∷ xs) ≡ false → x ≢ 10
-    → pieces_of true (x ∷ xs) ≡ blank ∷ pieces_of true xs
-unfolding pieces_of without_comments
+inside-other : (x : ℕ) (xs : List ℕ) → ends_comment (x ∷ xs) ≡ false → x ≢ 10
+    → text_lexemes true (x ∷ xs) ≡ blank ∷ text_lexemes true xs
+unfolding text_lexemes without_comments
 inside-other x [] h e = rw (ne_eqb x 10 e) (space-first [])
 inside-other x (y ∷ ys) h e = rw (h, ne_eqb x 10 e) (space-first (without_comments true (y ∷ ys)))
 
 -- the second character of a comment's opening or ending is there
-pub opens-within : (bs : List ℕ) (s : ℕ) → opens (drop s bs) ≡ true → s + 1 < length bs
-opens-within bs s h =
+pub opens-within : (bs : List ℕ) (s : ℕ) → opens_comment (drop s bs) ≡ true → s + 1 < length bs
+opens_comment-within bs s h =
     let star : slice_index bs (s + 1) ≡ 42 =
     sym (index-drop bs s 1)
     ∙ eqb-true _ _ (and-right (eqb (slice_index (drop s bs) 0) 40) _ h) in
     within-of bs (s + 1) (λ e. absurd (omega (arith, e, star)))
 
-pub ends-within : (bs : List ℕ) (s : ℕ) → ends (drop s bs) ≡ true → s + 1 < length bs
-ends-within bs s h =
+pub ends-within : (bs : List ℕ) (s : ℕ) → ends_comment (drop s bs) ≡ true → s + 1 < length bs
+ends_comment-within bs s h =
     let close : slice_index bs (s + 1) ≡ 41 =
     sym (index-drop bs s 1)
     ∙ eqb-true _ _ (and-right (eqb (slice_index (drop s bs) 0) 42) _ h) in
     within-of bs (s + 1) (λ e. absurd (omega (arith, e, close)))
 
-cut-opening : (bs : List ℕ) (s : ℕ) → opens (drop s bs) ≡ true → closes (drop (s + 2) bs) ≡ true
-    → pieces_of false (drop s bs) ≡ blank ∷ blank ∷ pieces_of true (drop (s + 2) bs)
+cut-opening : (bs : List ℕ) (s : ℕ) → opens_comment (drop s bs) ≡ true → ends_later (drop (s + 2) bs) ≡ true
+    → text_lexemes false (drop s bs) ≡ blank ∷ blank ∷ text_lexemes true (drop (s + 2) bs)
 cut-opening bs s h k =
     let t = two-of bs s (opens-within bs s h) in
-    ap (pieces_of false) t ∙ opening-cons _ _ _ (subst (λ (l : List ℕ). opens l ≡ true) t h) k
+    ap (text_lexemes false) t ∙ opening-cons _ _ _ (subst (λ (l : List ℕ). opens_comment l ≡ true) t h) k
 
-cut-unclosed : (bs : List ℕ) (s : ℕ) → opens (drop s bs) ≡ true → closes (drop (s + 2) bs) ≡ false
-    → pieces_of false (drop s bs) ≡ bad_token ∷ blank ∷ pieces_of true (drop (s + 2) bs)
+cut-unclosed : (bs : List ℕ) (s : ℕ) → opens_comment (drop s bs) ≡ true → ends_later (drop (s + 2) bs) ≡ false
+    → text_lexemes false (drop s bs) ≡ bad_token ∷ blank ∷ text_lexemes true (drop (s + 2) bs)
 cut-unclosed bs s h k =
     let t = two-of bs s (opens-within bs s h) in
-    ap (pieces_of false) t ∙ unclosed-cons _ _ _ (subst (λ (l : List ℕ). opens l ≡ true) t h) k
+    ap (text_lexemes false) t ∙ unclosed-cons _ _ _ (subst (λ (l : List ℕ). opens_comment l ≡ true) t h) k
 
-cut-closing : (bs : List ℕ) (s : ℕ) → ends (drop s bs) ≡ true
-    → pieces_of true (drop s bs) ≡ blank ∷ blank ∷ pieces_of false (drop (s + 2) bs)
+cut-closing : (bs : List ℕ) (s : ℕ) → ends_comment (drop s bs) ≡ true
+    → text_lexemes true (drop s bs) ≡ blank ∷ blank ∷ text_lexemes false (drop (s + 2) bs)
 cut-closing bs s h =
     let t = two-of bs s (ends-within bs s h) in
-    ap (pieces_of true) t ∙ closing-cons _ _ _ (subst (λ (l : List ℕ). ends l ≡ true) t h)
+    ap (text_lexemes true) t ∙ closing-cons _ _ _ (subst (λ (l : List ℕ). ends_comment l ≡ true) t h)
 
-cut-inside-end : (bs : List ℕ) (s : ℕ) → s < length bs → ends (drop s bs) ≡ false
-    → slice_index bs s ≡ 10 → pieces_of true (drop s bs)
-    ≡ line_end ∷ pieces_of true (drop (s + 1) bs)
+cut-inside-end : (bs : List ℕ) (s : ℕ) → s < length bs → ends_comment (drop s bs) ≡ false
+    → slice_index bs s ≡ 10 → text_lexemes true (drop s bs)
+    ≡ line_end ∷ text_lexemes true (drop (s + 1) bs)
 cut-inside-end bs s w h e =
     let t = front_of bs s w in
-    ap (pieces_of true) t ∙ inside-end _ _ (subst (λ (l : List ℕ). ends l ≡ false) t h) e
+    ap (text_lexemes true) t ∙ inside-end _ _ (subst (λ (l : List ℕ). ends_comment l ≡ false) t h) e
 
-cut-inside-other : (bs : List ℕ) (s : ℕ) → s < length bs → ends (drop s bs) ≡ false
-    → slice_index bs s ≢ 10 → pieces_of true (drop s bs) ≡ blank ∷ pieces_of true (drop (s + 1) bs)
+cut-inside-other : (bs : List ℕ) (s : ℕ) → s < length bs → ends_comment (drop s bs) ≡ false
+    → slice_index bs s ≢ 10 → text_lexemes true (drop s bs) ≡ blank ∷ text_lexemes true (drop (s + 1) bs)
 cut-inside-other bs s w h e =
     let t = front_of bs s w in
-    ap (pieces_of true) t ∙ inside-other _ _ (subst (λ (l : List ℕ). ends l ≡ false) t h) e
+    ap (text_lexemes true) t ∙ inside-other _ _ (subst (λ (l : List ℕ). ends_comment l ≡ false) t h) e
 
 -- what the code's steps keep, in the words of the reader
 
-pub step-blank : (last : ℕ) (r : Read) (n : ℕ) (ss : List Symbol) (bs : List ℕ) (s e : ℕ)
-    → IsPiece bs s e → piece (slice_range bs s e) ≡ blank
-    → read_on last r n ss (pieces_of false (drop s bs))
-    ≡ read_on last r n ss (pieces_of false (drop e bs))
+pub step-blank : (last : ℕ) (r : Progress) (n : ℕ) (ss : List Symbol) (bs : List ℕ) (s e : ℕ)
+    → IsFirstLexeme bs s e → lexeme_of (slice_range bs s e) ≡ blank
+    → read_on last r n ss (text_lexemes false (drop s bs))
+    ≡ read_on last r n ss (text_lexemes false (drop e bs))
 step-blank last r n ss bs s e h k = rw (cut-piece bs s e h, k) (read-blank last r n ss _)
 
-pub step-token : (last : ℕ) (r : Read) (n : ℕ) (ss : List Symbol) (bs : List ℕ) (s e : ℕ)
-    (t : Symbol) → IsPiece bs s e → piece (slice_range bs s e) ≡ token t
-    → read_on last r n ss (pieces_of false (drop s bs))
-    ≡ read_on last r n (ss ++ t ∷ []) (pieces_of false (drop e bs))
+pub step-token : (last : ℕ) (r : Progress) (n : ℕ) (ss : List Symbol) (bs : List ℕ) (s e : ℕ)
+    (t : Symbol) → IsFirstLexeme bs s e → lexeme_of (slice_range bs s e) ≡ token t
+    → read_on last r n ss (text_lexemes false (drop s bs))
+    ≡ read_on last r n (ss ++ t ∷ []) (text_lexemes false (drop e bs))
 step-token last r n ss bs s e t h k = rw (cut-piece bs s e h, k) (read-token last r n ss t _)
 
 -- a name that neither a colon nor a comma follows begins no declaration
@@ -326,7 +326,7 @@ named-nothing n c more h =
     rw k.0 (no-declaration n c more k.0 k.1)
 
 -- tokens with which no line begins make no line, whatever follows
-hopeless-parts : (ss more : List Symbol) → is_hopeless ss ≡ true → parts_of (ss ++ more) ≡ None
+hopeless-parts : (ss more : List Symbol) → begins_no_line ss ≡ true → parts_of (ss ++ more) ≡ None
 unfolding whole_line other_line
 hopeless-parts [] more h = absurd (false≢true h)
 hopeless-parts (s ∷ []) more h = absurd (false≢true h)
@@ -343,7 +343,7 @@ hopeless-parts (mark_symbol mark.Dot ∷ t ∷ ss) more h = refl
 hopeless-parts (mark_symbol mark.Open ∷ t ∷ ss) more h = refl
 hopeless-parts (mark_symbol mark.Close ∷ t ∷ ss) more h = refl
 
-hopeless-line : (last : ℕ) (r : Read) (n : ℕ) (ss more : List Symbol) → is_hopeless ss ≡ true
+hopeless-line : (last : ℕ) (r : Progress) (n : ℕ) (ss more : List Symbol) → begins_no_line ss ≡ true
     → after_line n last r (ss ++ more) ≡ Err (BadLine n)
 unfolding after_line
 hopeless-line last r n ss more h = rw (hopeless-parts ss more h) refl
@@ -373,18 +373,18 @@ abbrev hopeless_end : ℕ → Result (List Symbol) TextFault → Result PlainPro
 hopeless_end n (Ok ts) = Err (BadLine n)
 hopeless_end n (Err e) = Err e
 
-hopeless-by : (last : ℕ) (r : Read) (n : ℕ) (ss : List Symbol) (ls : List (List LexemeData))
-    (t : Result (List Symbol) TextFault) → is_hopeless ss ≡ true
+hopeless-by : (last : ℕ) (r : Progress) (n : ℕ) (ss : List Symbol) (ls : List (List LexemeData))
+    (t : Result (List Symbol) TextFault) → begins_no_line ss ≡ true
     → (with_front ss t >>= (λ ts. after_line n last r ts
     >>= (λ s. program_of_lines last s (n + 1) ls)))
     ≡ hopeless_end n t
 hopeless-by last r n ss ls (Err e) h = refl
 hopeless-by last r n ss ls (Ok ts) h =
-    ap (λ (x : Result Read TextFault). x >>= (λ s. program_of_lines last s (n + 1) ls))
+    ap (λ (x : Result Progress TextFault). x >>= (λ s. program_of_lines last s (n + 1) ls))
     (hopeless-line last r n ss ts h)
 
-hopeless-reads : (last : ℕ) (r : Read) (n : ℕ) (ss : List Symbol) (l : List LexemeData)
-    (ls : List (List LexemeData)) → is_hopeless ss ≡ true
+hopeless-reads : (last : ℕ) (r : Progress) (n : ℕ) (ss : List Symbol) (l : List LexemeData)
+    (ls : List (List LexemeData)) → begins_no_line ss ≡ true
     → program_of_lines last r n ((map token ss ++ l) ∷ ls) ≡ hopeless_end n (tokens_of n l)
 unfolding program_of_lines
 hopeless-reads last r n ss l ls h =
@@ -393,8 +393,8 @@ hopeless-reads last r n ss l ls h =
     (tokens-front n ss l)
     ∙ (unfold program_of_lines in hopeless-by last r n ss ls (tokens_of n l) h)
 
-hopeless-more : (ss : List Symbol) (s : Symbol) → is_hopeless ss ≡ true
-    → is_hopeless (ss ++ s ∷ []) ≡ true
+hopeless-more : (ss : List Symbol) (s : Symbol) → begins_no_line ss ≡ true
+    → begins_no_line (ss ++ s ∷ []) ≡ true
 hopeless-more [] s h = absurd (false≢true h)
 hopeless-more (a ∷ []) s h = absurd (false≢true h)
 hopeless-more (a ∷ b ∷ ss) s h = h
@@ -403,8 +403,8 @@ onto-none : (s : Symbol) (ss : List Symbol) → onto_all (s ∷ ss) [] ≡ map t
 onto-none s [] = refl
 onto-none s (t ∷ ss) = ap (prepend_lexeme (token s)) (onto-none t ss)
 
-hopeless-empty : (last : ℕ) (r : Read) (n : ℕ) (ss : List Symbol) (s : Symbol)
-    → is_hopeless ss ≡ true → program_of_lines last r n (onto_all (ss ++ s ∷ []) [])
+hopeless-empty : (last : ℕ) (r : Progress) (n : ℕ) (ss : List Symbol) (s : Symbol)
+    → begins_no_line ss ≡ true → program_of_lines last r n (onto_all (ss ++ s ∷ []) [])
     ≡ program_of_lines last r n (onto_all ss [])
 hopeless-empty last r n [] s h = absurd (false≢true h)
 hopeless-empty last r n (a ∷ ss) s h =
@@ -415,8 +415,8 @@ hopeless-empty last r n (a ∷ ss) s h =
     ∙ ap (program_of_lines last r n) (sym
     (onto-none a ss ∙ ap (λ (l : List LexemeData). l ∷ []) (sym (append-nil (map token (a ∷ ss))))))
 
-hopeless-lines : (last : ℕ) (r : Read) (n : ℕ) (ss : List Symbol) (s : Symbol)
-    (ls : List (List LexemeData)) → is_hopeless ss ≡ true
+hopeless-lines : (last : ℕ) (r : Progress) (n : ℕ) (ss : List Symbol) (s : Symbol)
+    (ls : List (List LexemeData)) → begins_no_line ss ≡ true
     → program_of_lines last r n (onto_all (ss ++ s ∷ []) ls)
     ≡ program_of_lines last r n (onto_all ss ls)
 hopeless-lines last r n ss s [] h = hopeless-empty last r n ss s h
@@ -427,8 +427,8 @@ hopeless-lines last r n ss s (l ∷ ls) h =
     ∙ ap (program_of_lines last r n) (sym (onto-line ss l ls))
 
 -- a token behind such tokens makes no difference
-read-dropped : (last : ℕ) (r : Read) (n : ℕ) (ss : List Symbol) (s : Symbol) (ps : List LexemeData)
-    → is_hopeless ss ≡ true → read_on last r n ss (token s ∷ ps) ≡ read_on last r n ss ps
+read-dropped : (last : ℕ) (r : Progress) (n : ℕ) (ss : List Symbol) (s : Symbol) (ps : List LexemeData)
+    → begins_no_line ss ≡ true → read_on last r n ss (token s ∷ ps) ≡ read_on last r n ss ps
 unfolding read_on
 read-dropped last r n ss s ps h =
     (unfold read_on in read-token last r n ss s ps)
@@ -436,60 +436,60 @@ read-dropped last r n ss s ps h =
     ∙ hopeless-lines last r n ss s (lines ps) h
     ∙ sym (ap (program_of_lines last r n) (lines-onto ss ps))
 
-pub step-dropped : (last : ℕ) (r : Read) (n : ℕ) (ss : List Symbol) (bs : List ℕ) (s e : ℕ)
-    (t : Symbol) → is_hopeless ss ≡ true → IsPiece bs s e → piece (slice_range bs s e) ≡ token t
-    → read_on last r n ss (pieces_of false (drop s bs))
-    ≡ read_on last r n ss (pieces_of false (drop e bs))
+pub step-dropped : (last : ℕ) (r : Progress) (n : ℕ) (ss : List Symbol) (bs : List ℕ) (s e : ℕ)
+    (t : Symbol) → begins_no_line ss ≡ true → IsFirstLexeme bs s e → lexeme_of (slice_range bs s e) ≡ token t
+    → read_on last r n ss (text_lexemes false (drop s bs))
+    ≡ read_on last r n ss (text_lexemes false (drop e bs))
 step-dropped last r n ss bs s e t d h k =
     rw (cut-piece bs s e h, k) (read-dropped last r n ss t _ d)
 
-pub step-bad : (last : ℕ) (r : Read) (n : ℕ) (ss : List Symbol) (bs : List ℕ) (s e : ℕ)
-    → IsPiece bs s e → piece (slice_range bs s e) ≡ bad_token
-    → read_on last r n ss (pieces_of false (drop s bs)) ≡ Err (BadToken n)
+pub step-bad : (last : ℕ) (r : Progress) (n : ℕ) (ss : List Symbol) (bs : List ℕ) (s e : ℕ)
+    → IsFirstLexeme bs s e → lexeme_of (slice_range bs s e) ≡ bad_token
+    → read_on last r n ss (text_lexemes false (drop s bs)) ≡ Err (BadToken n)
 step-bad last r n ss bs s e h k = rw (cut-piece bs s e h, k) (read-bad last r n ss _)
 
-pub step-bad-literal : (last : ℕ) (r : Read) (n : ℕ) (ss : List Symbol) (bs : List ℕ) (s e : ℕ)
-    → IsPiece bs s e → piece (slice_range bs s e) ≡ bad_literal
-    → read_on last r n ss (pieces_of false (drop s bs)) ≡ Err (BadLiteral n)
+pub step-bad-literal : (last : ℕ) (r : Progress) (n : ℕ) (ss : List Symbol) (bs : List ℕ) (s e : ℕ)
+    → IsFirstLexeme bs s e → lexeme_of (slice_range bs s e) ≡ bad_literal
+    → read_on last r n ss (text_lexemes false (drop s bs)) ≡ Err (BadLiteral n)
 step-bad-literal last r n ss bs s e h k =
     rw (cut-piece bs s e h, k) (read-bad-literal last r n ss _)
 
-pub step-line-end : (last : ℕ) (r : Read) (n : ℕ) (ss : List Symbol) (bs : List ℕ) (s e : ℕ)
-    → IsPiece bs s e → piece (slice_range bs s e) ≡ line_end
-    → read_on last r n ss (pieces_of false (drop s bs))
-    ≡ (after_line n last r ss >>= (λ q. read_on last q (n + 1) [] (pieces_of false (drop e bs))))
+pub step-line-end : (last : ℕ) (r : Progress) (n : ℕ) (ss : List Symbol) (bs : List ℕ) (s e : ℕ)
+    → IsFirstLexeme bs s e → lexeme_of (slice_range bs s e) ≡ line_end
+    → read_on last r n ss (text_lexemes false (drop s bs))
+    ≡ (after_line n last r ss >>= (λ q. read_on last q (n + 1) [] (text_lexemes false (drop e bs))))
 step-line-end last r n ss bs s e h k = rw (cut-piece bs s e h, k) (read-line-end last r n ss _)
 
-pub step-opening : (last : ℕ) (r : Read) (n : ℕ) (ss : List Symbol) (bs : List ℕ) (s : ℕ)
-    → opens (drop s bs) ≡ true → closes (drop (s + 2) bs) ≡ true
-    → read_on last r n ss (pieces_of false (drop s bs))
-    ≡ read_on last r n ss (pieces_of true (drop (s + 2) bs))
+pub step-opening : (last : ℕ) (r : Progress) (n : ℕ) (ss : List Symbol) (bs : List ℕ) (s : ℕ)
+    → opens_comment (drop s bs) ≡ true → ends_later (drop (s + 2) bs) ≡ true
+    → read_on last r n ss (text_lexemes false (drop s bs))
+    ≡ read_on last r n ss (text_lexemes true (drop (s + 2) bs))
 step-opening last r n ss bs s h k =
     rw (cut-opening bs s h k) (read-blank last r n ss _ ∙ read-blank last r n ss _)
 
-pub step-unclosed : (last : ℕ) (r : Read) (n : ℕ) (ss : List Symbol) (bs : List ℕ) (s : ℕ)
-    → opens (drop s bs) ≡ true → closes (drop (s + 2) bs) ≡ false
-    → read_on last r n ss (pieces_of false (drop s bs)) ≡ Err (BadToken n)
+pub step-unclosed : (last : ℕ) (r : Progress) (n : ℕ) (ss : List Symbol) (bs : List ℕ) (s : ℕ)
+    → opens_comment (drop s bs) ≡ true → ends_later (drop (s + 2) bs) ≡ false
+    → read_on last r n ss (text_lexemes false (drop s bs)) ≡ Err (BadToken n)
 step-unclosed last r n ss bs s h k = rw (cut-unclosed bs s h k) (read-bad last r n ss _)
 
-pub step-closing : (last : ℕ) (r : Read) (n : ℕ) (ss : List Symbol) (bs : List ℕ) (s : ℕ)
-    → ends (drop s bs) ≡ true
-    → read_on last r n ss (pieces_of true (drop s bs))
-    ≡ read_on last r n ss (pieces_of false (drop (s + 2) bs))
+pub step-closing : (last : ℕ) (r : Progress) (n : ℕ) (ss : List Symbol) (bs : List ℕ) (s : ℕ)
+    → ends_comment (drop s bs) ≡ true
+    → read_on last r n ss (text_lexemes true (drop s bs))
+    ≡ read_on last r n ss (text_lexemes false (drop (s + 2) bs))
 step-closing last r n ss bs s h =
     rw (cut-closing bs s h) (read-blank last r n ss _ ∙ read-blank last r n ss _)
 
-pub step-inside : (last : ℕ) (r : Read) (n : ℕ) (ss : List Symbol) (bs : List ℕ) (s : ℕ)
-    → s < length bs → ends (drop s bs) ≡ false → slice_index bs s ≢ 10
-    → read_on last r n ss (pieces_of true (drop s bs))
-    ≡ read_on last r n ss (pieces_of true (drop (s + 1) bs))
+pub step-inside : (last : ℕ) (r : Progress) (n : ℕ) (ss : List Symbol) (bs : List ℕ) (s : ℕ)
+    → s < length bs → ends_comment (drop s bs) ≡ false → slice_index bs s ≢ 10
+    → read_on last r n ss (text_lexemes true (drop s bs))
+    ≡ read_on last r n ss (text_lexemes true (drop (s + 1) bs))
 step-inside last r n ss bs s w h e = rw (cut-inside-other bs s w h e) (read-blank last r n ss _)
 
-pub step-inside-end : (last : ℕ) (r : Read) (n : ℕ) (ss : List Symbol) (bs : List ℕ) (s : ℕ)
-    → s < length bs → ends (drop s bs) ≡ false → slice_index bs s ≡ 10
-    → read_on last r n ss (pieces_of true (drop s bs))
+pub step-inside-end : (last : ℕ) (r : Progress) (n : ℕ) (ss : List Symbol) (bs : List ℕ) (s : ℕ)
+    → s < length bs → ends_comment (drop s bs) ≡ false → slice_index bs s ≡ 10
+    → read_on last r n ss (text_lexemes true (drop s bs))
     ≡ (after_line n last r ss
-    >>= (λ q. read_on last q (n + 1) [] (pieces_of true (drop (s + 1) bs))))
+    >>= (λ q. read_on last q (n + 1) [] (text_lexemes true (drop (s + 1) bs))))
 step-inside-end last r n ss bs s w h e =
     rw (cut-inside-end bs s w h e) (read-line-end last r n ss _)
 
@@ -502,24 +502,24 @@ pub ruleset opening_rules = (step-opening, step-unclosed, opens-within)
 
 pub ruleset comment_rules = (step-closing, step-inside, step-inside-end, ends-within)
 
-pub step-ended : (last : ℕ) (r : Read) (n : ℕ) (ss : List Symbol) (bs : List ℕ) (b : Bool) (s e : ℕ)
-    → b ≡ false → IsPiece bs s e → line_end ≡ piece (slice_range bs s e)
-    → read_on last r n ss (pieces_of b (drop s bs))
-    ≡ (after_line n last r ss >>= (λ q. read_on last q (n + 1) [] (pieces_of b (drop e bs))))
+pub step-ended : (last : ℕ) (r : Progress) (n : ℕ) (ss : List Symbol) (bs : List ℕ) (b : Bool) (s e : ℕ)
+    → b ≡ false → IsFirstLexeme bs s e → line_end ≡ lexeme_of (slice_range bs s e)
+    → read_on last r n ss (text_lexemes b (drop s bs))
+    ≡ (after_line n last r ss >>= (λ q. read_on last q (n + 1) [] (text_lexemes b (drop e bs))))
 step-ended last r n ss bs b s e f h k =
     rw f (step-line-end last r n ss bs s e h (sym k))
 
-pub program-start : (text : List ℕ) (last : ℕ) (r : Read) → last ≡ last_line text → r ≡ none_yet
-    → read_on last r 1 [] (pieces_of false (drop 0 text)) ≡ program_of text
+pub program-start : (text : List ℕ) (last : ℕ) (r : Progress) → last ≡ last_line text → r ≡ no_progress
+    → read_on last r 1 [] (text_lexemes false (drop 0 text)) ≡ program_of text
 unfolding read_on program_of
 program-start text last r e f = rw (e, f) refl
 
-pub cut-none : (b : Bool) (bs : List ℕ) (i : ℕ) → length bs ≤ i → pieces_of b (drop i bs) ≡ []
-unfolding pieces_of without_comments pieces
+pub cut-none : (b : Bool) (bs : List ℕ) (i : ℕ) → length bs ≤ i → text_lexemes b (drop i bs) ≡ []
+unfolding text_lexemes without_comments lexemes
 cut-none b bs i h = rw (none-left bs i h) refl
 
-pub text-end : (last : ℕ) (r : Read) (n : ℕ) (ss : List Symbol) (bs : List ℕ) (b : Bool) (i : ℕ)
+pub text-end : (last : ℕ) (r : Progress) (n : ℕ) (ss : List Symbol) (bs : List ℕ) (b : Bool) (i : ℕ)
     → length bs ≤ i
-    → read_on last r n ss (pieces_of b (drop i bs))
-    ≡ (after_line n last r ss >>= (λ s. complete_program last s.reached))
+    → read_on last r n ss (text_lexemes b (drop i bs))
+    ≡ (after_line n last r ss >>= (λ s. complete_program last s.draft))
 text-end last r n ss bs b i h = rw (cut-none b bs i h) (read-end last r n ss)

@@ -6,11 +6,11 @@ use Rattle.std.proofs.lemmas.List.{map-append}
 use Rattle.std.proofs.Math.Bool.{and-false, or-true}
 use Rattle.il_text.specs.Characters.{is_blank, are_linked}
 use Rattle.bay_base.specs.Names.{same_name}
-use Rattle.il_text.specs.Pieces.{opens, ends, closes, without_comments, blank_of, joins, join, pieces}
+use Rattle.il_text.specs.Lexemes.{opens_comment, ends_comment, ends_later, without_comments, blank_of, joins_lexeme, join, lexemes}
 use Rattle.il_text.specs.Places.{last_line}
-use Rattle.il_text.specs.Reading.{lines, prepend_lexeme, program_of_lines, none_yet, program_of}
+use Rattle.il_text.specs.Reading.{lines, prepend_lexeme, program_of_lines, no_progress, program_of}
 use Rattle.il_text.specs.Respelling.{ends_inside, AreBlanks, BlanksMayBeRespelled}
-use Rattle.il_text.specs.Symbols.{piece, pieces_of}
+use Rattle.il_text.specs.Symbols.{lexeme_of, text_lexemes}
 use Rattle.il_text.specs.Tokens.{LexemeData, blank, line_end, token, bad_token, bad_literal}
 use Rattle.il_text.proofs.CutLemmas.{and-left, and-right, Stands, blanked-first, blanked-plain}
 use Rattle.il_text.specs.Listing.{PlainProgram}
@@ -24,38 +24,38 @@ or-cases : (a b : Bool) → a || b ≡ true → (a ≡ true) ⊎ (b ≡ true)
 or-cases true b h = inl refl
 or-cases false b h = inr h
 
-ends-more : (x : ℕ) (xs t : List ℕ) → ends (x ∷ xs) ≡ true → ends (x ∷ (xs ++ t)) ≡ true
-ends-more x [] t h = absurd (false≢true (and-right (eqb x 42) false h))
+ends-more : (x : ℕ) (xs t : List ℕ) → ends_comment (x ∷ xs) ≡ true → ends_comment (x ∷ (xs ++ t)) ≡ true
+ends_comment-more x [] t h = absurd (false≢true (and-right (eqb x 42) false h))
 ends-more x (y ∷ ys) t h = h
 
-closes-more : (xs t : List ℕ) → closes xs ≡ true → closes (xs ++ t) ≡ true
-unfolding closes
-closes-more [] t h = absurd (false≢true h)
+closes-more : (xs t : List ℕ) → ends_later xs ≡ true → ends_later (xs ++ t) ≡ true
+unfolding ends_later
+ends_later-more [] t h = absurd (false≢true h)
 closes-more (x ∷ xs) t h = ⊎_elim
-    (λ (e : ends (x ∷ xs) ≡ true). rw (ends-more x xs t e) refl)
-    (λ (k : closes xs ≡ true). let more : closes (xs ++ t) ≡ true = unfold closes in
-    closes-more xs t k in rw more (or-true (ends (x ∷ (xs ++ t)))))
-    (or-cases (ends (x ∷ xs)) (closes xs) h)
+    (λ (e : ends_comment (x ∷ xs) ≡ true). rw (ends-more x xs t e) refl)
+    (λ (k : ends_later xs ≡ true). let more : ends_later (xs ++ t) ≡ true = unfold ends_later in
+    closes-more xs t k in rw more (or-true (ends_comment (x ∷ (xs ++ t)))))
+    (or-cases (ends_comment (x ∷ xs)) (ends_later xs) h)
 
-closed-step : (x y : ℕ) (xs : List ℕ) (b : Bool) → ends (x ∷ y ∷ xs) ≡ b
+closed-step : (x y : ℕ) (xs : List ℕ) (b : Bool) → ends_comment (x ∷ y ∷ xs) ≡ b
     → ends_inside true (x ∷ y ∷ xs) ≡ false
-    → (ends_inside true (y ∷ xs) ≡ false → closes (y ∷ xs) ≡ true) → closes (x ∷ y ∷ xs) ≡ true
-unfolding closes ends_inside
+    → (ends_inside true (y ∷ xs) ≡ false → ends_later (y ∷ xs) ≡ true) → ends_later (x ∷ y ∷ xs) ≡ true
+unfolding ends_later ends_inside
 closed-step x y xs true e h f = rw e refl
-closed-step x y xs false e h f = let k = f (rw e at h) in rw k (or-true (ends (x ∷ y ∷ xs)))
+closed-step x y xs false e h f = let k = f (rw e at h) in rw k (or-true (ends_comment (x ∷ y ∷ xs)))
 
-closed-later : (xs : List ℕ) → ends_inside true xs ≡ false → closes xs ≡ true
+closed-later : (xs : List ℕ) → ends_inside true xs ≡ false → ends_later xs ≡ true
 unfolding ends_inside
 closed-later [] h = absurd (false≢true (sym h))
 closed-later (x ∷ []) h = absurd (false≢true (sym h))
 closed-later (x ∷ y ∷ xs) h =
-    closed-step x y xs (ends (x ∷ y ∷ xs)) refl h (unfold ends_inside in closed-later (y ∷ xs))
+    closed-step x y xs (ends_comment (x ∷ y ∷ xs)) refl h (unfold ends_inside in closed-later (y ∷ xs))
 
-inside-step : (x y : ℕ) (xs t : List ℕ) (e : Bool) → ends (x ∷ y ∷ xs) ≡ e
+inside-step : (x y : ℕ) (xs t : List ℕ) (e : Bool) → ends_comment (x ∷ y ∷ xs) ≡ e
     → ends_inside true (x ∷ y ∷ xs) ≡ false
-    → (ends (x ∷ y ∷ xs) ≡ true → ends_inside false xs ≡ false
+    → (ends_comment (x ∷ y ∷ xs) ≡ true → ends_inside false xs ≡ false
     → without_comments false (xs ++ t) ≡ without_comments false xs ++ without_comments false t)
-    → (ends (x ∷ y ∷ xs) ≡ false → ends_inside true (y ∷ xs) ≡ false
+    → (ends_comment (x ∷ y ∷ xs) ≡ false → ends_inside true (y ∷ xs) ≡ false
     → without_comments true (y ∷ (xs ++ t))
     ≡ without_comments true (y ∷ xs) ++ without_comments false t)
     → without_comments true (x ∷ y ∷ (xs ++ t))
@@ -64,11 +64,11 @@ unfolding without_comments ends_inside
 inside-step x y xs t true e h f g = rw e (ap (λ (l : List ℕ). 32 ∷ 32 ∷ l) (f e (rw e at h)))
 inside-step x y xs t false e h f g = rw e (ap (λ (l : List ℕ). blank_of x ∷ l) (g e (rw e at h)))
 
-outside-step : (x y : ℕ) (xs t : List ℕ) (o : Bool) → opens (x ∷ y ∷ xs) ≡ o
+outside-step : (x y : ℕ) (xs t : List ℕ) (o : Bool) → opens_comment (x ∷ y ∷ xs) ≡ o
     → ends_inside false (x ∷ y ∷ xs) ≡ false
-    → (opens (x ∷ y ∷ xs) ≡ true → ends_inside true xs ≡ false
+    → (opens_comment (x ∷ y ∷ xs) ≡ true → ends_inside true xs ≡ false
     → without_comments true (xs ++ t) ≡ without_comments true xs ++ without_comments false t)
-    → (opens (x ∷ y ∷ xs) ≡ false → ends_inside false (y ∷ xs) ≡ false
+    → (opens_comment (x ∷ y ∷ xs) ≡ false → ends_inside false (y ∷ xs) ≡ false
     → without_comments false (y ∷ (xs ++ t))
     ≡ without_comments false (y ∷ xs) ++ without_comments false t)
     → without_comments false (x ∷ y ∷ (xs ++ t))
@@ -88,7 +88,7 @@ blanked-parts true [] t h n = absurd (false≢true (sym h))
 blanked-parts false [] t h n = refl
 blanked-parts true (x ∷ []) t h n = absurd (false≢true (sym h))
 blanked-parts false (x ∷ []) t h n =
-    let plain : opens (x ∷ t) ≡ false =
+    let plain : opens_comment (x ∷ t) ≡ false =
     rw (ne_eqb _ _ n) (and-false (eqb x 40)) in blanked-plain x t plain
 blanked-parts true (x ∷ y ∷ xs) t h n =
     inside-step x y xs t _ refl h
@@ -120,7 +120,7 @@ blanks-part false (x ∷ []) t h a =
     let other : x ≢ 40 =
     not-blank x 40 (and-left (is_blank x) true a) (λ e. absurd (omega (arith, e)))
     (λ e. absurd (omega (arith, e))) in
-    let plain : opens (x ∷ t) ≡ false = rw (ne_eqb x 40 other) refl in blanked-plain x t plain
+    let plain : opens_comment (x ∷ t) ≡ false = rw (ne_eqb x 40 other) refl in blanked-plain x t plain
 blanks-part true (x ∷ y ∷ xs) t h a =
     inside-step x y xs t _ refl h
     (λ e k. let q = rw e at a in unfold ends_inside without_comments in blanks-part false xs t k q)
@@ -129,13 +129,13 @@ blanks-part true (x ∷ y ∷ xs) t h a =
 blanks-part false (x ∷ y ∷ xs) t h a =
     outside-step x y xs t _ refl h
     (λ e k. let q = rw e at a in unfold ends_inside without_comments in
-    blanks-part true xs t k (and-right (is_blank (cond (closes xs) 32 256)) _ q))
+    blanks-part true xs t k (and-right (is_blank (cond (ends_later xs) 32 256)) _ q))
     (λ e k. let q = rw e at a in unfold ends_inside without_comments in
     blanks-part false (y ∷ xs) t k (and-right (is_blank x) _ q))
 
-joins-blank : (x c : ℕ) → is_blank c ≡ true → joins x (c ∷ []) ≡ false
-unfolding joins are_linked same_name
-joins-blank x c h =
+joins-blank : (x c : ℕ) → is_blank c ≡ true → joins_lexeme x (c ∷ []) ≡ false
+unfolding joins_lexeme are_linked same_name
+joins_lexeme-blank x c h =
     ⊎_elim (λ (e : c ≡ 32). rw e (and-false (eqb x 38)))
     (λ (e : c ≡ 9). rw e (and-false (eqb x 38))) (blank-cases c h)
 
@@ -148,7 +148,7 @@ cond-parts false x p ps ys = refl
 join-parts : (x c : ℕ) (ps ys : List (List ℕ)) → is_blank c ≡ true
     → join x (ps ++ ((c ∷ []) ∷ ys)) ≡ join x ps ++ ((c ∷ []) ∷ ys)
 join-parts x c [] ys h = rw (joins-blank x c h) refl
-join-parts x c (p ∷ ps) ys h = cond-parts (joins x p) x p ps ((c ∷ []) ∷ ys)
+join-parts x c (p ∷ ps) ys h = cond-parts (joins_lexeme x p) x p ps ((c ∷ []) ∷ ys)
 
 alone-tab : Alone 9
 unfolding are_linked
@@ -158,24 +158,24 @@ alone-blank : (c : ℕ) → is_blank c ≡ true → Alone c
 alone-blank c h =
     ⊎_elim (λ (e : c ≡ 32). rw e alone-space) (λ (e : c ≡ 9). rw e alone-tab) (blank-cases c h)
 
-blank-alone : (c : ℕ) (t : List ℕ) → is_blank c ≡ true → pieces (c ∷ t) ≡ (c ∷ []) ∷ pieces t
+blank-alone : (c : ℕ) (t : List ℕ) → is_blank c ≡ true → lexemes (c ∷ t) ≡ (c ∷ []) ∷ lexemes t
 blank-alone c t h =
     pieces-alone c t (alone-blank c h)
     (not-blank c 38 h (λ e. absurd (omega (arith, e))) (λ e. absurd (omega (arith, e))))
 
 -- the pieces of two parts, of which the second begins with a blank
-pieces-parts : (u : List ℕ) (c : ℕ) (t : List ℕ) → is_blank c ≡ true
-    → pieces (u ++ (c ∷ t)) ≡ pieces u ++ ((c ∷ []) ∷ pieces t)
-unfolding pieces
-pieces-parts [] c t h = unfold pieces in blank-alone c t h
-pieces-parts (x ∷ u) c t h =
-    ap (join x) (unfold pieces in pieces-parts u c t h) ∙ join-parts x c (pieces u) (pieces t) h
+lexemes-parts : (u : List ℕ) (c : ℕ) (t : List ℕ) → is_blank c ≡ true
+    → lexemes (u ++ (c ∷ t)) ≡ lexemes u ++ ((c ∷ []) ∷ lexemes t)
+unfolding lexemes
+lexemes-parts [] c t h = unfold lexemes in blank-alone c t h
+lexemes-parts (x ∷ u) c t h =
+    ap (join x) (unfold lexemes in pieces-parts u c t h) ∙ join-parts x c (lexemes u) (lexemes t) h
 
-tab-piece : piece (9 ∷ []) ≡ blank
-unfolding piece
+tab-piece : lexeme_of (9 ∷ []) ≡ blank
+unfolding lexeme_of
 tab-piece = refl
 
-blank-piece : (c : ℕ) → is_blank c ≡ true → piece (c ∷ []) ≡ blank
+blank-piece : (c : ℕ) → is_blank c ≡ true → lexeme_of (c ∷ []) ≡ blank
 blank-piece c h =
     ⊎_elim (λ (e : c ≡ 32). rw e space-piece) (λ (e : c ≡ 9). rw e tab-piece) (blank-cases c h)
 
@@ -191,28 +191,28 @@ lines-blank (bad_literal ∷ ps) qs =
     ap (prepend_lexeme bad_literal) (unfold lines in lines-blank ps qs)
 
 lines-blanks : (bs t : List ℕ) (ps : List LexemeData) → list_all is_blank bs ≡ true
-    → lines (ps ++ map piece (pieces (bs ++ t))) ≡ lines (ps ++ map piece (pieces t))
+    → lines (ps ++ map lexeme_of (lexemes (bs ++ t))) ≡ lines (ps ++ map lexeme_of (lexemes t))
 lines-blanks [] t ps h = refl
 lines-blanks (c ∷ bs) t ps h =
     let here : is_blank c ≡ true = and-left (is_blank c) _ h in
-    ap (λ (q : List (List ℕ)). lines (ps ++ map piece q)) (blank-alone c (bs ++ t) here)
-    ∙ ap (λ (q : LexemeData). lines (ps ++ (q ∷ map piece (pieces (bs ++ t))))) (blank-piece c here)
-    ∙ lines-blank ps (map piece (pieces (bs ++ t)))
+    ap (λ (q : List (List ℕ)). lines (ps ++ map lexeme_of q)) (blank-alone c (bs ++ t) here)
+    ∙ ap (λ (q : LexemeData). lines (ps ++ (q ∷ map lexeme_of (lexemes (bs ++ t))))) (blank-piece c here)
+    ∙ lines-blank ps (map lexeme_of (lexemes (bs ++ t)))
     ∙ lines-blanks bs t ps (and-right (is_blank c) _ h)
 
 -- blanks between two parts make no difference to the lines
 lines-between : (u bs t : List ℕ) → 0 < length bs → list_all is_blank bs ≡ true
-    → lines (map piece (pieces (u ++ (bs ++ t))))
-    ≡ lines (map piece (pieces u) ++ map piece (pieces t))
+    → lines (map lexeme_of (lexemes (u ++ (bs ++ t))))
+    ≡ lines (map lexeme_of (lexemes u) ++ map lexeme_of (lexemes t))
 lines-between u [] t n h = absurd (omega (arith, n))
 lines-between u (c ∷ bs) t n h =
     let here : is_blank c ≡ true = and-left (is_blank c) _ h in
-    ap (λ (q : List (List ℕ)). lines (map piece q)) (pieces-parts u c (bs ++ t) here)
-    ∙ ap lines (map-append piece (pieces u) ((c ∷ []) ∷ pieces (bs ++ t)))
-    ∙ ap (λ (q : LexemeData). lines (map piece (pieces u) ++ (q ∷ map piece (pieces (bs ++ t)))))
+    ap (λ (q : List (List ℕ)). lines (map lexeme_of q)) (pieces-parts u c (bs ++ t) here)
+    ∙ ap lines (map-append lexeme_of (lexemes u) ((c ∷ []) ∷ lexemes (bs ++ t)))
+    ∙ ap (λ (q : LexemeData). lines (map lexeme_of (lexemes u) ++ (q ∷ map lexeme_of (lexemes (bs ++ t)))))
     (blank-piece c here)
-    ∙ lines-blank (map piece (pieces u)) (map piece (pieces (bs ++ t)))
-    ∙ lines-blanks bs t (map piece (pieces u)) (and-right (is_blank c) _ h)
+    ∙ lines-blank (map lexeme_of (lexemes u)) (map lexeme_of (lexemes (bs ++ t)))
+    ∙ lines-blanks bs t (map lexeme_of (lexemes u)) (and-right (is_blank c) _ h)
 
 -- no line end
 abbrev no_end : ℕ → Bool
@@ -230,13 +230,13 @@ no_end-inside : (b : Bool) → is_blank (cond b 10 32) ≡ true → not b ≡ tr
 no_end-inside true h = absurd (false≢true h)
 no_end-inside false h = refl
 
-ends-step : (x y : ℕ) (xs : List ℕ) (e : Bool) → ends (x ∷ y ∷ xs) ≡ e
+ends-step : (x y : ℕ) (xs : List ℕ) (e : Bool) → ends_comment (x ∷ y ∷ xs) ≡ e
     → list_all is_blank (without_comments true (x ∷ y ∷ xs)) ≡ true
     → (list_all is_blank (without_comments false xs) ≡ true → list_all no_end xs ≡ true)
     → (list_all is_blank (without_comments true (y ∷ xs)) ≡ true → list_all no_end (y ∷ xs) ≡ true)
     → list_all no_end (x ∷ y ∷ xs) ≡ true
 unfolding without_comments
-ends-step x y xs true e h f g =
+ends_comment-step x y xs true e h f g =
     let first =
     no_end-of x 42 (eqb-true _ _ (and-left (eqb x 42) (eqb y 41) e))
     (λ k. absurd (omega (arith, k))) in
@@ -249,13 +249,13 @@ ends-step x y xs false e h f g =
     and_from (no_end x) _ (no_end-inside (eqb x 10) (and-left (is_blank (blank_of x)) _ q))
     (g (and-right (is_blank (blank_of x)) _ q))
 
-opens-step : (x y : ℕ) (xs : List ℕ) (o : Bool) → opens (x ∷ y ∷ xs) ≡ o
+opens-step : (x y : ℕ) (xs : List ℕ) (o : Bool) → opens_comment (x ∷ y ∷ xs) ≡ o
     → list_all is_blank (without_comments false (x ∷ y ∷ xs)) ≡ true
     → (list_all is_blank (without_comments true xs) ≡ true → list_all no_end xs ≡ true)
     → (list_all is_blank (without_comments false (y ∷ xs)) ≡ true → list_all no_end (y ∷ xs) ≡ true)
     → list_all no_end (x ∷ y ∷ xs) ≡ true
 unfolding without_comments
-opens-step x y xs true o h f g =
+opens_comment-step x y xs true o h f g =
     let first =
     no_end-of x 40 (eqb-true _ _ (and-left (eqb x 40) (eqb y 42) o))
     (λ k. absurd (omega (arith, k))) in
@@ -264,7 +264,7 @@ opens-step x y xs true o h f g =
     (λ k. absurd (omega (arith, k))) in
     let q = rw o at h in
     and_from (no_end x) _ first (and_from (no_end y) _ second
-    (f (and-right (is_blank (cond (closes xs) 32 256)) _ q)))
+    (f (and-right (is_blank (cond (ends_later xs) 32 256)) _ q)))
 opens-step x y xs false o h f g =
     let q = rw o at h in
     and_from (no_end x) _ (no_end-blank x (and-left (is_blank x) _ q))
@@ -313,7 +313,7 @@ length-blanked : (w : List ℕ) → 0 < length w → 0 < length (without_comment
 unfolding without_comments
 length-blanked [] h = absurd (omega (arith, h))
 length-blanked (x ∷ []) h = omega arith
-length-blanked (x ∷ y ∷ xs) h = some-blanked (opens (x ∷ y ∷ xs)) _ _ x _ _
+length-blanked (x ∷ y ∷ xs) h = some-blanked (opens_comment (x ∷ y ∷ xs)) _ _ x _ _
 
 first-blank : (bs : List ℕ) → 0 < length bs → list_all is_blank bs ≡ true
     → is_blank (slice_index bs 0) ≡ true
@@ -333,12 +333,12 @@ no-star (x ∷ xs) t a =
     (first-blank _ (length-blanked (x ∷ xs) a.some) a.blank)
 
 lines_of : (u w v : List ℕ) → ends_inside false u ≡ false → AreBlanks w
-    → lines (pieces_of false (u ++ (w ++ v)))
-    ≡ lines (map piece (pieces (without_comments false u))
-    ++ map piece (pieces (without_comments false v)))
-unfolding pieces_of
+    → lines (text_lexemes false (u ++ (w ++ v)))
+    ≡ lines (map lexeme_of (lexemes (without_comments false u))
+    ++ map lexeme_of (lexemes (without_comments false v)))
+unfolding text_lexemes
 lines_of u w v h a =
-    ap (λ (t : List ℕ). lines (map piece (pieces t)))
+    ap (λ (t : List ℕ). lines (map lexeme_of (lexemes t)))
     (blanked-parts false u (w ++ v) h (no-star w v a)
     ∙ ap (λ (t : List ℕ). without_comments false u ++ t) (blanks-part false w v a.closed a.blank))
     ∙ lines-between (without_comments false u) (without_comments false w) (without_comments false v)
@@ -360,9 +360,9 @@ same-reading : (before blanks others after : List ℕ) → ends_inside false bef
     → program_of (before ++ (blanks ++ after)) ≡ program_of (before ++ (others ++ after))
 unfolding program_of
 same-reading u w s v h a b =
-    ap (λ (n : ℕ). program_of_lines n none_yet 1 (lines (pieces_of false (u ++ (w ++ v)))))
+    ap (λ (n : ℕ). program_of_lines n no_progress 1 (lines (text_lexemes false (u ++ (w ++ v)))))
     (last_line_of u w s v a b)
-    ∙ ap (program_of_lines (last_line (u ++ (s ++ v))) none_yet 1)
+    ∙ ap (program_of_lines (last_line (u ++ (s ++ v))) no_progress 1)
     (lines_of u w v h a ∙ sym (lines_of u s v h b))
 
 -- texts that make the same program read as the same

@@ -6,11 +6,11 @@ use Rattle.std.proofs.lemmas.List.{map-append}
 use Rattle.il_text.specs.Forms.{parts_of}
 use Rattle.il_text.specs.Grammar.{Numbered, block_parts, entry_parts, Derives, rises, line_of, item_lines}
 use Rattle.il_text.specs.Listing.{PlainProgram}
-use Rattle.il_text.specs.Parts.{LineContent, heading, ending}
+use Rattle.il_text.specs.Parts.{LineContent, program_start, program_end}
 use Rattle.il_text.specs.Places.{last_line}
 use Rattle.il_text.specs.Reading.{tokens_of, program_of, lines}
-use Rattle.il_text.specs.Symbols.{pieces_of}
-use Rattle.il_text.specs.Texts.{TextLine, numbered_parts, all_parts, Allowed, LineFault, no_program, too_deep, too_long, Refused, Ends, OnParts, OnTokens, Reads, ReadsAs, OneReading, ProgramIsRead}
+use Rattle.il_text.specs.Symbols.{text_lexemes}
+use Rattle.il_text.specs.Texts.{TextLine, numbered_parts, all_parts, AreAllowed, LineFault, no_program, too_deep, too_long, IsFaultyLine, EndsText, ReadsParts, ReadsTokens, ReadsLines, ReadsAs, OneReading, ProgramIsRead}
 use Rattle.il_text.specs.Tokens.{Symbol, LexemeData}
 use Rattle.il_text.specs.declared.fault.TextFault.{TextFault}
 use Rattle.il_text.proofs.FinishLemmas.{one-derived}
@@ -30,20 +30,20 @@ fault-one last n ls e f (too_long g d l p) (too_deep h k q) = absurd (d k)
 fault-one last n ls e f (too_long g d l p) (too_long h k m q) = p ∙ sym q
 
 refused-one : (last n : ℕ) (ls : List TextLine) (x y : Result PlainProgram TextFault)
-    → Refused last n ls x → Refused last n ls y → x ≡ y
+    → IsFaultyLine last n ls x → IsFaultyLine last n ls y → x ≡ y
 refused-one last n ls (Ok p) y a b = absurd a
 refused-one last n ls (Err e) (Ok q) a b = absurd b
 refused-one last n ls (Err e) (Err f) a b = ap Err (fault-one last n ls e f a b)
 
-not-both : (last n : ℕ) (ls : List TextLine) (x : Result PlainProgram TextFault) → Allowed ls
-    → Refused last n ls x → ⊥
+not-both : (last n : ℕ) (ls : List TextLine) (x : Result PlainProgram TextFault) → AreAllowed ls
+    → IsFaultyLine last n ls x → ⊥
 not-both last n ls (Ok p) a b = b
-not-both last n ls (Err e) a (no_program b q) = b a.goes_on
+not-both last n ls (Err e) a (no_program b q) = b a.is_prefix
 not-both last n ls (Err e) a (too_deep g d q) = a.shallow d
 not-both last n ls (Err e) a (too_long g d l q) = a.short l
 
-ends-one : (last : ℕ) (ls : List TextLine) (x y : Result PlainProgram TextFault) → Ends last ls x
-    → Ends last ls y → x ≡ y
+ends-one : (last : ℕ) (ls : List TextLine) (x y : Result PlainProgram TextFault) → EndsText last ls x
+    → EndsText last ls y → x ≡ y
 ends-one last ls (Ok p) (Ok q) a b = ap Ok (one-derived (all_parts ls) p q a b)
 ends-one last ls (Ok p) (Err f) a b = absurd (b.0 p a)
 ends-one last ls (Err e) (Ok q) a b = absurd (a.0 q b)
@@ -53,7 +53,7 @@ ends-one last ls (Err e) (Err f) a b = ap Err (a.1 ∙ sym b.1)
 going-one : (last n : ℕ) (ls : List TextLine) (P : Result PlainProgram TextFault → Type 0)
     (x y : Result PlainProgram TextFault)
     → ((u v : Result PlainProgram TextFault) → P u → P v → u ≡ v)
-    → (Allowed ls × P x) ⊎ Refused last n ls x → (Allowed ls × P y) ⊎ Refused last n ls y
+    → (AreAllowed ls × P x) ⊎ IsFaultyLine last n ls x → (AreAllowed ls × P y) ⊎ IsFaultyLine last n ls y
     → x ≡ y
 going-one last n ls P x y f (inl a) (inl b) = f x y a.1 b.1
 going-one last n ls P x y f (inl a) (inr b) = absurd (not-both last n ls y a.0 b)
@@ -63,8 +63,8 @@ going-one last n ls P x y f (inr a) (inr b) = refused-one last n ls x y a b
 parts-one : (n : ℕ) (o : Option (List LineContent))
     (G : Result PlainProgram TextFault → List LineContent → Type 0)
     (x y : Result PlainProgram TextFault)
-    → ((ps : List LineContent) → G x ps → G y ps → x ≡ y) → OnParts n (G x) o x
-    → OnParts n (G y) o y
+    → ((ps : List LineContent) → G x ps → G y ps → x ≡ y) → ReadsParts n (G x) o x
+    → ReadsParts n (G y) o y
     → x ≡ y
 parts-one n None G x y f a b = a ∙ sym b
 parts-one n (Some ps) G x y f a b = f ps a b
@@ -72,29 +72,29 @@ parts-one n (Some ps) G x y f a b = f ps a b
 tokens-one : (n : ℕ) (t : Result (List Symbol) TextFault)
     (G : Result PlainProgram TextFault → List LineContent → Type 0)
     (x y : Result PlainProgram TextFault)
-    → ((ps : List LineContent) → G x ps → G y ps → x ≡ y) → OnTokens n (G x) t x
-    → OnTokens n (G y) t y
+    → ((ps : List LineContent) → G x ps → G y ps → x ≡ y) → ReadsTokens n (G x) t x
+    → ReadsTokens n (G y) t y
     → x ≡ y
 tokens-one n (Err e) G x y f a b = a ∙ sym b
 tokens-one n (Ok ts) G x y f a b = parts-one n (parts_of ts) G x y f a b
 
 reads-one : (last : ℕ) (before : List TextLine) (n : ℕ) (ls : List (List LexemeData))
-    (x y : Result PlainProgram TextFault) → Reads last before n ls x → Reads last before n ls y
+    (x y : Result PlainProgram TextFault) → ReadsLines last before n ls x → ReadsLines last before n ls y
     → x ≡ y
 reads-one last before n [] x y a b = ends-one last before x y a b
 reads-one last before n (l ∷ ls) x y a b =
     tokens-one n (tokens_of n l)
-    (λ z ps. (Allowed (before ++ (n, ps) ∷ []) × Reads last (before ++ (n, ps) ∷ []) (n + 1) ls z)
-    ⊎ Refused last n (before ++ (n, ps) ∷ []) z)
+    (λ z ps. (AreAllowed (before ++ (n, ps) ∷ []) × ReadsLines last (before ++ (n, ps) ∷ []) (n + 1) ls z)
+    ⊎ IsFaultyLine last n (before ++ (n, ps) ∷ []) z)
     x y
     (λ ps g h. going-one last n (before ++ (n, ps) ∷ [])
-    (λ z. Reads last (before ++ (n, ps) ∷ []) (n + 1) ls z) x y
+    (λ z. ReadsLines last (before ++ (n, ps) ∷ []) (n + 1) ls z) x y
     (λ u v. reads-one last (before ++ (n, ps) ∷ []) (n + 1) ls u v) g h)
     a b
 
 pub one_reading : OneReading
 unfolding ReadsAs
-one_reading text x y a b = reads-one (last_line text) [] 1 (lines (pieces_of false text)) x y a b
+one_reading text x y a b = reads-one (last_line text) [] 1 (lines (text_lexemes false text)) x y a b
 
 pub program_is_read : ProgramIsRead
 program_is_read text r = (
@@ -148,30 +148,30 @@ derived-rises : (ps : List Numbered) (p : PlainProgram) (m : ℕ) → Derives ps
     → Climbs 0 (map line_of ps) m → Rises 0 (item_lines p.items)
 derived-rises ps p m d c =
     let items : List Numbered = flat_map entry_parts p.items in
-    let front : List Numbered = (d.first, heading p.name) ∷ flat_map block_parts d.blocks in
+    let front : List Numbered = (d.first, program_start p.name) ∷ flat_map block_parts d.blocks in
     let same : map line_of ps
-    ≡ map line_of ((d.first, heading p.name) ∷ flat_map block_parts d.blocks)
+    ≡ map line_of ((d.first, program_start p.name) ∷ flat_map block_parts d.blocks)
     ++ (map line_of (flat_map entry_parts p.items) ++ d.end ∷ []) =
     ap (map line_of) d.parts
-    ∙ map-append line_of ((d.first, heading p.name) ∷ flat_map block_parts d.blocks)
-    (flat_map entry_parts p.items ++ (d.end, ending) ∷ [])
-    ∙ ap (λ (l : List ℕ). map line_of ((d.first, heading p.name) ∷ flat_map block_parts d.blocks)
-    ++ l) (map-append line_of (flat_map entry_parts p.items) ((d.end, ending) ∷ [])) in
+    ∙ map-append line_of ((d.first, program_start p.name) ∷ flat_map block_parts d.blocks)
+    (flat_map entry_parts p.items ++ (d.end, program_end) ∷ [])
+    ∙ ap (λ (l : List ℕ). map line_of ((d.first, program_start p.name) ∷ flat_map block_parts d.blocks)
+    ++ l) (map-append line_of (flat_map entry_parts p.items) ((d.end, program_end) ∷ [])) in
     let whole = subst (λ (l : List ℕ). Climbs 0 l m) same c in
     let back =
-    climbs-back 0 m (map line_of ((d.first, heading p.name) ∷ flat_map block_parts d.blocks))
+    climbs-back 0 m (map line_of ((d.first, program_start p.name) ∷ flat_map block_parts d.blocks))
     (map line_of (flat_map entry_parts p.items) ++ d.end ∷ []) whole in
     rises-lower 0 back.0 (item_lines p.items) back.1
     (climbs-front back.0 m (map line_of (flat_map entry_parts p.items)) (d.end ∷ []) back.2)
 
 parts_rise : (n : ℕ) (o : Option (List LineContent)) (G : List LineContent → Type 0)
     (p : PlainProgram)
-    (R : Type 0) → ((ps : List LineContent) → G ps → R) → OnParts n G o (Ok p) → R
+    (R : Type 0) → ((ps : List LineContent) → G ps → R) → ReadsParts n G o (Ok p) → R
 parts_rise n None G p R f a = cc
 parts_rise n (Some ps) G p R f a = f ps a
 
 tokens_rise : (n : ℕ) (t : Result (List Symbol) TextFault) (G : List LineContent → Type 0)
-    (p : PlainProgram) (R : Type 0) → ((ps : List LineContent) → G ps → R) → OnTokens n G t (Ok p)
+    (p : PlainProgram) (R : Type 0) → ((ps : List LineContent) → G ps → R) → ReadsTokens n G t (Ok p)
     → R
 tokens_rise n (Err e) G p R f a = cc
 tokens_rise n (Ok ts) G p R f a = parts_rise n (parts_of ts) G p R f a
@@ -182,17 +182,17 @@ going_rises A B R f (inr b) = absurd b
 
 reads-rise : (last : ℕ) (before : List TextLine) (n : ℕ) (ls : List (List LexemeData))
     (p : PlainProgram)
-    → Climbs 0 (map line_of (all_parts before)) n → Reads last before n ls (Ok p)
+    → Climbs 0 (map line_of (all_parts before)) n → ReadsLines last before n ls (Ok p)
     → Rises 0 (item_lines p.items)
 reads-rise last before n [] p c d = derived-rises (all_parts before) p n d c
 reads-rise last before n (l ∷ ls) p c d =
     tokens_rise n (tokens_of n l)
-    (λ ps. (Allowed (before ++ (n, ps) ∷ [])
-    × Reads last (before ++ (n, ps) ∷ []) (n + 1) ls (Ok p))
-    ⊎ Refused last n (before ++ (n, ps) ∷ []) (Ok p))
+    (λ ps. (AreAllowed (before ++ (n, ps) ∷ [])
+    × ReadsLines last (before ++ (n, ps) ∷ []) (n + 1) ls (Ok p))
+    ⊎ IsFaultyLine last n (before ++ (n, ps) ∷ []) (Ok p))
     p (Rises 0 (item_lines p.items))
-    (λ ps g. going_rises (Allowed (before ++ (n, ps) ∷ []))
-    (Reads last (before ++ (n, ps) ∷ []) (n + 1) ls (Ok p)) (Rises 0 (item_lines p.items))
+    (λ ps g. going_rises (AreAllowed (before ++ (n, ps) ∷ []))
+    (ReadsLines last (before ++ (n, ps) ∷ []) (n + 1) ls (Ok p)) (Rises 0 (item_lines p.items))
     (λ k. reads-rise last (before ++ (n, ps) ∷ []) (n + 1) ls p
     (subst (λ (l : List ℕ). Climbs 0 l (n + 1))
     (sym (ap (map line_of) (flat-one numbered_parts before (n, ps))
@@ -207,6 +207,6 @@ pub items-rise : (text : List ℕ) (p : PlainProgram) → program_of text ≡ Ok
 unfolding ReadsAs
 items-rise text p e =
     rises-so 0 (item_lines p.items)
-    (reads-rise (last_line text) [] 1 (lines (pieces_of false text)) p (omega arith)
-    (subst (λ (x : Result PlainProgram TextFault). Reads (last_line text) [] 1
-    (lines (pieces_of false text)) x) e (text-reads text)))
+    (reads-rise (last_line text) [] 1 (lines (text_lexemes false text)) p (omega arith)
+    (subst (λ (x : Result PlainProgram TextFault). ReadsLines (last_line text) [] 1
+    (lines (text_lexemes false text)) x) e (text-reads text)))

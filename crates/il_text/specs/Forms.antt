@@ -2,8 +2,8 @@
 -- B.2).
 use Rattle.std.specs.Prelude.{◌≡◌, ◌↔◌, ℕ, Bool, true, false, not, ◌&&◌, ◌||◌, if◌then◌else◌, List, [], ◌∷◌, codes, Option, Some, None, option_map, option_and_then, is_some}
 use Rattle.bay_base.specs.Names.{same_name}
-use Rattle.il_text.specs.Listing.{Place, named, output, OperandData, constant, variable, Action, load, store, combine, invert, convert, jump, leave, call}
-use Rattle.il_text.specs.Parts.{LineContent, heading, opening, declaring, closing, labelling, acting, entering, leaving, ending}
+use Rattle.il_text.specs.Listing.{VariableData, named, output, OperandData, constant, variable, Action, load, store, combine, invert, convert, jump, leave, call}
+use Rattle.il_text.specs.Parts.{LineContent, program_start, block_start, names_part, block_end, label_part, action_part, parenthesis_start, parenthesis_end, program_end}
 use Rattle.il_text.specs.Tokens.{Symbol, name, keyword_word, type_word, literal, mnemonic_word, mark_symbol}
 pub use Rattle.il_text.specs.TokenForms.{name_of, is_mark, split_at_mark}
 use Rattle.il_text.specs.TokenForms.{Form, map_form, try_map_form, none, no_token, one, one_of, bind_form, after_mark, either, choose_by, split_form, has_mark, names, names_from}
@@ -70,15 +70,15 @@ is_one other = false
 
 -- ---- IEC 61131-3 B.2.1: operands, arguments and instructions
 
--- `place ::= name | name "." ("Q" | "ET")`
-unfoldable pub place : Form Place
-place =
+-- `symbolic_variable ::= name | name "." ("Q" | "ET")`
+unfoldable pub symbolic_variable : Form VariableData
+symbolic_variable =
     choose_by is_one (map_form named (one name_of))
     (bind_form name_of (λ timer. after_mark mark.Dot (map_form (output timer) (one output_of))))
 
--- `operand ::= literal | place`
+-- `operand ::= literal | symbolic_variable`
 unfoldable pub operand : Form OperandData
-operand = either (map_form constant (one literal_of)) (map_form variable place)
+operand = either (map_form constant (one literal_of)) (map_form variable symbolic_variable)
 
 -- the input that a word names: `IN` or `PT`, in letters of either case (IEC 61131-3, table 37)
 unfoldable pub input_named : List ℕ → Option Input
@@ -102,16 +102,16 @@ same_input input.Pt input.In = false
 same_input input.Pt input.Pt = true
 
 -- two arguments; none if both are for the same input
-abbrev pub both : (Input × OperandData) → (Input × OperandData)
+abbrev pub two_arguments : (Input × OperandData) → (Input × OperandData)
     → Option (List (Input × OperandData))
-both a b = if same_input a.0 b.0 then None else Some (a ∷ b ∷ [])
+two_arguments a b = if same_input a.0 b.0 then None else Some (a ∷ b ∷ [])
 
 -- [arg {"," arg}], no two for the same input: there are two inputs, so there are at most two
 -- arguments
 unfoldable pub argument_list : Form (List (Input × OperandData))
 argument_list =
     choose_by (has_mark mark.Comma)
-    (try_map_form (λ p. both p.0 p.1) (split_form mark.Comma argument argument))
+    (try_map_form (λ p. two_arguments p.0 p.1) (split_form mark.Comma argument argument))
     (map_form (λ a. a ∷ []) argument)
 
 -- `[arg {"," arg}]`: the arguments of a call, none, one or two
@@ -128,14 +128,14 @@ call_action =
     bind_form name_of (λ timer. after_mark mark.Open (map_form (call timer) closed_arguments))
 
 -- an instruction that is the only part (own)
-abbrev pub acts : Form Action → Form (List LineContent)
-acts = map_form (λ a. acting a ∷ [])
+abbrev pub only_action : Form Action → Form (List LineContent)
+only_action = map_form (λ a. action_part a ∷ [])
 
 -- [operand]: the first item of the parenthesis is a load of the operand
 unfoldable pub parenthesis : Operator → Bool → Form (List LineContent)
 parenthesis o n =
-    either (no_token (entering o n ∷ []))
-    (map_form (λ x. entering o n ∷ acting (load false x) ∷ []) operand)
+    either (no_token (parenthesis_start o n ∷ []))
+    (map_form (λ x. parenthesis_start o n ∷ action_part (load false x) ∷ []) operand)
 
 -- whether the first token is `(` (own)
 abbrev pub begins_open : List Symbol → Bool
@@ -146,18 +146,18 @@ begins_open (s ∷ ss) = is_mark mark.Open s
 unfoldable pub operator_parts : Operator → Bool → Form (List LineContent)
 operator_parts o n =
     choose_by begins_open (after_mark mark.Open (parenthesis o n))
-    (acts (map_form (combine o n) operand))
+    (only_action (map_form (combine o n) operand))
 
 -- the tokens after an operator
 unfoldable pub statement : Mnemonic → Form (List LineContent)
-statement (mnemonic.Load n) = acts (map_form (load n) operand)
-statement (mnemonic.Store k) = acts (map_form (store k) place)
+statement (mnemonic.Load n) = only_action (map_form (load n) operand)
+statement (mnemonic.Store k) = only_action (map_form (store k) symbolic_variable)
 statement (mnemonic.Combine o n) = operator_parts o n
-statement mnemonic.Not = no_token (acting invert ∷ [])
-statement (mnemonic.Convert c) = no_token (acting (convert c) ∷ [])
-statement (mnemonic.Return c) = no_token (acting (leave c) ∷ [])
-statement (mnemonic.Jump c) = acts (map_form (jump c) (one name_of))
-statement mnemonic.Call = acts call_action
+statement mnemonic.Not = no_token (action_part invert ∷ [])
+statement (mnemonic.Convert c) = no_token (action_part (convert c) ∷ [])
+statement (mnemonic.Return c) = no_token (action_part (leave c) ∷ [])
+statement (mnemonic.Jump c) = only_action (map_form (jump c) (one name_of))
+statement mnemonic.Call = only_action call_action
 
 -- `instr ::= op0 | op1 operand | bin operand | bin "(" [operand] | jump name
 --     | "CAL" name "(" [arg {"," arg}] ")"`
@@ -190,7 +190,7 @@ tail =
 
 -- the part that declares these names
 abbrev pub declared_part : List (List ℕ) → Tail → List LineContent
-declared_part ns t = declaring ns t.kind t.initial ∷ []
+declared_part ns t = names_part ns t.kind t.initial ∷ []
 
 -- the part that declares the names of these tokens; none if the tokens are no list of names
 abbrev pub declared_names : Tail → List Symbol → Option (List LineContent)
@@ -220,7 +220,7 @@ is_labelled (s ∷ c ∷ ss) = is_mark mark.Colon c && may_follow_label ss
 -- a label and the tokens after it: an instruction, or nothing
 unfoldable pub label_parts : List ℕ → Form (List LineContent)
 label_parts n =
-    either (no_token (labelling n ∷ [])) (map_form (λ ps. labelling n ∷ ps) instruction)
+    either (no_token (label_part n ∷ [])) (map_form (λ ps. label_part n ∷ ps) instruction)
 
 -- ---- IEC 61131-3 B.1.4.3, B.1.5.3, B.2.1: lines
 
@@ -232,17 +232,17 @@ named_line =
 
 -- the tokens after a keyword: a name after PROGRAM, no token after the others
 unfoldable pub keyword_line : Keyword → Form (List LineContent)
-keyword_line keyword.Program = map_form (λ n. heading n ∷ []) (one name_of)
-keyword_line keyword.EndProgram = no_token (ending ∷ [])
-keyword_line keyword.Var = no_token (opening Local ∷ [])
-keyword_line keyword.VarExternal = no_token (opening External ∷ [])
-keyword_line keyword.EndVar = no_token (closing ∷ [])
+keyword_line keyword.Program = map_form (λ n. program_start n ∷ []) (one name_of)
+keyword_line keyword.EndProgram = no_token (program_end ∷ [])
+keyword_line keyword.Var = no_token (block_start Local ∷ [])
+keyword_line keyword.VarExternal = no_token (block_start External ∷ [])
+keyword_line keyword.EndVar = no_token (block_end ∷ [])
 
 -- the tokens after a first token that is no name
 unfoldable pub other_line : Symbol → Form (List LineContent)
 other_line (keyword_word w) = keyword_line w
 other_line (mnemonic_word m) = statement m
-other_line (mark_symbol mark.Close) = no_token (leaving ∷ [])
+other_line (mark_symbol mark.Close) = no_token (parenthesis_end ∷ [])
 other_line other = none
 
 -- whether the first token is a name (own)
@@ -284,7 +284,7 @@ is_misplaced (name n) t = not (follows_name t)
 is_misplaced s t = is_single s
 
 -- whether the first two tokens show that no line begins with these tokens
-abbrev pub is_hopeless : List Symbol → Bool
-is_hopeless [] = false
-is_hopeless (s ∷ []) = false
-is_hopeless (s ∷ t ∷ ss) = is_misplaced s t
+abbrev pub begins_no_line : List Symbol → Bool
+begins_no_line [] = false
+begins_no_line (s ∷ []) = false
+begins_no_line (s ∷ t ∷ ss) = is_misplaced s t

@@ -3,8 +3,8 @@
 use Rattle.std.specs.Prelude.{◌≡◌, ℕ, Bool, true, false, ◌&&◌, nat_le, List, [], ◌∷◌, ◌++◌, map, Option}
 use Rattle.std.specs.Option.{is_none}
 use Rattle.std.specs.List.{flat_map, list_all}
-use Rattle.il_text.specs.Listing.{Action, load, store, combine, invert, convert, jump, leave, call, Entry, label, action, block, Entries, no_entries, entry, Declared, PlainProgram}
-use Rattle.il_text.specs.Parts.{LineContent, heading, opening, declaring, closing, labelling, acting, entering, leaving, ending}
+use Rattle.il_text.specs.Listing.{Action, load, store, combine, invert, convert, jump, leave, call, Entry, label, action, block, Entries, no_entries, entry, DeclaredName, PlainProgram}
+use Rattle.il_text.specs.Parts.{LineContent, program_start, block_start, names_part, block_end, label_part, action_part, parenthesis_start, parenthesis_end, program_end}
 use Rattle.il_text.specs.declared.program.DeclaredType.{DeclaredType}
 use Rattle.il_text.specs.declared.program.Literal.{Literal}
 use Rattle.il_text.specs.declared.program.VariableScope.{VariableScope}
@@ -34,15 +34,15 @@ pub record Block : Type 0 where
 
 -- a declaration as a part of its line
 abbrev pub declaration_part : Declaration → Numbered
-declaration_part d = (d.line, declaring d.names d.kind d.initial)
+declaration_part d = (d.line, names_part d.names d.kind d.initial)
 
 -- the parts of a block: its first and last line, and the declarations between them
 abbrev pub block_parts : Block → List Numbered
 block_parts b =
-    (b.line, opening b.scope) ∷ (map declaration_part b.declarations ++ (b.end, closing) ∷ [])
+    (b.line, block_start b.scope) ∷ (map declaration_part b.declarations ++ (b.end, block_end) ∷ [])
 
 -- the names that a declaration in a block declares, one by one
-abbrev pub names_declared : VariableScope → Declaration → List Declared
+abbrev pub names_declared : VariableScope → Declaration → List DeclaredName
 names_declared scope d =
     map (λ name. record {
       line = d.line;
@@ -53,7 +53,7 @@ names_declared scope d =
     }) d.names
 
 -- the names that a block declares
-abbrev pub block_declared : Block → List Declared
+abbrev pub block_declared : Block → List DeclaredName
 block_declared b = flat_map (names_declared b.scope) b.declarations
 
 -- whether the scope allows the declaration: an external has no initial value
@@ -69,10 +69,10 @@ is_allowed b = list_all (may_declare b.scope) b.declarations
 
 abbrev mutual
   pub entry_parts : Entry → List Numbered
-  entry_parts (label line name) = (line, labelling name) ∷ []
-  entry_parts (action line a) = (line, acting a) ∷ []
+  entry_parts (label line name) = (line, label_part name) ∷ []
+  entry_parts (action line a) = (line, action_part a) ∷ []
   entry_parts (block line operator negated es end) =
-      (line, entering operator negated) ∷ (entries_parts es ++ (end, leaving) ∷ [])
+      (line, parenthesis_start operator negated) ∷ (entries_parts es ++ (end, parenthesis_end) ∷ [])
 
   pub entries_parts : Entries → List Numbered
   entries_parts no_entries = []
@@ -126,8 +126,8 @@ pub record Derives (ps : List Numbered) (program : PlainProgram) : Type 0 where
   pub blocks : List Block
   pub end : ℕ
   pub parts : ps
-      ≡ (first, heading program.name)
-      ∷ (flat_map block_parts blocks ++ (flat_map entry_parts program.items ++ (end, ending) ∷ []))
+      ≡ (first, program_start program.name)
+      ∷ (flat_map block_parts blocks ++ (flat_map entry_parts program.items ++ (end, program_end) ∷ []))
   pub declared : program.declarations ≡ flat_map block_declared blocks
   pub blocks_allowed : list_all is_allowed blocks ≡ true
   pub items_allowed : list_all is_outer program.items ≡ true
@@ -135,7 +135,7 @@ pub record Derives (ps : List Numbered) (program : PlainProgram) : Type 0 where
 -- ---- own: beginnings of programs, and lines of parts
 
 -- More parts after these make a program.
-pub record CanGoOn (ps : List Numbered) : Type 0 where
+pub record IsProgramPrefix (ps : List Numbered) : Type 0 where
   pub more : List Numbered
   pub program : PlainProgram
   pub derived : Derives (ps ++ more) program

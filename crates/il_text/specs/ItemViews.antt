@@ -1,6 +1,6 @@
 -- Declarations and items of the code as plain data.
 use Rattle.std.specs.Prelude.{List, [], ◌∷◌}
-use Rattle.il_text.specs.Listing.{Place, named, output, OperandData, constant, variable, Action, load, store, combine, invert, convert, jump, leave, call, Entry, label, action, block, entries_of, Declared}
+use Rattle.il_text.specs.Listing.{VariableData, named, output, OperandData, constant, variable, Action, load, store, combine, invert, convert, jump, leave, call, Entry, label, action, block, entries_of, DeclaredName}
 use Rattle.il_text.specs.declared.program.SymbolicVariable.{SymbolicVariable}
 use Rattle.il_text.specs.declared.program.SymbolicVariable.TheVariants as v
 use Rattle.il_text.specs.declared.program.Operand.{Operand}
@@ -18,18 +18,18 @@ use Rattle.il_text.specs.declared.program.Declaration.{Declaration}
 -- ---- own: views of the code
 
 -- a name, or an output of a timer
-abbrev pub place_of : SymbolicVariable → Place
-place_of (v.Name name) = named name.now
-place_of (v.TimerOutput timer gives) = output timer.now gives
+abbrev pub variable_data : SymbolicVariable → VariableData
+variable_data (v.Name name) = named name.now
+variable_data (v.TimerOutput timer gives) = output timer.now gives
 
 -- the operand that an instruction reads
-abbrev pub source_of : Operand → OperandData
-source_of (o.Literal value) = constant value
-source_of (o.Variable place) = variable (place_of place)
+abbrev pub operand_data : Operand → OperandData
+operand_data (o.Literal value) = constant value
+operand_data (o.Variable place) = variable (variable_data place)
 
 -- an input of a timer, and its operand
 abbrev pub argument_of : Argument → Input × OperandData
-argument_of given = (given.input, source_of given.operand)
+argument_of given = (given.input, operand_data given.operand)
 
 -- the arguments of a call in the order of the text
 abbrev pub arguments_of : Arguments → List (Input × OperandData)
@@ -39,9 +39,9 @@ arguments_of (a.Two first second) = argument_of first ∷ argument_of second ∷
 
 -- an instruction
 abbrev pub action_of : Instruction → Action
-action_of (i.Load negated operand) = load negated (source_of operand)
-action_of (i.Store kind target) = store kind (place_of target)
-action_of (i.Combine operator negated operand) = combine operator negated (source_of operand)
+action_of (i.Load negated operand) = load negated (operand_data operand)
+action_of (i.Store kind target) = store kind (variable_data target)
+action_of (i.Combine operator negated operand) = combine operator negated (operand_data operand)
 action_of i.Not = invert
 action_of (i.Convert conversion) = convert conversion
 action_of (i.Jump condition to) = jump condition to.now
@@ -60,6 +60,6 @@ abbrev pub entry_of : Item → Entry
 entry_of = fold-Item Entry entry_step
 
 -- a declared name
-abbrev pub declared_of : Declaration → Declared
-declared_of d =
+abbrev pub declared_name : Declaration → DeclaredName
+declared_name d =
     record { line = d.line; scope = d.scope; name = d.name.now; kind = d.kind; initial = d.initial }

@@ -1,7 +1,7 @@
 -- A program with its names in upper case.
 use Rattle.std.specs.Prelude.{ℕ, List, map, Result, Ok, Err}
 use Rattle.bay_base.specs.Names.{upper}
-use Rattle.il_text.specs.Listing.{Place, named, output, OperandData, constant, variable, Action, load, store, combine, invert, convert, jump, leave, call, Entry, label, action, block, Entries, no_entries, entry, Declared, PlainProgram}
+use Rattle.il_text.specs.Listing.{VariableData, named, output, OperandData, constant, variable, Action, load, store, combine, invert, convert, jump, leave, call, Entry, label, action, block, Entries, no_entries, entry, DeclaredName, PlainProgram}
 use Rattle.il_text.specs.Texts.{ReadsAs}
 use Rattle.il_text.specs.declared.fault.TextFault.{TextFault}
 use Rattle.il_text.specs.declared.program.Input.{Input}
@@ -9,7 +9,7 @@ use Rattle.il_text.specs.declared.program.Input.{Input}
 -- ---- own: a program with its names in upper case
 
 -- a name, or an output of a timer, in upper case
-abbrev pub upper_place : Place → Place
+abbrev pub upper_place : VariableData → VariableData
 upper_place (named n) = named (upper n)
 upper_place (output timer gives) = output (upper timer) gives
 
@@ -45,7 +45,7 @@ abbrev mutual
   upper_entries (entry e es) = entry (upper_entry e) (upper_entries es)
 
 -- a declared name in upper case
-abbrev pub upper_declared : Declared → Declared
+abbrev pub upper_declared : DeclaredName → DeclaredName
 upper_declared d =
     record {
       line = d.line;

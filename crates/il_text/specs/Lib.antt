@@ -6,9 +6,9 @@
 -- program (or the text ends there too early); then more than 16 open parentheses; then more than
 -- 4,000 lines with an instruction or `)`.
 --
--- Read it bottom up. `Characters`, `Pieces`, `Tokens`, `Symbols` and `Literals` (2.1, 2.2, annex
+-- Read it bottom up. `Characters`, `Lexemes`, `Tokens`, `Symbols` and `Literals` (2.1, 2.2, annex
 -- B.1) cut a text by longest match into lexemes: blanks, line ends and tokens. A comment is blank,
--- but its line ends still end lines. `Falling` (2.2.3.1) defines durations by their grammar:
+-- but its line ends still end lines. `DurationGrammar` (2.2.3.1) defines durations by their grammar:
 -- numbers with units, each unit smaller than the one before. `Parts` and `Forms` (annexes B.1.4.3,
 -- B.1.5.3, B.2) define which parts a line has (`L: LD a` has two). A form is made of smaller ones
 -- by the combinators of `TokenForms`, and is both a function that reads tokens and a relation.
@@ -24,7 +24,7 @@
 
 pub mod Characters
 pub mod Code
-pub mod Falling
+pub mod DurationGrammar
 pub mod Forms
 pub mod Grammar
 pub mod ItemViews
@@ -32,7 +32,7 @@ pub mod LetterCase
 pub mod Listing
 pub mod Literals
 pub mod Parts
-pub mod Pieces
+pub mod Lexemes
 pub mod Places
 pub mod Reading
 pub mod Respelling

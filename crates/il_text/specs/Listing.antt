@@ -13,21 +13,21 @@ use Rattle.il_text.specs.declared.program.TimerOutput.{TimerOutput}
 -- ---- IEC 61131-3 B.2.1: instructions as plain data
 
 -- a name, or an output of the timer of that name
-pub data Place : Type 0 where
-  named : List ℕ → Place
-  output : List ℕ → TimerOutput → Place
+pub data VariableData : Type 0 where
+  named : List ℕ → VariableData
+  output : List ℕ → TimerOutput → VariableData
 
 -- the operand that an instruction reads
 pub data OperandData : Type 0 where
   constant : Literal → OperandData
-  variable : Place → OperandData
+  variable : VariableData → OperandData
 
 -- An instruction: LD, or LDN if the flag is true; a store of some kind; an operator with its
 -- operand, negated if the flag is true; NOT; a conversion; a jump to a label; a return; a call of a
 -- timer with its arguments.
 pub data Action : Type 0 where
   load : Bool → OperandData → Action
-  store : StoreKind → Place → Action
+  store : StoreKind → VariableData → Action
   combine : Operator → Bool → OperandData → Action
   invert : Action
   convert : Conversion → Action
@@ -55,7 +55,7 @@ entries_of (e ∷ es) = entry e (entries_of es)
 -- ---- IEC 61131-3 B.1.4.3, B.1.5.3: declarations and programs as plain data
 
 -- one declared name, with its line, its type and its initial value in the text, if it has one
-pub record Declared : Type 0 where
+pub record DeclaredName : Type 0 where
   pub line : ℕ
   pub scope : VariableScope
   pub name : List ℕ
@@ -65,5 +65,5 @@ pub record Declared : Type 0 where
 -- a program: its name, what it declares, and its entries in the order of the text
 pub record PlainProgram : Type 0 where
   pub name : List ℕ
-  pub declarations : List Declared
+  pub declarations : List DeclaredName
   pub items : List Entry

@@ -36,8 +36,8 @@ number radix ds =
     else None
 
 -- the texts before and after the first `#` (own)
-unfoldable pub halves : List ℕ → Option (List ℕ × List ℕ)
-halves w =
+unfoldable pub split_at_hash : List ℕ → Option (List ℕ × List ℕ)
+split_at_hash w =
     if nat_lt (position_or_len is_hash w) (length w)
     then Some (before_first is_hash w, after_first is_hash w)
     else None
@@ -73,7 +73,7 @@ decimal_or_based w (Some h) = based_integer h.0 h.1
 
 -- a number with a sign, or after a base
 unfoldable pub integer : List ℕ → Option Signed
-integer w = decimal_or_based w (halves w)
+integer w = decimal_or_based w (split_at_hash w)
 
 -- the value of a number, which must fit into 64 bits with a sign
 abbrev pub number_value : Option Signed → Result ℤ LiteralFault

@@ -11,20 +11,20 @@ use Rattle.il_text.specs.declared.program.VariableScope.{VariableScope}
 -- a part of a line
 pub data LineContent : Type 0 where
   -- `PROGRAM name`
-  heading : List ℕ → LineContent
+  program_start : List ℕ → LineContent
   -- `VAR` or `VAR_EXTERNAL`
-  opening : VariableScope → LineContent
+  block_start : VariableScope → LineContent
   -- `name {"," name} ":" type [":=" literal] ";"`
-  declaring : List (List ℕ) → DeclaredType → Option Literal → LineContent
+  names_part : List (List ℕ) → DeclaredType → Option Literal → LineContent
   -- `END_VAR`
-  closing : LineContent
+  block_end : LineContent
   -- `name ":"`
-  labelling : List ℕ → LineContent
+  label_part : List ℕ → LineContent
   -- an instruction, except an operator with a parenthesis
-  acting : Action → LineContent
+  action_part : Action → LineContent
   -- an operator, and whether it is negated, with `(`
-  entering : Operator → Bool → LineContent
+  parenthesis_start : Operator → Bool → LineContent
   -- `)`
-  leaving : LineContent
+  parenthesis_end : LineContent
   -- `END_PROGRAM`
-  ending : LineContent
+  program_end : LineContent

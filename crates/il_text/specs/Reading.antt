@@ -3,15 +3,15 @@ use Rattle.std.specs.Prelude.{ℕ, ◌+◌, Bool, true, false, ◌||◌, ◌==�
 use Rattle.bay_base.specs.Results.{◌>>=◌}
 use Rattle.il_text.specs.Listing.{PlainProgram}
 use Rattle.il_text.specs.Tokens.{Symbol, LexemeData, blank, line_end, token, bad_token, bad_literal}
-use Rattle.il_text.specs.Symbols.{pieces_of}
+use Rattle.il_text.specs.Symbols.{text_lexemes}
 use Rattle.il_text.specs.Forms.{parts_of}
-use Rattle.il_text.specs.Parts.{LineContent, heading, opening, declaring, closing, labelling, acting, entering, leaving, ending}
+use Rattle.il_text.specs.Parts.{LineContent, program_start, block_start, names_part, block_end, label_part, action_part, parenthesis_start, parenthesis_end, program_end}
 use Rattle.il_text.specs.Places.{last_line}
-use Rattle.il_text.specs.Steps.{Reached, nothing_read, steps}
+use Rattle.il_text.specs.Steps.{DraftData, empty_draft, steps}
 use Rattle.il_text.specs.declared.fault.TextFault.{TextFault}
 use Rattle.il_text.specs.declared.fault.TextFault.TheVariants.{BadToken, BadLine, TooDeep, BadLiteral, TooLong}
 use Rattle.il_text.specs.declared.listing.Stage.{Stage}
-use Rattle.il_text.specs.declared.listing.Stage.TheVariants as place
+use Rattle.il_text.specs.declared.listing.Stage.TheVariants as stage
 
 -- ---- own: how a program is read line by line
 
@@ -39,21 +39,21 @@ tokens_of line (bad_token ∷ ps) = Err (BadToken line)
 tokens_of line (bad_literal ∷ ps) = Err (BadLiteral line)
 
 -- what the lines so far make, and the number of these lines with an instruction or `)`
-pub record Read : Type 0 where
-  pub reached : Reached
+pub record Progress : Type 0 where
+  pub draft : DraftData
   pub instructions : ℕ
 
 -- whether the part counts towards the limit of lines
 abbrev pub is_instruction : LineContent → Bool
-is_instruction (heading name) = false
-is_instruction (opening scope) = false
-is_instruction (declaring ns kind initial) = false
-is_instruction closing = false
-is_instruction (labelling name) = false
-is_instruction (acting a) = true
-is_instruction (entering operator negated) = true
-is_instruction leaving = true
-is_instruction ending = false
+is_instruction (program_start name) = false
+is_instruction (block_start scope) = false
+is_instruction (names_part ns kind initial) = false
+is_instruction block_end = false
+is_instruction (label_part name) = false
+is_instruction (action_part a) = true
+is_instruction (parenthesis_start operator negated) = true
+is_instruction parenthesis_end = true
+is_instruction program_end = false
 
 -- whether an instruction or `)` is among the parts
 abbrev pub has_instruction : List LineContent → Bool
@@ -74,68 +74,68 @@ abbrev pub most_open : ℕ
 most_open = 16
 
 -- one more line with an instruction, if the limit allows it
-abbrev pub with_instruction : ℕ → ℕ → ℕ → Reached → Result Read TextFault
+abbrev pub with_instruction : ℕ → ℕ → ℕ → DraftData → Result Progress TextFault
 with_instruction line last before s =
     if nat_lt before most_instructions
-    then Ok (record { reached = s; instructions = before + 1 })
+    then Ok (record { draft = s; instructions = before + 1 })
     else Err (past_limit line last (TooLong line))
 
 -- the state after a line with an instruction, if both limits allow it
-unfoldable pub within_bounds : ℕ → ℕ → ℕ → Reached → Result Read TextFault
-within_bounds line last before s =
+unfoldable pub after_instruction : ℕ → ℕ → ℕ → DraftData → Result Progress TextFault
+after_instruction line last before s =
     if nat_le (length s.parentheses) most_open
     then with_instruction line last before s
     else Err (past_limit line last (TooDeep line))
 
 -- the state after a line; the limits apply only to a line with an instruction
-abbrev pub within_limits : ℕ → ℕ → ℕ → List LineContent → Reached → Result Read TextFault
+abbrev pub within_limits : ℕ → ℕ → ℕ → List LineContent → DraftData → Result Progress TextFault
 within_limits line last before ps s =
     if has_instruction ps
-    then within_bounds line last before s
-    else Ok (record { reached = s; instructions = before })
+    then after_instruction line last before s
+    else Ok (record { draft = s; instructions = before })
 
 -- the state after a line with these parts, given the state by its parts alone; none means that the
 -- line is not allowed here
-abbrev pub after_text_line : ℕ → ℕ → ℕ → List LineContent → Option Reached → Result Read TextFault
+abbrev pub after_text_line : ℕ → ℕ → ℕ → List LineContent → Option DraftData → Result Progress TextFault
 after_text_line line last before ps None = Err (BadLine line)
 after_text_line line last before ps (Some s) = within_limits line last before ps s
 
 -- the state after a line with these parts; none means that the line has no form
-abbrev pub after_parts : ℕ → ℕ → Read → Option (List LineContent) → Result Read TextFault
+abbrev pub after_parts : ℕ → ℕ → Progress → Option (List LineContent) → Result Progress TextFault
 after_parts line last r None = Err (BadLine line)
 after_parts line last r (Some ps) =
-    after_text_line line last r.instructions ps (steps line r.reached ps)
+    after_text_line line last r.instructions ps (steps line r.draft ps)
 
 -- the state after a line of tokens, or the fault of the line
-unfoldable pub after_line : ℕ → ℕ → Read → List Symbol → Result Read TextFault
+unfoldable pub after_line : ℕ → ℕ → Progress → List Symbol → Result Progress TextFault
 after_line line last r ts = after_parts line last r (parts_of ts)
 
 -- the program that the lines make
-abbrev pub program_made : Reached → PlainProgram
-program_made s = record { name = s.name; declarations = s.declarations; items = s.items }
+abbrev pub draft_program : DraftData → PlainProgram
+draft_program s = record { name = s.name; declarations = s.declarations; items = s.items }
 
 -- the program; the text must be complete: END_PROGRAM was the last line
-abbrev pub whole_at : ℕ → Reached → Stage → Result PlainProgram TextFault
-whole_at last s place.Finished = Ok (program_made s)
-whole_at last s other = Err (BadLine last)
+abbrev pub program_at_stage : ℕ → DraftData → Stage → Result PlainProgram TextFault
+program_at_stage last s stage.Finished = Ok (draft_program s)
+program_at_stage last s other = Err (BadLine last)
 
 -- the program, if the text is complete
-abbrev pub complete_program : ℕ → Reached → Result PlainProgram TextFault
-complete_program last s = whole_at last s s.place
+abbrev pub complete_program : ℕ → DraftData → Result PlainProgram TextFault
+complete_program last s = program_at_stage last s s.stage
 
 -- the program of the lines after others; the first of them has the number `line`, and the first
 -- faulty one decides
-unfoldable pub program_of_lines : ℕ → Read → ℕ → List (List LexemeData)
+unfoldable pub program_of_lines : ℕ → Progress → ℕ → List (List LexemeData)
     → Result PlainProgram TextFault
-program_of_lines last r line [] = complete_program last r.reached
+program_of_lines last r line [] = complete_program last r.draft
 program_of_lines last r line (l ∷ ls) =
     tokens_of line l >>= (λ ts. after_line line last r ts
     >>= (λ s. program_of_lines last s (line + 1) ls))
 
 -- the state before the first line
-abbrev pub none_yet : Read
-none_yet = record { reached = nothing_read; instructions = 0 }
+abbrev pub no_progress : Progress
+no_progress = record { draft = empty_draft; instructions = 0 }
 
 -- the program of a text, or its fault
 unfoldable pub program_of : List ℕ → Result PlainProgram TextFault
-program_of text = program_of_lines (last_line text) none_yet 1 (lines (pieces_of false text))
+program_of text = program_of_lines (last_line text) no_progress 1 (lines (text_lexemes false text))

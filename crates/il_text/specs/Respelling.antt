@@ -2,7 +2,7 @@
 use Rattle.std.specs.Prelude.{◌≡◌, ℕ, ◌<◌, ◌==◌, Bool, true, false, if◌then◌else◌, List, [], ◌∷◌, ◌++◌, length, Result}
 use Rattle.std.specs.List.{list_all}
 use Rattle.il_text.specs.Characters.{is_blank}
-use Rattle.il_text.specs.Pieces.{opens, ends, without_comments}
+use Rattle.il_text.specs.Lexemes.{opens_comment, ends_comment, without_comments}
 use Rattle.il_text.specs.Listing.{PlainProgram}
 use Rattle.il_text.specs.Texts.{ReadsAs}
 use Rattle.il_text.specs.declared.fault.TextFault.{TextFault}
@@ -14,8 +14,8 @@ unfoldable pub ends_inside : Bool → List ℕ → Bool
 ends_inside inside [] = inside
 ends_inside inside (x ∷ []) = inside
 ends_inside inside (x ∷ y ∷ xs) =
-    if inside then (if ends (x ∷ y ∷ xs) then ends_inside false xs else ends_inside true (y ∷ xs))
-    else (if opens (x ∷ y ∷ xs) then ends_inside true xs else ends_inside false (y ∷ xs))
+    if inside then (if ends_comment (x ∷ y ∷ xs) then ends_inside false xs else ends_inside true (y ∷ xs))
+    else (if opens_comment (x ∷ y ∷ xs) then ends_inside true xs else ends_inside false (y ∷ xs))
 
 -- The text is spaces, tabs and whole comments without a line end, at least one of them.
 pub record AreBlanks (w : List ℕ) : Type 0 where

@@ -2,7 +2,7 @@
 use Rattle.std.specs.Prelude.{◌≡◌, ◌<◌, ◌≤◌, ◌+◌, ◌-◌, ◌^◌, ◌==◌, ◌&&◌, not, Bool, ℕ, true, false, List, ◌∷◌, length, drop, slice_index, slice_range, Option, option_map, min}
 use Rattle.std.specs.Char.{to_ascii_uppercase}
 use Rattle.std.specs.Str.{byte}
-use Rattle.il_text.specs.Pieces.{pieces, without_comments}
+use Rattle.il_text.specs.Lexemes.{lexemes, without_comments}
 use Rattle.il_text.specs.Characters.{are_linked}
 use Rattle.il_text.specs.Literals.{Signed}
 
@@ -32,7 +32,7 @@ is_negated_and bytes at =
     && not (are_linked (slice_index bytes (at + 1)) (slice_index bytes (at + 2)))
 
 -- The first lexeme from start on ends at end.
-abbrev pub IsPiece : List ℕ → ℕ → ℕ → Type 0
-IsPiece bytes start end =
-    pieces (without_comments false (drop start bytes))
-    ≡ slice_range bytes start end ∷ pieces (without_comments false (drop end bytes))
+abbrev pub IsFirstLexeme : List ℕ → ℕ → ℕ → Type 0
+IsFirstLexeme bytes start end =
+    lexemes (without_comments false (drop start bytes))
+    ≡ slice_range bytes start end ∷ lexemes (without_comments false (drop end bytes))

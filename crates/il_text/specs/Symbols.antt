@@ -4,8 +4,8 @@ use Rattle.std.specs.Prelude.{ℕ, Bool, true, false, ◌||◌, nat_le, if◌the
 use Rattle.std.specs.Str.{bytes_eq}
 use Rattle.bay_base.specs.Names.{same_name}
 use Rattle.il_text.specs.Characters.{is_blank, begins_word, begins_name}
-use Rattle.il_text.specs.Literals.{halves, prefixed_literal, decimal, plain_literal}
-use Rattle.il_text.specs.Pieces.{pieces, without_comments}
+use Rattle.il_text.specs.Literals.{split_at_hash, prefixed_literal, decimal, plain_literal}
+use Rattle.il_text.specs.Lexemes.{lexemes, without_comments}
 use Rattle.il_text.specs.Tokens.{Symbol, name, literal, mnemonic_word, mark_symbol, LexemeData, blank, line_end, token, bad_token, bad_literal}
 use Rattle.il_text.specs.Words.{reserved_symbol}
 use Rattle.il_text.specs.declared.literal.LiteralFault.{LiteralFault}
@@ -18,10 +18,10 @@ use Rattle.il_text.specs.declared.token.Mnemonic.TheVariants.{Combine}
 -- ---- IEC 61131-3 2.1.2, 2.1.3: names and reserved words
 
 -- the lexeme of a word that was read as a literal, or of the fault found in it (own)
-abbrev pub literal_piece : Result Literal LiteralFault → LexemeData
-literal_piece (Ok value) = token (literal value)
-literal_piece (Err Malformed) = bad_token
-literal_piece (Err OutOfRange) = bad_literal
+abbrev pub literal_lexeme : Result Literal LiteralFault → LexemeData
+literal_lexeme (Ok value) = token (literal value)
+literal_lexeme (Err Malformed) = bad_token
+literal_lexeme (Err OutOfRange) = bad_literal
 
 -- a reserved word, or else a name of at most 64 characters
 abbrev pub name_or_reserved : List ℕ → Option Symbol → LexemeData
@@ -34,15 +34,15 @@ plain_word w = name_or_reserved w (reserved_symbol w)
 
 -- a word: a literal if it has a `#`, or else a name, a reserved word or a number (own)
 abbrev word_by_halves : List ℕ → Option (List ℕ × List ℕ) → LexemeData
-word_by_halves w (Some h) = literal_piece (prefixed_literal h.0 h.1)
+word_by_halves w (Some h) = literal_lexeme (prefixed_literal h.0 h.1)
 word_by_halves w None =
     if begins_name (slice_index w 0)
     then plain_word w
-    else literal_piece (plain_literal (decimal w))
+    else literal_lexeme (plain_literal (decimal w))
 
 -- a name, a reserved word or a literal
 unfoldable pub word : List ℕ → LexemeData
-word w = word_by_halves w (halves w)
+word w = word_by_halves w (split_at_hash w)
 
 -- ---- IEC 61131-3 annex C: marks
 
@@ -63,22 +63,22 @@ mark_of p =
 -- ---- own: lexemes of a text
 
 -- the lexeme of a mark; other characters are a bad token
-abbrev pub mark_piece : Option Symbol → LexemeData
-mark_piece (Some s) = token s
-mark_piece None = bad_token
+abbrev pub mark_lexeme : Option Symbol → LexemeData
+mark_lexeme (Some s) = token s
+mark_lexeme None = bad_token
 
 -- whether a lexeme is LF, or CR LF
 abbrev pub is_line_end : List ℕ → Bool
 is_line_end p = bytes_eq p (10 ∷ []) || bytes_eq p (13 ∷ 10 ∷ [])
 
 -- what a lexeme of the text is
-unfoldable pub piece : List ℕ → LexemeData
-piece p =
+unfoldable pub lexeme_of : List ℕ → LexemeData
+lexeme_of p =
     if is_blank (slice_index p 0) then blank
     else if is_line_end p then line_end
     else if begins_word (slice_index p 0) then word p
-    else mark_piece (mark_of p)
+    else mark_lexeme (mark_of p)
 
 -- the lexemes of a text; `inside`: the text begins within a comment
-unfoldable pub pieces_of : Bool → List ℕ → List LexemeData
-pieces_of inside text = map piece (pieces (without_comments inside text))
+unfoldable pub text_lexemes : Bool → List ℕ → List LexemeData
+text_lexemes inside text = map lexeme_of (lexemes (without_comments inside text))

@@ -1,6 +1,6 @@
 -- Programs of the code as plain data.
 use Rattle.std.specs.Prelude.{map}
-pub use Rattle.il_text.specs.ItemViews.{place_of, source_of, argument_of, arguments_of, action_of, entry_of, declared_of}
+pub use Rattle.il_text.specs.ItemViews.{variable_data, operand_data, argument_of, arguments_of, action_of, entry_of, declared_name}
 use Rattle.il_text.specs.Listing.{PlainProgram}
 use Rattle.il_text.specs.declared.program.Program.{Program}
 
@@ -11,6 +11,6 @@ abbrev pub plain_program : Program → PlainProgram
 plain_program p =
     record {
       name = p.name.now;
-      declarations = map declared_of p.declarations.items;
+      declarations = map declared_name p.declarations.items;
       items = map entry_of p.items.items;
     }

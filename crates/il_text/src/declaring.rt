@@ -3,7 +3,7 @@ ghost use Rattle.std.specs.Prelude.{◌≡◌, ◌≢◌, List, ◌∷◌, map, 
 ghost use Rattle.il_text.specs.Declaring.{declared_from};
 ghost use Rattle.il_text.specs.TokenViews.{symbol_of, symbols_of};
 ghost use Rattle.il_text.specs.Tokens.{Symbol};
-ghost use Rattle.il_text.specs.Views.{declared_of};
+ghost use Rattle.il_text.specs.Views.{declared_name};
 ghost use Rattle.il_text.specs.declared.fault.TextFault.TheVariants.{BadLine, OutOfMemory};
 
 use crate::fault::TextFault;
@@ -27,12 +27,12 @@ pub(crate) fn declare<'a>(
     declaring: Declaring,
 ) -> Result<(), TextFault>
     ensures ok { OnOk result (declared_from declaring.line declaring.scope declaring.tail
-        (map declared_of declarations.old.items) false (symbols_of names.now)
-        ≡ Some (map declared_of declarations.new.items)) }
+        (map declared_name declarations.old.items) false (symbols_of names.now)
+        ≡ Some (map declared_name declarations.new.items)) }
     ensures bad { IfErr result (λ e. e ≢ OutOfMemory → e ≡ BadLine declaring.line) }
     ensures none { IfErr result (λ e. e ≢ OutOfMemory
         → declared_from declaring.line declaring.scope declaring.tail
-        (map declared_of declarations.old.items) false (symbols_of names.now) ≡ None) }
+        (map declared_name declarations.old.items) false (symbols_of names.now) ≡ None) }
 {
     let mut after_name = false;
     for token in names {
@@ -57,13 +57,13 @@ fn declare_token<'a>(
 ) -> Result<bool, TextFault>
     ensures ok { IfOk result (λ after. (ss : List Symbol)
         → declared_from declaring.line declaring.scope declaring.tail
-        (map declared_of declarations.old.items) after_name (symbol_of token.entry ∷ ss)
+        (map declared_name declarations.old.items) after_name (symbol_of token.entry ∷ ss)
         ≡ declared_from declaring.line declaring.scope declaring.tail
-        (map declared_of declarations.new.items) after ss) }
+        (map declared_name declarations.new.items) after ss) }
     ensures bad { IfErr result (λ e. e ≢ OutOfMemory → e ≡ BadLine declaring.line) }
     ensures none { IfErr result (λ e. e ≢ OutOfMemory → (ss : List Symbol)
         → declared_from declaring.line declaring.scope declaring.tail
-        (map declared_of declarations.old.items) after_name (symbol_of token.entry ∷ ss) ≡ None) }
+        (map declared_name declarations.old.items) after_name (symbol_of token.entry ∷ ss) ≡ None) }
 {
     let line = declaring.line;
     if after_name {

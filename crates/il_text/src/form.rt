@@ -4,11 +4,11 @@ ghost use Rattle.std.specs.List.{position_or_len};
 ghost use Rattle.il_text.specs.FormViews.{halves_of, line_parts, statement_parts};
 ghost use Rattle.il_text.specs.Forms as spec;
 ghost use Rattle.il_text.specs.Listing as text;
-ghost use Rattle.il_text.specs.Parts.{acting};
+ghost use Rattle.il_text.specs.Parts.{action_part};
 ghost use Rattle.il_text.specs.TokenForms.{no_token_of};
 ghost use Rattle.il_text.specs.Tokens.{mark_symbol, name as text_name};
 ghost use Rattle.il_text.specs.TokenViews.{symbol_of, symbols_of};
-ghost use Rattle.il_text.specs.Views.{action_of, argument_of, arguments_of, place_of, source_of};
+ghost use Rattle.il_text.specs.Views.{action_of, argument_of, arguments_of, variable_data, operand_data};
 
 use crate::program::{
     Argument, Arguments, Condition, DeclaredType, Input, Instruction, Literal, Operand, Operator,
@@ -146,7 +146,7 @@ fn output_named(word: &str) -> Option<TimerOutput>
 
 // Reads the output of a timer from the tokens of both names.
 fn output_by<'a>(timer: Token<'a>, output: Token<'a>) -> Option<SymbolicVariable<'a>>
-    ensures { option_map place_of result
+    ensures { option_map variable_data result
         ≡ option_and_then
         (λ t. option_map (text.output t) (spec.output_of (symbol_of output.entry)))
         (spec.name_of (symbol_of timer.entry)) }
@@ -157,9 +157,9 @@ fn output_by<'a>(timer: Token<'a>, output: Token<'a>) -> Option<SymbolicVariable
 }
 
 // Reads a name, or a name with `.Q` or `.ET`.
-#[tactic(auto, unfolding(crate::specs::Forms::place))]
-fn place<'a>(tokens: &[Token<'a>]) -> Option<SymbolicVariable<'a>>
-    ensures { option_map place_of result ≡ spec.place.reads (symbols_of tokens.now) }
+#[tactic(auto, unfolding(crate::specs::Forms::symbolic_variable))]
+fn parse_variable<'a>(tokens: &[Token<'a>]) -> Option<SymbolicVariable<'a>>
+    ensures { option_map variable_data result ≡ spec.symbolic_variable.reads (symbols_of tokens.now) }
 {
     match tokens {
         [only] => name_of(*only).map(SymbolicVariable::Name),
@@ -181,11 +181,11 @@ fn only_literal(tokens: &[Token<'_>]) -> Option<Literal>
 // Reads a literal, a name, or a name with `.Q` or `.ET`.
 #[tactic(auto, unfolding(crate::specs::Forms::operand))]
 fn operand<'a>(tokens: &[Token<'a>]) -> Option<Operand<'a>>
-    ensures { option_map source_of result ≡ spec.operand.reads (symbols_of tokens.now) }
+    ensures { option_map operand_data result ≡ spec.operand.reads (symbols_of tokens.now) }
 {
     match only_literal(tokens) {
         Some(value) => Some(Operand::Literal(value)),
-        None => place(tokens).map(Operand::Variable),
+        None => parse_variable(tokens).map(Operand::Variable),
     }
 }
 
@@ -205,7 +205,7 @@ fn input_named(word: &str) -> Option<Input>
 
 // Reads one argument of a call: an input and its operand.
 #[tactic(auto, unfolding(crate::specs::Forms::argument))]
-fn argument<'a>(tokens: &[Token<'a>]) -> Option<Argument<'a>>
+fn parse_argument<'a>(tokens: &[Token<'a>]) -> Option<Argument<'a>>
     ensures { option_map argument_of result ≡ spec.argument.reads (symbols_of tokens.now) }
 {
     match tokens {
@@ -219,9 +219,9 @@ fn argument<'a>(tokens: &[Token<'a>]) -> Option<Argument<'a>>
 }
 
 // Returns two arguments, or `None` if both are for the same input.
-fn both<'a>(first: Argument<'a>, second: Argument<'a>) -> Option<Arguments<'a>>
+fn pair_arguments<'a>(first: Argument<'a>, second: Argument<'a>) -> Option<Arguments<'a>>
     ensures { option_map arguments_of result
-        ≡ spec.both (argument_of first.entry) (argument_of second.entry) }
+        ≡ spec.two_arguments (argument_of first.entry) (argument_of second.entry) }
 {
     if first.input == second.input {
         None
@@ -258,11 +258,11 @@ fn argument_list<'a>(tokens: &[Token<'a>]) -> Option<Arguments<'a>>
         ≡ spec.argument_list.reads (symbols_of tokens.now) }
 {
     match split_at_first(tokens, Mark::Comma) {
-        None => argument(tokens).map(Arguments::One),
+        None => parse_argument(tokens).map(Arguments::One),
         Some(halves) => {
-            let second = argument(halves.rest)?;
-            let first = argument(halves.front)?;
-            both(first, second)
+            let second = parse_argument(halves.rest)?;
+            let first = parse_argument(halves.front)?;
+            pair_arguments(first, second)
         }
     }
 }
@@ -306,9 +306,9 @@ fn timer_call<'a>(tokens: &[Token<'a>]) -> Option<Instruction<'a>>
 }
 
 // Returns the instruction if no token follows its operator.
-fn alone<'a>(instruction: Instruction<'a>, tokens: &[Token<'a>]) -> Option<Statement<'a>>
+fn parse_bare<'a>(instruction: Instruction<'a>, tokens: &[Token<'a>]) -> Option<Statement<'a>>
     ensures { option_map statement_parts result
-        ≡ no_token_of (acting (action_of instruction.entry) ∷ []) (symbols_of tokens.now) }
+        ≡ no_token_of (action_part (action_of instruction.entry) ∷ []) (symbols_of tokens.now) }
 {
     if tokens.is_empty() {
         Some(Statement::Plain(instruction))
@@ -319,7 +319,7 @@ fn alone<'a>(instruction: Instruction<'a>, tokens: &[Token<'a>]) -> Option<State
 
 // Reads what follows the `(` of an operator: an operand or nothing.
 #[tactic(auto, unfolding(crate::specs::Forms::parenthesis))]
-fn entered<'a>(operator: Operator, negated: bool, tokens: &[Token<'a>]) -> Option<Statement<'a>>
+fn parse_parenthesis<'a>(operator: Operator, negated: bool, tokens: &[Token<'a>]) -> Option<Statement<'a>>
     ensures { option_map statement_parts result
         ≡ (spec.parenthesis operator negated).reads (symbols_of tokens.now) }
 {
@@ -336,12 +336,12 @@ fn entered<'a>(operator: Operator, negated: bool, tokens: &[Token<'a>]) -> Optio
 
 // Reads what follows an operator that combines the current result with an operand.
 #[tactic(auto, unfolding(crate::specs::Forms::operator_parts))]
-fn combined<'a>(operator: Operator, negated: bool, tokens: &[Token<'a>]) -> Option<Statement<'a>>
+fn parse_combine<'a>(operator: Operator, negated: bool, tokens: &[Token<'a>]) -> Option<Statement<'a>>
     ensures { option_map statement_parts result
         ≡ (spec.operator_parts operator negated).reads (symbols_of tokens.now) }
 {
     match tokens {
-        [first, rest @ ..] if is_mark(*first, Mark::Open) => entered(operator, negated, rest),
+        [first, rest @ ..] if is_mark(*first, Mark::Open) => parse_parenthesis(operator, negated, rest),
         _ => {
             let operand = operand(tokens)?;
             Some(Statement::Plain(Instruction::Combine {
@@ -354,7 +354,7 @@ fn combined<'a>(operator: Operator, negated: bool, tokens: &[Token<'a>]) -> Opti
 }
 
 // Reads the operand of `LD` or `LDN`.
-fn load<'a>(negated: bool, tokens: &[Token<'a>]) -> Option<Instruction<'a>>
+fn parse_load<'a>(negated: bool, tokens: &[Token<'a>]) -> Option<Instruction<'a>>
     ensures { option_map action_of result
         ≡ option_map (text.load negated) (spec.operand.reads (symbols_of tokens.now)) }
 {
@@ -363,16 +363,16 @@ fn load<'a>(negated: bool, tokens: &[Token<'a>]) -> Option<Instruction<'a>>
 }
 
 // Reads the variable that a store writes.
-fn store<'a>(kind: StoreKind, tokens: &[Token<'a>]) -> Option<Instruction<'a>>
+fn parse_store<'a>(kind: StoreKind, tokens: &[Token<'a>]) -> Option<Instruction<'a>>
     ensures { option_map action_of result
-        ≡ option_map (text.store kind) (spec.place.reads (symbols_of tokens.now)) }
+        ≡ option_map (text.store kind) (spec.symbolic_variable.reads (symbols_of tokens.now)) }
 {
-    let target = place(tokens)?;
+    let target = parse_variable(tokens)?;
     Some(Instruction::Store { kind, target })
 }
 
 // Reads the label of a jump.
-fn jump<'a>(condition: Condition, tokens: &[Token<'a>]) -> Option<Instruction<'a>>
+fn parse_jump<'a>(condition: Condition, tokens: &[Token<'a>]) -> Option<Instruction<'a>>
     ensures { option_map action_of result
         ≡ option_map (text.jump condition) (spec.only_name (symbols_of tokens.now)) }
 {
@@ -382,25 +382,25 @@ fn jump<'a>(condition: Condition, tokens: &[Token<'a>]) -> Option<Instruction<'a
 
 // Reads the tokens after an operator.
 #[tactic(auto, unfolding(crate::specs::Forms::statement))]
-fn statement_of<'a>(mnemonic: Mnemonic, tokens: &[Token<'a>]) -> Option<Statement<'a>>
+fn parse_statement<'a>(mnemonic: Mnemonic, tokens: &[Token<'a>]) -> Option<Statement<'a>>
     ensures { option_map statement_parts result
         ≡ (spec.statement mnemonic).reads (symbols_of tokens.now) }
 {
     match mnemonic {
-        Mnemonic::Load { negated } => load(negated, tokens).map(Statement::Plain),
-        Mnemonic::Store(kind) => store(kind, tokens).map(Statement::Plain),
-        Mnemonic::Combine { operator, negated } => combined(operator, negated, tokens),
-        Mnemonic::Not => alone(Instruction::Not, tokens),
-        Mnemonic::Convert(conversion) => alone(Instruction::Convert(conversion), tokens),
-        Mnemonic::Return(condition) => alone(Instruction::Return(condition), tokens),
-        Mnemonic::Jump(condition) => jump(condition, tokens).map(Statement::Plain),
+        Mnemonic::Load { negated } => parse_load(negated, tokens).map(Statement::Plain),
+        Mnemonic::Store(kind) => parse_store(kind, tokens).map(Statement::Plain),
+        Mnemonic::Combine { operator, negated } => parse_combine(operator, negated, tokens),
+        Mnemonic::Not => parse_bare(Instruction::Not, tokens),
+        Mnemonic::Convert(conversion) => parse_bare(Instruction::Convert(conversion), tokens),
+        Mnemonic::Return(condition) => parse_bare(Instruction::Return(condition), tokens),
+        Mnemonic::Jump(condition) => parse_jump(condition, tokens).map(Statement::Plain),
         Mnemonic::Call => timer_call(tokens).map(Statement::Plain),
     }
 }
 
 // Reads `type ;` or `type := literal ;`. A timer type takes no literal.
 #[tactic(auto, unfolding(crate::specs::Forms::tail))]
-fn tail_of(tokens: &[Token<'_>]) -> Option<Tail>
+fn parse_tail(tokens: &[Token<'_>]) -> Option<Tail>
     ensures { result ≡ spec.tail.reads (symbols_of tokens.now) }
 {
     match tokens {
@@ -423,11 +423,11 @@ fn tail_of(tokens: &[Token<'_>]) -> Option<Tail>
 
 // Reads a declaration. Its names are not checked yet.
 #[tactic(auto, unfolding(crate::specs::Forms::declaration))]
-fn declaration<'t, 'a>(tokens: &'t [Token<'a>]) -> Option<Line<'t, 'a>>
+fn parse_declaration<'t, 'a>(tokens: &'t [Token<'a>]) -> Option<Line<'t, 'a>>
     ensures { option_and_then line_parts result ≡ spec.declaration.reads (symbols_of tokens.now) }
 {
     let halves = split_at_first(tokens, Mark::Colon)?;
-    let tail = tail_of(halves.rest)?;
+    let tail = parse_tail(halves.rest)?;
     Some(Line::Declaration {
         names: halves.front,
         tail,
@@ -447,26 +447,26 @@ fn may_follow_label(tokens: &[Token<'_>]) -> bool
 
 // Reads an instruction: its operator, given as a token, and the tokens after it.
 #[tactic(auto, unfolding(crate::specs::Forms::instruction))]
-fn statement_by<'a>(first: Token<'a>, tokens: &[Token<'a>]) -> Option<Statement<'a>>
+fn parse_instruction<'a>(first: Token<'a>, tokens: &[Token<'a>]) -> Option<Statement<'a>>
     ensures { option_map statement_parts result
         ≡ spec.instruction.reads (symbol_of first.entry ∷ symbols_of tokens.now) }
 {
     match first {
-        Token::Mnemonic(mnemonic) => statement_of(mnemonic, tokens),
+        Token::Mnemonic(mnemonic) => parse_statement(mnemonic, tokens),
         _ => None,
     }
 }
 
 // Reads a label and the instruction that may follow it.
 #[tactic(auto, unfolding(crate::specs::Forms::label_parts))]
-fn labelled<'t, 'a>(label: &'a str, tokens: &'t [Token<'a>]) -> Option<Line<'t, 'a>>
+fn parse_labelled<'t, 'a>(label: &'a str, tokens: &'t [Token<'a>]) -> Option<Line<'t, 'a>>
     ensures { option_and_then line_parts result
         ≡ (spec.label_parts label.now).reads (symbols_of tokens.now) }
 {
     match tokens {
         [] => Some(Line::Label(label)),
         [first, rest @ ..] => {
-            let statement = statement_by(*first, rest)?;
+            let statement = parse_instruction(*first, rest)?;
             Some(Line::Labelled(label, statement))
         }
     }
@@ -500,9 +500,9 @@ fn named_line<'t, 'a>(
 {
     match rest {
         [colon, behind @ ..] if is_mark(*colon, Mark::Colon) && may_follow_label(behind) => {
-            labelled(name, behind)
+            parse_labelled(name, behind)
         }
-        _ => declaration(tokens),
+        _ => parse_declaration(tokens),
     }
 }
 
@@ -518,7 +518,7 @@ pub(crate) fn line_of<'t, 'a>(tokens: &'t [Token<'a>]) -> Option<Line<'t, 'a>>
     match *first {
         Token::Name(name) => named_line(name, rest, tokens),
         Token::Keyword(word) => keyword_line(word, rest),
-        Token::Mnemonic(mnemonic) => statement_of(mnemonic, rest).map(Line::Statement),
+        Token::Mnemonic(mnemonic) => parse_statement(mnemonic, rest).map(Line::Statement),
         Token::Mark(Mark::Close) if rest.is_empty() => Some(Line::Leaving),
         Token::Mark(_) | Token::Type(_) | Token::Literal(_) => None,
     }
@@ -543,8 +543,8 @@ fn is_misplaced(first: Token<'_>, second: Token<'_>) -> bool
 
 /// Returns whether the first two tokens show that no line begins with these tokens. The rest of the
 /// line then need not be stored.
-pub(crate) fn is_hopeless(tokens: &[Token<'_>]) -> bool
-    ensures { result ≡ spec.is_hopeless (symbols_of tokens.now) }
+pub(crate) fn begins_no_line(tokens: &[Token<'_>]) -> bool
+    ensures { result ≡ spec.begins_no_line (symbols_of tokens.now) }
 {
     match tokens {
         [first, second, ..] => is_misplaced(*first, *second),

@@ -1,5 +1,5 @@
 // Laws of the definitions. Each function does nothing, and its contract is the law.
-ghost use Rattle.il_text.specs.Falling.{DurationsFall};
+ghost use Rattle.il_text.specs.DurationGrammar.{DurationsAreRead};
 ghost use Rattle.il_text.specs.Forms.{LinesAreProduced};
 ghost use Rattle.il_text.specs.Grammar.{OneProgram};
 ghost use Rattle.il_text.specs.LetterCase.{LettersMayBeRespelled};
@@ -50,6 +50,6 @@ pub fn letters_may_be_respelled()
 /// A duration is a sequence of numbers with units in descending order, and its milliseconds are
 /// their sum; anything spelled otherwise is not a duration (IEC 61131-3:2003, 2.2.3.1 and annex
 /// B.1.2.3.1).
-pub fn durations_fall()
-    ensures { DurationsFall }
+pub fn durations_are_read()
+    ensures { DurationsAreRead }
 {}

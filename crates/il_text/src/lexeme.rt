@@ -4,7 +4,7 @@ ghost use Rattle.il_text.specs.Symbols as spec;
 ghost use Rattle.il_text.specs.TokenViews.{lexeme_data, symbol_of};
 
 use crate::character::{begins_name, begins_word, byte_at, is_blank};
-use crate::literal::{LiteralFault, decimal, halves, prefixed, untyped};
+use crate::literal::{LiteralFault, parse_decimal, split_at_hash, parse_prefixed, plain_literal};
 use crate::program::{Literal, Operator};
 use crate::reserved::{combine, reserved_token};
 use crate::token::{Mark, Token};
@@ -29,7 +29,7 @@ const MAX_NAME: usize = 64;
 
 // Returns the lexeme of a word that was read as a literal, or of the fault found in it.
 fn literal_lexeme<'a>(read: Result<Literal, LiteralFault>) -> Lexeme<'a>
-    ensures { lexeme_data result ≡ spec.literal_piece read }
+    ensures { lexeme_data result ≡ spec.literal_lexeme read }
 {
     match read {
         Ok(value) => Lexeme::Token(Token::Literal(value)),
@@ -58,13 +58,13 @@ fn plain_word(word: &str) -> Lexeme<'_>
 fn word_lexeme(word: &str) -> Lexeme<'_>
     ensures { lexeme_data result ≡ spec.word word.now }
 {
-    if let Some((before, after)) = halves(word) {
-        return literal_lexeme(prefixed(before, after));
+    if let Some((before, after)) = split_at_hash(word) {
+        return literal_lexeme(parse_prefixed(before, after));
     }
     if begins_name(byte_at(word.as_bytes(), 0)) {
         plain_word(word)
     } else {
-        literal_lexeme(untyped(decimal(word.as_bytes())))
+        literal_lexeme(plain_literal(parse_decimal(word.as_bytes())))
     }
 }
 
@@ -99,7 +99,7 @@ pub(crate) fn lexeme_at(text: &str, start: usize, end: usize) -> Lexeme<'_>
     requires after { start < end }
     requires within { end ≤ length text.now }
     requires ascii { slice_index text.now start < 128 → slice_index text.now (end - 1) < 128 }
-    ensures { lexeme_data result ≡ spec.piece (slice_range text.now start end) }
+    ensures { lexeme_data result ≡ spec.lexeme_of (slice_range text.now start end) }
 {
     let bytes = text.as_bytes();
     let first = bytes[start];

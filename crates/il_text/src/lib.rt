@@ -18,7 +18,7 @@ pub mod laws;
 mod lexeme;
 mod listing;
 pub mod literal;
-mod piece;
+mod lexeme_end;
 pub mod program;
 pub mod read;
 mod reserved;

@@ -3,8 +3,8 @@ ghost use Rattle.std.specs.Prelude.{◌≡◌, ◌≢◌, List, ◌∷◌, map, 
 ghost use Rattle.il_text.specs.Forms.{declared_names};
 ghost use Rattle.il_text.specs.FormViews.{line_parts, opened_parts, statement_parts};
 ghost use Rattle.il_text.specs.Grammar as grammar;
-ghost use Rattle.il_text.specs.ListingViews.{opened_of, reached_of, read_of};
-ghost use Rattle.il_text.specs.Parts.{LineContent, heading, opening, closing, labelling, acting, entering, leaving, ending};
+ghost use Rattle.il_text.specs.ListingViews.{parenthesis_of, draft_data, progress_of};
+ghost use Rattle.il_text.specs.Parts.{LineContent, program_start, block_start, block_end, label_part, action_part, parenthesis_start, parenthesis_end, program_end};
 ghost use Rattle.il_text.specs.Reading as spec;
 ghost use Rattle.il_text.specs.Steps as rules;
 ghost use Rattle.il_text.specs.Steps.{step, steps};
@@ -54,7 +54,7 @@ pub(crate) struct Open<'a> {
 #[derive(Drop)]
 pub(crate) struct Draft<'a> {
     pub(crate) alloc: Global,
-    pub(crate) place: Stage,
+    pub(crate) stage: Stage,
     /// The number of lines so far that hold an instruction or `)`.
     pub(crate) instructions: usize,
     pub(crate) name: &'a str,
@@ -94,34 +94,34 @@ fn is_load(instruction: Instruction<'_>) -> bool
 }
 
 // Returns whether the PROGRAM line comes next.
-fn is_start(place: Stage) -> bool
-    ensures { result ≡ rules.is_start place }
+fn is_start(stage: Stage) -> bool
+    ensures { result ≡ rules.is_start stage }
 {
-    matches!(place, Stage::Start)
+    matches!(stage, Stage::Start)
 }
 
 // Returns whether a declaration block may begin here.
-fn is_between_blocks(place: Stage) -> bool
-    ensures { result ≡ rules.is_between_blocks place }
+fn is_between_blocks(stage: Stage) -> bool
+    ensures { result ≡ rules.is_between_blocks stage }
 {
-    matches!(place, Stage::Declarations)
+    matches!(stage, Stage::Declarations)
 }
 
 // Returns the scope of the open declaration block, or `None` if none is open.
-fn block_scope(place: Stage) -> Option<VariableScope>
-    ensures { result ≡ rules.block_scope place }
+fn block_scope(stage: Stage) -> Option<VariableScope>
+    ensures { result ≡ rules.block_scope stage }
 {
-    match place {
+    match stage {
         Stage::Block(scope) => Some(scope),
         _ => None,
     }
 }
 
 // Returns whether a line of the body may come here, the first one or a later one.
-fn is_body(place: Stage) -> bool
-    ensures { result ≡ rules.is_body place }
+fn is_body(stage: Stage) -> bool
+    ensures { result ≡ rules.is_body stage }
 {
-    matches!(place, Stage::Declarations | Stage::Body)
+    matches!(stage, Stage::Declarations | Stage::Body)
 }
 
 // Returns whether a variable of the scope may have this initial value: an external has none.
@@ -166,11 +166,11 @@ fn past_limit(position: Position, fault: TextFault) -> TextFault
 impl<'a> Draft<'a> {
     /// Creates a draft of which no line has been read.
     pub(crate) fn new(alloc: Global) -> Self
-        ensures { read_of result ≡ spec.none_yet }
+        ensures { progress_of result ≡ spec.no_progress }
     {
         Draft {
             alloc,
-            place: Stage::Start,
+            stage: Stage::Start,
             instructions: 0,
             name: "",
             declarations: Vec::new(alloc),
@@ -187,10 +187,10 @@ impl<'a> Draft<'a> {
         position: Position,
     ) -> Result<(), TextFault>
         ensures ok { OnOk result
-            (spec.after_line position.line position.last (read_of self.old) (symbols_of tokens.now)
-            ≡ Ok (read_of self.new)) }
+            (spec.after_line position.line position.last (progress_of self.old) (symbols_of tokens.now)
+            ≡ Ok (progress_of self.new)) }
         ensures refused { IfErr result
-            (λ e. e ≢ OutOfMemory → spec.after_line position.line position.last (read_of self.old)
+            (λ e. e ≢ OutOfMemory → spec.after_line position.line position.last (progress_of self.old)
             (symbols_of tokens.now) ≡ Err e) }
     {
         let line = position.line;
@@ -208,15 +208,15 @@ impl<'a> Draft<'a> {
     }
 
     // Counts a line that holds an instruction or `)`.
-    #[tactic(auto, using(crate::proofs::ListingLemmas::length_opened), unfolding(crate::specs::Reading::within_bounds))]
+    #[tactic(auto, using(crate::proofs::ListingLemmas::length_opened), unfolding(crate::specs::Reading::after_instruction))]
     fn count(&mut self, position: Position) -> Result<(), TextFault>
         ensures ok { OnOk result
-            (spec.within_bounds position.line position.last self.old.instructions
-            (reached_of self.old)
-            ≡ Ok (read_of self.new)) }
+            (spec.after_instruction position.line position.last self.old.instructions
+            (draft_data self.old)
+            ≡ Ok (progress_of self.new)) }
         ensures refused { IfErr result
-            (λ e. spec.within_bounds position.line position.last self.old.instructions
-            (reached_of self.old) ≡ Err e) }
+            (λ e. spec.after_instruction position.line position.last self.old.instructions
+            (draft_data self.old) ≡ Err e) }
     {
         let line = position.line;
         if self.parentheses.len() > MAX_OPEN {
@@ -233,111 +233,111 @@ impl<'a> Draft<'a> {
     #[tactic(auto, using(crate::proofs::ListingLemmas::steps_rules))]
     fn take_form(&mut self, form: Line<'_, 'a>, line: usize) -> Result<(), TextFault>
         ensures ok { OnOk result
-            (option_and_then (steps line (reached_of self.old)) (line_parts form.entry)
-            ≡ Some (reached_of self.new)) }
+            (option_and_then (steps line (draft_data self.old)) (line_parts form.entry)
+            ≡ Some (draft_data self.new)) }
         ensures count { OnOk result (self.new.instructions ≡ self.old.instructions) }
         ensures bad { IfErr result (λ e. e ≢ OutOfMemory → e ≡ BadLine line) }
         ensures none { IfErr result
-            (λ e. e ≢ OutOfMemory → option_and_then (steps line (reached_of self.old))
+            (λ e. e ≢ OutOfMemory → option_and_then (steps line (draft_data self.old))
             (line_parts form.entry) ≡ None) }
     {
         match form {
-            Line::Heading(name) => self.take_heading(name, line),
-            Line::Opening(scope) => self.take_opening(scope, line),
+            Line::Heading(name) => self.take_program_start(name, line),
+            Line::Opening(scope) => self.take_block_start(scope, line),
             Line::Declaration { names, tail } => self.take_declaration(names, tail, line),
-            Line::Closing => self.take_closing(line),
+            Line::Closing => self.take_block_end(line),
             Line::Label(name) => self.take_label(name, line),
             Line::Labelled(name, statement) => self.take_labelled(name, statement, line),
             Line::Statement(statement) => self.take_statement(statement, line),
-            Line::Leaving => self.take_leaving(line),
-            Line::Ending => self.take_ending(line),
+            Line::Leaving => self.take_parenthesis_end(line),
+            Line::Ending => self.take_program_end(line),
         }
     }
 
     // Returns whether a line of the body may come here, outside parentheses.
     #[tactic(auto, unfolding(crate::specs::Steps::may_follow))]
     fn may_follow(&self) -> bool
-        ensures { result ≡ rules.may_follow (reached_of self.now) }
+        ensures { result ≡ rules.may_follow (draft_data self.now) }
     {
-        is_body(self.place) && is_outside(self.parentheses.as_slice())
+        is_body(self.stage) && is_outside(self.parentheses.as_slice())
     }
 
     // Returns whether an instruction may come here. In a parenthesis the first instruction is a
     // load, and none leaves the program.
     #[tactic(auto, unfolding(crate::specs::Steps::may_have_instruction))]
     fn may_have_instruction(&self, instruction: Instruction<'a>) -> bool
-        ensures { result ≡ rules.may_have_instruction (reached_of self.now)
+        ensures { result ≡ rules.may_have_instruction (draft_data self.now)
             (action_of instruction.entry) }
     {
         let inside = is_plain(instruction)
-            && (is_some(self.items.as_slice()) || is_load(instruction));
-        is_body(self.place) && (is_outside(self.parentheses.as_slice()) || inside)
+            && (has_items(self.items.as_slice()) || is_load(instruction));
+        is_body(self.stage) && (is_outside(self.parentheses.as_slice()) || inside)
     }
 
     // Returns whether a parenthesis may open here.
     #[tactic(auto, unfolding(crate::specs::Steps::may_enter))]
     fn may_enter(&self) -> bool
-        ensures { result ≡ rules.may_enter (reached_of self.now) }
+        ensures { result ≡ rules.may_enter (draft_data self.now) }
     {
-        is_body(self.place)
-            && (is_outside(self.parentheses.as_slice()) || is_some(self.items.as_slice()))
+        is_body(self.stage)
+            && (is_outside(self.parentheses.as_slice()) || has_items(self.items.as_slice()))
     }
 
     // Returns whether the innermost parenthesis may close here.
     #[tactic(auto, unfolding(crate::specs::Steps::may_leave))]
     fn may_leave(&self) -> bool
-        ensures { result ≡ rules.may_leave (reached_of self.now) }
+        ensures { result ≡ rules.may_leave (draft_data self.now) }
     {
-        is_body(self.place) && is_some(self.items.as_slice())
+        is_body(self.stage) && has_items(self.items.as_slice())
     }
 
     // Reads the PROGRAM line.
     #[tactic(auto, unfolding(crate::specs::Steps::step))]
-    fn take_heading(&mut self, name: &'a str, line: usize) -> Result<(), TextFault>
+    fn take_program_start(&mut self, name: &'a str, line: usize) -> Result<(), TextFault>
         ensures ok { OnOk result
-            (step line (reached_of self.old) (heading name.now) ≡ Some (reached_of self.new)) }
+            (step line (draft_data self.old) (program_start name.now) ≡ Some (draft_data self.new)) }
         ensures count { OnOk result (self.new.instructions ≡ self.old.instructions) }
         ensures bad { IfErr result (λ e. e ≡ BadLine line) }
         ensures none { IfErr result
-            (λ e. step line (reached_of self.old) (heading name.now) ≡ None) }
+            (λ e. step line (draft_data self.old) (program_start name.now) ≡ None) }
     {
-        if !is_start(self.place) {
+        if !is_start(self.stage) {
             return Err(TextFault::BadLine { line });
         }
         self.name = name;
-        self.place = Stage::Declarations;
+        self.stage = Stage::Declarations;
         Ok(())
     }
 
     // Reads VAR or VAR_EXTERNAL.
     #[tactic(auto, unfolding(crate::specs::Steps::step))]
-    fn take_opening(&mut self, scope: VariableScope, line: usize) -> Result<(), TextFault>
+    fn take_block_start(&mut self, scope: VariableScope, line: usize) -> Result<(), TextFault>
         ensures ok { OnOk result
-            (step line (reached_of self.old) (opening scope) ≡ Some (reached_of self.new)) }
+            (step line (draft_data self.old) (block_start scope) ≡ Some (draft_data self.new)) }
         ensures count { OnOk result (self.new.instructions ≡ self.old.instructions) }
         ensures bad { IfErr result (λ e. e ≡ BadLine line) }
-        ensures none { IfErr result (λ e. step line (reached_of self.old) (opening scope) ≡ None) }
+        ensures none { IfErr result (λ e. step line (draft_data self.old) (block_start scope) ≡ None) }
     {
-        if !is_between_blocks(self.place) {
+        if !is_between_blocks(self.stage) {
             return Err(TextFault::BadLine { line });
         }
-        self.place = Stage::Block(scope);
+        self.stage = Stage::Block(scope);
         Ok(())
     }
 
     // Reads END_VAR.
     #[tactic(auto, unfolding(crate::specs::Steps::step))]
-    fn take_closing(&mut self, line: usize) -> Result<(), TextFault>
+    fn take_block_end(&mut self, line: usize) -> Result<(), TextFault>
         ensures ok { OnOk result
-            (step line (reached_of self.old) closing ≡ Some (reached_of self.new)) }
+            (step line (draft_data self.old) block_end ≡ Some (draft_data self.new)) }
         ensures count { OnOk result (self.new.instructions ≡ self.old.instructions) }
         ensures bad { IfErr result (λ e. e ≡ BadLine line) }
-        ensures none { IfErr result (λ e. step line (reached_of self.old) closing ≡ None) }
+        ensures none { IfErr result (λ e. step line (draft_data self.old) block_end ≡ None) }
     {
-        let Some(_) = block_scope(self.place) else {
+        let Some(_) = block_scope(self.stage) else {
             return Err(TextFault::BadLine { line });
         };
-        self.place = Stage::Declarations;
+        self.stage = Stage::Declarations;
         Ok(())
     }
 
@@ -349,15 +349,15 @@ impl<'a> Draft<'a> {
         line: usize,
     ) -> Result<(), TextFault>
         ensures ok { OnOk result
-            (option_and_then (steps line (reached_of self.old))
-            (declared_names tail (symbols_of names.now)) ≡ Some (reached_of self.new)) }
+            (option_and_then (steps line (draft_data self.old))
+            (declared_names tail (symbols_of names.now)) ≡ Some (draft_data self.new)) }
         ensures count { OnOk result (self.new.instructions ≡ self.old.instructions) }
         ensures bad { IfErr result (λ e. e ≢ OutOfMemory → e ≡ BadLine line) }
         ensures none { IfErr result
-            (λ e. e ≢ OutOfMemory → option_and_then (steps line (reached_of self.old))
+            (λ e. e ≢ OutOfMemory → option_and_then (steps line (draft_data self.old))
             (declared_names tail (symbols_of names.now)) ≡ None) }
     {
-        let Some(scope) = block_scope(self.place) else {
+        let Some(scope) = block_scope(self.stage) else {
             return Err(TextFault::BadLine { line });
         };
         if !may_begin_with(scope, tail.initial) {
@@ -372,56 +372,56 @@ impl<'a> Draft<'a> {
     #[tactic(auto, unfolding(crate::specs::Steps::step))]
     fn take_label(&mut self, name: &'a str, line: usize) -> Result<(), TextFault>
         ensures ok { OnOk result
-            (step line (reached_of self.old) (labelling name.now) ≡ Some (reached_of self.new)) }
+            (step line (draft_data self.old) (label_part name.now) ≡ Some (draft_data self.new)) }
         ensures count { OnOk result (self.new.instructions ≡ self.old.instructions) }
         ensures bad { IfErr result (λ e. e ≢ OutOfMemory → e ≡ BadLine line) }
         ensures none { IfErr result
-            (λ e. e ≢ OutOfMemory → step line (reached_of self.old) (labelling name.now) ≡ None) }
+            (λ e. e ≢ OutOfMemory → step line (draft_data self.old) (label_part name.now) ≡ None) }
     {
         if !self.may_follow() {
             return Err(TextFault::BadLine { line });
         }
         self.items.push(Item::Label { line, name })?;
-        self.place = Stage::Body;
+        self.stage = Stage::Body;
         Ok(())
     }
 
     // Reads an instruction. The first one in a parenthesis is a load, and none in it leaves the
     // parenthesis.
     #[tactic(auto, unfolding(crate::specs::Steps::step))]
-    fn take_acting(&mut self, instruction: Instruction<'a>, line: usize) -> Result<(), TextFault>
+    fn take_instruction(&mut self, instruction: Instruction<'a>, line: usize) -> Result<(), TextFault>
         ensures ok { OnOk result
-            (step line (reached_of self.old) (acting (action_of instruction.entry))
-            ≡ Some (reached_of self.new)) }
+            (step line (draft_data self.old) (action_part (action_of instruction.entry))
+            ≡ Some (draft_data self.new)) }
         ensures count { OnOk result (self.new.instructions ≡ self.old.instructions) }
         ensures bad { IfErr result (λ e. e ≢ OutOfMemory → e ≡ BadLine line) }
         ensures none { IfErr result
-            (λ e. e ≢ OutOfMemory → step line (reached_of self.old)
-            (acting (action_of instruction.entry)) ≡ None) }
+            (λ e. e ≢ OutOfMemory → step line (draft_data self.old)
+            (action_part (action_of instruction.entry)) ≡ None) }
     {
         if !self.may_have_instruction(instruction) {
             return Err(TextFault::BadLine { line });
         }
         self.items.push(Item::Instruction { line, instruction })?;
-        self.place = Stage::Body;
+        self.stage = Stage::Body;
         Ok(())
     }
 
     // Reads an operator with `(`.
     #[tactic(auto, unfolding(crate::specs::Steps::step))]
-    fn take_entering(
+    fn take_parenthesis_start(
         &mut self,
         operator: Operator,
         negated: bool,
         line: usize,
     ) -> Result<(), TextFault>
         ensures ok { OnOk result
-            (step line (reached_of self.old) (entering operator negated)
-            ≡ Some (reached_of self.new)) }
+            (step line (draft_data self.old) (parenthesis_start operator negated)
+            ≡ Some (draft_data self.new)) }
         ensures count { OnOk result (self.new.instructions ≡ self.old.instructions) }
         ensures bad { IfErr result (λ e. e ≢ OutOfMemory → e ≡ BadLine line) }
         ensures none { IfErr result
-            (λ e. e ≢ OutOfMemory → step line (reached_of self.old) (entering operator negated)
+            (λ e. e ≢ OutOfMemory → step line (draft_data self.old) (parenthesis_start operator negated)
             ≡ None) }
     {
         if !self.may_enter() {
@@ -434,19 +434,19 @@ impl<'a> Draft<'a> {
             negated,
             outer,
         })?;
-        self.place = Stage::Body;
+        self.stage = Stage::Body;
         Ok(())
     }
 
     // Reads a `)`. The parenthesis must not be empty.
     #[tactic(auto, unfolding(crate::specs::Steps::step))]
-    fn take_leaving(&mut self, line: usize) -> Result<(), TextFault>
+    fn take_parenthesis_end(&mut self, line: usize) -> Result<(), TextFault>
         ensures ok { OnOk result
-            (step line (reached_of self.old) leaving ≡ Some (reached_of self.new)) }
+            (step line (draft_data self.old) parenthesis_end ≡ Some (draft_data self.new)) }
         ensures count { OnOk result (self.new.instructions ≡ self.old.instructions) }
         ensures bad { IfErr result (λ e. e ≢ OutOfMemory → e ≡ BadLine line) }
         ensures none { IfErr result
-            (λ e. e ≢ OutOfMemory → step line (reached_of self.old) leaving ≡ None) }
+            (λ e. e ≢ OutOfMemory → step line (draft_data self.old) parenthesis_end ≡ None) }
     {
         if !self.may_leave() {
             return Err(TextFault::BadLine { line });
@@ -468,23 +468,23 @@ impl<'a> Draft<'a> {
             items,
             end: line,
         })?;
-        self.place = Stage::Body;
+        self.stage = Stage::Body;
         Ok(())
     }
 
     // Reads END_PROGRAM.
     #[tactic(auto, unfolding(crate::specs::Steps::step))]
-    fn take_ending(&mut self, line: usize) -> Result<(), TextFault>
+    fn take_program_end(&mut self, line: usize) -> Result<(), TextFault>
         ensures ok { OnOk result
-            (step line (reached_of self.old) ending ≡ Some (reached_of self.new)) }
+            (step line (draft_data self.old) program_end ≡ Some (draft_data self.new)) }
         ensures count { OnOk result (self.new.instructions ≡ self.old.instructions) }
         ensures bad { IfErr result (λ e. e ≡ BadLine line) }
-        ensures none { IfErr result (λ e. step line (reached_of self.old) ending ≡ None) }
+        ensures none { IfErr result (λ e. step line (draft_data self.old) program_end ≡ None) }
     {
         if !self.may_follow() {
             return Err(TextFault::BadLine { line });
         }
-        self.place = Stage::Finished;
+        self.stage = Stage::Finished;
         Ok(())
     }
 
@@ -492,32 +492,32 @@ impl<'a> Draft<'a> {
     #[tactic(auto, using(crate::proofs::ListingLemmas::steps_rules))]
     fn take_statement(&mut self, statement: Statement<'a>, line: usize) -> Result<(), TextFault>
         ensures ok { OnOk result
-            (steps line (reached_of self.old) (statement_parts statement.entry)
-            ≡ Some (reached_of self.new)) }
+            (steps line (draft_data self.old) (statement_parts statement.entry)
+            ≡ Some (draft_data self.new)) }
         ensures count { OnOk result (self.new.instructions ≡ self.old.instructions) }
         ensures bad { IfErr result (λ e. e ≢ OutOfMemory → e ≡ BadLine line) }
         ensures none { IfErr result
-            (λ e. e ≢ OutOfMemory → steps line (reached_of self.old)
+            (λ e. e ≢ OutOfMemory → steps line (draft_data self.old)
             (statement_parts statement.entry) ≡ None) }
     {
         match statement {
-            Statement::Plain(instruction) => self.take_acting(instruction, line),
+            Statement::Plain(instruction) => self.take_instruction(instruction, line),
             Statement::Open {
                 operator,
                 negated,
                 operand: None,
-            } => self.take_entering(operator, negated, line),
+            } => self.take_parenthesis_start(operator, negated, line),
             Statement::Open {
                 operator,
                 negated,
                 operand: Some(operand),
-            } => self.take_loaded(operator, negated, operand, line),
+            } => self.take_parenthesis_load(operator, negated, operand, line),
         }
     }
 
     // Reads an operator with `(` and the operand after it.
     #[tactic(auto, using(crate::proofs::ListingLemmas::steps_rules))]
-    fn take_loaded(
+    fn take_parenthesis_load(
         &mut self,
         operator: Operator,
         negated: bool,
@@ -525,20 +525,20 @@ impl<'a> Draft<'a> {
         line: usize,
     ) -> Result<(), TextFault>
         ensures ok { OnOk result
-            (steps line (reached_of self.old) (opened_parts operator negated (Some operand.entry))
-            ≡ Some (reached_of self.new)) }
+            (steps line (draft_data self.old) (opened_parts operator negated (Some operand.entry))
+            ≡ Some (draft_data self.new)) }
         ensures count { OnOk result (self.new.instructions ≡ self.old.instructions) }
         ensures bad { IfErr result (λ e. e ≢ OutOfMemory → e ≡ BadLine line) }
         ensures none { IfErr result
-            (λ e. e ≢ OutOfMemory → steps line (reached_of self.old)
+            (λ e. e ≢ OutOfMemory → steps line (draft_data self.old)
             (opened_parts operator negated (Some operand.entry)) ≡ None) }
     {
-        self.take_entering(operator, negated, line)?;
+        self.take_parenthesis_start(operator, negated, line)?;
         let load = Instruction::Load {
             negated: false,
             operand,
         };
-        self.take_acting(load, line)?;
+        self.take_instruction(load, line)?;
         Ok(())
     }
 
@@ -551,13 +551,13 @@ impl<'a> Draft<'a> {
         line: usize,
     ) -> Result<(), TextFault>
         ensures ok { OnOk result
-            (steps line (reached_of self.old) (labelling name.now ∷ statement_parts statement.entry)
-            ≡ Some (reached_of self.new)) }
+            (steps line (draft_data self.old) (label_part name.now ∷ statement_parts statement.entry)
+            ≡ Some (draft_data self.new)) }
         ensures count { OnOk result (self.new.instructions ≡ self.old.instructions) }
         ensures bad { IfErr result (λ e. e ≢ OutOfMemory → e ≡ BadLine line) }
         ensures none { IfErr result
-            (λ e. e ≢ OutOfMemory → steps line (reached_of self.old)
-            (labelling name.now ∷ statement_parts statement.entry) ≡ None) }
+            (λ e. e ≢ OutOfMemory → steps line (draft_data self.old)
+            (label_part name.now ∷ statement_parts statement.entry) ≡ None) }
     {
         self.take_label(name, line)?;
         self.take_statement(statement, line)?;
@@ -568,15 +568,15 @@ impl<'a> Draft<'a> {
 // Returns whether no parenthesis is open.
 #[tactic(auto, using(crate::proofs::ListingLemmas::outside_rules))]
 fn is_outside(parentheses: &[Open<'_>]) -> bool
-    ensures { result ≡ rules.is_outside (reverse (map opened_of parentheses.now)) }
+    ensures { result ≡ rules.is_outside (reverse (map parenthesis_of parentheses.now)) }
 {
     parentheses.is_empty()
 }
 
 // Returns whether there are any items.
 #[tactic(auto, using(crate::proofs::ListingLemmas::some_rules))]
-fn is_some(items: &[Item<'_>]) -> bool
-    ensures { result ≡ rules.is_some (map entry_of items.now) }
+fn has_items(items: &[Item<'_>]) -> bool
+    ensures { result ≡ rules.has_entries (map entry_of items.now) }
 {
     !items.is_empty()
 }

@@ -69,7 +69,7 @@ fn base_of(word: &str) -> Option<u32>
 
 /// Reads a decimal number with an optional sign: whether it is negative, and its magnitude.
 #[tactic(auto, unfolding(crate::specs::Literals::decimal))]
-pub(crate) fn decimal(word: &[u8]) -> Option<(bool, u64)>
+pub(crate) fn parse_decimal(word: &[u8]) -> Option<(bool, u64)>
     ensures { result ≡ capped_signed (spec.decimal word.now) }
 {
     match word {
@@ -81,7 +81,7 @@ pub(crate) fn decimal(word: &[u8]) -> Option<(bool, u64)>
 
 // Reads a number after its base. It has no sign.
 #[tactic(auto, unfolding(crate::specs::Literals::based_integer))]
-fn based(base: &str, digits: &str) -> Option<(bool, u64)>
+fn parse_based(base: &str, digits: &str) -> Option<(bool, u64)>
     ensures { result ≡ capped_signed (spec.based_integer base.now digits.now) }
 {
     let radix = base_of(base)?;
@@ -89,25 +89,25 @@ fn based(base: &str, digits: &str) -> Option<(bool, u64)>
 }
 
 /// Splits a word at its first `#`.
-pub(crate) fn halves(word: &str) -> Option<(&str, &str)>
-    ensures { option_map (λ h. (h.0.now, h.1.now)) result ≡ spec.halves word.now }
+pub(crate) fn split_at_hash(word: &str) -> Option<(&str, &str)>
+    ensures { option_map (λ h. (h.0.now, h.1.now)) result ≡ spec.split_at_hash word.now }
 {
     word.split_once('#')
 }
 
 // Reads a number with a sign or after a base: whether it is negative, and its magnitude.
 #[tactic(auto, using(crate::proofs::LiteralLemmas::integer_some, crate::proofs::LiteralLemmas::integer_none))]
-fn integer(word: &str) -> Option<(bool, u64)>
+fn parse_integer(word: &str) -> Option<(bool, u64)>
     ensures { result ≡ capped_signed (spec.integer word.now) }
 {
-    match halves(word) {
-        Some((base, digits)) => based(base, digits),
-        None => decimal(word.as_bytes()),
+    match split_at_hash(word) {
+        Some((base, digits)) => parse_based(base, digits),
+        None => parse_decimal(word.as_bytes()),
     }
 }
 
 // Returns the value of a number, which must fit in 64 bits.
-fn signed(number: Option<(bool, u64)>) -> Result<i64, LiteralFault>
+fn number_value(number: Option<(bool, u64)>) -> Result<i64, LiteralFault>
     ensures { result ≡ spec.number_value number }
 {
     match number {
@@ -123,10 +123,10 @@ fn signed(number: Option<(bool, u64)>) -> Result<i64, LiteralFault>
 
 /// Returns the literal of a number without a type.
 #[tactic(auto, unfolding(crate::specs::Literals::plain_literal))]
-pub(crate) fn untyped(number: Option<(bool, u64)>) -> Result<Literal, LiteralFault>
+pub(crate) fn plain_literal(number: Option<(bool, u64)>) -> Result<Literal, LiteralFault>
     ensures { result ≡ spec.plain_literal number }
 {
-    Ok(Literal::Number(signed(number)?))
+    Ok(Literal::Number(number_value(number)?))
 }
 
 // Returns the BOOL of a number, which must be 0 or 1.
@@ -182,7 +182,7 @@ fn typed_number(word: &str) -> Result<i64, LiteralFault>
 {
     match truth_of(word) {
         Some(_) => Err(LiteralFault::OutOfRange),
-        None => signed(integer(word)),
+        None => number_value(parse_integer(word)),
     }
 }
 
@@ -194,7 +194,7 @@ fn typed_bool(word: &str) -> Result<Literal, LiteralFault>
     if let Some(value) = truth_of(word) {
         return Ok(Literal::Truth(value));
     }
-    bool_literal(signed(integer(word))?)
+    bool_literal(number_value(parse_integer(word))?)
 }
 
 // Reads what follows `INT#`.
@@ -223,7 +223,7 @@ fn typed_lint(word: &str) -> Result<Literal, LiteralFault>
 
 /// Reads a literal, given the texts before and after its first `#`.
 #[tactic(auto, using(crate::proofs::LiteralLemmas::untyped_capped), unfolding(crate::specs::Literals::prefixed_literal))]
-pub(crate) fn prefixed(before: &str, word: &str) -> Result<Literal, LiteralFault>
+pub(crate) fn parse_prefixed(before: &str, word: &str) -> Result<Literal, LiteralFault>
     ensures { result ≡ spec.prefixed_literal before.now word.now }
 {
     if same_name(before, "BOOL") {
@@ -241,7 +241,7 @@ pub(crate) fn prefixed(before: &str, word: &str) -> Result<Literal, LiteralFault
     if same_name(before, "T") || same_name(before, "TIME") {
         return typed_time(word.as_bytes());
     }
-    untyped(based(before, word))
+    plain_literal(parse_based(before, word))
 }
 
 // A duration as it is read: the rest of the text, the milliseconds so far, and whether a part was
@@ -291,7 +291,7 @@ fn add_capped(total: u64, number: u64, factor: u64) -> u64
 
 // Reads the part in this unit, if it comes first.
 #[tactic(auto, using(crate::proofs::DurationLemmas::part_rules))]
-fn part<'a>(duration: Option<Duration<'a>>, unit: &[u8], factor: u64) -> Option<Duration<'a>>
+fn parse_part<'a>(duration: Option<Duration<'a>>, unit: &[u8], factor: u64) -> Option<Duration<'a>>
     requires some { 0 < factor }
     requires small { factor < 2 ^ 31 }
     ensures { (before : Option spec.Duration)
@@ -315,7 +315,7 @@ fn part<'a>(duration: Option<Duration<'a>>, unit: &[u8], factor: u64) -> Option<
 
 // Reads the parts of a duration in descending units. A number may exceed one of the next greater
 // unit.
-fn parts(word: &[u8]) -> Option<Duration<'_>>
+fn parse_parts(word: &[u8]) -> Option<Duration<'_>>
     ensures { capped_duration (spec.parts word.now) ≡ option_map duration_view result }
 {
     let whole = Duration {
@@ -323,18 +323,18 @@ fn parts(word: &[u8]) -> Option<Duration<'_>>
         total: 0,
         begun: false,
     };
-    let days = part(Some(whole), b"d", 86_400_000);
-    let hours = part(days, b"h", 3_600_000);
-    let minutes = part(hours, b"m", 60_000);
-    let seconds = part(minutes, b"s", 1_000);
-    part(seconds, b"ms", 1)
+    let days = parse_part(Some(whole), b"d", 86_400_000);
+    let hours = parse_part(days, b"h", 3_600_000);
+    let minutes = parse_part(hours, b"m", 60_000);
+    let seconds = parse_part(minutes, b"s", 1_000);
+    parse_part(seconds, b"ms", 1)
 }
 
 // Returns the milliseconds of a duration: at least one part, and nothing after the parts.
 fn milliseconds(word: &[u8]) -> Option<u64>
     ensures { result ≡ capped_time (spec.milliseconds word.now) }
 {
-    let Some(last) = parts(word) else {
+    let Some(last) = parse_parts(word) else {
         return None;
     };
     if last.begun && last.rest.is_empty() {

@@ -1,19 +1,19 @@
 // Reads a program from a text.
 ghost use Rattle.std.specs.Prelude.{◌≡◌, ◌≢◌, ◌<◌, ◌≤◌, ◌+◌, true, false, drop, length, Ok, Err, OnOk, IfOk, IfErr, IsErrOf};
 ghost use Rattle.il_text.specs.Grammar.{rises, item_lines};
-ghost use Rattle.il_text.specs.ListingViews.{reached_of};
-ghost use Rattle.il_text.specs.Pieces.{opens as starts_comment};
-ghost use Rattle.il_text.specs.Reading.{program_made, program_of};
+ghost use Rattle.il_text.specs.ListingViews.{draft_data};
+ghost use Rattle.il_text.specs.Lexemes.{opens_comment as starts_comment};
+ghost use Rattle.il_text.specs.Reading.{draft_program, program_of};
 ghost use Rattle.il_text.specs.Texts.{ReadsAs};
 ghost use Rattle.il_text.specs.Views.{plain_program};
 ghost use Rattle.il_text.specs.declared.fault.TextFault.TheVariants.{OutOfMemory};
 ghost use Rattle.il_text.specs.Places.{last_line};
 
 use crate::fault::TextFault;
-use crate::form::is_hopeless;
+use crate::form::begins_no_line;
 use crate::lexeme::{Lexeme, lexeme_at};
 use crate::listing::{Draft, Position, Stage};
-use crate::piece::{closes, ends, opens, piece_end};
+use crate::lexeme_end::{ends_later, ends_comment, opens_comment, lexeme_end};
 use crate::program::Program;
 use crate::token::Token;
 use std::alloc::Global;
@@ -82,7 +82,7 @@ fn read_lines<'a>(alloc: Global, text: &'a str) -> Result<Program<'a>, TextFault
     } = reader;
     let Draft {
         alloc: _,
-        place: _,
+        stage: _,
         instructions: _,
         name,
         declarations,
@@ -127,7 +127,7 @@ impl<'a> Reader<'a> {
         if self.in_comment {
             return self.comment_step();
         }
-        if opens(self.text.as_bytes(), self.at) {
+        if opens_comment(self.text.as_bytes(), self.at) {
             return self.open_comment();
         }
         self.piece_step()
@@ -144,14 +144,14 @@ impl<'a> Reader<'a> {
         ensures ok { OnOk result (result_from self.new ≡ result_from self.old) }
         ensures refused { IfErr result (λ e. e ≢ OutOfMemory → result_from self.old ≡ Err e) }
     {
-        let end = piece_end(self.text.as_bytes(), self.at);
+        let end = lexeme_end(self.text.as_bytes(), self.at);
         let lexeme = lexeme_at(self.text, self.at, end);
         self.at = end;
         match lexeme {
             Lexeme::Blank => Ok(()),
             Lexeme::LineEnd => self.end_line(),
             Lexeme::Token(token) => {
-                if !is_hopeless(self.tokens.as_slice()) {
+                if !begins_no_line(self.tokens.as_slice()) {
                     self.tokens.push(token)?;
                 }
                 Ok(())
@@ -171,7 +171,7 @@ impl<'a> Reader<'a> {
         ensures ok { OnOk result (result_from self.new ≡ result_from self.old) }
         ensures refused { IfErr result (λ e. e ≢ OutOfMemory → result_from self.old ≡ Err e) }
     {
-        if !closes(self.text.as_bytes(), self.at + 2) {
+        if !ends_later(self.text.as_bytes(), self.at + 2) {
             return Err(TextFault::BadToken { line: self.line });
         }
         self.at += 2;
@@ -189,7 +189,7 @@ impl<'a> Reader<'a> {
         ensures ok { OnOk result (result_from self.new ≡ result_from self.old) }
         ensures refused { IfErr result (λ e. e ≢ OutOfMemory → result_from self.old ≡ Err e) }
     {
-        if ends(self.text.as_bytes(), self.at) {
+        if ends_comment(self.text.as_bytes(), self.at) {
             self.at += 2;
             self.in_comment = false;
             return Ok(());
@@ -206,7 +206,7 @@ impl<'a> Reader<'a> {
     fn end_line(&mut self) -> Result<(), TextFault>
         requires { self.old.line ≤ self.old.at }
         ensures text { OnOk result (self.new.text.now ≡ self.old.text.now) }
-        ensures place { OnOk result (self.new.at ≡ self.old.at) }
+        ensures stage { OnOk result (self.new.at ≡ self.old.at) }
         ensures ok { OnOk result (result_from self.new ≡ result_at_line_end self.old) }
         ensures refused { IfErr result
             (λ e. e ≢ OutOfMemory → result_at_line_end self.old ≡ Err e) }
@@ -224,7 +224,7 @@ impl<'a> Reader<'a> {
     // Reads the last line, after which the program must be complete.
     fn finish(&mut self) -> Result<(), TextFault>
         ensures ok { OnOk result
-            (result_at_text_end self.old ≡ Ok (program_made (reached_of self.new.listing))) }
+            (result_at_text_end self.old ≡ Ok (draft_program (draft_data self.new.listing))) }
         ensures refused { IfErr result
             (λ e. e ≢ OutOfMemory → result_at_text_end self.old ≡ Err e) }
     {
@@ -233,7 +233,7 @@ impl<'a> Reader<'a> {
             last: self.last,
         };
         self.listing.take_line(self.tokens.as_slice(), position)?;
-        match self.listing.place {
+        match self.listing.stage {
             Stage::Finished => Ok(()),
             _ => Err(TextFault::BadLine { line: self.last }),
         }

@@ -19,7 +19,7 @@ use Rattle.il_image.specs.declared.opcode.Widening.TheVariants.{IntToDint, DintT
 use Rattle.il_image.specs.declared.opcode.When.TheVariants.{Always, IfTrue, IfFalse}
 use Rattle.il_image.specs.declared.opcode.TimerUse.TheVariants.{SetInput, SetPreset, Run, LoadOutput, LoadElapsed}
 use Rattle.il_image.specs.Arithmetic.{type_of_width}
-use Rattle.il_image.specs.Effects.{are_compared, below, compares, kinds_after, kind_of, looks_at, second_kind, two, type_of_kind, widens, with_truth}
+use Rattle.il_image.specs.Effects.{are_compared, below, compares, kinds_after, kind_of, peek_kind, second_kind, replace_two, type_of_kind, widens, with_truth}
 use Rattle.il_image.specs.Kinds.{AreWithin, is_within}
 use Rattle.il_image.proofs.KindLemmas.{within-along, within-self, same-self, same-is}
 
@@ -96,7 +96,7 @@ pushed : (k : CellKind) (xs ys upper : List CellKind) → AreWithin xs ys → So
 pushed k xs ys upper h e = kept (k ∷ xs) (k ∷ ys) upper (within-self k, h) e
 
 looks-lower : (wanted : CellKind) (xs ys upper : List CellKind) → AreWithin xs ys
-    → looks_at wanted ys ≡ Some upper → Lowers (looks_at wanted xs) upper
+    → peek_kind wanted ys ≡ Some upper → Lowers (peek_kind wanted xs) upper
 looks-lower wanted xs ys upper h e =
     lowers-below wanted xs ys upper _ _ h (λ us vs w f. kept xs ys upper h f) e
 
@@ -107,8 +107,8 @@ one-lower wanted gives xs ys upper h e =
     lowers-below wanted xs ys upper _ _ h (λ us vs w f. pushed gives us vs upper w f) e
 
 two-lower : (top second gives : CellKind) (xs ys upper : List CellKind) → AreWithin xs ys
-    → two top second gives ys ≡ Some upper → Lowers (two top second gives xs) upper
-two-lower top second gives xs ys upper h e =
+    → replace_two top second gives ys ≡ Some upper → Lowers (replace_two top second gives xs) upper
+replace_two-lower top second gives xs ys upper h e =
     lowers-below top xs ys upper _ _ h (λ us vs w f. one-lower second gives us vs upper w f) e
 
 shown-lower : (x y : CellKind) (t : ElementaryType) → is_within x y ≡ true → type_of_kind y ≡ Some t

@@ -8,7 +8,7 @@ use Rattle.il_image.specs.declared.kind.CellKind.{CellKind}
 use Rattle.il_image.specs.Kinds.{AreWithin}
 use Rattle.il_image.proofs.KindLemmas.{join-over, join-least}
 use Rattle.il_verify.specs.declared.frame.Frame.{Frame}
-use Rattle.il_verify.specs.Frames.{Clashing, Grows, PlainFrame, join_all, plain_frame}
+use Rattle.il_verify.specs.Frames.{HasOtherDepth, JoinsFrame, PlainFrame, join_all, plain_frame}
 use Rattle.il_verify.proofs.WithinLemmas.{all-within-along, all-within-self, within-reverse}
 
 join-all-over : (xs ys : List CellKind) → length xs ≡ length ys
@@ -52,7 +52,7 @@ which : (a b : ℕ) (old : PlainFrame) → old.longest ≡ a
 which a b old e = elim (larger a b) [ inl h ↦ inl h | inr h ↦ inr (old, refl, h ∙ sym e) ]
 
 pub grown : (olds news : List CellKind) (a b : ℕ) → length olds ≡ length news
-    → Grows (plain news b) (Some (plain olds a)) (plain (join_all olds news) (max a b))
+    → JoinsFrame (plain news b) (Some (plain olds a)) (plain (join_all olds news) (max a b))
 grown olds news a b e =
     let over = join-all-over olds news e in
     record {
@@ -68,7 +68,7 @@ grown olds news a b e =
     }
 
 -- A place that nothing has come to.
-pub begun : (news : List CellKind) (b : ℕ) → Grows (plain news b) None (plain news b)
+pub begun : (news : List CellKind) (b : ℕ) → JoinsFrame (plain news b) None (plain news b)
 begun news b = record {
   over = all-within-self (reverse news);
   keeps = λ m is. absurd cc;
@@ -80,21 +80,21 @@ begun news b = record {
 
 pub joined-grows : (olds news kinds : List CellKind) (a b c : ℕ) → length olds ≡ length news
     → kinds ≡ join_all olds news → c ≡ max a b
-    → Grows (plain news b) (Some (plain olds a)) (plain kinds c)
+    → JoinsFrame (plain news b) (Some (plain olds a)) (plain kinds c)
 joined-grows olds news kinds a b c e same larger =
-    subst (λ (v : List CellKind). Grows (plain news b) (Some (plain olds a)) (plain v c)) (sym same)
-    (subst (λ (n : ℕ). Grows (plain news b) (Some (plain olds a)) (plain (join_all olds news) n))
+    subst (λ (v : List CellKind). JoinsFrame (plain news b) (Some (plain olds a)) (plain v c)) (sym same)
+    (subst (λ (n : ℕ). JoinsFrame (plain news b) (Some (plain olds a)) (plain (join_all olds news) n))
     (sym larger) (grown olds news a b e))
 
 pub begun-grows : (o : Option Frame) (news kinds : List CellKind) (b : ℕ) → o ≡ None → kinds ≡ news
-    → Grows (plain news b) (option_map plain_frame o) (plain kinds b)
+    → JoinsFrame (plain news b) (option_map plain_frame o) (plain kinds b)
 begun-grows o news kinds b is same =
-    subst (λ (v : Option Frame). Grows (plain news b) (option_map plain_frame v) (plain kinds b))
+    subst (λ (v : Option Frame). JoinsFrame (plain news b) (option_map plain_frame v) (plain kinds b))
     (sym is)
-    (subst (λ (v : List CellKind). Grows (plain news b) None (plain v b)) (sym same) (begun news b))
+    (subst (λ (v : List CellKind). JoinsFrame (plain news b) None (plain v b)) (sym same) (begun news b))
 
 pub grows-along : (come : PlainFrame) (old : Option PlainFrame) (mid new : PlainFrame)
-    → Grows come old mid → Grows come (Some mid) new → Grows come old new
+    → JoinsFrame come old mid → JoinsFrame come (Some mid) new → JoinsFrame come old new
 grows-along come old mid new h g = record {
   over = g.over;
   keeps = λ m is. all-within-along m.kinds mid.kinds new.kinds (h.keeps m is) (g.keeps mid refl);
@@ -115,7 +115,7 @@ grows-along come old mid new h g = record {
 -- kinds of another number than those of the place
 pub clash-of : (o : Option Frame) (frame : Frame) (kinds : List CellKind) → o ≡ Some frame
     → (length frame.kinds.items ≡ length kinds → ⊥)
-    → Clashing (option_map plain_frame o) (reverse kinds)
+    → HasOtherDepth (option_map plain_frame o) (reverse kinds)
 clash-of o frame kinds is ne = (
   plain_frame frame,
   ap (option_map plain_frame) is,

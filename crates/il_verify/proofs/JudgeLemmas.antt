@@ -20,7 +20,7 @@ use Rattle.il_image.specs.declared.opcode.Widening.TheVariants.{IntToDint, DintT
 use Rattle.il_image.specs.declared.opcode.When.TheVariants.{IfTrue, IfFalse}
 use Rattle.il_image.specs.declared.opcode.TimerUse.TheVariants.{SetInput, SetPreset, Run, LoadOutput, LoadElapsed}
 use Rattle.il_image.specs.Arithmetic.{type_of_width}
-use Rattle.il_image.specs.Effects.{below, kinds_after, looks_at, second_kind, two, with_timer, with_truth}
+use Rattle.il_image.specs.Effects.{below, kinds_after, peek_kind, second_kind, replace_two, with_timer, with_truth}
 use Rattle.il_image.specs.Images.{Image}
 use Rattle.il_image.specs.Kinds.{is_within}
 use Rattle.il_image.specs.Machine.{divides, most_cells}
@@ -29,7 +29,7 @@ use Rattle.il_image.proofs.KindLemmas.{same-self, within-along}
 use Rattle.il_verify.specs.declared.fault.VerifyFault.{VerifyFault}
 use Rattle.il_verify.specs.declared.fault.VerifyFault.TheVariants.{StackEmpty, StackFull, WrongKind, ZeroDivisor, NoSlot, NoTimer, BadTarget, Unreachable, DepthClash, NoHalt, BadBinding, OutOfMemory}
 use Rattle.il_verify.specs.declared.slots.SlotType.{SlotType}
-use Rattle.il_verify.specs.Judging.{◌or_else◌, fault_of, is_full, kind_fault, missing_fault, operands, without_divisor, operand_fault, where_so, writes_read_only}
+use Rattle.il_verify.specs.Judging.{◌or_else◌, fault_of, is_full, kind_fault, missing_fault, operands, without_divisor, operand_fault, fault_if, writes_read_only}
 use Rattle.il_verify.specs.Slots.{point_slot, slots_of, types_of, variable_slot}
 use Rattle.il_verify.proofs.EffectLemmas.{bind-some}
 
@@ -49,11 +49,11 @@ first-none : (a b : Option VerifyFault) → (a or_else b) ≡ None → (a ≡ No
 first-none None b e = (refl, e)
 first-none (Some f) b e = absurd cc
 
-not-so : (b : Bool) (f : VerifyFault) → where_so b f ≡ None → b ≡ false
+not-so : (b : Bool) (f : VerifyFault) → fault_if b f ≡ None → b ≡ false
 not-so true f e = absurd cc
 not-so false f e = refl
 
-not-where : (b : Bool) (f : VerifyFault) → b ≡ false → where_so b f ≡ None
+not-where : (b : Bool) (f : VerifyFault) → b ≡ false → fault_if b f ≡ None
 not-where b f e = rw e refl
 
 -- ---- what is allowed
@@ -94,13 +94,13 @@ nothing-missing : (slots : List SlotType) (timers : ℕ) (i : Instr) (kinds give
 nothing-missing slots timers (Slot Load n) kinds gives e =
     slot-there slots n (λ (t : ElementaryType). Some (Plain t ∷ kinds)) gives e
 nothing-missing slots timers (Slot Store n) kinds gives e =
-    slot-there slots n (λ (t : ElementaryType). looks_at (Plain t) kinds) gives e
+    slot-there slots n (λ (t : ElementaryType). peek_kind (Plain t) kinds) gives e
 nothing-missing slots timers (Slot SetIf n) kinds gives e =
     slot-there slots n (λ (t : ElementaryType). cond (same_type t elementary.Bool)
-    (looks_at (Plain elementary.Bool) kinds) None) gives e
+    (peek_kind (Plain elementary.Bool) kinds) None) gives e
 nothing-missing slots timers (Slot ResetIf n) kinds gives e =
     slot-there slots n (λ (t : ElementaryType). cond (same_type t elementary.Bool)
-    (looks_at (Plain elementary.Bool) kinds) None) gives e
+    (peek_kind (Plain elementary.Bool) kinds) None) gives e
 nothing-missing slots timers (Timer SetInput n) kinds gives e = timer-there timers n _ gives e
 nothing-missing slots timers (Timer SetPreset n) kinds gives e = timer-there timers n _ gives e
 nothing-missing slots timers (Timer Run n) kinds gives e = timer-there timers n _ gives e
@@ -119,7 +119,7 @@ below-some wanted (k ∷ kinds) rest e = go (is_within k wanted) e
     go true f = ap (λ (v : List CellKind). suc (length v)) (same_Some kinds rest f)
     go false f = absurd cc
 
-looks-some : (wanted : CellKind) (kinds gives : List CellKind) → looks_at wanted kinds ≡ Some gives
+looks-some : (wanted : CellKind) (kinds gives : List CellKind) → peek_kind wanted kinds ≡ Some gives
     → 1 ≤ length kinds
 looks-some wanted kinds gives e =
     let r = bind-some (below wanted kinds) (λ (rest : List CellKind). Some kinds) gives e in
@@ -133,8 +133,8 @@ one-some wanted given kinds gives e =
     let size : length kinds ≡ suc (length r.0) = below-some wanted kinds r.0 r.1 in omega arith
 
 two-some : (top second given : CellKind) (kinds gives : List CellKind)
-    → two top second given kinds ≡ Some gives → 2 ≤ length kinds
-two-some top second given kinds gives e =
+    → replace_two top second given kinds ≡ Some gives → 2 ≤ length kinds
+replace_two-some top second given kinds gives e =
     let r = bind-some (below top kinds)
     (λ (more : List CellKind). below second more >>= (λ rest. Some (given ∷ rest))) gives e in
     let size : length kinds ≡ suc (length r.0) = below-some top kinds r.0 r.1 in
@@ -145,10 +145,10 @@ truth-some : (types : List ElementaryType) (n : ℕ) (kinds gives : List CellKin
 truth-some types n kinds gives e =
     let t = bind-some (slice_get types n)
     (λ (t : ElementaryType). cond (same_type t elementary.Bool)
-    (looks_at (Plain elementary.Bool) kinds) None) gives e in
+    (peek_kind (Plain elementary.Bool) kinds) None) gives e in
     go (same_type t.0 elementary.Bool) t.2
   where
-    go : (b : Bool) → cond b (looks_at (Plain elementary.Bool) kinds) None ≡ Some gives
+    go : (b : Bool) → cond b (peek_kind (Plain elementary.Bool) kinds) None ≡ Some gives
         → 1 ≤ length kinds
     go true f = looks-some (Plain elementary.Bool) kinds gives f
     go false f = absurd cc
@@ -158,7 +158,7 @@ enough : (types : List ElementaryType) (timers : ℕ) (i : Instr) (kinds gives :
 enough types timers Drop kinds gives e = let size : length kinds ≡ suc (length gives) =
     below-some Any kinds gives e in omega arith
 enough types timers (Slot Store n) kinds gives e =
-    let t = bind-some (slice_get types n) (λ (t : ElementaryType). looks_at (Plain t) kinds) gives e
+    let t = bind-some (slice_get types n) (λ (t : ElementaryType). peek_kind (Plain t) kinds) gives e
     in looks-some (Plain t.0) kinds gives t.2
 enough types timers (Slot SetIf n) kinds gives e = truth-some types n kinds gives e
 enough types timers (Slot ResetIf n) kinds gives e = truth-some types n kinds gives e
@@ -227,14 +227,14 @@ behind-none (Some x) b r e f = absurd cc
 -- where an instruction is allowed on the kinds, what is behind the first faults is its fault
 allowed-behind : (slots : List SlotType) (timers : ℕ) (i : Instr) (kinds gives : List CellKind)
     (r : Option VerifyFault) → kinds_after (types_of slots) timers i kinds ≡ Some gives
-    → (where_so (writes_read_only slots i) BadBinding or_else where_so (is_full (Some gives))
+    → (fault_if (writes_read_only slots i) BadBinding or_else fault_if (is_full (Some gives))
     StackFull) ≡ r → fault_of slots timers i kinds ≡ r
 unfolding fault_of
 allowed-behind slots timers i kinds gives r e last =
     let many : operands i ≤ length kinds = enough (types_of slots) timers i kinds gives e in
     behind-none (missing_fault (length slots) timers i) _ r
     (nothing-missing slots timers i kinds gives e)
-    (behind-none (where_so (nat_lt (length kinds) (operands i)) StackEmpty) _ r
+    (behind-none (fault_if (nat_lt (length kinds) (operands i)) StackEmpty) _ r
     (not-where _ StackEmpty (le-ltb (length kinds) (operands i) many))
     (behind-none (kind_fault slots timers i kinds) _ r
     (fits-all _ _ gives gives (undivided-some (types_of slots) timers i kinds gives e) e)
@@ -278,7 +278,7 @@ pub misfit-fault : (slots : List SlotType) (timers : ℕ) (i : Instr) (kinds : L
 unfolding fault_of
 misfit-fault slots timers i kinds f e many is =
     behind-none (missing_fault (length slots) timers i) _ (Some f) e
-    (behind-none (where_so (nat_lt (length kinds) (operands i)) StackEmpty) _ (Some f)
+    (behind-none (fault_if (nat_lt (length kinds) (operands i)) StackEmpty) _ (Some f)
     (not-where _ StackEmpty (le-ltb (length kinds) (operands i) many)) (rw is refl))
 
 -- ---- what having no fault says
@@ -300,9 +300,9 @@ pub faultless-fine : (slots : List SlotType) (timers : ℕ) (i : Instr) (kinds :
 unfolding fault_of
 faultless-fine slots timers i kinds e =
     let a = first-none (missing_fault (length slots) timers i) _ e in
-    let b = first-none (where_so (nat_lt (length kinds) (operands i)) StackEmpty) _ a.1 in
+    let b = first-none (fault_if (nat_lt (length kinds) (operands i)) StackEmpty) _ a.1 in
     let c = first-none (kind_fault slots timers i kinds) _ b.1 in
-    let d = first-none (where_so (writes_read_only slots i) BadBinding) _ c.1 in
+    let d = first-none (fault_if (writes_read_only slots i) BadBinding) _ c.1 in
     record {
       writes = not-so (writes_read_only slots i) BadBinding d.0;
       room = λ gives is. few (length gives)
@@ -336,7 +336,7 @@ both-own : (a b : Option VerifyFault) → AllOwn a → AllOwn b → AllOwn (a or
 both-own None b h g = g
 both-own (Some f) b h g = h
 
-so-own : (b : Bool) (f : VerifyFault) → IsOwn f → AllOwn (where_so b f)
+so-own : (b : Bool) (f : VerifyFault) → IsOwn f → AllOwn (fault_if b f)
 so-own true f h = h
 so-own false f h = tt
 
@@ -361,8 +361,8 @@ unfolding fault_of
 own-of slots timers i kinds f e =
     let all : AllOwn (fault_of slots timers i kinds) =
     both-own (missing_fault (length slots) timers i) _ (missing-own (length slots) timers i)
-    (both-own (where_so (nat_lt (length kinds) (operands i)) StackEmpty) _ (so-own _ StackEmpty tt)
+    (both-own (fault_if (nat_lt (length kinds) (operands i)) StackEmpty) _ (so-own _ StackEmpty tt)
     (both-own (kind_fault slots timers i kinds) _ (unfit-own _ _)
-    (both-own (where_so (writes_read_only slots i) BadBinding) _ (so-own _ BadBinding tt)
+    (both-own (fault_if (writes_read_only slots i) BadBinding) _ (so-own _ BadBinding tt)
     (so-own _ StackFull tt)))) in
     subst AllOwn e all

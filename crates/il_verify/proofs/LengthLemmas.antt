@@ -7,7 +7,7 @@ use Rattle.il_image.specs.declared.instr.Instr.{Instr}
 use Rattle.il_image.specs.declared.instr.Instr.TheVariants.{Halt}
 use Rattle.il_image.specs.Images.{Image}
 use Rattle.il_image.specs.Reading.{instr_at}
-use Rattle.il_image.specs.Tables.{Ends, IsHalt, IsPlace, IsSuccessor, LeadsTo, Path, offset_of}
+use Rattle.il_image.specs.Tables.{HaltPath, IsHalt, InstrBegins, IsSuccessor, LeadsTo, Path, offset_of}
 use Rattle.il_image.proofs.PlaceLemmas.{goes-forward}
 use Rattle.il_verify.specs.Frames.{PlainFrame, PlainFrames, Visits}
 use Rattle.il_verify.specs.Passing.{raised_budget}
@@ -51,7 +51,7 @@ pub record Lengths (code : List ℕ) (done budget : ℕ) (now : PlainFrames) : T
   pub most : (q n : ℕ) → done ≤ q → Arrives code done n q
       → (m : PlainFrame) × (now q ≡ Some m) × (n ≤ m.longest)
   pub ends : (q n : ℕ) → q < done → Path code n q → IsHalt code q → n ≤ budget
-  pub some : (budget ≡ 0) ⊎ Ends code budget
+  pub some : (budget ≡ 0) ⊎ HaltPath code budget
   pub more : budget ≡ 0 → (q : ℕ) × (m : PlainFrame) × (done ≤ q) × (now q ≡ Some m)
 
 -- ---- the budget after a place, which may be a HALT
@@ -85,7 +85,7 @@ module _ (image : Image) (place : ℕ) (instr : Instr) (next : ℕ) (come : Plai
     (old new : PlainFrames) (number : ℕ) (numbered : offset_of image.code number ≡ Some place)
     (here : instr_at image.code place ≡ Some (instr, next))
     (was : old place ≡ Some come) (v : Visits image instr next come old new)
-    (places : (q : ℕ) (m : PlainFrame) → place ≤ q → old q ≡ Some m → IsPlace image.code q)
+    (places : (q : ℕ) (m : PlainFrame) → place ≤ q → old q ≡ Some m → InstrBegins image.code q)
     (budget : ℕ) (l : Lengths image.code place budget old) where
   forward : place < next
   forward = (goes-forward image.code place instr next here).0
@@ -215,13 +215,13 @@ module _ (image : Image) (place : ℕ) (instr : Instr) (next : ℕ) (come : Plai
         ]
 
     some-more : (raised_budget halts come.longest budget ≡ 0)
-        ⊎ Ends image.code (raised_budget halts come.longest budget)
+        ⊎ HaltPath image.code (raised_budget halts come.longest budget)
     some-more = elim (raised-is halts come.longest budget) [
       | inl e ↦ elim l.some [
         | inl z ↦ inl (e ∙ z)
-        | inr ended ↦ inr (subst (Ends image.code) (sym e) ended)
+        | inr ended ↦ inr (subst (HaltPath image.code) (sym e) ended)
       ]
-      | inr e ↦ inr (subst (Ends image.code) (sym e.1)
+      | inr e ↦ inr (subst (HaltPath image.code) (sym e.1)
           (place, l.paths place come (omega arith) was, halt-here (says.0 e.0)))
     ]
 
@@ -282,7 +282,7 @@ lengths-first code frames come is one none = record {
 
 pub is-budget : (code : List ℕ) (budget : ℕ) (now : PlainFrames) → (done : ℕ) → length code ≤ done
     → Lengths code done budget now
-    → ((q : ℕ) (m : PlainFrame) → done ≤ q → now q ≡ Some m → IsPlace code q) → IsBudget code budget
+    → ((q : ℕ) (m : PlainFrame) → done ≤ q → now q ≡ Some m → InstrBegins code q) → IsBudget code budget
 is-budget code budget now done past l places = record {
   some = elim l.some [
     | inl e ↦ (let m = l.more e in let within : m.0 < length code = (places m.0 m.1 m.2 m.3).0 in

@@ -8,7 +8,7 @@ use Rattle.il_image.specs.declared.instr.Instr.{Instr}
 use Rattle.il_image.specs.declared.kind.CellKind.{CellKind}
 use Rattle.il_verify.specs.declared.frame.Frame.{Frame}
 use Rattle.il_image.proofs.SetLemmas.{set-elsewhere, set-here}
-use Rattle.il_verify.specs.Frames.{Clashing, Falls, Grows, PlainFrame, Pends, with_value_at, frame_at, falls_through, plain_frame, plain_frames}
+use Rattle.il_verify.specs.Frames.{HasOtherDepth, Falls, JoinsFrame, PlainFrame, JoinsFrameAt, with_value_at, frame_at, falls_through, plain_frame, plain_frames}
 
 here-is : (p q : ℕ) → q ≡ p → (q == p) ≡ true
 here-is p q e = grind (arith, nat_tests)
@@ -72,28 +72,28 @@ slot_at m place o less e =
 pub pended : (old grown : List (Option Frame)) (place : ℕ) (o w : Option Frame) (frame : Frame)
     (come : PlainFrame) → ((q : ℕ) → plain_frames grown q ≡ plain_frames old q)
     → place < length grown → o ≡ frame_at grown place
-    → w ≡ Some frame → Grows come (option_map plain_frame o) (plain_frame frame)
-    → Pends (plain_frames old) (plain_frames (slice_set grown place w)) place come
+    → w ≡ Some frame → JoinsFrame come (option_map plain_frame o) (plain_frame frame)
+    → JoinsFrameAt (plain_frames old) (plain_frames (slice_set grown place w)) place come
 pended old grown place o w frame come same less was is grows = record {
   frame = plain_frame frame;
   is = now-is grown place w less ∙ ap (option_map plain_frame) is;
-  grows = subst (λ (v : Option PlainFrame). Grows come v (plain_frame frame))
+  grows = subst (λ (v : Option PlainFrame). JoinsFrame come v (plain_frame frame))
       (sym (plain-at grown place o was) ∙ same place) grows;
   others = λ q ne. others-stay grown place w q ne ∙ same q;
 }
 
 pub clash-at : (old : List (Option Frame)) (place : ℕ) (o : Option Frame) (kinds : List CellKind)
-    → o ≡ frame_at old place → Clashing (option_map plain_frame o) kinds
-    → Clashing (plain_frames old place) kinds
+    → o ≡ frame_at old place → HasOtherDepth (option_map plain_frame o) kinds
+    → HasOtherDepth (plain_frames old place) kinds
 clash-at old place o kinds was c =
-    subst (λ (v : Option PlainFrame). Clashing v kinds) (sym (plain-at old place o was)) c
+    subst (λ (v : Option PlainFrame). HasOtherDepth v kinds) (sym (plain-at old place o was)) c
 
 -- ---- to the next place
 
 pub falls-to : (instr : Instr) (next : ℕ) (come : PlainFrame) (old mid : List (Option Frame))
     (o : Option Frame) (m : PlainFrame) → falls_through instr ≡ true → o ≡ frame_at old next
     → ((q : ℕ) → (q ≡ next → ⊥) → plain_frames mid q ≡ plain_frames old q)
-    → Grows come (option_map plain_frame o) m
+    → JoinsFrame come (option_map plain_frame o) m
     → Falls instr next come (plain_frames old) (with_value_at next (Some m) (plain_frames mid))
 falls-to instr next come old mid o m on was gone grows to = elim (cases_eq to next) [
   | inl e ↦ inl (
@@ -101,7 +101,7 @@ falls-to instr next come old mid o m on was gone grows to = elim (cases_eq to ne
     (
       m,
       beside-here next to (Some m) (plain_frames mid) e,
-      subst (λ (v : Option PlainFrame). Grows come v m)
+      subst (λ (v : Option PlainFrame). JoinsFrame come v m)
           (sym (plain-at old next o was) ∙ ap (plain_frames old) (sym e)) grows,
     ),
   )

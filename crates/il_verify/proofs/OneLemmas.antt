@@ -14,13 +14,13 @@ use Rattle.il_image.specs.Arithmetic.{type_of_width}
 use Rattle.il_image.specs.Images.{Image}
 use Rattle.il_image.specs.Kinds.{AreWithin, is_within}
 use Rattle.il_image.specs.Reading.{instr_at}
-use Rattle.il_image.specs.Tables.{IsPlace, LeadsTo, Table}
+use Rattle.il_image.specs.Tables.{InstrBegins, LeadsTo, Table}
 use Rattle.il_image.proofs.KindLemmas.{same-is}
 use Rattle.il_verify.specs.declared.fault.VerifyFault.{VerifyFault}
 use Rattle.il_verify.specs.declared.fault.VerifyFault.TheVariants.{StackEmpty, StackFull, WrongKind, ZeroDivisor, NoSlot, NoTimer, BadTarget, Unreachable, DepthClash, NoHalt, BadBinding, OutOfMemory}
 use Rattle.il_verify.specs.Judging.{fault_of}
 use Rattle.il_verify.specs.Slots.{slots_of}
-use Rattle.il_verify.specs.Refusals.{kinds_after_in, Arrives, Clashes, Comes, FailsAt, GoesPast, HasOwn, IsFaultAt, IsFront, IsJoin, IsRefusal, JumpsBadly, JumpsTo, Passes, own_fault}
+use Rattle.il_verify.specs.Refusals.{kinds_after_instr, ReachedInstr, HasDepthClash, KindsReach, FailsAt, RunsPastEnd, HasOwnFault, IsFaultAt, IsTableUpTo, IsJoin, IsRefusal, HasBadJump, JumpsTo, IsFaultless, own_fault}
 use Rattle.il_verify.proofs.TableLemmas.{leads-by-jump}
 
 -- ---- kinds
@@ -54,7 +54,7 @@ alike-back : (t u : Table) (done : ℕ) → Alike t u done → Alike u t done
 alike-back t u done same q less = sym (same q less)
 
 comes-alike : (image : Image) (t u : Table) (done to : ℕ) (kinds : List CellKind) → Alike t u done
-    → Comes image t done to kinds → Comes image u done to kinds
+    → KindsReach image t done to kinds → KindsReach image u done to kinds
 comes-alike image t u done to kinds same (inl h) = inl h
 comes-alike image t u done to kinds same (inr h) =
     let c = h.2 in
@@ -95,7 +95,7 @@ join-alike image t u done to kinds same m =
 -- ---- the tables of two fronts
 
 known-same : (image : Image) (t u : Table) (d e place : ℕ) (o p : Option (List CellKind))
-    → IsFront image t d → IsFront image u e → place < d → place < e → Alike t u place → t place ≡ o
+    → IsTableUpTo image t d → IsTableUpTo image u e → place < d → place < e → Alike t u place → t place ≡ o
     → u place ≡ p → t place ≡ u place
 known-same image t u d e place None None f g less more same is other = is ∙ sym other
 known-same image t u d e place None (Some k) f g less more same is other =
@@ -109,16 +109,16 @@ known-same image t u d e place (Some k) (Some l) f g less more same is other =
     join-same image t u place place k l same (f.joined place k is) (g.joined place l other) in
     is ∙ ap (λ (kinds : List CellKind). Some kinds) equal ∙ sym other
 
-fronts-below : (image : Image) (t u : Table) (d e n place : ℕ) → IsFront image t d
-    → IsFront image u e → place < n → place < d → place < e → t place ≡ u place
+fronts-below : (image : Image) (t u : Table) (d e n place : ℕ) → IsTableUpTo image t d
+    → IsTableUpTo image u e → place < n → place < d → place < e → t place ≡ u place
 fronts-below image t u d e zero place f g low less more = absurd (omega arith)
 fronts-below image t u d e (suc n) place f g low less more =
     known-same image t u d e place (t place) (u place) f g less more
     (λ q under. fronts-below image t u d e n q f g (omega arith) (omega arith) (omega arith))
     refl refl
 
-pub fronts-alike : (image : Image) (t u : Table) (d e place : ℕ) → IsFront image t d
-    → IsFront image u e → (d < place → ⊥) → (e < place → ⊥) → Alike t u place
+pub fronts-alike : (image : Image) (t u : Table) (d e place : ℕ) → IsTableUpTo image t d
+    → IsTableUpTo image u e → (d < place → ⊥) → (e < place → ⊥) → Alike t u place
 fronts-alike image t u d e place f g low high q less =
     fronts-below image t u d e place q f g less (omega arith) (omega arith)
 
@@ -132,7 +132,7 @@ leads-same : (x y : Instr × ℕ) (to : ℕ) → x ≡ y → LeadsTo x.0 x.1 to 
 leads-same x y to e h = subst (λ (z : Instr × ℕ). LeadsTo z.0 z.1 to) e h
 
 abbrev arrives_alike : (image : Image) (t u : Table) (place : ℕ) → Alike t u place
-    → Arrives image t place → Arrives image u place
+    → ReachedInstr image t place → ReachedInstr image u place
 arrives_alike image t u place same a =
     record {
       instr = a.instr;
@@ -143,7 +143,7 @@ arrives_alike image t u place same a =
     }
 
 own-alike : (image : Image) (t u : Table) (place : ℕ) (fault : VerifyFault) → Alike t u place
-    → HasOwn image t place fault → HasOwn image u place fault
+    → HasOwnFault image t place fault → HasOwnFault image u place fault
 own-alike image t u place fault same h = (arrives_alike image t u place same h.0, h.1)
 
 fault-alike : (image : Image) (t u : Table) (place : ℕ) (fault : VerifyFault) → Alike t u place
@@ -192,13 +192,13 @@ fault-alike image t u place BadBinding same h = own-alike image t u place BadBin
 -- what a fault comes of, where something comes to the place
 abbrev Reason : Image → Table → ℕ → VerifyFault → Type 0
 Reason image t place fault =
-    HasOwn image t place fault
-    ⊎ (((fault ≡ BadTarget) × JumpsBadly image t place)
-    ⊎ (((fault ≡ NoHalt) × GoesPast image t place)
-    ⊎ ((fault ≡ DepthClash) × Clashes image t place)))
+    HasOwnFault image t place fault
+    ⊎ (((fault ≡ BadTarget) × HasBadJump image t place)
+    ⊎ (((fault ≡ NoHalt) × RunsPastEnd image t place)
+    ⊎ ((fault ≡ DepthClash) × HasDepthClash image t place)))
 
 abbrev Nothing : Image → Table → ℕ → Type 0
-Nothing image t place = (kinds : List CellKind) → Comes image t place place kinds → ⊥
+Nothing image t place = (kinds : List CellKind) → KindsReach image t place place kinds → ⊥
 
 reason : (image : Image) (t : Table) (place : ℕ) (fault : VerifyFault)
     → IsFaultAt image t place fault
@@ -220,17 +220,17 @@ something image t place fault (inr (inr (inr h))) none =
     none h.1.at.joined.some.0 h.1.at.joined.some.1
 
 -- two views of what comes to a place are one
-abbrev Met : {image : Image} {t : Table} {place : ℕ} → Arrives image t place → Arrives image t place
+abbrev Met : {image : Image} {t : Table} {place : ℕ} → ReachedInstr image t place → ReachedInstr image t place
     → Type 0
 Met a b = ◌≡◌ {A = Instr × ℕ} (a.instr, a.next) (b.instr, b.next) × (a.kinds ≡ b.kinds)
 
-met : (image : Image) (t : Table) (place : ℕ) (a b : Arrives image t place) → Met a b
+met : (image : Image) (t : Table) (place : ℕ) (a b : ReachedInstr image t place) → Met a b
 met image t place a b = (
   here-same image.code place a.instr b.instr a.next b.next a.here b.here,
   join-same image t t place place a.kinds b.kinds (λ q less. refl) a.joined b.joined,
 )
 
-own-same : (image : Image) (t : Table) (place : ℕ) (a b : Arrives image t place)
+own-same : (image : Image) (t : Table) (place : ℕ) (a b : ReachedInstr image t place)
     → own_fault a ≡ own_fault b
 own-same image t place a b =
     let m = met image t place a b in
@@ -238,17 +238,17 @@ own-same image t place a b =
     ∙ ap (fault_of (slots_of image) (length image.timers) b.instr) m.1
 
 own-or-none : (image : Image) (t : Table) (place : ℕ) (fault : VerifyFault)
-    (a b : Arrives image t place) → own_fault a ≡ Some fault → own_fault b ≡ None → ⊥
+    (a b : ReachedInstr image t place) → own_fault a ≡ Some fault → own_fault b ≡ None → ⊥
 own-or-none image t place fault a b h g = let e = own-same image t place a b in absurd (cc)
 
-jump-or-not : (image : Image) (t : Table) (place : ℕ) (j : JumpsBadly image t place)
-    (b : Arrives image t place) → ((to : ℕ) → JumpsTo b.instr b.next to → IsPlace image.code to) → ⊥
+jump-or-not : (image : Image) (t : Table) (place : ℕ) (j : HasBadJump image t place)
+    (b : ReachedInstr image t place) → ((to : ℕ) → JumpsTo b.instr b.next to → InstrBegins image.code to) → ⊥
 jump-or-not image t place j b all =
     j.bad (all j.to (subst (λ (x : Instr × ℕ). JumpsTo x.0 x.1 j.to) (met image t place j.at b).0
     j.jumps))
 
-past-or-not : (image : Image) (t : Table) (place : ℕ) (g : GoesPast image t place)
-    (b : Arrives image t place) → ((to : ℕ) → LeadsTo b.instr b.next to → IsPlace image.code to) → ⊥
+past-or-not : (image : Image) (t : Table) (place : ℕ) (g : RunsPastEnd image t place)
+    (b : ReachedInstr image t place) → ((to : ℕ) → LeadsTo b.instr b.next to → InstrBegins image.code to) → ⊥
 past-or-not image t place g b all =
     let there =
     all g.at.next (leads-same (g.at.instr, g.at.next) (b.instr, b.next) g.at.next
@@ -302,12 +302,12 @@ one_fault image t place f g h k = elim (reason image t place f h) [
 
 -- ---- a place of a front has none
 
-abbrev arrives_there : (image : Image) (t : Table) (place : ℕ) (p : Passes image t place)
-    → IsJoin image t place place p.kinds → Arrives image t place
+abbrev arrives_there : (image : Image) (t : Table) (place : ℕ) (p : IsFaultless image t place)
+    → IsJoin image t place place p.kinds → ReachedInstr image t place
 arrives_there image t place p m =
     record { instr = p.instr; next = p.next; kinds = p.kinds; here = p.here; joined = m }
 
-no-reason : (image : Image) (t : Table) (place : ℕ) (fault : VerifyFault) (p : Passes image t place)
+no-reason : (image : Image) (t : Table) (place : ℕ) (fault : VerifyFault) (p : IsFaultless image t place)
     → IsJoin image t place place p.kinds → Reason image t place fault → ⊥
 no-reason image t place fault p m (inl h) =
     own-or-none image t place fault h.0 (arrives_there image t place p m) h.1 p.faultless
@@ -320,14 +320,14 @@ no-reason image t place fault p m (inr (inr (inr h))) =
     let c = h.1 in
     let e = met image t place c.at (arrives_there image t place p m) in
     let same =
-    ap (λ (x : Instr × ℕ). kinds_after_in image x.0 c.at.kinds) e.0
-    ∙ ap (kinds_after_in image p.instr) e.1 in
+    ap (λ (x : Instr × ℕ). kinds_after_instr image x.0 c.at.kinds) e.0
+    ∙ ap (kinds_after_instr image p.instr) e.1 in
     let gives = same_Some c.gives p.gives (sym c.effect ∙ same ∙ p.effect) in
     let leads = leads-same (c.at.instr, c.at.next) (p.instr, p.next) c.to e.0 c.leads in
     c.unequal (p.depths c.to leads c.others c.comes ∙ sym (ap length gives))
 
-no_fault : (image : Image) (t : Table) (done place : ℕ) (fault : VerifyFault) → IsFront image t done
-    → place < done → IsPlace image.code place → IsFaultAt image t place fault → ⊥
+no_fault : (image : Image) (t : Table) (done place : ℕ) (fault : VerifyFault) → IsTableUpTo image t done
+    → place < done → InstrBegins image.code place → IsFaultAt image t place fault → ⊥
 no_fault image t done place fault front less there h =
     let p = front.passes place less there in
     let m = front.joined place p.kinds p.known in

@@ -10,11 +10,11 @@ use Rattle.il_image.specs.declared.instr.Instr.{Instr}
 use Rattle.il_image.specs.Images.{Each, IsCode, all_spelled}
 use Rattle.il_image.specs.Reading.{instr_at}
 use Rattle.il_image.specs.Spelling.{IsInstr, spelling}
-use Rattle.il_image.specs.Tables.{IsPlace, offset_after, offset_of}
+use Rattle.il_image.specs.Tables.{InstrBegins, offset_after, offset_of}
 use Rattle.il_image.proofs.InstrLemmas.{back-instr}
 use Rattle.il_image.proofs.PlaceLemmas.{goes-forward}
 use Rattle.il_image.proofs.SetLemmas.{set-here, set-elsewhere}
-use Rattle.il_verify.specs.Frames.{MarksPlaces}
+use Rattle.il_verify.specs.Frames.{MarksInstrs}
 use Rattle.il_verify.proofs.EffectLemmas.{not-both}
 
 -- ---- one place behind the other
@@ -177,7 +177,7 @@ never-true (suc n) (suc q) e = never-true n q e
 -- the places below this one are marked where an instruction begins
 abbrev pub MarksBelow : List ℕ → ℕ → List Bool → Type 0
 MarksBelow code place starts =
-    (q : ℕ) → (slice_get starts q ≡ Some true) ↔ ((q < place) × IsPlace code q)
+    (q : ℕ) → (slice_get starts q ≡ Some true) ↔ ((q < place) × InstrBegins code q)
 
 pub marks-none : (code : List ℕ) (n : ℕ) → MarksBelow code 0 (replicate n false)
 marks-none code n q =
@@ -190,7 +190,7 @@ pub marks-more : (code : List ℕ) (n place : ℕ) (starts : List Bool) (i : Ins
 marks-more code n place starts i next e within size here marks q = elim (cases_eq q place) [
   | inl at ↦ (
     (λ h. let f : place < next = (goes-forward code place i next here).0 in
-        (omega arith, subst (IsPlace code) (sym at) (within, (n, e)))),
+        (omega arith, subst (InstrBegins code) (sym at) (within, (n, e)))),
     (λ h. ap (slice_get (set starts place true)) at ∙ set-here starts place true (omega arith)),
   )
   | inr ne ↦ (
@@ -209,7 +209,7 @@ marks-more code n place starts i next e within size here marks q = elim (cases_e
 ]
 
 pub marks-all : (code : List ℕ) (place : ℕ) (starts : List Bool) → length code ≤ place
-    → MarksBelow code place starts → MarksPlaces code starts
+    → MarksBelow code place starts → MarksInstrs code starts
 marks-all code place starts past marks q = (
   (λ h. ((marks q).0 h).1),
   (λ is. let within : q < length code = is.0 in (marks q).1 (omega arith, is)),

@@ -12,9 +12,9 @@ use Rattle.il_image.specs.Tables.{Table, offset_of}
 use Rattle.il_image.proofs.PlaceLemmas.{goes-forward}
 use Rattle.il_verify.specs.declared.fault.VerifyFault.{VerifyFault}
 use Rattle.il_verify.specs.declared.fault.VerifyFault.TheVariants.{BadTarget, Unreachable, DepthClash, NoHalt, OutOfMemory}
-use Rattle.il_verify.specs.Frames.{Clashing, Collides, ComesWhere, FailsVisit, GoesOn, Grows, PlainFrame, PlainFrames, MisLeads, Visits, with_value_at}
+use Rattle.il_verify.specs.Frames.{HasOtherDepth, FailsDepths, JoinsFrameIf, FailsVisit, FallsTo, JoinsFrame, PlainFrame, PlainFrames, FailsTargets, Visits, with_value_at}
 use Rattle.il_verify.specs.Passing.{raised_budget}
-use Rattle.il_verify.specs.Refusals.{Arrives, Clashes, FailsAt, HasOwn, IsFaultAt, IsFront, IsJoin, JumpsTo}
+use Rattle.il_verify.specs.Refusals.{ReachedInstr, HasDepthClash, FailsAt, HasOwnFault, IsFaultAt, IsTableUpTo, IsJoin, JumpsTo}
 use Rattle.il_verify.specs.Verdicts.{IsMeasured}
 use Rattle.il_verify.proofs.JudgeLemmas.{IsOwn, own-of, types-are}
 use Rattle.il_verify.proofs.LengthLemmas.{Lengths, is-budget, lengths-first, lengths-more, path-short}
@@ -137,7 +137,7 @@ pub measured : (image : Image) (done budget depth : ℕ) (frames : PlainFrames)
 measured image done budget depth frames p past some =
     let within : done ≤ length image.code = p.within in
     let end : done ≡ length image.code = omega arith in
-    let front = subst (λ (n : ℕ). IsFront image p.standing.table n) end p.standing.front in
+    let front = subst (λ (n : ℕ). IsTableUpTo image p.standing.table n) end p.standing.front in
     let first = front.passes 0 some (first-place image.code some) in
     record {
       safe = record {
@@ -174,7 +174,7 @@ fails-unreached image place budget depth frames p less none = (
 )
 
 own-fault-at : (image : Image) (table : Table) (place : ℕ) (fault : VerifyFault) → IsOwn fault
-    → HasOwn image table place fault → IsFaultAt image table place fault
+    → HasOwnFault image table place fault → IsFaultAt image table place fault
 own-fault-at image table place BadTarget own h = absurd own
 own-fault-at image table place Unreachable own h = absurd own
 own-fault-at image table place DepthClash own h = absurd own
@@ -190,7 +190,7 @@ module _ (image : Image) (place : ℕ) (instr : Instr) (next : ℕ) (come : Plai
       framed-some image p.standing.table place place (old place) come was
       (p.standing.framed place (omega arith))
 
-  abbrev arrives : Arrives image p.standing.table place
+  abbrev arrives : ReachedInstr image p.standing.table place
   arrives =
       record { instr = instr; next = next; kinds = come.kinds; here = here; joined = joined-here }
 
@@ -198,7 +198,7 @@ module _ (image : Image) (place : ℕ) (instr : Instr) (next : ℕ) (come : Plai
       → IsFaultAt image p.standing.table place fault → FailsAt image fault place
   stops fault less h = (p.standing.table, p.standing.front, (less, (p.number, p.numbered)), h)
 
-  misleads : (fault : VerifyFault) → MisLeads image instr next come fault
+  misleads : (fault : VerifyFault) → FailsTargets image instr next come fault
       → IsFaultAt image p.standing.table place fault
   misleads fault m = elim m.wrong [
     | inl w ↦ subst (IsFaultAt image p.standing.table place) (sym w.0)
@@ -222,7 +222,7 @@ module _ (image : Image) (place : ℕ) (instr : Instr) (next : ℕ) (come : Plai
         }))
   ]
 
-  collides : (c : Collides image instr next come old) → Clashes image p.standing.table place
+  collides : (c : FailsDepths image instr next come old) → HasDepthClash image p.standing.table place
   collides c =
       let leads = leads-join instr next c.to c.leads in
       let f : place < next = (goes-forward image.code place instr next here).0 in
@@ -264,8 +264,8 @@ module _ (image : Image) (place : ℕ) (instr : Instr) (next : ℕ) (come : Plai
 -- ---- the frame at a place does not matter to what its instruction does elsewhere
 
 where-beside : (P : ℕ → Type 0) (place : ℕ) (come : PlainFrame) (x : Option PlainFrame)
-    (old new : PlainFrames) → (P place → ⊥) → ((to : ℕ) → ComesWhere (P to) come (old to) (new to))
-    → (to : ℕ) → ComesWhere (P to) come (with_value_at place x old to)
+    (old new : PlainFrames) → (P place → ⊥) → ((to : ℕ) → JoinsFrameIf (P to) come (old to) (new to))
+    → (to : ℕ) → JoinsFrameIf (P to) come (with_value_at place x old to)
     (with_value_at place x new to)
 where-beside P place come x old new not-here each to = elim (cases_eq to place) [
   | inl e ↦ inr (
@@ -278,7 +278,7 @@ where-beside P place come x old new not-here each to = elim (cases_eq to place) 
       (
         c.1.0,
         beside-other place to x new ne ∙ c.1.1,
-        subst (λ (o : Option PlainFrame). Grows come o c.1.0) (sym (beside-other place to x old ne))
+        subst (λ (o : Option PlainFrame). JoinsFrame come o c.1.0) (sym (beside-other place to x old ne))
             c.1.2,
       ),
     )
@@ -287,7 +287,7 @@ where-beside P place come x old new not-here each to = elim (cases_eq to place) 
 ]
 
 leads-off : (code : List ℕ) (place : ℕ) (instr : Instr) (next : ℕ)
-    → instr_at code place ≡ Some (instr, next) → JumpsTo instr next place ⊎ GoesOn instr next place
+    → instr_at code place ≡ Some (instr, next) → JumpsTo instr next place ⊎ FallsTo instr next place
     → ⊥
 leads-off code place instr next here h = let less : place < place =
     leads-on code place place instr next here (leads-join instr next place h) in omega arith
@@ -304,7 +304,7 @@ visits-beside image place instr next come x old new here v = record {
   mid = with_value_at place x v.mid;
   jumps = where-beside (JumpsTo instr next) place _ x old v.mid
       (λ h. leads-off image.code place instr next here (inl h)) v.jumps;
-  falls = where-beside (GoesOn instr next) place _ x v.mid new
+  falls = where-beside (FallsTo instr next) place _ x v.mid new
       (λ h. leads-off image.code place instr next here (inr h)) v.falls;
 }
 
@@ -321,7 +321,7 @@ fails-beside image place instr next come x old fault here f = elim f [
         let on : place < d.to =
         leads-on image.code place d.to instr next here (leads-join instr next d.to d.leads) in
         let clash =
-        subst (λ (o : Option PlainFrame). Clashing o d.gives)
+        subst (λ (o : Option PlainFrame). HasOtherDepth o d.gives)
         (sym (beside-other place d.to x old (λ e. omega arith))) d.clash in
         inr (inr (
           c.0,

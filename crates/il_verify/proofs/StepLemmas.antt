@@ -11,10 +11,10 @@ use Rattle.il_image.specs.Effects.{kinds_after}
 use Rattle.il_image.specs.Images.{Image}
 use Rattle.il_image.specs.Kinds.{AreWithin}
 use Rattle.il_image.specs.Reading.{instr_at}
-use Rattle.il_image.specs.Tables.{IsPlace, LeadsTo, Table, offset_of}
+use Rattle.il_image.specs.Tables.{InstrBegins, LeadsTo, Table, offset_of}
 use Rattle.il_image.proofs.PlaceLemmas.{goes-forward}
-use Rattle.il_verify.specs.Frames.{ComesWhere, GoesOn, Grows, LeadsRight, PlainFrame, PlainFrames, Visits, with_value_at}
-use Rattle.il_verify.specs.Refusals.{Comes, IsFront, IsJoin, JumpsTo, Passes, kinds_after_in}
+use Rattle.il_verify.specs.Frames.{JoinsFrameIf, FallsTo, JoinsFrame, LeadsToInstrs, PlainFrame, PlainFrames, Visits, with_value_at}
+use Rattle.il_verify.specs.Refusals.{KindsReach, IsTableUpTo, IsJoin, JumpsTo, IsFaultless, kinds_after_instr}
 use Rattle.il_verify.proofs.EffectLemmas.{not-both}
 use Rattle.il_verify.proofs.FrameLemmas.{grows-along}
 use Rattle.il_verify.proofs.JudgeLemmas.{types-are}
@@ -26,14 +26,14 @@ use Rattle.il_verify.proofs.WithinLemmas.{all-within-along, within-length}
 -- ---- where an instruction leads
 
 pub leads-split : (i : Instr) (next to : ℕ) → LeadsTo i next to
-    → JumpsTo i next to ⊎ GoesOn i next to
+    → JumpsTo i next to ⊎ FallsTo i next to
 leads-split Halt next to h = absurd h
 leads-split (Jump Always distance) next to h = inl h
 leads-split (Jump IfTrue distance) next to h = elim h [ inl e ↦ inr (refl, e) | inr e ↦ inl e ]
 leads-split (Jump IfFalse distance) next to h = elim h [ inl e ↦ inr (refl, e) | inr e ↦ inl e ]
 leads-split i next to h = inr (refl, h)
 
-pub leads-join : (i : Instr) (next to : ℕ) → JumpsTo i next to ⊎ GoesOn i next to
+pub leads-join : (i : Instr) (next to : ℕ) → JumpsTo i next to ⊎ FallsTo i next to
     → LeadsTo i next to
 leads-join Halt next to h =
     elim h [ inl e ↦ absurd e | inr g ↦ absurd (let no : false ≡ true = g.0 in cc) ]
@@ -44,8 +44,8 @@ leads-join (Jump IfFalse distance) next to h = elim h [ inl e ↦ inr e | inr g 
 leads-join i next to h = elim h [ inl e ↦ absurd e | inr g ↦ g.1 ]
 
 comes-both : (P Q L : Type 0) (come : PlainFrame) (old mid new : Option PlainFrame) → (L → P ⊎ Q)
-    → (P ⊎ Q → L) → ComesWhere P come old mid → ComesWhere Q come mid new
-    → ComesWhere L come old new
+    → (P ⊎ Q → L) → JoinsFrameIf P come old mid → JoinsFrameIf Q come mid new
+    → JoinsFrameIf L come old new
 comes-both P Q L come old mid new split join h g = elim h [
   | inl a ↦ elim g [
     | inl b ↦ inl (
@@ -54,7 +54,7 @@ comes-both P Q L come old mid new split join h g = elim h [
         b.1.0,
         b.1.1,
         grows-along come old a.1.0 b.1.0 a.1.2
-            (subst (λ (o : Option PlainFrame). Grows come o b.1.0) a.1.1 b.1.2),
+            (subst (λ (o : Option PlainFrame). JoinsFrame come o b.1.0) a.1.1 b.1.2),
       ),
     )
     | inr b ↦ inl (join (inl a.0), (a.1.0, b.1 ∙ a.1.1, a.1.2))
@@ -62,7 +62,7 @@ comes-both P Q L come old mid new split join h g = elim h [
   | inr a ↦ elim g [
     | inl b ↦ inl (
       join (inr b.0),
-      (b.1.0, b.1.1, subst (λ (o : Option PlainFrame). Grows come o b.1.0) a.1 b.1.2),
+      (b.1.0, b.1.1, subst (λ (o : Option PlainFrame). JoinsFrame come o b.1.0) a.1 b.1.2),
     )
     | inr b ↦ inr ((λ l. elim (split l) [ inl p ↦ a.0 p | inr q ↦ b.0 q ]), b.1 ∙ a.1)
   ]
@@ -74,15 +74,15 @@ onward come gives = record { kinds = gives; longest = come.longest + 1 }
 -- an instruction brings its frame to each place that it leads to
 pub spreads : (image : Image) (instr : Instr) (next : ℕ) (come : PlainFrame) (old new : PlainFrames)
     (v : Visits image instr next come old new) (to : ℕ)
-    → ComesWhere (LeadsTo instr next to) (onward come v.gives) (old to) (new to)
+    → JoinsFrameIf (LeadsTo instr next to) (onward come v.gives) (old to) (new to)
 spreads image instr next come old new v to =
-    comes-both (JumpsTo instr next to) (GoesOn instr next to) (LeadsTo instr next to)
+    comes-both (JumpsTo instr next to) (FallsTo instr next to) (LeadsTo instr next to)
     (onward come v.gives) (old to) (v.mid to) (new to) (leads-split instr next to)
     (leads-join instr next to) (v.jumps to) (v.falls to)
 
 pub effect-there : (image : Image) (instr : Instr) (next : ℕ) (come : PlainFrame)
     (old new : PlainFrames) (v : Visits image instr next come old new)
-    → kinds_after_in image instr come.kinds ≡ Some v.gives
+    → kinds_after_instr image instr come.kinds ≡ Some v.gives
 effect-there image instr next come old new v =
     sym (ap (λ (types : List ElementaryType). kinds_after types (length image.timers) instr
     come.kinds)
@@ -91,11 +91,11 @@ effect-there image instr next come old new v =
 -- where it leads rightly is a place
 pub right-targets : (code : List ℕ) (number place : ℕ) (instr : Instr) (next to : ℕ)
     → offset_of code number ≡ Some place → instr_at code place ≡ Some (instr, next)
-    → LeadsRight code instr next → LeadsTo instr next to → IsPlace code to
+    → LeadsToInstrs code instr next → LeadsTo instr next to → InstrBegins code to
 right-targets code number place instr next to numbered here right leads =
     elim (leads-split instr next to leads) [
       | inl j ↦ right.jumps to j
-      | inr g ↦ subst (IsPlace code) (sym g.1)
+      | inr g ↦ subst (InstrBegins code) (sym g.1)
           (right.falls g.0, (suc number, place-behind code number place instr next numbered here))
     ]
 
@@ -109,7 +109,7 @@ same-back done t u h q less = sym (h q less)
 
 comes-keep : (image : Image) (done to : ℕ) (t u : Table) (kinds : List CellKind)
     → SameBefore done t u
-    → Comes image t done to kinds → Comes image u done to kinds
+    → KindsReach image t done to kinds → KindsReach image u done to kinds
 comes-keep image done to t u kinds same c = elim c [
   | inl e ↦ inl e
   | inr d ↦ (let f = d.2 in
@@ -142,11 +142,11 @@ join-keep image done to t u kinds same m = record {
 
 -- Nothing comes to the place, or the frame has the least kinds above what comes there.
 abbrev pub Framed : Image → Table → ℕ → ℕ → Option PlainFrame → Type 0
-Framed image table done q None = (kinds : List CellKind) → Comes image table done q kinds → ⊥
+Framed image table done q None = (kinds : List CellKind) → KindsReach image table done q kinds → ⊥
 Framed image table done q (Some m) = IsJoin image table done q m.kinds
 
 pub framed-none : (image : Image) (table : Table) (done q : ℕ) (o : Option PlainFrame) → o ≡ None
-    → Framed image table done q o → (kinds : List CellKind) → Comes image table done q kinds → ⊥
+    → Framed image table done q o → (kinds : List CellKind) → KindsReach image table done q kinds → ⊥
 framed-none image table done q o e h = subst (Framed image table done q) e h
 
 pub framed-some : (image : Image) (table : Table) (done q : ℕ) (o : Option PlainFrame)
@@ -156,9 +156,9 @@ framed-some image table done q o m e h = subst (Framed image table done q) e h
 -- a table up to a place, and the frames from there on
 pub record Standing (image : Image) (done : ℕ) (frames : PlainFrames) : Type 0 where
   pub table : Table
-  pub front : IsFront image table done
+  pub front : IsTableUpTo image table done
   pub framed : (q : ℕ) → done ≤ q → Framed image table done q (frames q)
-  pub places : (q : ℕ) (m : PlainFrame) → done ≤ q → frames q ≡ Some m → IsPlace image.code q
+  pub places : (q : ℕ) (m : PlainFrame) → done ≤ q → frames q ≡ Some m → InstrBegins image.code q
 
 module _ (image : Image) (place : ℕ) (instr : Instr) (next : ℕ) (come : PlainFrame)
     (old new : PlainFrames) (number : ℕ) (numbered : offset_of image.code number ≡ Some place)
@@ -174,7 +174,7 @@ module _ (image : Image) (place : ℕ) (instr : Instr) (next : ℕ) (come : Plai
   within : next ≤ length image.code
   within = (goes-forward image.code place instr next here).1
 
-  is_place : IsPlace image.code place
+  is_place : InstrBegins image.code place
   is_place = let f : place < next = forward in let w : next ≤ length image.code =
       within in (omega arith, (number, numbered))
 
@@ -187,10 +187,10 @@ module _ (image : Image) (place : ℕ) (instr : Instr) (next : ℕ) (come : Plai
   same-so-far : SameBefore place s.table table_more
   same-so-far q less = sym (not-at q (λ e. omega arith))
 
-  effect_is : kinds_after_in image instr come.kinds ≡ Some v.gives
+  effect_is : kinds_after_instr image instr come.kinds ≡ Some v.gives
   effect_is = effect-there image instr next come old new v
 
-  from-here : (q : ℕ) → LeadsTo instr next q → Comes image table_more next q v.gives
+  from-here : (q : ℕ) → LeadsTo instr next q → KindsReach image table_more next q v.gives
   from-here q leads =
       inr (
         place,
@@ -206,16 +206,16 @@ module _ (image : Image) (place : ℕ) (instr : Instr) (next : ℕ) (come : Plai
         },
       )
 
-  comes-more : (q : ℕ) (kinds : List CellKind) → Comes image s.table place q kinds
-      → Comes image table_more next q kinds
+  comes-more : (q : ℕ) (kinds : List CellKind) → KindsReach image s.table place q kinds
+      → KindsReach image table_more next q kinds
   comes-more q kinds c = elim (comes-keep image place q s.table table_more kinds same-so-far c) [
     | inl e ↦ inl e
     | inr d ↦ (let less : d.0 < place = d.1 in let f : place < next = forward in
         inr (d.0, omega arith, d.2))
   ]
 
-  comes-split : (q : ℕ) (kinds : List CellKind) → Comes image table_more next q kinds
-      → Comes image s.table place q kinds ⊎ (LeadsTo instr next q × (v.gives ≡ kinds))
+  comes-split : (q : ℕ) (kinds : List CellKind) → KindsReach image table_more next q kinds
+      → KindsReach image s.table place q kinds ⊎ (LeadsTo instr next q × (v.gives ≡ kinds))
   comes-split q kinds c = elim c [
     | inl e ↦ inl (inl e)
     | inr d ↦ (let f = d.2 in elim (cases_eq d.0 place) [
@@ -225,8 +225,8 @@ module _ (image : Image) (place : ℕ) (instr : Instr) (next : ℕ) (come : Plai
           let known : f.before ≡ come.kinds =
           same_Some f.before come.kinds (sym f.known ∙ ap table_more e ∙ at_place) in
           let gives : Some kinds ≡ Some v.gives =
-          sym f.gives ∙ ap (λ (j : Instr). kinds_after_in image j f.before) same.0
-          ∙ ap (kinds_after_in image instr) known ∙ effect_is in
+          sym f.gives ∙ ap (λ (j : Instr). kinds_after_instr image j f.before) same.0
+          ∙ ap (kinds_after_instr image instr) known ∙ effect_is in
           inr (
             subst (λ (n : ℕ). LeadsTo instr n q) same.1
                 (subst (λ (j : Instr). LeadsTo j f.next q) same.0 f.leads),
@@ -256,7 +256,7 @@ module _ (image : Image) (place : ℕ) (instr : Instr) (next : ℕ) (come : Plai
   framed-before q h = let f : place < next = forward in s.framed q (omega arith)
 
   above-before : (q : ℕ) (others : List CellKind) (top : List CellKind) → next ≤ q
-      → Comes image s.table place q others
+      → KindsReach image s.table place q others
       → ((m : PlainFrame) → old q ≡ Some m → AreWithin m.kinds top) → AreWithin others top
   above-before q others top h c keeps = go (old q) refl
     where
@@ -268,7 +268,7 @@ module _ (image : Image) (place : ℕ) (instr : Instr) (next : ℕ) (come : Plai
           (keeps m e)
 
   joined-new : (q : ℕ) (frame : PlainFrame) → next ≤ q → LeadsTo instr next q
-      → Grows (onward come v.gives) (old q) frame → IsJoin image table_more next q frame.kinds
+      → JoinsFrame (onward come v.gives) (old q) frame → IsJoin image table_more next q frame.kinds
   joined-new q frame h leads grows = record {
     some = (v.gives, from-here q leads);
     above = λ others c. elim (comes-split q others c) [
@@ -298,10 +298,10 @@ module _ (image : Image) (place : ℕ) (instr : Instr) (next : ℕ) (come : Plai
         (framed-old q (old q) c.0 (framed-before q h))
   ]
 
-  targets : (to : ℕ) → LeadsTo instr next to → IsPlace image.code to
+  targets : (to : ℕ) → LeadsTo instr next to → InstrBegins image.code to
   targets to leads = right-targets image.code number place instr next to numbered here v.right leads
 
-  pub places-more : (q : ℕ) (m : PlainFrame) → next ≤ q → new q ≡ Some m → IsPlace image.code q
+  pub places-more : (q : ℕ) (m : PlainFrame) → next ≤ q → new q ≡ Some m → InstrBegins image.code q
   places-more q m h is = elim (spreads image instr next come old new v q) [
     | inl c ↦ targets q c.0
     | inr c ↦ (let f : place < next = forward in s.places q m (omega arith) (sym c.1 ∙ is))
@@ -314,7 +314,7 @@ module _ (image : Image) (place : ℕ) (instr : Instr) (next : ℕ) (come : Plai
       framed-some image s.table place place (old place) come was (s.framed place (omega arith))
 
   depths-here : (to : ℕ) → LeadsTo instr next to → (others : List CellKind)
-      → Comes image table_more place to others → length others ≡ length v.gives
+      → KindsReach image table_more place to others → length others ≡ length v.gives
   depths-here to leads others c = elim (spreads image instr next come old new v to) [
     | inl d ↦
         (let n : next ≤ to = leads-forward instr next to leads in
@@ -327,7 +327,7 @@ module _ (image : Image) (place : ℕ) (instr : Instr) (next : ℕ) (come : Plai
     | inr d ↦ absurd (d.0 leads)
   ]
 
-  passes-here : Passes image table_more place
+  passes-here : IsFaultless image table_more place
   passes-here =
       record {
         instr = instr;
@@ -342,7 +342,7 @@ module _ (image : Image) (place : ℕ) (instr : Instr) (next : ℕ) (come : Plai
         depths = depths-here;
       }
 
-  passes-before : (q : ℕ) → q < place → IsPlace image.code q → Passes image table_more q
+  passes-before : (q : ℕ) → q < place → InstrBegins image.code q → IsFaultless image table_more q
   passes-before q less is =
       let p = s.front.passes q less is in
       let same : SameBefore q s.table table_more = λ r before. same-so-far r (omega arith) in
@@ -362,11 +362,11 @@ module _ (image : Image) (place : ℕ) (instr : Instr) (next : ℕ) (come : Plai
             c);
       }
 
-  pub front-more : IsFront image table_more next
+  pub front-more : IsTableUpTo image table_more next
   front-more = record {
     only = λ q kinds is. elim (cases_eq q place) [
       | inl e ↦ (let f : place < next = forward in
-          (omega arith, subst (IsPlace image.code) (sym e) is_place))
+          (omega arith, subst (InstrBegins image.code) (sym e) is_place))
       | inr ne ↦ (let o = s.front.only q kinds (sym (not-at q ne) ∙ is) in
           let less : q < place = o.0 in let f : place < next = forward in (omega arith, o.1))
     ];
@@ -387,7 +387,7 @@ module _ (image : Image) (place : ℕ) (instr : Instr) (next : ℕ) (come : Plai
     passes = λ q less is. elim (cases_lt q place) [
       | inl before ↦ passes-before q before is
       | inr after_it ↦ elim (cases_eq q place) [
-        | inl e ↦ subst (Passes image table_more) (sym e) passes-here
+        | inl e ↦ subst (IsFaultless image table_more) (sym e) passes-here
         | inr ne ↦ absurd (let past : next ≤ q =
             none-between image.code number is.1.0 place q instr next numbered here is.1.1
             (omega arith) in omega arith)
@@ -401,7 +401,7 @@ module _ (image : Image) (place : ℕ) (instr : Instr) (next : ℕ) (come : Plai
 
 -- ---- the first place alone is to come
 
-pub empty-front : (image : Image) → IsFront image (λ q. None) 0
+pub empty-front : (image : Image) → IsTableUpTo image (λ q. None) 0
 empty-front image = record {
   only = λ q kinds is. absurd cc;
   joined = λ q kinds is. absurd cc;
@@ -409,7 +409,7 @@ empty-front image = record {
 }
 
 pub nothing-from : (image : Image) (q : ℕ) (kinds : List CellKind) → (q ≡ 0 → ⊥)
-    → Comes image (λ p. None) 0 q kinds → ⊥
+    → KindsReach image (λ p. None) 0 q kinds → ⊥
 nothing-from image q kinds ne c =
     elim c [ inl e ↦ ne e.0 | inr d ↦ (let less : d.0 < 0 = d.1 in omega arith) ]
 
@@ -437,7 +437,7 @@ standing_first image frames come some is empty none = record {
         (λ kinds c. nothing-from image q kinds ne c)
   ];
   places = λ q m h here. elim (cases_eq q 0) [
-    | inl e ↦ subst (IsPlace image.code) (sym e) (some, (0, refl))
+    | inl e ↦ subst (InstrBegins image.code) (sym e) (some, (0, refl))
     | inr ne ↦ absurd (not-both (frames q) m (none q ne) here)
   ];
 }

@@ -14,16 +14,16 @@ use Rattle.il_image.specs.Effects.{kinds_after}
 use Rattle.il_image.specs.Images.{Image}
 use Rattle.il_image.specs.Kinds.{AreWithin}
 use Rattle.il_image.specs.Reading.{instr_at}
-use Rattle.il_image.specs.Tables.{Agrees, Enters, HasTable, IsAllowed, IsPlace, IsSuccessor, LeadsTo, Table, slot_types}
+use Rattle.il_image.specs.Tables.{Agrees, FitsTable, HasTable, IsAllowed, InstrBegins, IsSuccessor, LeadsTo, Table, slot_types}
 use Rattle.il_image.proofs.PlaceLemmas.{goes-forward}
 use Rattle.il_image.specs.Machine.{most_cells}
 use Rattle.il_verify.specs.declared.fault.VerifyFault.{VerifyFault}
 use Rattle.il_verify.specs.declared.fault.VerifyFault.TheVariants.{StackEmpty, StackFull, WrongKind, ZeroDivisor, NoSlot, NoTimer, BadTarget, Unreachable, DepthClash, NoHalt, BadBinding, OutOfMemory}
 use Rattle.il_verify.specs.Binding.{fits}
 use Rattle.il_verify.specs.Judging.{fault_of}
-use Rattle.il_verify.specs.Refusals.{Arrives, Clashes, Comes, GoesPast, IsFaultAt, IsFront, IsJoin, IsRefusal, JumpsBadly, JumpsTo, Passes, kinds_after_in, own_fault}
+use Rattle.il_verify.specs.Refusals.{ReachedInstr, HasDepthClash, KindsReach, RunsPastEnd, IsFaultAt, IsTableUpTo, IsJoin, IsRefusal, HasBadJump, JumpsTo, IsFaultless, kinds_after_instr, own_fault}
 use Rattle.il_verify.specs.Slots.{slots_of, types_of}
-use Rattle.il_verify.specs.Verdicts.{IsDepth, IsLongest, IsSafe, KeepsReadOnly}
+use Rattle.il_verify.specs.Verdicts.{IsDepth, IsLongest, IsSafe, WritesNoReadOnly}
 use Rattle.il_verify.proofs.EffectLemmas.{effect-lower, not-both}
 use Rattle.il_verify.proofs.JudgeLemmas.{allowed-faultless, faultless-fine, types-are}
 use Rattle.il_verify.proofs.WithinLemmas.{all-within-along, within-length, within-none}
@@ -74,14 +74,14 @@ is-some-of : {A : Type 0} (o : Option A) (x : A) → o ≡ Some x → IsSome o
 is-some-of None x e = absurd cc
 is-some-of (Some y) x e = refl
 
-pub first-place : (code : List ℕ) → 0 < length code → IsPlace code 0
+pub first-place : (code : List ℕ) → 0 < length code → InstrBegins code 0
 first-place code h = (h, (0, refl))
 
 -- ---- the least table agrees
 
 -- What passes, told by the instruction and the kinds that are there.
 passed-fault : (image : Image) (table : Table) (place : ℕ) (i : Instr) (next : ℕ)
-    (kinds : List CellKind) → Passes image table place → instr_at image.code place ≡ Some (i, next)
+    (kinds : List CellKind) → IsFaultless image table place → instr_at image.code place ≡ Some (i, next)
     → table place ≡ Some kinds
     → fault_of (slots_of image) (length image.timers) i kinds ≡ None
 passed-fault image table place i next kinds p here known =
@@ -91,9 +91,9 @@ passed-fault image table place i next kinds p here known =
     ∙ ap (fault_of (slots_of image) (length image.timers) p.instr) (sym its) ∙ p.faultless
 
 few-behind : (image : Image) (table : Table) (place : ℕ) (i : Instr) (next : ℕ)
-    (kinds gives : List CellKind) → Passes image table place
+    (kinds gives : List CellKind) → IsFaultless image table place
     → instr_at image.code place ≡ Some (i, next) → table place ≡ Some kinds
-    → kinds_after_in image i kinds ≡ Some gives → length gives ≤ most_cells
+    → kinds_after_instr image i kinds ≡ Some gives → length gives ≤ most_cells
 few-behind image table place i next kinds gives p here known effect_is =
     (faultless-fine (slots_of image) (length image.timers) i kinds
     (passed-fault image table place i next kinds p here known)).room gives
@@ -101,7 +101,7 @@ few-behind image table place i next kinds gives p here known effect_is =
     (types-are image) ∙ effect_is)
 
 -- What comes to a place together has at most 32 kinds.
-pub join-room : (image : Image) (table : Table) (done : ℕ) → IsFront image table done
+pub join-room : (image : Image) (table : Table) (done : ℕ) → IsTableUpTo image table done
     → (bound to : ℕ) (kinds : List CellKind) → IsJoin image table bound to kinds
     → length kinds ≤ most_cells
 join-room image table done front bound to kinds m =
@@ -118,14 +118,14 @@ join-room image table done front bound to kinds m =
           omega arith)
     ]
 
-module _ (image : Image) (table : Table) (front : IsFront image table (length image.code)) where
-  enters-next : (place : ℕ) (p : Passes image table place) (to : ℕ) → LeadsTo p.instr p.next to
-      → Enters table to p.gives
+module _ (image : Image) (table : Table) (front : IsTableUpTo image table (length image.code)) where
+  enters-next : (place : ℕ) (p : IsFaultless image table place) (to : ℕ) → LeadsTo p.instr p.next to
+      → FitsTable table to p.gives
   enters-next place p to way =
       let target = p.targets to way in
       let q = front.passes to target.0 target in
       let forward : place < to = leads-on image.code place to p.instr p.next p.here way in
-      let comes : Comes image table to to p.gives =
+      let comes : KindsReach image table to to p.gives =
       inr (
         place,
         forward,
@@ -152,7 +152,7 @@ module _ (image : Image) (table : Table) (front : IsFront image table (length im
         next = p.next;
         after = p.gives;
         here = p.here;
-        effect = ap (kinds_after_in image p.instr) (sym its) ∙ p.effect;
+        effect = ap (kinds_after_instr image p.instr) (sym its) ∙ p.effect;
         enters = enters-next place p;
       }
 
@@ -162,8 +162,8 @@ module _ (image : Image) (table : Table) (front : IsFront image table (length im
       join-room image table (length image.code) front place place kinds
       (front.joined place kinds is)
 
-  reached-there : (place : ℕ) → IsPlace image.code place → (place ≡ 0 → ⊥)
-      → (from : ℕ) × IsPlace image.code from × IsSuccessor image.code from place
+  reached-there : (place : ℕ) → InstrBegins image.code place → (place ≡ 0 → ⊥)
+      → (from : ℕ) × InstrBegins image.code from × IsSuccessor image.code from place
   reached-there place is ne =
       let p = front.passes place is.0 is in
       let m = front.joined place p.kinds p.known in
@@ -195,7 +195,7 @@ module _ (image : Image) (table : Table) (front : IsFront image table (length im
     reached = reached-there;
   }
 
-  pub keeps-read-only : KeepsReadOnly image
+  pub keeps-read-only : WritesNoReadOnly image
   keeps-read-only place i next is here =
       let p = front.passes place is.0 is in
       (faultless-fine (slots_of image) (length image.timers) i p.kinds
@@ -203,16 +203,16 @@ module _ (image : Image) (table : Table) (front : IsFront image table (length im
 
 -- ---- every table that agrees lies above the least one
 
-module _ (image : Image) (table : Table) (done : ℕ) (front : IsFront image table done)
+module _ (image : Image) (table : Table) (done : ℕ) (front : IsTableUpTo image table done)
     (other : Table) (agrees_so : Agrees image other) where
-  top-at : (place : ℕ) → IsPlace image.code place → (top : List CellKind) × (other place ≡ Some top)
+  top-at : (place : ℕ) → InstrBegins image.code place → (top : List CellKind) × (other place ≡ Some top)
   top-at place is = value_of (other place) ((agrees_so.places place).1 is)
 
   -- what comes to a place is within what the other table has there, if that is so of the places
   -- before
   comes-within : (bound to : ℕ) (top others : List CellKind) → other to ≡ Some top
-      → ((q : ℕ) (kinds : List CellKind) → q < bound → table q ≡ Some kinds → Enters other q kinds)
-      → Comes image table bound to others → AreWithin others top
+      → ((q : ℕ) (kinds : List CellKind) → q < bound → table q ≡ Some kinds → FitsTable other q kinds)
+      → KindsReach image table bound to others → AreWithin others top
   comes-within bound to top others is below comes = elim comes [
     | inl e ↦
         (let same : [] ≡ top = same_Some [] top (sym agrees_so.starts ∙ ap other (sym e.0) ∙ is) in
@@ -226,7 +226,7 @@ module _ (image : Image) (table : Table) (done : ℕ) (front : IsFront image tab
         e.2 a.effect in
         let its : l.lower ≡ others =
         same_Some l.lower others
-        (sym l.is ∙ ap (λ (j : Instr). kinds_after_in image j f.before) same.0 ∙ f.gives) in
+        (sym l.is ∙ ap (λ (j : Instr). kinds_after_instr image j f.before) same.0 ∙ f.gives) in
         let leads : LeadsTo a.instr a.next to =
         subst (λ (n : ℕ). LeadsTo a.instr n to) (sym same.1)
         (subst (λ (j : Instr). LeadsTo j f.next to) (sym same.0) f.leads) in
@@ -236,38 +236,38 @@ module _ (image : Image) (table : Table) (done : ℕ) (front : IsFront image tab
         (subst (AreWithin l.lower) most (all-within-along l.lower a.after g.0 l.within g.2)))
   ]
 
-  join-enters : (place : ℕ) (kinds : List CellKind) → IsPlace image.code place
-      → ((q : ℕ) (known : List CellKind) → q < place → table q ≡ Some known → Enters other q known)
-      → IsJoin image table place place kinds → Enters other place kinds
+  join-enters : (place : ℕ) (kinds : List CellKind) → InstrBegins image.code place
+      → ((q : ℕ) (known : List CellKind) → q < place → table q ≡ Some known → FitsTable other q known)
+      → IsJoin image table place place kinds → FitsTable other place kinds
   join-enters place kinds is below m =
       let t = top-at place is in
       (t.0, t.1, m.least t.0 (λ others comes. comes-within place place t.0 others t.1 below comes))
 
   all-below : (n q : ℕ) (kinds : List CellKind) → q < n → table q ≡ Some kinds
-      → Enters other q kinds
+      → FitsTable other q kinds
   all-below zero q kinds h is = absurd (omega arith)
   all-below (suc n) q kinds h is =
       join-enters q kinds (front.only q kinds is).1
       (λ from known before was. all-below n from known (omega arith) was)
       (front.joined q kinds is)
 
-  pub lies-above : (q : ℕ) (kinds : List CellKind) → table q ≡ Some kinds → Enters other q kinds
+  pub lies-above : (q : ℕ) (kinds : List CellKind) → table q ≡ Some kinds → FitsTable other q kinds
   lies-above q kinds is = all-below (suc q) q kinds (omega arith) is
 
   -- what the instruction at a place does on the least kinds before it
-  record Does (place : ℕ) (a : Arrives image table place) : Type 0 where
+  record Does (place : ℕ) (a : ReachedInstr image table place) : Type 0 where
     gives : List CellKind
-    effect_is : kinds_after_in image a.instr a.kinds ≡ Some gives
-    enters : (to : ℕ) → LeadsTo a.instr a.next to → Enters other to gives
+    effect_is : kinds_after_instr image a.instr a.kinds ≡ Some gives
+    enters : (to : ℕ) → LeadsTo a.instr a.next to → FitsTable other to gives
     room : length gives ≤ most_cells
 
   halts-small : (i : Instr) (kinds gives : List CellKind) → i ≡ Halt
-      → kinds_after_in image i kinds ≡ Some gives
+      → kinds_after_instr image i kinds ≡ Some gives
       → kinds ≡ gives
   halts-small i kinds gives e is =
-      same_Some kinds gives (ap (λ (j : Instr). kinds_after_in image j kinds) (sym e) ∙ is)
+      same_Some kinds gives (ap (λ (j : Instr). kinds_after_instr image j kinds) (sym e) ∙ is)
 
-  does : (place : ℕ) (a : Arrives image table place) → IsPlace image.code place → Does place a
+  does : (place : ℕ) (a : ReachedInstr image table place) → InstrBegins image.code place → Does place a
   does place a is =
       let e = join-enters place a.kinds is (λ q known before was. lies-above q known was) a.joined
       in
@@ -275,9 +275,9 @@ module _ (image : Image) (table : Table) (done : ℕ) (front : IsFront image tab
       let same = same-instr image.code place b.instr a.instr b.next a.next b.here a.here in
       let l = effect-lower (slot_types image) (length image.timers) b.instr a.kinds e.0 b.after e.2
       b.effect in
-      let effect-there : kinds_after_in image a.instr a.kinds ≡ Some l.lower =
-      ap (λ (j : Instr). kinds_after_in image j a.kinds) (sym same.0) ∙ l.is in
-      let enters_there : (to : ℕ) → LeadsTo a.instr a.next to → Enters other to l.lower = λ to way.
+      let effect-there : kinds_after_instr image a.instr a.kinds ≡ Some l.lower =
+      ap (λ (j : Instr). kinds_after_instr image j a.kinds) (sym same.0) ∙ l.is in
+      let enters_there : (to : ℕ) → LeadsTo a.instr a.next to → FitsTable other to l.lower = λ to way.
       let g = b.enters to (subst (λ (n : ℕ). LeadsTo b.instr n to) (sym same.1)
       (subst (λ (j : Instr). LeadsTo j a.next to) (sym same.0) way)) in
       (g.0, g.1, all-within-along l.lower b.after g.0 l.within g.2) in
@@ -301,11 +301,11 @@ module _ (image : Image) (table : Table) (done : ℕ) (front : IsFront image tab
         ];
       }
 
-  place-of-entry : (to : ℕ) (kinds : List CellKind) → Enters other to kinds → IsPlace image.code to
+  place-of-entry : (to : ℕ) (kinds : List CellKind) → FitsTable other to kinds → InstrBegins image.code to
   place-of-entry to kinds e = (agrees_so.places to).0 (is-some-of (other to) e.0 e.1)
 
-  module _ (writes : KeepsReadOnly image) (place : ℕ) (is : IsPlace image.code place) where
-    no-own : (fault : VerifyFault) (a : Arrives image table place) → own_fault a ≡ Some fault → ⊥
+  module _ (writes : WritesNoReadOnly image) (place : ℕ) (is : InstrBegins image.code place) where
+    no-own : (fault : VerifyFault) (a : ReachedInstr image table place) → own_fault a ≡ Some fault → ⊥
     no-own fault a e =
         let d = does place a is in
         let effect-so : kinds_after (types_of (slots_of image)) (length image.timers) a.instr
@@ -318,12 +318,12 @@ module _ (image : Image) (table : Table) (done : ℕ) (front : IsFront image tab
         (allowed-faultless (slots_of image) (length image.timers) a.instr a.kinds d.gives
         effect-so (writes place a.instr a.next is a.here) d.room) e
 
-    no-bad-jump : JumpsBadly image table place → ⊥
+    no-bad-jump : HasBadJump image table place → ⊥
     no-bad-jump j = let d = does place j.at is in
         j.bad (place-of-entry j.to d.gives
         (d.enters j.to (leads-by-jump j.at.instr j.at.next j.to j.jumps)))
 
-    no_end : GoesPast image table place → ⊥
+    no_end : RunsPastEnd image table place → ⊥
     no_end g =
         let d = does place g.at is in
         let p = place-of-entry g.at.next d.gives (d.enters g.at.next g.leads) in
@@ -331,7 +331,7 @@ module _ (image : Image) (table : Table) (done : ℕ) (front : IsFront image tab
         let past : g.at.next ≡ length image.code = g.past in
         absurd (omega arith)
 
-    no-clash : Clashes image table place → ⊥
+    no-clash : HasDepthClash image table place → ⊥
     no-clash c =
         let d = does place c.at is in
         let same : d.gives ≡ c.gives = same_Some d.gives c.gives (sym d.effect_is ∙ c.effect) in
@@ -343,9 +343,9 @@ module _ (image : Image) (table : Table) (done : ℕ) (front : IsFront image tab
         c.comes) in
         c.unequal (theirs ∙ sym size ∙ ap length same)
 
-  pub reaches : (passes : (q : ℕ) → q < done → IsPlace image.code q → Passes image table q)
-      (place : ℕ) → place ≤ done → IsPlace image.code place
-      → ((kinds : List CellKind) → Comes image table place place kinds → ⊥) → ⊥
+  pub reaches : (passes : (q : ℕ) → q < done → InstrBegins image.code q → IsFaultless image table q)
+      (place : ℕ) → place ≤ done → InstrBegins image.code place
+      → ((kinds : List CellKind) → KindsReach image table place place kinds → ⊥) → ⊥
   reaches passes place least is nothing = elim (cases_eq place 0) [
     | inl e ↦ nothing [] (inl (e, refl))
     | inr ne ↦
@@ -373,7 +373,7 @@ module _ (image : Image) (table : Table) (done : ℕ) (front : IsFront image tab
         )))
   ]
 
-  pub no_fault : KeepsReadOnly image → (fault : VerifyFault) → IsPlace image.code done
+  pub no_fault : WritesNoReadOnly image → (fault : VerifyFault) → InstrBegins image.code done
       → IsFaultAt image table done fault → ⊥
   no_fault writes Unreachable is h = reaches front.passes done (omega arith) is h
   no_fault writes BadTarget is h = no-bad-jump writes done is h
@@ -390,7 +390,7 @@ module _ (image : Image) (table : Table) (done : ℕ) (front : IsFront image tab
 
 -- ---- the longest list
 
-longest-so : (image : Image) (table : Table) → IsFront image table (length image.code) → (depth : ℕ)
+longest-so : (image : Image) (table : Table) → IsTableUpTo image table (length image.code) → (depth : ℕ)
     → IsLongest table depth → (other : Table) → Agrees image other → IsLongest other depth
 longest-so image table front depth l other agrees_so = record {
   some =
@@ -409,7 +409,7 @@ longest-so image table front depth l other agrees_so = record {
       omega arith;
 }
 
-pub is-depth : (image : Image) (table : Table) → IsFront image table (length image.code)
+pub is-depth : (image : Image) (table : Table) → IsTableUpTo image table (length image.code)
     → 0 < length image.code → (depth : ℕ) → IsLongest table depth → IsDepth image depth
 is-depth image table front some depth l =
     record {

@@ -11,7 +11,7 @@ use Rattle.il_image.specs.Effects.{kinds_after}
 use Rattle.il_image.specs.Images.{Image}
 use Rattle.il_verify.specs.declared.fault.VerifyFault.{VerifyFault}
 use Rattle.il_verify.specs.declared.slots.SlotType.{SlotType}
-use Rattle.il_verify.specs.Frames.{Clashing, Jumps, JumpsWrong, PlainFrame, PlainFrames, MarksPlaces}
+use Rattle.il_verify.specs.Frames.{HasOtherDepth, Jumps, JumpsToNoInstr, PlainFrame, PlainFrames, MarksInstrs}
 use Rattle.il_verify.specs.Judging.{fault_of}
 use Rattle.il_verify.specs.Slots.{slots_of, types_of}
 use Rattle.il_verify.proofs.WithinLemmas.{within-length}
@@ -34,8 +34,8 @@ effect-so image slots timers instr kinds o e f is =
 
 -- A clash after the jump was one before it: what the jump brought has as many kinds.
 pub clash-before : (instr : Instr) (next : ℕ) (come : PlainFrame) (old mid : PlainFrames)
-    → Jumps instr next come old mid → Clashing (mid next) come.kinds
-    → Clashing (old next) come.kinds
+    → Jumps instr next come old mid → HasOtherDepth (mid next) come.kinds
+    → HasOtherDepth (old next) come.kinds
 clash-before instr next come old mid jumps clash = elim (jumps next) [
   | inl c ↦
       absurd (let same : c.1.0 ≡ clash.0 = same_Some c.1.0 clash.0 (sym c.1.1 ∙ clash.1) in
@@ -49,12 +49,12 @@ on_false true P f = tt
 on_false false P f = f refl
 
 pub jumps_wrong : (code : List ℕ) (starts : List Bool) (instr : Instr) (when : When)
-    (next distance : ℕ) (b : Bool) → MarksPlaces code starts → instr ≡ Jump when distance → IsTrue b
+    (next distance : ℕ) (b : Bool) → MarksInstrs code starts → instr ≡ Jump when distance → IsTrue b
     ↔ (slice_get starts (next + distance) ≡ Some true)
-    → OnFalse b (JumpsWrong code instr next)
+    → OnFalse b (JumpsToNoInstr code instr next)
 jumps_wrong code starts instr when next distance b marks is says =
-    on_false b (JumpsWrong code instr next) (λ off.
-    subst (λ (i : Instr). JumpsWrong code i next) (sym is)
+    on_false b (JumpsToNoInstr code instr next) (λ off.
+    subst (λ (i : Instr). JumpsToNoInstr code i next) (sym is)
     (record {
       to = next + distance;
       jumps = refl;

@@ -8,7 +8,7 @@ use Rattle.il_image.specs.declared.opcode.When.TheVariants.{Always, IfTrue, IfFa
 use Rattle.il_image.specs.Effects.{kinds_after}
 use Rattle.il_image.specs.Images.{Image}
 use Rattle.il_image.specs.Kinds.{AreWithin, join}
-use Rattle.il_image.specs.Tables.{IsPlace}
+use Rattle.il_image.specs.Tables.{InstrBegins}
 use Rattle.il_verify.specs.declared.fault.VerifyFault.{VerifyFault}
 use Rattle.il_verify.specs.declared.fault.VerifyFault.TheVariants.{BadTarget, DepthClash, NoHalt}
 use Rattle.il_verify.specs.declared.frame.Frame.{Frame}
@@ -20,14 +20,14 @@ use Rattle.il_verify.specs.Slots.{slots_of, types_of}
 -- ---- what the pass looks up
 
 -- The list is true exactly at the offsets of the code's instructions.
-abbrev pub MarksPlaces : List ℕ → List Bool → Type 0
-MarksPlaces code starts = (place : ℕ) → (slice_get starts place ≡ Some true) ↔ IsPlace code place
+abbrev pub MarksInstrs : List ℕ → List Bool → Type 0
+MarksInstrs code starts = (place : ℕ) → (slice_get starts place ≡ Some true) ↔ InstrBegins code place
 
 -- The plan is that of the image.
 pub record IsPlan (image : Image) (plan : Plan) : Type 0 where
   pub slots : plan.slots.items ≡ slots_of image
   pub timers : plan.timers ≡ length image.timers
-  pub starts : MarksPlaces image.code plan.starts.items
+  pub starts : MarksInstrs image.code plan.starts.items
   pub size : length plan.starts.items ≡ length image.code
 
 -- ---- plain frames
@@ -59,7 +59,7 @@ with_value_at place known others q = if q == place then known else others q
 
 -- Another path leads to an offset: the new frame is the join of the old one, if there is one, and
 -- of `come`, the frame that the path brings.
-pub record Grows (come : PlainFrame) (old : Option PlainFrame) (new : PlainFrame) : Type 0 where
+pub record JoinsFrame (come : PlainFrame) (old : Option PlainFrame) (new : PlainFrame) : Type 0 where
   pub over : AreWithin come.kinds new.kinds
   pub keeps : (m : PlainFrame) → old ≡ Some m → AreWithin m.kinds new.kinds
   pub least : (top : List CellKind) → AreWithin come.kinds top
@@ -70,13 +70,13 @@ pub record Grows (come : PlainFrame) (old : Option PlainFrame) (new : PlainFrame
       ⊎ ((m : PlainFrame) × (old ≡ Some m) × (new.longest ≡ m.longest))
 
 -- If P holds, a path brings the frame `come`; otherwise the frame is unchanged.
-abbrev pub ComesWhere : Type 0 → PlainFrame → Option PlainFrame → Option PlainFrame → Type 0
-ComesWhere P come old new = (P × ((frame : PlainFrame) × (new ≡ Some frame) × Grows come old frame))
+abbrev pub JoinsFrameIf : Type 0 → PlainFrame → Option PlainFrame → Option PlainFrame → Type 0
+JoinsFrameIf P come old new = (P × ((frame : PlainFrame) × (new ≡ Some frame) × JoinsFrame come old frame))
     ⊎ ((P → ⊥) × (new ≡ old))
 
 -- There is an old frame, and it has another number of kinds.
-abbrev pub Clashing : Option PlainFrame → List CellKind → Type 0
-Clashing old kinds = (m : PlainFrame) × (old ≡ Some m) × (length m.kinds ≢ length kinds)
+abbrev pub HasOtherDepth : Option PlainFrame → List CellKind → Type 0
+HasOtherDepth old kinds = (m : PlainFrame) × (old ≡ Some m) × (length m.kinds ≢ length kinds)
 
 -- the join of both, index by index: the least kinds that include both
 abbrev pub join_all : List CellKind → List CellKind → List CellKind
@@ -85,10 +85,10 @@ join_all (a ∷ kinds) [] = a ∷ kinds
 join_all (a ∷ kinds) (b ∷ others) = join a b ∷ join_all kinds others
 
 -- A path brings a frame to this offset; the frames at all other offsets are unchanged.
-pub record Pends (old new : PlainFrames) (place : ℕ) (come : PlainFrame) : Type 0 where
+pub record JoinsFrameAt (old new : PlainFrames) (place : ℕ) (come : PlainFrame) : Type 0 where
   pub frame : PlainFrame
   pub is : new place ≡ Some frame
-  pub grows : Grows come (old place) frame
+  pub grows : JoinsFrame come (old place) frame
   pub others : (q : ℕ) → (q ≡ place → ⊥) → new q ≡ old q
 
 -- ---- one instruction
@@ -110,44 +110,44 @@ falls_through (Widen w) = true
 falls_through (Timer timer_use n) = true
 
 -- The instruction falls through to this offset.
-abbrev pub GoesOn : Instr → ℕ → ℕ → Type 0
-GoesOn instr next to = (falls_through instr ≡ true) × (to ≡ next)
+abbrev pub FallsTo : Instr → ℕ → ℕ → Type 0
+FallsTo instr next to = (falls_through instr ≡ true) × (to ≡ next)
 
 -- The instruction leads only to offsets at which instructions begin.
-pub record LeadsRight (code : List ℕ) (instr : Instr) (next : ℕ) : Type 0 where
-  pub jumps : (to : ℕ) → JumpsTo instr next to → IsPlace code to
+pub record LeadsToInstrs (code : List ℕ) (instr : Instr) (next : ℕ) : Type 0 where
+  pub jumps : (to : ℕ) → JumpsTo instr next to → InstrBegins code to
   pub falls : falls_through instr ≡ true → next < length code
 
 -- The instruction jumps to an offset at which no instruction begins.
-pub record JumpsWrong (code : List ℕ) (instr : Instr) (next : ℕ) : Type 0 where
+pub record JumpsToNoInstr (code : List ℕ) (instr : Instr) (next : ℕ) : Type 0 where
   pub to : ℕ
   pub jumps : JumpsTo instr next to
-  pub bad : IsPlace code to → ⊥
+  pub bad : InstrBegins code to → ⊥
 
 -- The instruction jumps only to instructions, but falls through past the end of the code.
-pub record FallsOff (code : List ℕ) (instr : Instr) (next : ℕ) : Type 0 where
-  pub jumps : (to : ℕ) → JumpsTo instr next to → IsPlace code to
+pub record FallsPastEnd (code : List ℕ) (instr : Instr) (next : ℕ) : Type 0 where
+  pub jumps : (to : ℕ) → JumpsTo instr next to → InstrBegins code to
   pub falls : falls_through instr ≡ true
   pub past : length code ≤ next
 
 -- The instruction leads to an offset at which no instruction begins. The fault of a wrong jump
 -- comes before that of the end of the code.
-abbrev pub LeadsWrong : List ℕ → Instr → ℕ → VerifyFault → Type 0
-LeadsWrong code instr next fault = ((fault ≡ BadTarget) × JumpsWrong code instr next)
-    ⊎ ((fault ≡ NoHalt) × FallsOff code instr next)
+abbrev pub HasTargetFault : List ℕ → Instr → ℕ → VerifyFault → Type 0
+HasTargetFault code instr next fault = ((fault ≡ BadTarget) × JumpsToNoInstr code instr next)
+    ⊎ ((fault ≡ NoHalt) × FallsPastEnd code instr next)
 
 -- The instruction brings a frame to the offset that it jumps to; other frames are unchanged.
 abbrev pub Jumps : Instr → ℕ → PlainFrame → PlainFrames → PlainFrames → Type 0
-Jumps instr next come old new = (to : ℕ) → ComesWhere (JumpsTo instr next to) come (old to) (new to)
+Jumps instr next come old new = (to : ℕ) → JoinsFrameIf (JumpsTo instr next to) come (old to) (new to)
 
 -- The instruction jumps to an offset whose frame has another number of kinds.
 abbrev pub JumpClash : Instr → ℕ → PlainFrames → List CellKind → Type 0
-JumpClash instr next old kinds = (to : ℕ) × JumpsTo instr next to × Clashing (old to) kinds
+JumpClash instr next old kinds = (to : ℕ) × JumpsTo instr next to × HasOtherDepth (old to) kinds
 
 -- The instruction brings a frame to the offset that it falls through to; other frames are
 -- unchanged.
 abbrev pub Falls : Instr → ℕ → PlainFrame → PlainFrames → PlainFrames → Type 0
-Falls instr next come old new = (to : ℕ) → ComesWhere (GoesOn instr next to) come (old to) (new to)
+Falls instr next come old new = (to : ℕ) → JoinsFrameIf (FallsTo instr next to) come (old to) (new to)
 
 -- The instruction of the image has no fault on the kinds before it, and brings the kinds after it
 -- to the offsets that it leads to.
@@ -157,34 +157,34 @@ pub record Visits (image : Image) (instr : Instr) (next : ℕ) (come : PlainFram
   pub faultless : fault_of (slots_of image) (length image.timers) instr come.kinds ≡ None
   pub effect : kinds_after (types_of (slots_of image)) (length image.timers) instr come.kinds
       ≡ Some gives
-  pub right : LeadsRight image.code instr next
+  pub right : LeadsToInstrs image.code instr next
   pub mid : PlainFrames
   pub jumps : Jumps instr next (record { kinds = gives; longest = come.longest + 1 }) old mid
   pub falls : Falls instr next (record { kinds = gives; longest = come.longest + 1 }) mid new
 
 -- The instruction has no fault of its own, but leads to an offset at which no instruction begins.
-pub record MisLeads (image : Image) (instr : Instr) (next : ℕ) (come : PlainFrame)
+pub record FailsTargets (image : Image) (instr : Instr) (next : ℕ) (come : PlainFrame)
     (fault : VerifyFault) : Type 0 where
   pub faultless : fault_of (slots_of image) (length image.timers) instr come.kinds ≡ None
-  pub wrong : LeadsWrong image.code instr next fault
+  pub wrong : HasTargetFault image.code instr next fault
 
 -- The instruction has no fault of its own and leads only to instructions, but the frame of one of
 -- these has another number of kinds.
-pub record Collides (image : Image) (instr : Instr) (next : ℕ) (come : PlainFrame)
+pub record FailsDepths (image : Image) (instr : Instr) (next : ℕ) (come : PlainFrame)
     (old : PlainFrames) : Type 0 where
   pub gives : List CellKind
   pub faultless : fault_of (slots_of image) (length image.timers) instr come.kinds ≡ None
   pub effect : kinds_after (types_of (slots_of image)) (length image.timers) instr come.kinds
       ≡ Some gives
-  pub right : LeadsRight image.code instr next
+  pub right : LeadsToInstrs image.code instr next
   pub to : ℕ
-  pub leads : JumpsTo instr next to ⊎ GoesOn instr next to
-  pub clash : Clashing (old to) gives
+  pub leads : JumpsTo instr next to ⊎ FallsTo instr next to
+  pub clash : HasOtherDepth (old to) gives
 
 -- The first fault of an instruction with this frame before it: its own, that of a target, or that
 -- of stacks of different depths.
 abbrev pub FailsVisit : Image → Instr → ℕ → PlainFrame → PlainFrames → VerifyFault → Type 0
 FailsVisit image instr next come old fault =
     (fault_of (slots_of image) (length image.timers) instr come.kinds ≡ Some fault)
-    ⊎ (MisLeads image instr next come fault
-    ⊎ ((fault ≡ DepthClash) × Collides image instr next come old))
+    ⊎ (FailsTargets image instr next come fault
+    ⊎ ((fault ≡ DepthClash) × FailsDepths image instr next come old))

@@ -12,7 +12,7 @@ use Rattle.il_image.specs.declared.opcode.SlotUse.TheVariants.{Load, Store, SetI
 use Rattle.il_image.specs.declared.opcode.When.TheVariants.{Always, IfTrue, IfFalse}
 use Rattle.il_image.specs.declared.opcode.TimerUse.TheVariants.{SetInput, SetPreset, Run, LoadOutput, LoadElapsed}
 use Rattle.il_image.specs.Arithmetic.{type_of_width}
-use Rattle.il_image.specs.Effects.{kinds_after, second_kind, two}
+use Rattle.il_image.specs.Effects.{kinds_after, second_kind, replace_two}
 use Rattle.il_image.specs.Machine.{most_cells}
 use Rattle.il_verify.specs.declared.fault.VerifyFault.{VerifyFault}
 use Rattle.il_verify.specs.declared.fault.VerifyFault.TheVariants.{StackEmpty, StackFull, WrongKind, ZeroDivisor, NoSlot, NoTimer, BadBinding}
@@ -77,7 +77,7 @@ truth = Plain elementary.Bool
 
 -- the kinds after an operation on two numbers of a width
 abbrev pub computes : ArithmeticOperation → Width → List CellKind → Option (List CellKind)
-computes o w kinds = two (second_kind o w) (Plain (type_of_width w)) (Plain (type_of_width w)) kinds
+computes o w kinds = replace_two (second_kind o w) (Plain (type_of_width w)) (Plain (type_of_width w)) kinds
 
 -- whether the slot exists and may only be read
 abbrev pub is_read_only : List SlotType → ℕ → Bool
@@ -103,14 +103,14 @@ None or_else other = other
 (Some fault) or_else other = Some fault
 
 -- the fault, if the test holds
-abbrev pub where_so : Bool → VerifyFault → Option VerifyFault
-where_so b fault = if b then Some fault else None
+abbrev pub fault_if : Bool → VerifyFault → Option VerifyFault
+fault_if b fault = if b then Some fault else None
 
 -- the first fault of an instruction on these kinds
 unfoldable pub fault_of : List SlotType → ℕ → Instr → List CellKind → Option VerifyFault
 fault_of slots timers i kinds =
     missing_fault (length slots) timers i
-    or_else where_so (nat_lt (length kinds) (operands i)) StackEmpty
+    or_else fault_if (nat_lt (length kinds) (operands i)) StackEmpty
     or_else kind_fault slots timers i kinds
-    or_else where_so (writes_read_only slots i) BadBinding
-    or_else where_so (is_full (effect_on slots timers kinds i)) StackFull
+    or_else fault_if (writes_read_only slots i) BadBinding
+    or_else fault_if (is_full (effect_on slots timers kinds i)) StackFull

@@ -9,7 +9,7 @@ use Rattle.il_image.specs.Effects.{kinds_after}
 use Rattle.il_image.specs.Images.{Image}
 use Rattle.il_image.specs.Kinds.{AreWithin}
 use Rattle.il_image.specs.Reading.{instr_at}
-use Rattle.il_image.specs.Tables.{IsPlace, LeadsTo, Table, slot_types}
+use Rattle.il_image.specs.Tables.{InstrBegins, LeadsTo, Table, slot_types}
 use Rattle.il_verify.specs.declared.fault.VerifyFault.{VerifyFault}
 use Rattle.il_verify.specs.declared.fault.VerifyFault.TheVariants.{StackEmpty, StackFull, WrongKind, ZeroDivisor, NoSlot, NoTimer, BadTarget, Unreachable, DepthClash, NoHalt, BadBinding, OutOfMemory}
 use Rattle.il_verify.specs.Binding.{fits}
@@ -19,40 +19,40 @@ use Rattle.il_verify.specs.Slots.{slots_of}
 -- ---- the kinds at an offset
 
 -- the kinds after an instruction of the image, if it is allowed
-abbrev pub kinds_after_in : Image → Instr → List CellKind → Option (List CellKind)
-kinds_after_in image instr kinds = kinds_after (slot_types image) (length image.timers) instr kinds
+abbrev pub kinds_after_instr : Image → Instr → List CellKind → Option (List CellKind)
+kinds_after_instr image instr kinds = kinds_after (slot_types image) (length image.timers) instr kinds
 
 -- The table has kinds before the instruction at the offset `from`; the instruction leads to the
 -- offset `to`, and these are the kinds after it.
-pub record ComesFrom (image : Image) (table : Table) (from to : ℕ) (kinds : List CellKind)
+pub record KindsReachFrom (image : Image) (table : Table) (from to : ℕ) (kinds : List CellKind)
     : Type 0 where
   pub instr : Instr
   pub next : ℕ
   pub before : List CellKind
   pub here : instr_at image.code from ≡ Some (instr, next)
   pub known : table from ≡ Some before
-  pub gives : kinds_after_in image instr before ≡ Some kinds
+  pub gives : kinds_after_instr image instr before ≡ Some kinds
   pub leads : LeadsTo instr next to
 
 -- These kinds reach the offset `to`: an empty list at the start of the code, and the kinds after
 -- each instruction before `done` that leads there.
-abbrev pub Comes : Image → Table → ℕ → ℕ → List CellKind → Type 0
-Comes image table done to kinds =
-    ((to ≡ 0) × (kinds ≡ [])) ⊎ ((from : ℕ) × (from < done) × ComesFrom image table from to kinds)
+abbrev pub KindsReach : Image → Table → ℕ → ℕ → List CellKind → Type 0
+KindsReach image table done to kinds =
+    ((to ≡ 0) × (kinds ≡ [])) ⊎ ((from : ℕ) × (from < done) × KindsReachFrom image table from to kinds)
 
 -- Some kinds reach the offset `to`, and these are the join of all that do: the least kinds that
 -- include them.
 pub record IsJoin (image : Image) (table : Table) (done to : ℕ) (kinds : List CellKind)
     : Type 0 where
-  pub some : (first : List CellKind) × Comes image table done to first
-  pub above : (others : List CellKind) → Comes image table done to others → AreWithin others kinds
+  pub some : (first : List CellKind) × KindsReach image table done to first
+  pub above : (others : List CellKind) → KindsReach image table done to others → AreWithin others kinds
   pub least : (top : List CellKind)
-      → ((others : List CellKind) → Comes image table done to others → AreWithin others top)
+      → ((others : List CellKind) → KindsReach image table done to others → AreWithin others top)
       → AreWithin kinds top
 
 -- There is no fault at the offset: its instruction has none on the kinds before it, leads only to
 -- instructions, and leaves as many kinds as reach each of these from earlier offsets.
-pub record Passes (image : Image) (table : Table) (place : ℕ) : Type 0 where
+pub record IsFaultless (image : Image) (table : Table) (place : ℕ) : Type 0 where
   pub instr : Instr
   pub next : ℕ
   pub kinds : List CellKind
@@ -60,24 +60,24 @@ pub record Passes (image : Image) (table : Table) (place : ℕ) : Type 0 where
   pub here : instr_at image.code place ≡ Some (instr, next)
   pub known : table place ≡ Some kinds
   pub faultless : fault_of (slots_of image) (length image.timers) instr kinds ≡ None
-  pub effect : kinds_after_in image instr kinds ≡ Some gives
-  pub targets : (to : ℕ) → LeadsTo instr next to → IsPlace image.code to
+  pub effect : kinds_after_instr image instr kinds ≡ Some gives
+  pub targets : (to : ℕ) → LeadsTo instr next to → InstrBegins image.code to
   pub depths : (to : ℕ) → LeadsTo instr next to → (others : List CellKind)
-      → Comes image table place to others → length others ≡ length gives
+      → KindsReach image table place to others → length others ≡ length gives
 
 -- The table has the least kinds at each offset below `done`, and none elsewhere; and there is no
 -- fault at these offsets.
-pub record IsFront (image : Image) (table : Table) (done : ℕ) : Type 0 where
+pub record IsTableUpTo (image : Image) (table : Table) (done : ℕ) : Type 0 where
   pub only : (place : ℕ) (kinds : List CellKind) → table place ≡ Some kinds
-      → (place < done) × IsPlace image.code place
+      → (place < done) × InstrBegins image.code place
   pub joined : (place : ℕ) (kinds : List CellKind) → table place ≡ Some kinds
       → IsJoin image table place place kinds
-  pub passes : (place : ℕ) → place < done → IsPlace image.code place → Passes image table place
+  pub passes : (place : ℕ) → place < done → InstrBegins image.code place → IsFaultless image table place
 
 -- ---- the faults at an offset, of which at most one is the first
 
 -- the instruction at an offset, and the least kinds before it
-pub record Arrives (image : Image) (table : Table) (place : ℕ) : Type 0 where
+pub record ReachedInstr (image : Image) (table : Table) (place : ℕ) : Type 0 where
   pub instr : Instr
   pub next : ℕ
   pub kinds : List CellKind
@@ -85,7 +85,7 @@ pub record Arrives (image : Image) (table : Table) (place : ℕ) : Type 0 where
   pub joined : IsJoin image table place place kinds
 
 -- the fault that the instruction at the offset has of its own, on the kinds before it
-abbrev pub own_fault : {image : Image} {table : Table} {place : ℕ} → Arrives image table place
+abbrev pub own_fault : {image : Image} {table : Table} {place : ℕ} → ReachedInstr image table place
     → Option VerifyFault
 own_fault {image} a = fault_of (slots_of image) (length image.timers) a.instr a.kinds
 
@@ -104,55 +104,55 @@ JumpsTo (Widen w) next to = ⊥
 JumpsTo (Timer timer_use n) next to = ⊥
 
 -- The instruction has no fault of its own, but jumps to an offset at which no instruction begins.
-pub record JumpsBadly (image : Image) (table : Table) (place : ℕ) : Type 0 where
-  pub at : Arrives image table place
+pub record HasBadJump (image : Image) (table : Table) (place : ℕ) : Type 0 where
+  pub at : ReachedInstr image table place
   pub faultless : own_fault at ≡ None
   pub to : ℕ
   pub jumps : JumpsTo at.instr at.next to
-  pub bad : IsPlace image.code to → ⊥
+  pub bad : InstrBegins image.code to → ⊥
 
 -- The instruction has no fault of its own and jumps only to instructions, but falls through past
 -- the end of the code.
-pub record GoesPast (image : Image) (table : Table) (place : ℕ) : Type 0 where
-  pub at : Arrives image table place
+pub record RunsPastEnd (image : Image) (table : Table) (place : ℕ) : Type 0 where
+  pub at : ReachedInstr image table place
   pub faultless : own_fault at ≡ None
-  pub jumps : (to : ℕ) → JumpsTo at.instr at.next to → IsPlace image.code to
+  pub jumps : (to : ℕ) → JumpsTo at.instr at.next to → InstrBegins image.code to
   pub leads : LeadsTo at.instr at.next at.next
   pub past : at.next ≡ length image.code
 
 -- The instruction has no fault of its own and leads only to instructions, but leaves another number
 -- of kinds than reaches one of these from an earlier offset.
-pub record Clashes (image : Image) (table : Table) (place : ℕ) : Type 0 where
-  pub at : Arrives image table place
+pub record HasDepthClash (image : Image) (table : Table) (place : ℕ) : Type 0 where
+  pub at : ReachedInstr image table place
   pub gives : List CellKind
   pub faultless : own_fault at ≡ None
-  pub effect : kinds_after_in image at.instr at.kinds ≡ Some gives
-  pub targets : (to : ℕ) → LeadsTo at.instr at.next to → IsPlace image.code to
+  pub effect : kinds_after_instr image at.instr at.kinds ≡ Some gives
+  pub targets : (to : ℕ) → LeadsTo at.instr at.next to → InstrBegins image.code to
   pub to : ℕ
   pub leads : LeadsTo at.instr at.next to
   pub others : List CellKind
-  pub comes : Comes image table place to others
+  pub comes : KindsReach image table place to others
   pub unequal : length others ≡ length gives → ⊥
 
 -- The instruction at the offset has this fault of its own.
-abbrev pub HasOwn : Image → Table → ℕ → VerifyFault → Type 0
-HasOwn image table place fault = (a : Arrives image table place) × (own_fault a ≡ Some fault)
+abbrev pub HasOwnFault : Image → Table → ℕ → VerifyFault → Type 0
+HasOwnFault image table place fault = (a : ReachedInstr image table place) × (own_fault a ≡ Some fault)
 
 -- This is the first fault at the offset.
 abbrev pub IsFaultAt : Image → Table → ℕ → VerifyFault → Type 0
 IsFaultAt image table place Unreachable =
-    (kinds : List CellKind) → Comes image table place place kinds → ⊥
-IsFaultAt image table place BadTarget = JumpsBadly image table place
-IsFaultAt image table place NoHalt = GoesPast image table place
-IsFaultAt image table place DepthClash = Clashes image table place
+    (kinds : List CellKind) → KindsReach image table place place kinds → ⊥
+IsFaultAt image table place BadTarget = HasBadJump image table place
+IsFaultAt image table place NoHalt = RunsPastEnd image table place
+IsFaultAt image table place DepthClash = HasDepthClash image table place
 IsFaultAt image table place OutOfMemory = ⊥
-IsFaultAt image table place StackEmpty = HasOwn image table place StackEmpty
-IsFaultAt image table place StackFull = HasOwn image table place StackFull
-IsFaultAt image table place WrongKind = HasOwn image table place WrongKind
-IsFaultAt image table place ZeroDivisor = HasOwn image table place ZeroDivisor
-IsFaultAt image table place NoSlot = HasOwn image table place NoSlot
-IsFaultAt image table place NoTimer = HasOwn image table place NoTimer
-IsFaultAt image table place BadBinding = HasOwn image table place BadBinding
+IsFaultAt image table place StackEmpty = HasOwnFault image table place StackEmpty
+IsFaultAt image table place StackFull = HasOwnFault image table place StackFull
+IsFaultAt image table place WrongKind = HasOwnFault image table place WrongKind
+IsFaultAt image table place ZeroDivisor = HasOwnFault image table place ZeroDivisor
+IsFaultAt image table place NoSlot = HasOwnFault image table place NoSlot
+IsFaultAt image table place NoTimer = HasOwnFault image table place NoTimer
+IsFaultAt image table place BadBinding = HasOwnFault image table place BadBinding
 
 -- ---- the refusal of an image
 
@@ -167,12 +167,12 @@ IsWithoutCode image fault place = (image.code ≡ []) × (fault ≡ NoHalt) × (
 -- This offset is the first one with a fault, and this is the first fault there.
 abbrev pub FailsAt : Image → VerifyFault → ℕ → Type 0
 FailsAt image fault place =
-    (table : Table) × IsFront image table place × IsPlace image.code place
+    (table : Table) × IsTableUpTo image table place × InstrBegins image.code place
     × IsFaultAt image table place fault
 
 -- The image fits the bay and has code. Verifying another image does not run out of memory.
-abbrev pub TakesMemory : List Point → Image → Type 0
-TakesMemory bay image = (fits bay image ≡ true) × (0 < length image.code)
+abbrev pub Allocates : List Point → Image → Type 0
+Allocates bay image = (fits bay image ≡ true) × (0 < length image.code)
 
 -- This is the image's first fault, at this offset.
 abbrev pub IsRefusal : List Point → Image → VerifyFault → ℕ → Type 0

@@ -5,26 +5,26 @@ use Rattle.il_image.specs.declared.instr.Instr.{Instr}
 use Rattle.il_image.specs.declared.kind.CellKind.{CellKind}
 use Rattle.il_image.specs.Images.{Image}
 use Rattle.il_image.specs.Reading.{instr_at}
-use Rattle.il_image.specs.Tables.{Agrees, Ends, HasTable, IsPlace, Table}
+use Rattle.il_image.specs.Tables.{Agrees, HaltPath, HasTable, InstrBegins, Table}
 use Rattle.il_verify.specs.Binding.{fits}
 use Rattle.il_verify.specs.Judging.{writes_read_only}
 use Rattle.il_verify.specs.Slots.{slots_of}
 
 -- No instruction of the code writes a point that may only be read.
-abbrev pub KeepsReadOnly : Image → Type 0
-KeepsReadOnly image = (place : ℕ) (instr : Instr) (next : ℕ) → IsPlace image.code place
+abbrev pub WritesNoReadOnly : Image → Type 0
+WritesNoReadOnly image = (place : ℕ) (instr : Instr) (next : ℕ) → InstrBegins image.code place
     → instr_at image.code place ≡ Some (instr, next)
     → writes_read_only (slots_of image) instr ≡ false
 
 -- A table agrees with the code, and the code writes no point that may only be read.
 pub record IsSafe (image : Image) : Type 0 where
   pub table : HasTable image
-  pub writes : KeepsReadOnly image
+  pub writes : WritesNoReadOnly image
 
 -- The number of instructions on a longest path that ends at a HALT.
 pub record IsBudget (code : List ℕ) (budget : ℕ) : Type 0 where
-  pub some : Ends code budget
-  pub most : (n : ℕ) → Ends code n → n ≤ budget
+  pub some : HaltPath code budget
+  pub most : (n : ℕ) → HaltPath code n → n ≤ budget
 
 -- The length of a longest list of the table.
 pub record IsLongest (table : Table) (depth : ℕ) : Type 0 where

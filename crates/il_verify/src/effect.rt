@@ -2,7 +2,7 @@
 // top is the last element.
 ghost use Rattle.std.specs.Prelude.{◌≡◌, ◌≤◌, Some, None, reverse, length, OnOk, OnErr, IfErr, IfSome, IfNone, IsTrue, MatchResult, [], ◌∷◌, ◌⊎◌, ℕ, List};
 ghost use Rattle.il_image.specs.Machine as spec_machine;
-ghost use Rattle.il_image.specs.Effects.{below, compares, kinds_after, looks_at, second_kind, two, type_of_kind, widens, with_truth};
+ghost use Rattle.il_image.specs.Effects.{below, compares, kinds_after, peek_kind, second_kind, replace_two, type_of_kind, widens, with_truth};
 ghost use Rattle.il_image.specs.Effects as spec;
 ghost use Rattle.il_image.specs.declared.kind.CellKind.{CellKind};
 ghost use Rattle.il_image.specs.Machine.{most_cells};
@@ -22,7 +22,7 @@ use il_image::opcode::{SlotUse, TimerUse, When, Widening};
 use il_image::value::Value;
 
 // Pushes a kind.
-fn put(kinds: &mut KindStack, kind: CellKind)
+fn push_kind(kinds: &mut KindStack, kind: CellKind)
     requires { length kinds.old.items ≤ most_cells }
     ensures { reverse kinds.new.items ≡ kind ∷ reverse kinds.old.items }
 {
@@ -30,7 +30,7 @@ fn put(kinds: &mut KindStack, kind: CellKind)
 }
 
 // Pops the top, which must be within the wanted kind.
-fn take(kinds: &mut KindStack, wanted: CellKind) -> Result<(), VerifyFault>
+fn pop_kind(kinds: &mut KindStack, wanted: CellKind) -> Result<(), VerifyFault>
     ensures ok { OnOk result
         (below wanted (reverse kinds.old.items) ≡ Some (reverse kinds.new.items)) }
     ensures err { IfErr result
@@ -44,10 +44,10 @@ fn take(kinds: &mut KindStack, wanted: CellKind) -> Result<(), VerifyFault>
 }
 
 // Checks that the top, which stays, is within the wanted kind.
-fn look(kinds: &[CellKind], wanted: CellKind) -> Result<(), VerifyFault>
-    ensures ok { OnOk result (looks_at wanted (reverse kinds.now) ≡ Some (reverse kinds.now)) }
+fn check_top(kinds: &[CellKind], wanted: CellKind) -> Result<(), VerifyFault>
+    ensures ok { OnOk result (peek_kind wanted (reverse kinds.now) ≡ Some (reverse kinds.now)) }
     ensures err { IfErr result
-        (λ f. (f ≡ VerifyFault.WrongKind) × (looks_at wanted (reverse kinds.now) ≡ None)) }
+        (λ f. (f ≡ VerifyFault.WrongKind) × (peek_kind wanted (reverse kinds.now) ≡ None)) }
 {
     match kinds.last() {
         Some(top) if is_within(*top, wanted) => Ok(()),
@@ -68,7 +68,7 @@ fn kind_of(value: Value) -> CellKind
 }
 
 // Pops two values and returns them, the top first, or returns `None` if there are fewer.
-fn take_two(kinds: &mut KindStack) -> Option<(CellKind, CellKind)>
+fn pop_two(kinds: &mut KindStack) -> Option<(CellKind, CellKind)>
     ensures some { IfSome result
         (λ r. reverse kinds.old.items ≡ r.0 ∷ r.1 ∷ reverse kinds.new.items) }
     ensures none { IfNone result
@@ -104,12 +104,12 @@ fn compute(
         (computes operation width (reverse kinds.old.items)) ≡ Some f) }
 {
     let number = CellKind::Plain(width.elementary());
-    match take_two(kinds) {
+    match pop_two(kinds) {
         Some((top, second)) if is_within(top, number) && is_within(second, number) => {
             if divides(operation) && !is_within(top, CellKind::NotZero(width)) {
                 return Err(VerifyFault::ZeroDivisor);
             }
-            put(kinds, number);
+            push_kind(kinds, number);
             Ok(())
         }
         _ => Err(VerifyFault::WrongKind),
@@ -120,15 +120,15 @@ fn compute(
 fn combine(kinds: &mut KindStack) -> Result<(), VerifyFault>
     requires room { length kinds.old.items ≤ most_cells }
     ensures ok { OnOk result
-        (two truth truth truth (reverse kinds.old.items) ≡ Some (reverse kinds.new.items)) }
+        (replace_two truth truth truth (reverse kinds.old.items) ≡ Some (reverse kinds.new.items)) }
     ensures err { IfErr result
         (λ f. (f ≡ VerifyFault.WrongKind)
-        × (two truth truth truth (reverse kinds.old.items) ≡ None)) }
+        × (replace_two truth truth truth (reverse kinds.old.items) ≡ None)) }
 {
     let truth = CellKind::Plain(ElementaryType::Bool);
-    match take_two(kinds) {
+    match pop_two(kinds) {
         Some((top, second)) if is_within(top, truth) && is_within(second, truth) => {
-            put(kinds, truth);
+            push_kind(kinds, truth);
             Ok(())
         }
         _ => Err(VerifyFault::WrongKind),
@@ -166,12 +166,12 @@ fn compare(kinds: &mut KindStack, comparison: Comparison) -> Result<(), VerifyFa
     ensures err { IfErr result (λ f. (f ≡ VerifyFault.WrongKind)
         × (compares comparison (reverse kinds.old.items) ≡ None)) }
 {
-    let Some((top, second)) = take_two(kinds) else {
+    let Some((top, second)) = pop_two(kinds) else {
         return Err(VerifyFault::WrongKind);
     };
     match (type_of(top), type_of(second)) {
         (Some(last), Some(first)) if are_compared(comparison, first, last) => {
-            put(kinds, CellKind::Plain(ElementaryType::Bool));
+            push_kind(kinds, CellKind::Plain(ElementaryType::Bool));
             Ok(())
         }
         _ => Err(VerifyFault::WrongKind),
@@ -188,11 +188,11 @@ fn widen(kinds: &mut KindStack, from: Width, to: Width) -> Result<(), VerifyFaul
 {
     match kinds.pop() {
         Some(top) if is_within(top, CellKind::NotZero(from)) => {
-            put(kinds, CellKind::NotZero(to));
+            push_kind(kinds, CellKind::NotZero(to));
             Ok(())
         }
         Some(top) if is_within(top, CellKind::Plain(from.elementary())) => {
-            put(kinds, CellKind::Plain(to.elementary()));
+            push_kind(kinds, CellKind::Plain(to.elementary()));
             Ok(())
         }
         _ => Err(VerifyFault::WrongKind),
@@ -209,7 +209,7 @@ fn check_bools(slots: &[SlotType], number: u16, kinds: &[CellKind]) -> Result<()
 {
     match slots.get(usize::from(number)) {
         Some(slot) if slot.elementary == ElementaryType::Bool => {
-            look(kinds, CellKind::Plain(ElementaryType::Bool))
+            check_top(kinds, CellKind::Plain(ElementaryType::Bool))
         }
         _ => Err(VerifyFault::WrongKind),
     }
@@ -233,13 +233,13 @@ fn use_slot(
     match slot_use {
         SlotUse::Load => match slots.get(usize::from(number)) {
             Some(slot) => {
-                put(kinds, CellKind::Plain(slot.elementary));
+                push_kind(kinds, CellKind::Plain(slot.elementary));
                 Ok(())
             }
             None => Err(VerifyFault::WrongKind),
         },
         SlotUse::Store => match slots.get(usize::from(number)) {
-            Some(slot) => look(kinds, CellKind::Plain(slot.elementary)),
+            Some(slot) => check_top(kinds, CellKind::Plain(slot.elementary)),
             None => Err(VerifyFault::WrongKind),
         },
         SlotUse::SetIf | SlotUse::ResetIf => check_bools(slots, number, kinds),
@@ -256,15 +256,15 @@ fn use_timer(timer_use: TimerUse, kinds: &mut KindStack) -> Result<(), VerifyFau
         × (kinds_after [] 1 (Instr.Timer timer_use 0) (reverse kinds.old.items) ≡ None)) }
 {
     match timer_use {
-        TimerUse::SetInput => take(kinds, CellKind::Plain(ElementaryType::Bool)),
-        TimerUse::SetPreset => take(kinds, CellKind::Plain(ElementaryType::Time)),
+        TimerUse::SetInput => pop_kind(kinds, CellKind::Plain(ElementaryType::Bool)),
+        TimerUse::SetPreset => pop_kind(kinds, CellKind::Plain(ElementaryType::Time)),
         TimerUse::Run => Ok(()),
         TimerUse::LoadOutput => {
-            put(kinds, CellKind::Plain(ElementaryType::Bool));
+            push_kind(kinds, CellKind::Plain(ElementaryType::Bool));
             Ok(())
         }
         TimerUse::LoadElapsed => {
-            put(kinds, CellKind::Plain(ElementaryType::Time));
+            push_kind(kinds, CellKind::Plain(ElementaryType::Time));
             Ok(())
         }
     }
@@ -288,14 +288,14 @@ fn apply(
     match instr {
         Instr::Halt | Instr::Jump(When::Always, _) => Ok(()),
         Instr::Push(value) => {
-            put(kinds, kind_of(value));
+            push_kind(kinds, kind_of(value));
             Ok(())
         }
-        Instr::Drop => take(kinds, CellKind::Any),
+        Instr::Drop => pop_kind(kinds, CellKind::Any),
         Instr::Slot(slot_use, number) => use_slot(slots, slot_use, number, kinds),
         Instr::Not => {
-            take(kinds, CellKind::Plain(ElementaryType::Bool))?;
-            put(kinds, CellKind::Plain(ElementaryType::Bool));
+            pop_kind(kinds, CellKind::Plain(ElementaryType::Bool))?;
+            push_kind(kinds, CellKind::Plain(ElementaryType::Bool));
             Ok(())
         }
         Instr::Combine(_) => combine(kinds),
@@ -303,7 +303,7 @@ fn apply(
         Instr::Compare(comparison) => compare(kinds, comparison),
         Instr::Widen(Widening::IntToDint) => widen(kinds, Width::Int, Width::Dint),
         Instr::Widen(Widening::DintToLint) => widen(kinds, Width::Dint, Width::Lint),
-        Instr::Jump(_, _) => look(kinds, CellKind::Plain(ElementaryType::Bool)),
+        Instr::Jump(_, _) => check_top(kinds, CellKind::Plain(ElementaryType::Bool)),
         Instr::Timer(timer_use, _) => use_timer(timer_use, kinds),
     }
 }
@@ -321,7 +321,7 @@ fn check_slot_or_timer(slots: usize, timers: usize, instr: Instr) -> Result<(), 
 }
 
 // Returns the number of values that an instruction pops or reads.
-fn operands(instr: Instr) -> usize
+fn operand_count(instr: Instr) -> usize
     ensures { result ≡ spec_judging.operands instr }
 {
     match instr {
@@ -353,7 +353,7 @@ fn writes_read_only(slots: &[SlotType], instr: Instr) -> bool
 /// Applies the transfer function of an instruction: replaces the kinds before it by those after it,
 /// or returns its first fault.
 #[tactic(auto, unfolding(crate::specs::Judging::fault_of))]
-pub(crate) fn transfer(
+pub(crate) fn apply_instr(
     slots: &[SlotType],
     timers: usize,
     instr: Instr,
@@ -370,7 +370,7 @@ pub(crate) fn transfer(
         (λ f. fault_of slots.now timers instr (reverse kinds.old.items) ≡ Some f) }
 {
     check_slot_or_timer(slots.len(), timers, instr)?;
-    if kinds.len() < operands(instr) {
+    if kinds.len() < operand_count(instr) {
         return Err(VerifyFault::StackEmpty);
     }
     apply(slots, timers, instr, kinds)?;

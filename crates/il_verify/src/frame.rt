@@ -2,7 +2,7 @@
 // An offset counts octets of the code from 0.
 ghost use Rattle.std.specs.Prelude.{ℕ, ◌-◌, ◌≡◌, ◌≢◌, ◌+◌, ◌<◌, ◌≤◌, ◌^◌, [], Some, None, length, reverse, OnOk, IfOk, IfErr, IfSome, IsSome, option_map, true};
 ghost use Rattle.il_verify.specs.declared.frame.Frame.{Frame};
-ghost use Rattle.il_verify.specs.Frames.{Clashing, Falls, Grows, JumpClash, Jumps, PlainFrame, Pends, with_value_at, frame_at, join_all, plain_frame, plain_frames};
+ghost use Rattle.il_verify.specs.Frames.{HasOtherDepth, Falls, JoinsFrame, JumpClash, Jumps, PlainFrame, JoinsFrameAt, with_value_at, frame_at, join_all, plain_frame, plain_frames};
 ghost use Rattle.il_verify.specs.Frames as spec;
 ghost use Rattle.il_verify.specs.Refusals.{JumpsTo};
 ghost use Rattle.il_image.specs.Machine.{most_cells};
@@ -59,7 +59,7 @@ fn join_all(kinds: &mut KindStack, others: &[CellKind])
 // `DepthClash` and leaves the frame unchanged.
 fn join_frame(frame: &mut Frame, kinds: &[CellKind], longest: u32) -> Result<(), VerifyFault>
     ensures ok { OnOk result
-        (Grows (record { kinds = reverse kinds.now; longest = longest })
+        (JoinsFrame (record { kinds = reverse kinds.now; longest = longest })
         (Some (plain_frame frame.old)) (plain_frame frame.new)) }
     ensures err { IfErr result
         (λ f. (f ≡ VerifyFault.DepthClash) × (length frame.old.kinds.items ≢ length kinds.now)) }
@@ -73,7 +73,7 @@ fn join_frame(frame: &mut Frame, kinds: &[CellKind], longest: u32) -> Result<(),
 }
 
 /// Extends the pending frames up to an offset, with nothing pending at the new offsets.
-pub(crate) fn grow(pending: &mut Vec<Option<Frame>>, place: usize) -> Result<(), AllocError>
+pub(crate) fn extend_pending(pending: &mut Vec<Option<Frame>>, place: usize) -> Result<(), AllocError>
     requires { place < 2 ^ 64 - 1 }
     ensures room { OnOk result (place < length pending.new.items) }
     ensures same { OnOk result
@@ -86,15 +86,15 @@ pub(crate) fn grow(pending: &mut Vec<Option<Frame>>, place: usize) -> Result<(),
 }
 
 // Brings a path to an offset, at which a frame may be pending.
-fn arrive(slot: &mut Option<Frame>, kinds: &[CellKind], longest: u32) -> Result<(), VerifyFault>
+fn join_at(slot: &mut Option<Frame>, kinds: &[CellKind], longest: u32) -> Result<(), VerifyFault>
     requires { length kinds.now ≤ most_cells }
     ensures ok { OnOk result
         ((frame : Frame) × (slot.new ≡ Some frame)
-        × Grows (record { kinds = reverse kinds.now; longest = longest })
+        × JoinsFrame (record { kinds = reverse kinds.now; longest = longest })
         (option_map plain_frame slot.old) (plain_frame frame)) }
     ensures err { IfErr result
         (λ f. (f ≡ VerifyFault.DepthClash)
-        × Clashing (option_map plain_frame slot.old) (reverse kinds.now)) }
+        × HasOtherDepth (option_map plain_frame slot.old) (reverse kinds.now)) }
 {
     if let Some(frame) = slot {
         return join_frame(frame, kinds, longest);
@@ -107,7 +107,7 @@ fn arrive(slot: &mut Option<Frame>, kinds: &[CellKind], longest: u32) -> Result<
 }
 
 // Brings a path to the target of a jump.
-fn pend(
+fn join_pending(
     pending: &mut Vec<Option<Frame>>,
     place: usize,
     kinds: &[CellKind],
@@ -117,18 +117,18 @@ fn pend(
     requires room { place < length pending.old.items }
     ensures size { length pending.new.items ≡ length pending.old.items }
     ensures ok { OnOk result
-        (Pends (plain_frames pending.old.items) (plain_frames pending.new.items) place
+        (JoinsFrameAt (plain_frames pending.old.items) (plain_frames pending.new.items) place
         (record { kinds = reverse kinds.now; longest = longest })) }
     ensures err { IfErr result
         (λ f. (f ≡ VerifyFault.DepthClash)
-        × Clashing (plain_frames pending.old.items place) (reverse kinds.now)) }
+        × HasOtherDepth (plain_frames pending.old.items place) (reverse kinds.now)) }
 {
-    arrive(&mut pending[place], kinds, longest)
+    join_at(&mut pending[place], kinds, longest)
 }
 
 /// Brings a path to the target of an instruction, if it is a jump. Returns `DepthClash` if the
 /// frame pending there has another depth.
-pub(crate) fn jump(
+pub(crate) fn follow_jump(
     instr: Instr,
     next: usize,
     kinds: &[CellKind],
@@ -147,7 +147,7 @@ pub(crate) fn jump(
         × JumpClash instr next (plain_frames pending.old.items) (reverse kinds.now)) }
 {
     match instr {
-        Instr::Jump(_, distance) => { pend(pending, next + usize::from(distance), kinds, longest) }
+        Instr::Jump(_, distance) => { join_pending(pending, next + usize::from(distance), kinds, longest) }
         _ => Ok(()),
     }
 }
@@ -179,7 +179,7 @@ fn take_pending(pending: &mut Vec<Option<Frame>>, place: usize) -> Option<Frame>
 /// Returns the frame at the next offset: the frame pending there, joined with this one if the
 /// instruction falls through, or `None` if no path leads there. Returns `DepthClash` if the two
 /// have different depths.
-pub(crate) fn fall(
+pub(crate) fn next_frame(
     instr: Instr,
     next: usize,
     frame: Frame,
@@ -192,7 +192,7 @@ pub(crate) fn fall(
     ensures err { IfErr result
         (λ f. (f ≡ VerifyFault.DepthClash)
         × ((spec.falls_through instr ≡ true)
-        × Clashing (plain_frames pending.old.items next) (plain_frame frame).kinds)) }
+        × HasOtherDepth (plain_frames pending.old.items next) (plain_frame frame).kinds)) }
 {
     let old = take_pending(pending, next);
     if !falls_through(instr) {

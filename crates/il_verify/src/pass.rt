@@ -43,7 +43,7 @@ fn is_halt(instr: Instr) -> bool
 }
 
 // Returns the budget after an instruction, raised if the instruction is HALT.
-fn raised(halts: bool, longest: u32, budget: u32) -> u32
+fn raise_budget(halts: bool, longest: u32, budget: u32) -> u32
     ensures { result ≡ spec.raised_budget halts longest budget }
 {
     if halts { longest.max(budget) } else { budget }
@@ -85,7 +85,7 @@ pub(crate) fn pass(
             unreachable!();
         };
         depth = (here.kinds.len() as u32).max(depth);
-        budget = raised(is_halt(instr), here.longest, budget);
+        budget = raise_budget(is_halt(instr), here.longest, budget);
         frame = match visit(image, plan, instr, next, here, &mut pending) {
             Ok(behind) => behind,
             Err(fault) => return Err(PlacedFault { fault, place }),

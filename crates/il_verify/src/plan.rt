@@ -1,7 +1,7 @@
 // What the pass over the code looks up.
 ghost use Rattle.std.specs.Prelude.{◌≡◌, ◌≤◌, ◌↔◌, IfOk, IsTrue, Some, slice_get, true, length};
 ghost use Rattle.il_image.specs.Images.{IsCode};
-ghost use Rattle.il_verify.specs.Frames.{IsPlan, MarksPlaces};
+ghost use Rattle.il_verify.specs.Frames.{IsPlan, MarksInstrs};
 ghost use Rattle.il_verify.specs.Sizes.{size_of_opcode};
 
 use crate::slots::{SlotType, slots_of};
@@ -37,7 +37,7 @@ fn size_of(opcode: Opcode) -> usize
 // Returns for each octet of the code whether an instruction begins there.
 fn starts_of(alloc: Global, code: &[u8]) -> Result<Vec<bool>, AllocError>
     requires { IsCode code.now }
-    ensures marks { IfOk result (λ starts. MarksPlaces code.now starts.items) }
+    ensures marks { IfOk result (λ starts. MarksInstrs code.now starts.items) }
     ensures size { IfOk result (λ starts. length starts.items ≡ length code.now) }
 {
     let mut starts = vec![in alloc; false; code.len()]?;
@@ -53,7 +53,7 @@ fn starts_of(alloc: Global, code: &[u8]) -> Result<Vec<bool>, AllocError>
 }
 
 /// Returns whether an instruction begins at this offset in the code.
-pub(crate) fn is_place(starts: &[bool], place: usize) -> bool
+pub(crate) fn begins_instr(starts: &[bool], place: usize) -> bool
     ensures { IsTrue result ↔ (slice_get starts.now place ≡ Some true) }
 {
     match starts.get(place) {

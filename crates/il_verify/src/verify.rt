@@ -1,11 +1,11 @@
 // `verify`, and the verified image that it returns.
 ghost use Rattle.std.specs.Prelude.{◌≡◌, ◌≢◌, ◌<◌, IfErr, IfOk, length, true};
 ghost use Rattle.il_verify.specs.Binding.{fits};
-ghost use Rattle.il_verify.specs.Refusals.{IsRefusal, TakesMemory};
+ghost use Rattle.il_verify.specs.Refusals.{IsRefusal, Allocates};
 ghost use Rattle.il_verify.specs.Verdicts.{IsMeasured, IsSafe, IsVerified};
 
 use crate::fault::VerifyFault;
-use crate::frame::grow;
+use crate::frame::extend_pending;
 use crate::pass::{Measures, PlacedFault, pass};
 use crate::plan::plan_of;
 use crate::points::fits;
@@ -80,7 +80,7 @@ fn check(alloc: Global, image: &Image, points: &[Point]) -> Result<Measures, Pla
     ensures err { IfErr result
         (λ s. s.fault ≢ VerifyFault.OutOfMemory → IsRefusal points.now image.now s.fault s.place) }
     ensures memory { IfErr result
-        (λ s. s.fault ≡ VerifyFault.OutOfMemory → (s.place ≡ 0) × TakesMemory points.now image.now) }
+        (λ s. s.fault ≡ VerifyFault.OutOfMemory → (s.place ≡ 0) × Allocates points.now image.now) }
 {
     if !fits(points, image) {
         return Err(PlacedFault {
@@ -104,7 +104,7 @@ fn check(alloc: Global, image: &Image, points: &[Point]) -> Result<Measures, Pla
         }
     };
     let mut pending = Vec::new(alloc);
-    match grow(&mut pending, image.code().len()) {
+    match extend_pending(&mut pending, image.code().len()) {
         Ok(()) => {}
         Err(AllocError) => {
             return Err(PlacedFault {
@@ -136,7 +136,7 @@ pub fn verify(alloc: Global, image: Image, points: &[Point]) -> Result<Verified,
     ensures exact { IfErr result
         (λ r. r.fault ≢ VerifyFault.OutOfMemory → IsVerified points.now image → ⊥) }
     ensures memory { IfErr result
-        (λ r. r.fault ≡ VerifyFault.OutOfMemory → (r.place ≡ 0) × TakesMemory points.now image) }
+        (λ r. r.fault ≡ VerifyFault.OutOfMemory → (r.place ≡ 0) × Allocates points.now image) }
 {
     match check(alloc, &image, points) {
         Ok(Measures { budget, depth }) => Ok(Verified {

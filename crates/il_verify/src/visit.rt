@@ -2,37 +2,37 @@
 // that it leads to. An offset counts octets of the code from 0.
 ghost use Rattle.std.specs.Prelude.{◌≡◌, ◌<◌, ◌≤◌, ◌-◌, ◌^◌, ℕ, length, IfErr, IfOk, OnOk, option_map};
 ghost use Rattle.std.specs.Bool.{OnFalse, OnTrue};
-ghost use Rattle.il_image.specs.Tables.{IsPlace};
+ghost use Rattle.il_image.specs.Tables.{InstrBegins};
 ghost use Rattle.il_image.specs.Machine.{most_cells};
-ghost use Rattle.il_verify.specs.Frames.{FailsVisit, IsPlan, JumpsWrong, LeadsRight, LeadsWrong, MarksPlaces, Visits, with_value_at, plain_frame, plain_frames};
+ghost use Rattle.il_verify.specs.Frames.{FailsVisit, IsPlan, JumpsToNoInstr, LeadsToInstrs, HasTargetFault, MarksInstrs, Visits, with_value_at, plain_frame, plain_frames};
 ghost use Rattle.il_verify.specs.Refusals.{JumpsTo};
 
-use crate::effect::transfer;
+use crate::effect::apply_instr;
 use crate::fault::VerifyFault;
-use crate::frame::{Frame, fall, falls_through, jump};
-use crate::plan::{Plan, is_place};
+use crate::frame::{Frame, next_frame, falls_through, follow_jump};
+use crate::plan::{Plan, begins_instr};
 use il_image::image::Image;
 use il_image::instr::Instr;
 
 // Returns whether an instruction, if it is a jump, jumps to an instruction.
 fn jumps_right(code: &[u8], starts: &[bool], instr: Instr, next: usize) -> bool
-    requires marks { MarksPlaces code.now starts.now }
+    requires marks { MarksInstrs code.now starts.now }
     requires fits { next < 2 ^ 63 }
-    ensures right { OnTrue result ((to : ℕ) → JumpsTo instr next to → IsPlace code.now to) }
-    ensures wrong { OnFalse result (JumpsWrong code.now instr next) }
+    ensures right { OnTrue result ((to : ℕ) → JumpsTo instr next to → InstrBegins code.now to) }
+    ensures wrong { OnFalse result (JumpsToNoInstr code.now instr next) }
 {
     match instr {
-        Instr::Jump(_, distance) => is_place(starts, next + usize::from(distance)),
+        Instr::Jump(_, distance) => begins_instr(starts, next + usize::from(distance)),
         _ => true,
     }
 }
 
 // Checks that an instruction leads only to instructions.
 fn check_targets(code: &[u8], starts: &[bool], instr: Instr, next: usize) -> Result<(), VerifyFault>
-    requires marks { MarksPlaces code.now starts.now }
+    requires marks { MarksInstrs code.now starts.now }
     requires fits { next < 2 ^ 63 }
-    ensures ok { OnOk result (LeadsRight code.now instr next) }
-    ensures err { IfErr result (λ f. LeadsWrong code.now instr next f) }
+    ensures ok { OnOk result (LeadsToInstrs code.now instr next) }
+    ensures err { IfErr result (λ f. HasTargetFault code.now instr next f) }
 {
     if !jumps_right(code, starts, instr, next) {
         return Err(VerifyFault::BadTarget);
@@ -68,7 +68,7 @@ pub(crate) fn visit(
 {
     let Frame { kinds, longest } = frame;
     let mut kinds = kinds;
-    match transfer(plan.slots.as_slice(), plan.timers, instr, &mut kinds) {
+    match apply_instr(plan.slots.as_slice(), plan.timers, instr, &mut kinds) {
         Ok(()) => {}
         Err(fault) => return Err(fault),
     }
@@ -77,11 +77,11 @@ pub(crate) fn visit(
         Err(fault) => return Err(fault),
     }
     let longest = longest + 1;
-    match jump(instr, next, kinds.as_slice(), longest, pending) {
+    match follow_jump(instr, next, kinds.as_slice(), longest, pending) {
         Ok(()) => {}
         Err(fault) => return Err(fault),
     }
-    match fall(instr, next, Frame { kinds, longest }, pending) {
+    match next_frame(instr, next, Frame { kinds, longest }, pending) {
         Ok(behind) => Ok(behind),
         Err(fault) => return Err(fault),
     }

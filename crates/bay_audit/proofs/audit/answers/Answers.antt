@@ -1,7 +1,7 @@
 use Rattle.std.proofs.Common.{◌≡◌, ◌+◌, ◌++◌, ◌∷◌, [], List, take, sym, ap, ◌∙◌, subst}
 use Rattle.std.proofs.lemmas.List.{take_more}
 use Rattle.bay_audit_rules.specs.declared.rule.Rule.{Rule}
-use Rattle.bay_audit.specs.Rules.{AreRight}
+use Rattle.bay_audit.specs.Rules.{AreRightAnswers}
 use Rattle.bay_audit.specs.declared.answer.RuleAnswer.{RuleAnswer}
 use Rattle.bay_audit.proofs.audit.answers.Goals as goal
 use Rattle.bay_audit.proofs.SearchLemmas.{right-more}
@@ -13,8 +13,8 @@ loop-rule-preserved c =
     let rules : take (i + 1) c.args.rules.now ≡ take i c.args.rules.now ++ c.rule-item.result ∷ [] =
     take_more c.args.rules.now i c.rule-item.result c.loop-rule-test.true
     ∙ ap (λ (r : Rule). take i c.args.rules.now ++ r ∷ []) (sym c.rule-item.is) in
-    subst (λ (rs : List Rule). AreRight g rs c.push.new.self.items) (sym rules)
-    (subst (λ (answers : List RuleAnswer). AreRight g
+    subst (λ (rs : List Rule). AreRightAnswers g rs c.push.new.self.items) (sym rules)
+    (subst (λ (answers : List RuleAnswer). AreRightAnswers g
     (take i c.args.rules.now ++ c.rule-item.result ∷ []) answers)
     (sym c.in_ok-push.ensures.items)
     (right-more g (take i c.args.rules.now) c.loop-rule.answers.items c.rule-item.result

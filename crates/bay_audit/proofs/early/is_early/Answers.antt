@@ -31,8 +31,8 @@ returns c shown =
       process = p;
       is = example-is case;
       inside = inside;
-      asked = asked-so p (example-is case) case inside rule.when c.in_ok-asked.asked
-          (c.in_ok-asked.ensures ∙ ap (condition_truths case) c.as_slice.ensures) c.if-asked.false;
+      covered = asked-so p (example-is case) case inside rule.when c.in_ok-covered.covered
+          (c.in_ok-covered.ensures ∙ ap (condition_truths case) c.as_slice.ensures) c.if-covered.false;
       early = subst
           (λ (xs : List Value). IsEarlyBy xs (first_machine g.image) (index_of_release g rule)
           c.args.time)

@@ -5,7 +5,7 @@ use Rattle.std.proofs.lemmas.List.Elements.{All-nil}
 use Rattle.bay_audit_rules.specs.Process.{Process}
 use Rattle.bay_audit.specs.declared.demand.Demand.{Demand}
 use Rattle.bay_audit.specs.Process.{IsProcess}
-use Rattle.bay_audit.specs.Rules.{AreReported, HasProcess, IsVerdict, case_count, reported_count}
+use Rattle.bay_audit.specs.Rules.{AreRightInCases, HasProcess, IsVerdict, case_count, reported_count}
 use Rattle.bay_audit.specs.declared.answer.ReportedCase.{ReportedCase}
 use Rattle.bay_audit.specs.declared.case.TestAnswer.{TestAnswer}
 use Rattle.bay_audit.proofs.ReleaseLemmas.{one-split, one-told, told-full, told-more, verdict-told}
@@ -18,7 +18,7 @@ loop-init c =
     let g = c.args.program.now in
     let none = sym c.new-cases.ensures.items in
     record {
-      told = subst (AreReported g c.args.switch c.args.operation) none tt;
+      release = subst (AreRightInCases g c.args.switch c.args.operation) none tt;
       full = subst (All (λ (d : ReportedCase). HasProcess d.case)) none
           (All-nil (λ (d : ReportedCase). HasProcess d.case));
       left = subst (All HasProcess) (sym c.in_ok-left.ensures) first-full;
@@ -45,31 +45,31 @@ loop-preserved c =
       | in-Ok+in_ok-push-in-Ok w ↦
           let cases = ap (λ v. v.items) w.cases-is ∙ w.in_ok-push-in-Ok.ensures.items in
           record {
-            told = subst (AreReported g k operation) (sym cases)
+            release = subst (AreRightInCases g k operation) (sym cases)
                 (told-more g k operation c.loop.cases.items
-                (record { case = case; told = w.in-Ok.told })
-                c.loop.invariant.told
-                (verdict-told g k operation case c.in_ok-verdict.field-0 w.in-Ok.told
+                (record { case = case; release = w.in-Ok.release })
+                c.loop.invariant.release
+                (verdict-told g k operation case c.in_ok-verdict.field-0 w.in-Ok.release
                 (subst (λ (d : Demand). IsVerdict g d case c.in_ok-verdict.field-0)
                 c.in_ok-demand.ensures c.in_ok-verdict.ensures) w.in-Ok.ensures));
             full = subst (All (λ (d : ReportedCase). HasProcess d.case)) (sym cases)
-                (told-full c.loop.cases.items (record { case = case; told = w.in-Ok.told })
+                (told-full c.loop.cases.items (record { case = case; release = w.in-Ok.release })
                 c.loop.invariant.full full.1);
             left = subst (All HasProcess) (sym (ap (λ v. v.items) w.left-is)) full.0;
             one = λ p is. subst (λ (ds : List ReportedCase). reported_count ds p
                 + case_count c.match-release_or_test.left.items p ≡ 1) (sym cases)
                 (subst (λ (cs : List (List TestAnswer)).
                 reported_count (c.loop.cases.items
-                ++ record { case = case; told = w.in-Ok.told } ∷ [])
+                ++ record { case = case; release = w.in-Ok.release } ∷ [])
                 p
                 + case_count cs p ≡ 1) (sym (ap (λ v. v.items) w.left-is))
                 (one-told c.loop.cases.items c.pop.new.self.items
-                (record { case = case; told = w.in-Ok.told }) p (before p is)));
+                (record { case = case; release = w.in-Ok.release }) p (before p is)));
           }
       | in-Err+in_ok-split-in-Err w ↦
           let cases = ap (λ v. v.items) w.cases-is in
           record {
-            told = subst (AreReported g k operation) (sym cases) c.loop.invariant.told;
+            release = subst (AreRightInCases g k operation) (sym cases) c.loop.invariant.release;
             full = subst (All (λ (d : ReportedCase). HasProcess d.case)) (sym cases)
                 c.loop.invariant.full;
             left = subst (All HasProcess)
@@ -95,7 +95,7 @@ returns-clause-right c =
           ∙ sym (ap (λ v. v.items) w.left-is)
     ] in
     record {
-      told = c.loop.invariant.told;
+      release = c.loop.invariant.release;
       full = c.loop.invariant.full;
       one = λ p is. subst (λ (cs : List (List TestAnswer)). reported_count c.loop.cases.items p
           + case_count cs p ≡ 1) left (c.loop.invariant.one p is);

@@ -2,12 +2,12 @@ use Rattle.std.proofs.Common.{◌≡◌, ◌+◌}
 use Rattle.std.specs.List.{All}
 use Rattle.bay_audit_rules.specs.Process.{Process}
 use Rattle.bay_audit.specs.Process.{IsProcess}
-use Rattle.bay_audit.specs.Rules.{AreReported, HasProcess, case_count, reported_count}
+use Rattle.bay_audit.specs.Rules.{AreRightInCases, HasProcess, case_count, reported_count}
 use Rattle.bay_audit.proofs.release.release.Given as goal
 
 abbrev pub invariant-loop : goal.invariant-loop
 invariant-loop l = record {
-  told : AreReported l.program l.switch l.operation
+  release : AreRightInCases l.program l.switch l.operation
       l.cases.items;
   full : All (λ c. HasProcess c.case) l.cases.items;
   left : All HasProcess l.left.items;

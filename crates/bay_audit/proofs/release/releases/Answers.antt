@@ -1,5 +1,5 @@
 use Rattle.std.proofs.Common.{◌≡◌, ◌++◌, ◌∷◌, [], List, map, sym, ap, ◌∙◌, subst}
-use Rattle.bay_audit.specs.Rules.{AreReleases, way_of}
+use Rattle.bay_audit.specs.Rules.{AreReleases, direction_of}
 use Rattle.bay_audit.specs.declared.answer.Release.{Release}
 use Rattle.bay_audit.proofs.ReleaseLemmas.{releases-more, ways-more}
 use Rattle.bay_audit.proofs.release.releases.Goals as goal
@@ -19,7 +19,7 @@ loop-switch-preserved c =
           (releases-more c.args.bay.now g before a c.loop-switch.invariant.right
           c.in_ok-release.ensures.right)
           c.in_ok-release-2.ensures.right);
-      all = ap (map way_of) items
+      all = ap (map direction_of) items
           ∙ ways-more before a b c.loop-switch.switch c.loop-switch.invariant.all
           c.in_ok-release.ensures.way c.in_ok-release-2.ensures.way;
     }

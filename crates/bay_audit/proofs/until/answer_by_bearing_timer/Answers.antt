@@ -5,4 +5,4 @@ use Rattle.bay_audit.proofs.until.answer_by_bearing_timer.Goals as goal
 pub returns-in-Some : goal.returns-in-Some
 returns-in-Some c =
     let both = c.in_ok-more.ensures (ap is_some c.in-Some.is) in
-    record { late_so = both.0; there_so = c.requires; idle_so = both.1 }
+    record { delay_met = both.0; necessary_met = c.requires; idle_met = both.1 }

@@ -5,12 +5,12 @@ use Rattle.bay_audit.specs.declared.truth_set.TruthSet.{TruthSet}
 use Rattle.bay_audit.proofs.verdict.verdict.Goals as goal
 use Rattle.bay_audit.proofs.RuleLemmas.{idle-in}
 
-pub returns-then-not-asked : goal.returns-then-not-asked
-returns-then-not-asked c =
+pub returns-then-not-covered : goal.returns-then-not-covered
+returns-then-not-covered c =
     idle-in
     c.args.program.now
     c.args.demand.now c.args.case.now
     (ap (λ (o : TruthSet). o.yes)
-    (sym (c.in_ok-asked.ensures
+    (sym (c.in_ok-covered.ensures
     ∙ ap₂ (rule_truths c.args.case.now) c.as_slice.ensures c.as_slice-2.ensures))
-    ∙ not-true c.in_ok-asked.asked.yes c.if-not-asked.true)
+    ∙ not-true c.in_ok-covered.covered.yes c.if-not-covered.true)

@@ -12,7 +12,7 @@ returns-in-Hazard c =
     c.in_ok-cases.ensures in (
       found.0,
       part-released c.args.bay.now c.args.program.now net r c.requires released
-          c.in_ok-released.hanging.items c.in_ok-released.ensures c.in-Hazard.case found.1,
+          c.in_ok-released.undecided.items c.in_ok-released.ensures c.in-Hazard.case found.1,
     )
 
 pub returns-in-Harmless-3 : goal.returns-in-Harmless-3
@@ -20,10 +20,10 @@ returns-in-Harmless-3 c =
     let net = c.args.network.now in
     let r = c.args.release in
     let released = c.in_ok-released.released.items in
-    let hanging = c.in_ok-released.hanging.items in
-    free-harmless c.args.bay.now c.args.program.now net r c.requires released hanging
+    let undecided = c.in_ok-released.undecided.items in
+    free-harmless c.args.bay.now c.args.program.now net r c.requires released undecided
     c.in_ok-released.ensures
     (subst (IsSweep net r.switch r.operation released) c.in-Harmless.is c.in_ok-cases.ensures)
-    (subst (IsSweep net r.switch r.operation hanging) c.in-Harmless-2.is c.in_ok-cases-2.ensures)
+    (subst (IsSweep net r.switch r.operation undecided) c.in-Harmless-2.is c.in_ok-cases-2.ensures)
     (subst (IsSweep net r.switch r.operation r.left.items) c.in-Harmless-3.is
     c.in_ok-cases-3.ensures)

@@ -1,6 +1,6 @@
 use Rattle.std.proofs.Common.{◌∙◌, refl}
 use Rattle.bay_audit_rules.specs.Running.{state, condition_at}
-use Rattle.bay_audit_rules.specs.Turns.{phase_of}
+use Rattle.bay_audit_rules.specs.Advances.{phase_of}
 use Rattle.bay_audit_rules.proofs.ConditionLemmas.{turn-on, turn-stop, turn-refuse}
 use Rattle.bay_audit_rules.proofs.condition.condition.Goals as goal
 

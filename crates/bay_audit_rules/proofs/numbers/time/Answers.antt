@@ -5,16 +5,16 @@ use Rattle.bay_audit_rules.specs.declared.pieces.Cut.TheVariants.{Time}
 use Rattle.bay_audit_rules.proofs.NumberLemmas.{map-min, timer-min}
 use Rattle.bay_audit_rules.proofs.numbers.time.Goals as goal
 
-pub returns-in_err-milliseconds : goal.returns-in_err-milliseconds
-returns-in_err-milliseconds c =
+pub returns-in_err-read_milliseconds : goal.returns-in_err-read_milliseconds
+returns-in_err-read_milliseconds c =
     c.from_residual.ensures
-    ∙ ap (option_map timer_time) (sym c.in_err-milliseconds.was)
-    ∙ map-min timer_time timer-min (time_of (pieces Time c.args.word.now)) c.milliseconds.result
-    c.milliseconds.ensures
+    ∙ ap (option_map timer_time) (sym c.in_err-read_milliseconds.was)
+    ∙ map-min timer_time timer-min (time_of (pieces Time c.args.word.now)) c.read_milliseconds.result
+    c.read_milliseconds.ensures
 
 pub returns : goal.returns
 returns c =
-    ap Some c.timer.ensures
-    ∙ ap (option_map timer_time) (sym c.in_ok-milliseconds.was)
-    ∙ map-min timer_time timer-min (time_of (pieces Time c.args.word.now)) c.milliseconds.result
-    c.milliseconds.ensures
+    ap Some c.to_timer_time.ensures
+    ∙ ap (option_map timer_time) (sym c.in_ok-read_milliseconds.was)
+    ∙ map-min timer_time timer-min (time_of (pieces Time c.args.word.now)) c.read_milliseconds.result
+    c.read_milliseconds.ensures

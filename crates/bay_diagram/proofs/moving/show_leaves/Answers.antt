@@ -1,5 +1,5 @@
 use Rattle.std.proofs.Common.{sym}
-use Rattle.bay_diagram.specs.Hazards.{leaves, leaves_any}
+use Rattle.bay_diagram.specs.Hazards.{leaves_current, leaves_any}
 use Rattle.bay_diagram.specs.Reading.{reading_in}
 use Rattle.bay_diagram.proofs.FoundLemmas.{find-none}
 use Rattle.bay_diagram.proofs.ShowLemmas.{and-none-left, and-none-right, leaves-shown, left-parts, opposed}
@@ -15,7 +15,7 @@ returns-in_default-2 c =
     let r = reading_in c.args.known.now in
     let s = c.args.switch.now in
     let d = c.in-Some.other.now in
-    opposed (leaves net r s d) (leaves_any net r s) (left-parts net r s d (sym c.in-Some.ensures))
+    opposed (leaves_current net r s d) (leaves_any net r s) (left-parts net r s d (sym c.in-Some.ensures))
     (and-none-left _ _ (rw c.in_default-2.is at c.in_ok-beside.ensures))
 
 pub returns-in_default-3 : goal.returns-in_default-3
@@ -24,7 +24,7 @@ returns-in_default-3 c =
     let r = reading_in c.args.known.now in
     let s = c.args.switch.now in
     let d = c.in-Some.other.now in
-    opposed (leaves net r s d) (leaves_any net r s) (left-parts net r s d (sym c.in-Some.ensures))
+    opposed (leaves_current net r s d) (leaves_any net r s) (left-parts net r s d (sym c.in-Some.ensures))
     (and-none-right _ _ (rw c.in_default-3.is at c.in_ok-walk.ensures))
 
 pub returns : goal.returns

@@ -1,5 +1,5 @@
 use Rattle.std.proofs.Common.{◌≡◌, true}
-use Rattle.bay_diagram.specs.Hazards.{makes, makes_from}
+use Rattle.bay_diagram.specs.Hazards.{makes_current, makes_from}
 use Rattle.bay_diagram.specs.Reading.{reading_in}
 use Rattle.bay_diagram.specs.Shown.{IsFound, shows_make, shows_make_from}
 use Rattle.bay_diagram.specs.declared.shown.ShownWalk.{ShownWalk}
@@ -48,7 +48,7 @@ returns-in-None-3 c =
     ok-more
     (IsFound (λ (w : ShownWalk). shows_make_from net r s d s.other s.one d.other d.one w ≡ true)
     (makes_from net r s d s.other s.one d.other d.one))
-    (IsFound (λ (w : ShownWalk). shows_make net r s d w ≡ true) (makes net r s d))
+    (IsFound (λ (w : ShownWalk). shows_make net r s d w ≡ true) (makes_current net r s d))
     (λ o. make-last net r s d o
     (rw (c.in-None.is, c.ends_of.ensures) at c.in_ok-walk.ensures)
     (rw (c.in-None-2.is, c.ends_of-in-None.ensures) at c.in_ok-walk-in-None.ensures)

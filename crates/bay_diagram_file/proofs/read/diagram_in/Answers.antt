@@ -20,4 +20,4 @@ pub returns-in-Err-clause-file : goal.returns-in-Err-clause-file
 returns-in-Err-clause-file c =
     let bad : is_utf8 c.args.octets.now ≡ false =
     is-utf8-false c.args.octets.now c.in-Err.ensures.cases.0 in
-    inr (rw (bad, c.of_file.ensures) refl)
+    inr (rw (bad, c.file_fault.ensures) refl)

@@ -1,5 +1,5 @@
 use Rattle.std.proofs.Common.{◌∙◌, ◌++◌, [], List, ℕ, ap, append-nil, length, sym}
-use Rattle.bay_audit.specs.Rules.{ways}
+use Rattle.bay_audit.specs.Rules.{directions}
 use Rattle.cmd_audit.specs.Text.{states_text}
 use Rattle.cmd_audit.proofs.WrittenLemmas.{cut-none, some-of, stopped-answers, stopped-releases, when-err, whole}
 use Rattle.cmd_audit.proofs.written.write_audit.Goals as goal
@@ -28,7 +28,7 @@ pub returns-in_err-put_states : goal.returns-in_err-put_states
 returns-in_err-put_states g c =
     let bay = c.args.loaded.now.bay in
     let f = rw (c.bay-bay.ensures, c.verified.ensures) at c.in_ok-program.ensures in
-    let all = ways (length bay.switches) in
+    let all = directions (length bay.switches) in
     when-err _ c.from_residual-in_err-put_states.result c.from_residual-in_err-put_states.ensures.0
     (stopped-releases c.args.loaded.now c.args.rules.now c.of-names.result c.in_ok-program.program
     c.of-names.ensures f c.in_ok-passed.passed (rw c.bay-bay.ensures at c.in_ok-passed.ensures)

@@ -25,8 +25,8 @@ loop-declaration-preserved c =
     c.loop-declaration.declared c.declare.new.self
     (omega arith) c.loop-declaration.invariant c.in_ok-declare.ensures
 
-pub returns-clause-stands : goal.returns-clause-stands
-returns-clause-stands c =
+pub returns-clause-ok : goal.returns-clause-ok
+returns-clause-ok c =
     so_far-stands c.args.points.now c.args.declarations.now c.loop-declaration.declaration-index
     c.loop-declaration.declared c.loop-declaration-test.false
     c.loop-declaration.invariant

@@ -11,7 +11,7 @@ loop-item-preserved c =
     c.add_item.new.self c.loop-item-test.true c.item-item.is
     c.loop-item.invariant c.in_ok-add_item.ensures
 
-pub returns-clause-stands : goal.returns-clause-stands
-returns-clause-stands c =
+pub returns-clause-ok : goal.returns-clause-ok
+returns-clause-ok c =
     labels-all c.args.items.now c.loop-item.item-index c.loop-item.labels c.loop-item-test.false
     c.loop-item.invariant

@@ -2,8 +2,8 @@ use Rattle.std.proofs.Common.{◌-◌, List, drop, map, sym, subst, arith}
 use Rattle.il_image.specs.Images.{Each}
 use Rattle.il_check.specs.ProgramViews.{item_view}
 use Rattle.il_check.specs.declared.typed.TypedItem.{TypedItem}
-use Rattle.il_compile.specs.Continuation.{IsSettled, IsSpellable}
-use Rattle.il_compile.proofs.BehindLemmas.{one-back, each-drop, bounded, none-left}
+use Rattle.il_compile.specs.Continuation.{HasNoPending, IsSpellable}
+use Rattle.il_compile.proofs.ContinuationLemmas.{one-back, each-drop, bounded, none-left}
 use Rattle.il_compile.proofs.continuation.compile_all.Goals as goal
 
 pub put_item-requires-clause-spellable : goal.put_item-requires-clause-spellable
@@ -17,7 +17,7 @@ put_item-requires-clause-spellable c =
 
 pub put_item-requires-clause-bounded : goal.put_item-requires-clause-bounded
 put_item-requires-clause-bounded c =
-    bounded c.args.externals (map item_view (drop c.loop-at.at c.args.items.now)) c.loop-at.behind
+    bounded c.args.externals (map item_view (drop c.loop-at.at c.args.items.now)) c.loop-at.continuation
     c.loop-at.invariant.settled
 
 pub loop-at-preserved : goal.loop-at-preserved
@@ -31,7 +31,7 @@ loop-at-preserved c =
     c.loop-at.invariant.settled in
     record {
       within = omega arith;
-      settled = subst (λ (l : List TypedItem). IsSettled c.args.externals (map item_view l)
+      settled = subst (λ (l : List TypedItem). HasNoPending c.args.externals (map item_view l)
           c.put_item.new.self) (sym e) put;
     }
 
@@ -40,7 +40,7 @@ loop-at-init c =
     record {
       within = omega arith;
       settled =
-          subst (λ (l : List TypedItem). IsSettled c.args.externals (map item_view l)
-          c.new-behind.result) (sym (none-left c.args.items.now))
-          (c.new-behind.ensures c.args.externals);
+          subst (λ (l : List TypedItem). HasNoPending c.args.externals (map item_view l)
+          c.new-continuation.result) (sym (none-left c.args.items.now))
+          (c.new-continuation.ensures c.args.externals);
     }

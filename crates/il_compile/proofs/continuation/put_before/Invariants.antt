@@ -6,10 +6,10 @@ use Rattle.il_compile.specs.Continuation.{octets_bound}
 abbrev pub invariant-loop-instr : goal.invariant-loop-instr
 invariant-loop-instr l = record {
   bounded : l.all ≤ octets_bound;
-  counted : min (l.all + spec.octets l.line.items) octets_bound
-      ≡ min (l.initial.all + spec.octets l.initial.line.items) octets_bound;
-  before : l.line.items ++ reverse l.behind.items
-      ≡ l.initial.line.items ++ reverse l.initial.behind.items;
+  counted : min (l.all + spec.octets l.pending.items) octets_bound
+      ≡ min (l.initial.all + spec.octets l.initial.pending.items) octets_bound;
+  before : l.pending.items ++ reverse l.continuation.items
+      ≡ l.initial.pending.items ++ reverse l.initial.continuation.items;
 }
 
 abbrev pub decreases-loop-instr : goal.decreases-loop-instr

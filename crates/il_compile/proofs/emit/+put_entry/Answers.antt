@@ -35,10 +35,10 @@ loop-inner-preserved t c = record {
 
 pub returns-after-loop-inner : goal.returns-after-loop-inner
 returns-after-loop-inner t c =
-    block-coded c.put_operated.result c.args.externals c.in-Block.operator c.in-Block.kind
+    block-coded c.put_operator.result c.args.externals c.in-Block.operator c.in-Block.kind
     c.in-Block.negated c.in-Block.entries c.args.entry.now c.deref-inner-items.result.now
     c.loop-inner.inner-index
-    c.args.code.now.items _ c.loop-inner.code.items c.put_operated.new.code.items c.in-Block.is
+    c.args.code.now.items _ c.loop-inner.code.items c.put_operator.new.code.items c.in-Block.is
     c.deref-inner-items.ensures.value c.loop-inner-test.false (grind arith)
     c.loop-inner.invariant.rest
-    c.put_operated.ensures
+    c.put_operator.ensures

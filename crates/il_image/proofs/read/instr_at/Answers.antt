@@ -8,9 +8,9 @@ returns-then-offset-code-clause-value c =
 
 pub returns-clause-value : goal.returns-clause-value
 returns-clause-value c =
-    from-place c.args.code.now c.args.offset c.first_of.result c.first_of.ensures
+    from-place c.args.code.now c.args.offset c.first_instr.result c.first_instr.ensures
 
 pub returns-clause-forward : goal.returns-clause-forward
 returns-clause-forward c =
-    found-forward c.args.code.now c.args.offset c.first_of.result
-    (from-place c.args.code.now c.args.offset c.first_of.result c.first_of.ensures)
+    found-forward c.args.code.now c.args.offset c.first_instr.result
+    (from-place c.args.code.now c.args.offset c.first_instr.result c.first_instr.ensures)

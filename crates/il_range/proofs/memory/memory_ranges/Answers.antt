@@ -6,8 +6,8 @@ use Rattle.il_range.specs.declared.range.Range.{Range}
 use Rattle.il_range.specs.declared.range.Range.TheVariants.{Any}
 use Rattle.bay_base.specs.declared.position.Dbpos.TheVariants.{Off}
 use Rattle.il_range.specs.Effects.{are_within}
-use Rattle.il_range.specs.Foretold.{IsMemory}
-use Rattle.il_range.specs.Outcomes.{Carries}
+use Rattle.il_range.specs.Predictions.{IsMemory}
+use Rattle.il_range.specs.Outcomes.{PredictsMemory}
 use Rattle.il_range.specs.Ranges.{AreIn, Setting}
 use Rattle.il_range.proofs.StartLemmas.{any-memory, firsts-in, firsts-size, grows, settled, slot_count}
 use Rattle.il_range.proofs.memory.memory_ranges.Goals as goal
@@ -27,7 +27,7 @@ returns-then-are_within c w machine is r =
     let one = c.as_slice-in-loop-round.ensures.value in
     let two = c.as_slice-in-loop-round-2.ensures.value in cc in
     settled image c.loop-round.ranges.items left c.loop-round.invariant
-    (subst (λ (memory : List Range). Carries image memory left) c.as_slice.ensures.value
+    (subst (λ (memory : List Range). PredictsMemory image memory left) c.as_slice.ensures.value
     c.in_ok-left.ensures.carries) inside w machine (is ∙ sym c.image-image.ensures.value) r
 
 pub widen-requires : goal.widen-requires

@@ -14,4 +14,4 @@ returns-clause-carries c =
     let two = c.points-2.ensures.value in cc in
     tells-any c.args.image.now c.in_ok-start.start.items c.args.memory.now
     c.in_ok-forecast.forecast.delays.items c.in_ok-forecast.forecast.ranges.items start
-    c.in_ok-forecast.ensures.tells
+    c.in_ok-forecast.ensures.predicts

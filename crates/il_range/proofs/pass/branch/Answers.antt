@@ -1,7 +1,7 @@
 use Rattle.std.proofs.Common.{◌+◌, OnOk, sym, subst, arith}
 use Rattle.std.proofs.lemmas.Result.{on_ok_weaker}
-use Rattle.il_range.specs.Effects.{Plain}
-use Rattle.il_range.specs.Pending.{Arrives, Branches, known_view}
+use Rattle.il_range.specs.Effects.{KnownData}
+use Rattle.il_range.specs.Pending.{JoinsKnown, Branches, known_view}
 use Rattle.il_range.specs.declared.range.Range.{Range}
 use Rattle.il_range.proofs.PendingLemmas.{branches-both, branches-no, branches-yes}
 use Rattle.il_range.proofs.pass.branch.Goals as goal
@@ -36,7 +36,7 @@ returns-in_ok-jump_past-in_default c =
       size = omega (arith, c.arrive-in_default.ensures.size, c.jump_past-in_default.ensures.size);
       ok = on_ok_weaker c.arrive-in_default.result
           (branches-both c.args.jumps c.args.distance c.args.next come old mid new
-          (subst (λ (p : Plain). Arrives old mid (c.args.next + c.args.distance) p)
+          (subst (λ (p : KnownData). JoinsKnown old mid (c.args.next + c.args.distance) p)
           c.in_ok-other-in_default.ensures c.in_ok-jump_past-in_default.ensures.ok))
           c.arrive-in_default.ensures.ok;
     }

@@ -1,7 +1,7 @@
 use Rattle.std.proofs.Common.{subst}
 use Rattle.std.proofs.lemmas.Result.{on_ok_weaker}
-use Rattle.il_range.specs.Effects.{Plain}
-use Rattle.il_range.specs.Pending.{Arrives, known_view}
+use Rattle.il_range.specs.Effects.{KnownData}
+use Rattle.il_range.specs.Pending.{JoinsKnown, known_view}
 use Rattle.il_range.proofs.EffectLemmas.{step-moves}
 use Rattle.il_range.proofs.pass.step.Goals as goal
 
@@ -13,5 +13,5 @@ returns-clause-ok c =
     (λ a. step-moves c.args.instr c.args.next (known_view c.args.here)
     (known_view c.apply.new.known) old new
     c.in_ok-apply.ensures
-    (subst (λ (p : Plain). Arrives old new c.args.next p) c.follow.ensures a))
+    (subst (λ (p : KnownData). JoinsKnown old new c.args.next p) c.update_dependencies.ensures a))
     c.arrive.ensures.ok

@@ -2,32 +2,32 @@ use Rattle.std.proofs.Common.{sym, ◌∙◌, arith}
 use Rattle.il_scan.proofs.FetchLemmas.{fetched, no-opcode, place-within, whole-operand}
 use Rattle.il_scan.proofs.fetch.fetch.Goals as goal
 
-pub bounds-code-place : goal.bounds-code-place
-bounds-code-place c =
-    place-within c.args.code.now c.args.place (λ k. (c.type_inv.code k).fits) c.requires
+pub bounds-code-offset : goal.bounds-code-offset
+bounds-code-offset c =
+    place-within c.args.code.now c.args.offset (λ k. (c.type_inv.code k).fits) c.requires
 
-pub overflow_add-place : goal.overflow_add-place
-overflow_add-place c = let h =
-    place-within c.args.code.now c.args.place (λ k. (c.type_inv.code k).fits) c.requires in
+pub overflow_add-offset : goal.overflow_add-offset
+overflow_add-offset c = let h =
+    place-within c.args.code.now c.args.offset (λ k. (c.type_inv.code k).fits) c.requires in
     omega arith
 
-pub operand-requires-clause-whole : goal.operand-requires-clause-whole
-operand-requires-clause-whole c =
-    whole-operand c.args.code.now c.args.place (λ k. (c.type_inv.code k).fits) c.requires
+pub read_operand-requires-clause-whole : goal.read_operand-requires-clause-whole
+read_operand-requires-clause-whole c =
+    whole-operand c.args.code.now c.args.offset (λ k. (c.type_inv.code k).fits) c.requires
     c.in-Some.opcode (sym c.of.ensures ∙ c.in-Some.is)
 
-pub operand-requires-clause-within : goal.operand-requires-clause-within
-operand-requires-clause-within c = let h =
-    place-within c.args.code.now c.args.place (λ k. (c.type_inv.code k).fits) c.requires in
+pub read_operand-requires-clause-within : goal.read_operand-requires-clause-within
+read_operand-requires-clause-within c = let h =
+    place-within c.args.code.now c.args.offset (λ k. (c.type_inv.code k).fits) c.requires in
     omega arith
 
 pub unreachable-requires : goal.unreachable-requires
 unreachable-requires c =
-    no-opcode c.args.code.now c.args.place (λ k. (c.type_inv.code k).fits) c.requires
+    no-opcode c.args.code.now c.args.offset (λ k. (c.type_inv.code k).fits) c.requires
     (sym c.of.ensures ∙ c.in-None.is)
 
 pub returns-clause-value : goal.returns-clause-value
 returns-clause-value c =
-    fetched c.args.code.now c.args.place (λ k. (c.type_inv.code k).fits) c.requires c.in-Some.opcode
-    (sym c.of.ensures ∙ c.in-Some.is) c.operand.result c.operand.ensures.value
-    c.operand.ensures.within
+    fetched c.args.code.now c.args.offset (λ k. (c.type_inv.code k).fits) c.requires c.in-Some.opcode
+    (sym c.of.ensures ∙ c.in-Some.is) c.read_operand.result c.read_operand.ensures.value
+    c.read_operand.ensures.within

@@ -3,8 +3,8 @@ use Rattle.std.specs.Prelude.{map}
 use Rattle.il_image.specs.declared.image.ImagePoint.{ImagePoint}
 use Rattle.bay_base.specs.declared.types.TimerKind.{TimerKind}
 use Rattle.il_image.specs.Timers.{first_state}
-use Rattle.il_scan.specs.PointPlaces.{read_indices, write_indices}
-use Rattle.il_scan.specs.PointPlaces.{writable_count}
+use Rattle.il_scan.specs.PointIndices.{read_indices, write_indices}
+use Rattle.il_scan.specs.PointIndices.{writable_count}
 use Rattle.il_scan.proofs.ScanLemmas.{first-held, held-at-first}
 use Rattle.il_scan.proofs.machine.memory_of.Goals as goal
 
@@ -22,10 +22,10 @@ returns-clause-kept c = record {
       c.in_ok-timers.timers.items c.in_ok-slots.ensures.ok
       (c.in_ok-timers.ensures.ok
       ∙ ap (λ (kinds : List TimerKind). map first_state kinds) c.timers.ensures.value);
-  read = c.in_ok-places.ensures.reads
+  read = c.in_ok-indices.ensures.reads
       ∙ ap (λ (ps : List ImagePoint). read_indices 0 ps) c.points.ensures.value;
   written =
-      c.in_ok-places.ensures.writes
+      c.in_ok-indices.ensures.writes
       ∙ ap (λ (ps : List ImagePoint). write_indices 0 ps) c.points.ensures.value;
   room = c.in_ok-outputs.ensures.ok
       ∙ ap (λ (ps : List ImagePoint). writable_count ps) c.points-2.ensures.value;

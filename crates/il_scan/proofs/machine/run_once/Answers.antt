@@ -5,8 +5,8 @@ use Rattle.il_scan.proofs.HoldLemmas.{all-held}
 use Rattle.il_image.specs.Values.{type_of}
 use Rattle.il_image.specs.declared.image.ImagePoint.{ImagePoint}
 use Rattle.il_image.specs.declared.value.Value.{Value}
-use Rattle.il_scan.specs.Places.{output_value}
-use Rattle.il_scan.specs.PointPlaces.{AllBelow}
+use Rattle.il_scan.specs.OutputValues.{output_value}
+use Rattle.il_scan.specs.PointIndices.{AllBelow}
 use Rattle.il_scan.specs.Scans.{Scans, read_only, type_of_point}
 use Rattle.il_scan.specs.Scans.{machine_data}
 use Rattle.il_scan.proofs.PlaceLemmas.{are-values, outputs-placed, so-many-types, so-many-writes, types_of, writes-below}
@@ -35,25 +35,25 @@ run_points-steps-requires-clause-hold c =
     sym (length-map inputs type_of)
     ∙ ap (λ (ts : List ElementaryType). length ts) (types_of types inputs c.requires.inputs) in
     let many = so-many-types 0 image.points in
-    let places = ap (λ (ns : List ℕ). length ns)
+    let indices = ap (λ (ns : List ℕ). length ns)
     (c.as_slice-reads.ensures.value ∙ c.requires.kept.read) in
-    all-held _ inputs _ refl (omega (arith, same, many, places))
+    all-held _ inputs _ refl (omega (arith, same, many, indices))
 
-pub give_outputs-requires-clause-words : goal.give_outputs-requires-clause-words
-give_outputs-requires-clause-words c =
+pub copy_outputs-requires-clause-words : goal.copy_outputs-requires-clause-words
+copy_outputs-requires-clause-words c =
     points-words c.args.image.now c.points.result.now c.points.ensures.value
     c.run_points-steps.new.slots c.run_points-steps.new.timers c.run_points-steps.ensures.held
 
-pub give_outputs-requires-clause-within : goal.give_outputs-requires-clause-within
-give_outputs-requires-clause-within c =
+pub copy_outputs-requires-clause-within : goal.copy_outputs-requires-clause-within
+copy_outputs-requires-clause-within c =
     let image = c.args.image.now in
     let below = writes-below (length image.points) 0 image.points (omega arith) in
     rw c.points.ensures.value
     (subst (AllBelow (length image.points))
     (sym (c.as_slice.ensures.value ∙ c.requires.kept.written)) below)
 
-pub give_outputs-requires-clause-room : goal.give_outputs-requires-clause-room
-give_outputs-requires-clause-room c =
+pub copy_outputs-requires-clause-room : goal.copy_outputs-requires-clause-room
+copy_outputs-requires-clause-room c =
     c.requires.kept.room ∙ so-many-writes 0 c.args.image.now.points
     ∙ sym (ap (λ (ns : List ℕ). length ns)
     (c.as_slice.ensures.value ∙ c.requires.kept.written))
@@ -65,7 +65,7 @@ returns-clause-scans c =
     let enough =
     held-points image new c.run_points-steps.new.timers c.run_points-steps.ensures.held in
     let given =
-    c.give_outputs.ensures ∙ ap
+    c.copy_outputs.ensures ∙ ap
     (λ (ps : List ImagePoint). map (output_value ps new) c.as_slice.result.now)
     c.points.ensures.value
     ∙ ap (λ (ns : List ℕ). map (output_value image.points new) ns)

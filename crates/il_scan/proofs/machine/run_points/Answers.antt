@@ -1,7 +1,7 @@
 use Rattle.std.proofs.Common.{ℕ, List, length, map, refl, sym, ap, subst, ◌∙◌, arith}
 use Rattle.bay_base.specs.declared.types.ElementaryType.{ElementaryType}
 use Rattle.il_image.specs.Values.{type_of}
-use Rattle.il_scan.specs.PointPlaces.{AllBelow, IsRising}
+use Rattle.il_scan.specs.PointIndices.{AllBelow, IsRising}
 use Rattle.il_scan.specs.Scans.{machine_data, outputs_of}
 use Rattle.il_image.specs.Tables.{slot_types}
 use Rattle.il_scan.specs.Words.{AreTyped, values_of, words_of}

@@ -1,7 +1,7 @@
 use Rattle.std.proofs.Common.{◌<◌, List, ℕ, ℤ, length, ap, subst, sym, arith}
 use Rattle.il_image.specs.Octets.{AreOctets}
 use Rattle.il_scan.specs.MachineStates.{RunsTo, first_state}
-use Rattle.il_scan.specs.Working.{words}
+use Rattle.il_scan.specs.WordEffects.{words}
 use Rattle.il_scan.proofs.RunLemmas.{Comes, come-within, reach, run-ends, starts}
 use Rattle.il_scan.proofs.run.run.Goals as goal
 
@@ -14,8 +14,8 @@ loop-next-init c =
     (starts c.args.image.now c.args.now c.args.slots.now c.args.timers.now octets c.requires.safe
     c.requires.held)
 
-pub turn-to-requires : goal.turn-to-requires
-turn-to-requires c =
+pub execute-to-requires : goal.execute-to-requires
+execute-to-requires c =
     let i = c.loop-next.invariant in
     record { there = (c.args.image.now, i.state, sym c.code-code.ensures.value, i.stands) }
 
@@ -24,17 +24,17 @@ loop-next-smaller c =
     let image = c.args.image.now in
     let first = first_state image c.args.slots.now c.args.timers.now in
     let w = words c.loop-next.stack c.loop-next.slots c.loop-next.timers in
-    let after = words c.turn-to.new.stack c.turn-to.new.slots c.turn-to.new.timers in
+    let after = words c.execute-to.new.stack c.execute-to.new.slots c.execute-to.new.timers in
     let r = reach image c.args.now first _ c.code-code.ensures.value
-    c.turn-to.result.1 c.loop-next.place c.loop-next.steps w c.loop-next.invariant
-    c.turn-to.result.0 after c.turn-to.ensures.steps _ c.in-Some.is in
-    let on : c.loop-next.place < c.in-Some.next = r.1 in
+    c.execute-to.result.1 c.loop-next.offset c.loop-next.steps w c.loop-next.invariant
+    c.execute-to.result.0 after c.execute-to.ensures.steps _ c.in-Some.is in
+    let on : c.loop-next.offset < c.in-Some.next = r.1 in
     let same = ap (λ (os : List ℕ). length os) c.code-code.ensures.value in
     omega (
       arith,
       on,
       same,
-      come-within image c.args.now first c.loop-next.place c.loop-next.steps w
+      come-within image c.args.now first c.loop-next.offset c.loop-next.steps w
           c.loop-next.invariant,
     )
 
@@ -43,10 +43,10 @@ loop-next-preserved c =
     let image = c.args.image.now in
     let first = first_state image c.args.slots.now c.args.timers.now in
     let w = words c.loop-next.stack c.loop-next.slots c.loop-next.timers in
-    let after = words c.turn-to.new.stack c.turn-to.new.slots c.turn-to.new.timers in
+    let after = words c.execute-to.new.stack c.execute-to.new.slots c.execute-to.new.timers in
     let r = reach image c.args.now first _ c.code-code.ensures.value
-    c.turn-to.result.1 c.loop-next.place c.loop-next.steps w c.loop-next.invariant
-    c.turn-to.result.0 after c.turn-to.ensures.steps _ c.in-Some.is in
+    c.execute-to.result.1 c.loop-next.offset c.loop-next.steps w c.loop-next.invariant
+    c.execute-to.result.0 after c.execute-to.ensures.steps _ c.in-Some.is in
     r.0
 
 pub returns-in-None : goal.returns-in-None
@@ -54,10 +54,10 @@ returns-in-None c =
     let image = c.args.image.now in
     let first = first_state image c.args.slots.now c.args.timers.now in
     let w = words c.loop-next.stack c.loop-next.slots c.loop-next.timers in
-    let after = words c.turn-to.new.stack c.turn-to.new.slots c.turn-to.new.timers in
+    let after = words c.execute-to.new.stack c.execute-to.new.slots c.execute-to.new.timers in
     let r = reach image c.args.now first _ c.code-code.ensures.value
-    c.turn-to.result.1 c.loop-next.place c.loop-next.steps w c.loop-next.invariant
-    c.turn-to.result.0 after c.turn-to.ensures.steps _ c.in-None.is in
+    c.execute-to.result.1 c.loop-next.offset c.loop-next.steps w c.loop-next.invariant
+    c.execute-to.result.0 after c.execute-to.ensures.steps _ c.in-None.is in
     subst (RunsTo image c.args.now c.args.slots.now c.args.timers.now after.slots after.timers)
     (sym r.5)
     (run-ends image c.args.now c.args.slots.now c.args.timers.now r.0 r.1 r.2 r.3 r.4

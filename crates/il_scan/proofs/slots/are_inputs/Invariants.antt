@@ -1,5 +1,5 @@
 use Rattle.std.proofs.Common.{◌≡◌, length}
-use Rattle.il_scan.specs.PointPlaces.{are_inputs}
+use Rattle.il_scan.specs.PointIndices.{are_inputs}
 use Rattle.il_scan.proofs.slots.are_inputs.Given as goal
 
 abbrev pub invariant-loop-rest : goal.invariant-loop-rest

@@ -1,5 +1,5 @@
 use Rattle.std.proofs.Common.{◌≡◌, ◌++◌, drop}
-use Rattle.il_scan.specs.PointPlaces.{read_indices, write_indices}
+use Rattle.il_scan.specs.PointIndices.{read_indices, write_indices}
 use Rattle.il_scan.proofs.slots.point_indices.Given as goal
 
 abbrev pub invariant-loop-place : goal.invariant-loop-place

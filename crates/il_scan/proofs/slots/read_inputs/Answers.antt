@@ -1,15 +1,15 @@
 use Rattle.std.proofs.Common.{◌≡◌, ◌<◌, ◌≤◌, ◌⊎◌, inl, inr, ℕ, ℤ, List, length, sym, ap, subst, ◌∙◌, arith}
 use Rattle.std.proofs.lemmas.List.{length-map}
 use Rattle.il_image.specs.Values.{number_of}
-use Rattle.il_scan.specs.PointPlaces.{IsPut, with_words}
+use Rattle.il_scan.specs.PointIndices.{IsPut, with_words}
 use Rattle.il_scan.specs.Words.{words_of}
 use Rattle.il_scan.proofs.HoldLemmas.{all-put, all-typed, put-all, put-next, put-over}
 use Rattle.il_scan.proofs.PlaceLemmas.{below-at}
 use Rattle.il_scan.proofs.slots.read_inputs.Goals.{then-span-count, else-span-count}
 use Rattle.il_scan.proofs.slots.read_inputs.Goals as goal
 
-pub take_input-requires : goal.take_input-requires
-take_input-requires g c =
+pub write_input-requires : goal.write_input-requires
+write_input-requires g c =
     let within : c.loop-k.k < length c.args.reads.now = elim c.if-span-count.branch [
       | then-span-count w ↦ omega (arith, w.to-is, w.if-span-count.true)
       | else-span-count w ↦ omega (arith, w.to-is)
@@ -32,11 +32,11 @@ loop-k-preserved g c =
     let there = below-at (length c.args.slots.now) reads k c.requires.within within in
     let many = length-map values number_of in
     record {
-      over = ap (with_words reads (words_of values)) c.take_input.ensures
+      over = ap (with_words reads (words_of values)) c.write_input.ensures
           ∙ put-over reads (words_of values) c.loop-k.slots k (number_of value) c.requires.rising
           within (omega (arith, within, many, sized)) ∙ c.loop-k.invariant.over;
       put = λ j near.
-          subst (λ (slots : List ℤ). IsPut reads types values slots j) (sym c.take_input.ensures)
+          subst (λ (slots : List ℤ). IsPut reads types values slots j) (sym c.write_input.ensures)
           (put-next reads types values c.requires.rising (sized ∙ c.requires.sized)
           c.loop-k.slots k value c.args.span.to (omega (arith, there)) within
           c.input.ensures.typed c.input.ensures.value c.input.ensures.is_value

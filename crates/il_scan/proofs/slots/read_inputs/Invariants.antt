@@ -1,5 +1,5 @@
 use Rattle.std.proofs.Common.{◌≡◌, ◌<◌, ◌≤◌, ◌⊎◌, ℕ}
-use Rattle.il_scan.specs.PointPlaces.{IsPut, with_words}
+use Rattle.il_scan.specs.PointIndices.{IsPut, with_words}
 use Rattle.il_scan.specs.Words.{words_of}
 use Rattle.il_scan.proofs.slots.read_inputs.Given as goal
 

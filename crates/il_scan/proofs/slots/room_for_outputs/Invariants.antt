@@ -1,5 +1,5 @@
 use Rattle.std.proofs.Common.{◌≡◌, ◌+◌, ◌≤◌, length}
-use Rattle.il_scan.specs.PointPlaces.{writable_count}
+use Rattle.il_scan.specs.PointIndices.{writable_count}
 use Rattle.il_scan.proofs.slots.room_for_outputs.Given as goal
 
 abbrev pub invariant-loop-rest : goal.invariant-loop-rest

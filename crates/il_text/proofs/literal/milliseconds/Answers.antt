@@ -8,7 +8,7 @@ use Rattle.il_text.proofs.literal.milliseconds.Goals as goal
 pub returns-in_default : goal.returns-in_default
 unfolding milliseconds
 returns-in_default c =
-    let none = none-from _ (c.parts.ensures ∙ ap (option_map duration_view) c.in_default.is) in
+    let none = none-from _ (c.parse_parts.ensures ∙ ap (option_map duration_view) c.in_default.is) in
     sym (ap (λ (o : Option Duration). capped_time (option_and_then total_of o)) none)
 
 pub returns-then-is_empty : goal.returns-then-is_empty
@@ -16,7 +16,7 @@ unfolding milliseconds
 returns-then-is_empty c =
     let total =
     total-from _ (duration_view c.in-Some.last)
-    (c.parts.ensures ∙ ap (option_map duration_view) c.in-Some.is) in
+    (c.parse_parts.ensures ∙ ap (option_map duration_view) c.in-Some.is) in
     let begun = c.if-last.true in
     let empty = sym c.is_empty.ensures ∙ c.if-is_empty.true in
     sym (total ∙ rw (begun, empty) refl)
@@ -26,7 +26,7 @@ unfolding milliseconds
 returns-else-last c =
     let total =
     total-from _ (duration_view c.in-Some.last)
-    (c.parts.ensures ∙ ap (option_map duration_view) c.in-Some.is) in
+    (c.parse_parts.ensures ∙ ap (option_map duration_view) c.in-Some.is) in
     elim c.else-last.branch [
       | else-last-via-then-last+else-is_empty w ↦ (
           let empty = sym w.is_empty.ensures ∙ w.if-is_empty.false in

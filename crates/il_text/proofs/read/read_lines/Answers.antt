@@ -1,7 +1,7 @@
 use Rattle.std.proofs.Common.{◌≤◌, length, sym, ◌∙◌, refl}
 use Rattle.std.proofs.lemmas.Result.{err_from_is_err_and}
-use Rattle.il_text.specs.ListingViews.{reached_of, read_of}
-use Rattle.il_text.specs.Reading.{program_made}
+use Rattle.il_text.specs.ListingViews.{draft_data, progress_of}
+use Rattle.il_text.specs.Reading.{draft_program}
 use Rattle.il_text.specs.TokenViews.{symbols_of}
 use Rattle.il_text.proofs.ReadLemmas.{program-start, text-end}
 use Rattle.il_text.proofs.UniqueLemmas.{items-rise}
@@ -27,7 +27,7 @@ returns-in_err-finish-clause-refused c =
     c.from_residual-in_err-finish.ensures.1 in
     rw (p.1, p.2)
     (λ m. sym c.loop-reader.invariant.left
-    ∙ text-end r.last (read_of r.listing) r.line (symbols_of r.tokens.items) r.text.now
+    ∙ text-end r.last (progress_of r.listing) r.line (symbols_of r.tokens.items) r.text.now
     r.in_comment r.at end ∙ c.in_err-finish.ensures.refused m)
 
 pub returns-clause-ok : goal.returns-clause-ok
@@ -35,7 +35,7 @@ returns-clause-ok c =
     let r = c.loop-reader.reader in
     let end : length r.text.now ≤ r.at = rw c.loop-reader.invariant.same c.loop-reader-test.false in
     sym c.loop-reader.invariant.left
-    ∙ text-end r.last (read_of r.listing) r.line (symbols_of r.tokens.items) r.text.now
+    ∙ text-end r.last (progress_of r.listing) r.line (symbols_of r.tokens.items) r.text.now
     r.in_comment r.at end ∙ c.in_ok-finish.ensures.ok
 
 pub invariant_of-result : goal.invariant_of-result
@@ -44,8 +44,8 @@ invariant_of-result c =
     let end : length r.text.now ≤ r.at = rw c.loop-reader.invariant.same c.loop-reader-test.false in
     record {
       rising =
-          items-rise c.args.text.now (program_made (reached_of c.finish.new.self.listing))
+          items-rise c.args.text.now (draft_program (draft_data c.finish.new.self.listing))
           (sym c.loop-reader.invariant.left
-          ∙ text-end r.last (read_of r.listing) r.line (symbols_of r.tokens.items) r.text.now
+          ∙ text-end r.last (progress_of r.listing) r.line (symbols_of r.tokens.items) r.text.now
           r.in_comment r.at end ∙ c.in_ok-finish.ensures.ok);
     }

@@ -4,11 +4,11 @@ use Rattle.std.proofs.lemmas.Bool.{eqb-true}
 use Rattle.std.proofs.lemmas.Result.{err_from_is_err_and}
 use Rattle.il_text.specs.Listing.{PlainProgram}
 use Rattle.il_text.specs.Forms.{whole_line}
-use Rattle.il_text.specs.Pieces.{without_comments, pieces}
+use Rattle.il_text.specs.Lexemes.{without_comments, lexemes}
 use Rattle.il_text.specs.Places.{last_line}
 use Rattle.il_text.specs.Reading.{lines, tokens_of, after_line, program_of_lines, program_of}
 use Rattle.il_text.specs.Steps.{steps}
-use Rattle.il_text.specs.Symbols.{pieces_of}
+use Rattle.il_text.specs.Symbols.{text_lexemes}
 use Rattle.il_text.specs.Texts.{ReadsAs}
 use Rattle.il_text.specs.Views.{plain_program}
 use Rattle.il_text.specs.declared.fault.TextFault.{TextFault}
@@ -18,7 +18,7 @@ use Rattle.il_text.proofs.UniqueLemmas.{items-rise}
 use Rattle.il_text.proofs.read.read_program.Goals as goal
 
 nothing_read : program_of [] ≡ Err (BadLine 1)
-unfolding program_of program_of_lines last_line lines pieces_of without_comments pieces tokens_of after_line whole_line steps
+unfolding program_of program_of_lines last_line lines text_lexemes without_comments lexemes tokens_of after_line whole_line steps
 nothing_read = refl
 
 pub returns-then-is_empty-clause-refused : goal.returns-then-is_empty-clause-refused

@@ -153,7 +153,7 @@ loop-place-preserved c =
     record {
       passing =
           subst (λ (n : ℕ). Passing image next n c.max-depth.result (with_value_at next behind new))
-          (sym c.raised-budget.ensures)
+          (sym c.raise_budget-budget.ensures)
           (subst (λ (n : ℕ). Passing image next
           (raised_budget c.is_halt.result come.longest c.loop-place.budget)
           n (with_value_at next behind new)) (sym depth) goes);

@@ -6,7 +6,7 @@ use Rattle.il_verify.proofs.visit.jumps_right.Goals as goal
 pub returns-in-Jump-clause-wrong : goal.returns-in-Jump-clause-wrong
 returns-in-Jump-clause-wrong c =
     jumps_wrong c.args.code.now c.args.starts.now c.args.instr c.in-Jump.field-0 c.args.next
-    c.in-Jump.distance c.is_place.result c.requires.marks c.in-Jump.is
-    (subst (λ (d : ℕ). IsTrue c.is_place.result
+    c.in-Jump.distance c.begins_instr.result c.requires.marks c.in-Jump.is
+    (subst (λ (d : ℕ). IsTrue c.begins_instr.result
     ↔ (slice_get c.args.starts.now (c.args.next + d) ≡ Some true)) c.from.ensures
-    c.is_place.ensures)
+    c.begins_instr.ensures)

@@ -1,13 +1,13 @@
 use Rattle.std.proofs.Common.{refl, ◌∙◌}
 use Rattle.std.specs.String.{string_bytes}
 use Rattle.std.specs.Option.{option_copied}
-use Rattle.il_text.specs.Views.{declared_of}
+use Rattle.il_text.specs.Views.{declared_name}
 use Rattle.il_check.proofs.TakenLemmas.{taken}
 use Rattle.il_check.proofs.declare.Declarations.declare.Goals as goal
 
 pub returns : goal.returns
 returns c =
-    taken c.args.points.now (declared_of c.args.declaration.now) c.args.self.now _ c.add.new.self
+    taken c.args.points.now (declared_name c.args.declaration.now) c.args.self.now _ c.add.new.self
     (string_bytes c.in_ok-name.name) c.in_ok-text.text
     (option_copied c.point_of-point.result) c.in_ok-is_known.is_known c.is_full-is_full.result
     c.next_meaning-meaning.result

@@ -5,18 +5,18 @@ use Rattle.il_image.specs.declared.instr.Instr.TheVariants.{Jump}
 use Rattle.il_check.specs.Program.{transfer}
 use Rattle.il_check.specs.declared.typed.Transfer.TheVariants as go
 use Rattle.il_compile.specs.Code.{octets_before}
-use Rattle.il_compile.specs.Senses.{when_of}
-use Rattle.il_compile.proofs.BehindLemmas.{on_success, put-leap, to-label}
+use Rattle.il_compile.specs.OperatorClasses.{when_of}
+use Rattle.il_compile.proofs.ContinuationLemmas.{on_success, put-leap, to-label}
 use Rattle.il_compile.proofs.continuation.Continuation.put_jump.Goals as goal
 
 pub returns : goal.returns
 returns c n is settled =
-    on_success c.settle.result c.settle.ensures.counted c.settle.ensures.before
-    c.settle.ensures.empty c.settle.ensures.places
-    (λ counted before empty places.
+    on_success c.prepend_pending.result c.prepend_pending.ensures.counted c.prepend_pending.ensures.before
+    c.prepend_pending.ensures.empty c.prepend_pending.ensures.label_octets
+    (λ counted before empty label_octets.
     put-leap n (transfer (go.Jump c.args.condition c.args.label)) is _
     (Jump (when_of c.args.condition) (octets_before n c.args.label is)) c.args.self.now
-    c.put.new.code.items c.settle.new.self settled refl refl refl (λ l. refl)
+    c.put.new.code.items c.prepend_pending.new.self settled refl refl refl (λ l. refl)
     (λ short.
     (let place = c.unwrap_or-place.ensures
     ∙ ap (λ o. unwrap_or o 0) (c.copied.ensures ∙ c.get.ensures.value) in
@@ -24,7 +24,7 @@ returns c n is settled =
     c.min-distance.ensures ∙ ap (λ k. min k 0xFFFF)
     (c.saturating_sub.ensures ∙ ap (λ k. c.args.self.now.octets - k) place)
     ∙ to-label n c.args.label c.args.self.now.octets is c.args.self.now.instrs.items
-    (get nat_eq c.args.self.now.places) settled.behind short in
+    (get nat_eq c.args.self.now.label_octets) settled.continuation short in
     ap (λ w. Jump w c.min-distance.result) c.when_of.ensures
     ∙ ap (Jump (when_of c.args.condition)) d))
-    c.in_ok-put.ensures before counted empty places)
+    c.in_ok-put.ensures before counted empty label_octets)

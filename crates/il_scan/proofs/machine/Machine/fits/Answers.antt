@@ -1,6 +1,6 @@
 use Rattle.std.proofs.Common.{List, ap, sym, ◌∙◌, ◌≡◌}
 use Rattle.il_image.specs.declared.image.ImagePoint.{ImagePoint}
-use Rattle.il_scan.specs.PointPlaces.{are_inputs}
+use Rattle.il_scan.specs.PointIndices.{are_inputs}
 use Rattle.il_scan.proofs.SlotLemmas.{tested}
 use Rattle.il_scan.proofs.machine.Machine.fits.Goals as goal
 

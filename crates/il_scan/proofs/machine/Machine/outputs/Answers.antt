@@ -2,8 +2,8 @@ use Rattle.std.proofs.Common.{ℕ, ℤ, List, length, map, sym, ap, subst, ◌�
 use Rattle.il_image.specs.Images.{Image}
 use Rattle.il_image.specs.Values.{type_of}
 use Rattle.il_image.specs.declared.image.ImagePoint.{ImagePoint}
-use Rattle.il_scan.specs.Places.{output_value}
-use Rattle.il_scan.specs.PointPlaces.{AllBelow}
+use Rattle.il_scan.specs.OutputValues.{output_value}
+use Rattle.il_scan.specs.PointIndices.{AllBelow}
 use Rattle.il_scan.specs.Scans.{MachineData, outputs_of}
 use Rattle.il_scan.specs.MachineStates.{AreWords}
 use Rattle.il_scan.proofs.PlaceLemmas.{outputs-placed, writes-below}

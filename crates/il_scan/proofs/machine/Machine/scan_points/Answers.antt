@@ -1,6 +1,6 @@
 use Rattle.std.proofs.Common.{◌≡◌, ℕ, List, length, refl, ap, arith}
 use Rattle.bay_base.specs.declared.types.ElementaryType.{ElementaryType}
-use Rattle.il_scan.specs.PointPlaces.{read_indices}
+use Rattle.il_scan.specs.PointIndices.{read_indices}
 use Rattle.il_scan.specs.Scans.{MachineData}
 use Rattle.il_scan.proofs.HoldLemmas.{all-held}
 use Rattle.il_scan.proofs.PlaceLemmas.{so-many-types}

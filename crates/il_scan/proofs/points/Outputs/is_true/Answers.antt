@@ -1,7 +1,7 @@
 use Rattle.std.proofs.Common.{◌≤◌, List, length, slice_get, sym, ap, ◌∙◌, arith}
 use Rattle.std.proofs.lemmas.Bool.Decides.{nat_tests}
 use Rattle.il_image.specs.declared.value.Value.{Value}
-use Rattle.il_scan.specs.Places.{is_true, output_value}
+use Rattle.il_scan.specs.OutputValues.{is_true, output_value}
 use Rattle.il_scan.proofs.PlaceLemmas.{below-at, mapped-at, mapped-none}
 use Rattle.il_scan.proofs.points.Outputs.is_true.Goals as goal
 

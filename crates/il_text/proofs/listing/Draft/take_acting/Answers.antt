@@ -1,9 +1,0 @@
-use Rattle.std.proofs.Common.{arith}
-use Rattle.std.proofs.lemmas.List.{map-append}
-use Rattle.il_text.specs.Steps.{step}
-use Rattle.il_text.proofs.ListingLemmas.{view_instruction}
-use Rattle.il_text.proofs.listing.Draft.take_acting.Goals as goal
-
-pub returns-clause-ok : goal.returns-clause-ok
-unfolding step
-returns-clause-ok c = grind (arith, view_instruction, map-append)
